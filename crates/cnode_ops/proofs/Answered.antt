@@ -57,7 +57,7 @@ copied-checks : (copies : Bool) (made : Cap) (next : Cap → Result State KError
 copied-checks false made next = refl
 copied-checks true made next = refl
 
--- behind the slots
+-- after the slots
 abbrev behind_slots : State → Slots → ℕ → ℕ → ℕ → ℕ → Result State KError
 behind_slots s slots word payload to from = minted_copy_of (capability_at slots from) word payload >>= child s slots to from
 
@@ -80,7 +80,7 @@ named-refused (Err e) source error next is = cc
 named-refused (Ok d) (Err e) error next is = cc
 named-refused (Ok d) (Ok f) error next is = absurd (cc)
 
--- what goes on behind the slots that a call names, and the error where it names none
+-- what goes on after the slots that a call names, and the error where it names none
 module _ (slots : Slots) (call : Call) (root node : Cap) (destination source : SlotName) (next : ℕ → ℕ → Result State KError) (same_root : call.root ≡ root) (same_node : call.capability ≡ node) where
   names-same : named_slots slots call.root call.capability destination source ≡ named_slots slots root node destination source
   names-same = ap (λ (r : Cap). named_slots slots r call.capability destination source) same_root ∙ ap (λ (n : Cap). named_slots slots root n destination source) same_node

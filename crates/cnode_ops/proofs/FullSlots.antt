@@ -9,7 +9,7 @@ use Rattle.model.specs.declared.capabilities.Cap.TheVariants.{Empty, Untyped, En
 use Rattle.model.specs.Shared.Lists.{times_in}
 use Rattle.model.proofs.Orders.{after-behind, behind, behind-step, first-none, first-some, times-behind}
 
--- who is listed and passes a test stands behind a slot, if the list is one of those
+-- who is listed and passes a test is after a slot, if the list is one of those
 abbrev pub AreBehind : List ℕ → (ℕ → Bool) → (ℕ → Bool) → Option ℕ → Type 0
 AreBehind list member test at = Lists list member → (slot : ℕ) → member slot ≡ true → test slot ≡ true → 1 ≤ times_in (behind list at) slot
 

@@ -18,7 +18,7 @@ use Rattle.cnode_ops.specs.Nodes.{CNodesAreOpen, HasOpenSlots}
 
 -- ---- one CNode
 
--- what is answered behind three tests is answered at the end
+-- what is answered after three tests is answered at the end
 third-index : (a b c : Bool) (e f g : LookupFailure) (index rest bound : ℕ) (place : ℕ × ℕ) → index < bound → (if a then Err e else if b then Err f else if c then Err g else Ok (index, rest)) ≡ Ok place → place.0 < bound
 third-index true b c e f g index rest bound place less is = absurd (cc)
 third-index false true c e f g index rest bound place less is = absurd (cc)
@@ -34,7 +34,7 @@ resolved-index radix guard_word address left place is =
     third-index (nat_lt left size) (not (address / 2 ^ (left - size) % 2 ^ size == guard_word / 2 ^ 5)) (nat_lt left (size + radix)) (GuardMismatch left) (GuardMismatch left) (DepthMismatch left)
     (address / 2 ^ rest % 2 ^ radix) rest (2 ^ radix) place (omega (arith, positive)) is
 
--- behind a CNode the lookup ends at an open slot, or goes on
+-- after a CNode the lookup ends at an open slot, or goes on
 step-open : (slots : Slots) (offset : ℕ) (next : Cap → ℕ → Result (ℕ × ℕ) LookupFailure) (place : Result (ℕ × ℕ) LookupFailure) (found : ℕ × ℕ) → CNodesAreOpen slots → ((p : ℕ × ℕ) → place ≡ Ok p → IsOpen slots (offset / 16 + p.0)) → ((held : Cap) (rest : ℕ) → HasOpenSlots slots held → next held rest ≡ Ok found → IsOpen slots found.0) → go_on slots offset next place ≡ Ok found → IsOpen slots found.0
 step-open slots offset next (Err failure) found nodes inside on is = absurd (cc)
 step-open slots offset next (Ok p) found nodes inside on is =

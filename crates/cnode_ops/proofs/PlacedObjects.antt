@@ -1,4 +1,4 @@
--- What is placed stands in the unused part of untyped memory.
+-- What is placed is in the unused part of untyped memory.
 use Rattle.std.proofs.Common.{ℕ, ◌≡◌, ◌∙◌, ◌+◌, ◌-◌, ◌*◌, ◌/◌, ◌%◌, ◌^◌, ◌<◌, ◌≤◌, inl, inr, true, false, nat_le, if◌then◌else◌, Option, Some, None, Result, Ok, Err, pow_pos, refl, sym, ap, arith}
 use Rattle.std.proofs.Math.Nat.{add-mul-mod_self_right, mul-le-mul_right}
 use Rattle.std.proofs.Math.Pow.{mod-mod-pow, pow_mono}

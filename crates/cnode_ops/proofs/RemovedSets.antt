@@ -16,7 +16,7 @@ use Rattle.cnode_ops.specs.Refusals.{AreNear}
 use Rattle.cnode_ops.specs.Sets.{set_of}
 use Rattle.cnode_ops.specs.declared.sets.Removed.{Removed}
 
--- what the loops are told and what they leave
+-- what the loops are given and what they leave
 pub record LoopsRan (w one two : State) (slots : Slots) (set : Removed) (lines : ℕ → Bool) : Type 0 where
   pub has : w.slots ≡ slots
   pub sound : IsSound w
@@ -77,7 +77,7 @@ module _ (w one two : State) (slots : Slots) (set : Removed) (lines : ℕ → Bo
   loops-remove last is =
       ap (λ (n : Slots). remove w (set_of n set)) same ∙ removed w two last (set_of w.slots set) ran.sound members_open ran.kept_first left is
 
--- no slot behind the end of memory is open
+-- no slot after the end of memory is open
 pub near-open : (w : State) (slots : Slots) (memory : List ℕ) → w.slots ≡ slots → IsSound w → 2 ^ w.memory_bits ≡ length memory → AreNear slots memory
 near-open w slots memory has sound size y opens =
     omega (arith, open-near w sound y (subst (λ (n : Slots). IsOpen n y) (sym has) opens), size)

@@ -69,7 +69,7 @@ room-passed depth nothing passed =
 pub child-room : (slots : Slots) (slot : ℕ) (nothing : Unit {0}) → may_have_child slots slot ≡ Ok nothing → depth_of slots slot < 255
 child-room slots slot nothing passed = room-passed (depth_of slots slot) nothing passed
 
--- ---- what is left of the call behind each group
+-- ---- what is left of the call after each group
 
 module _ (s : State) (slots : Slots) (root : Cap) (slot : ℕ) (memory : UntypedMemory) (call : RetypeCall) where
   abbrev pub made : NewObject → ℕ → ℕ → ℕ → State

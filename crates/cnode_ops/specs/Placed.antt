@@ -21,7 +21,7 @@ new_type (types.Object kind) = kind_of (new_object kind)
 abbrev pub new_objects : NewRange → NewObjects
 new_objects new = record { kind = new_type new.kind; first = new.first; count = new.count }
 
--- the objects stand in the unused part of the untyped memory in `parent`, below its new watermark, each at a multiple of its size
+-- the objects are in the unused part of the untyped memory in `parent`, below its new watermark, each at a multiple of its size
 pub record IsPlaced (s : State) (new : NewObjects) (at : Placing) : Type 0 where
   pub offset : ℕ
   pub bits : ℕ

@@ -11,7 +11,7 @@ use Rattle.model.specs.declared.capabilities.Cap.TheVariants.{Empty, Untyped, En
 use Rattle.model.specs.Capabilities.CapabilityKinds.{names_object, object_of}
 use Rattle.model.specs.Capabilities.Slots.{IsOpen, Slots, capability_at, is_full}
 
--- no slot behind the end of memory is open
+-- no slot after the end of memory is open
 abbrev pub AreNear : Slots → List ℕ → Type 0
 AreNear slots memory = (slot : ℕ) → IsOpen slots slot → slot < length memory / 16
 

@@ -52,7 +52,7 @@ window slots capability index count = do
   _ ← check (not (any_full slots (slot_of node.offset index) count)) DeleteFirst
   Ok (slot_of node.offset index)
 
--- where so many objects stand in memory, and the watermark behind them
+-- where so many objects are in memory, and the watermark after them
 abbrev pub behind_offset : ℕ → Option (ℕ × ℕ) → Result (ℕ × ℕ) KError
 behind_offset offset placed = do
   place ← wanted placed NotEnoughMemory

@@ -39,7 +39,7 @@ pub data Lands (starts : List ℕ) (at : ℕ) : ℕ → Type 0 where
 abbrev pub with_waiting : Unsettled → Bool → Unsettled
 with_waiting left waited = record left { waited = left.waited || waited }
 
--- objects that have slots lie in memory, behind the boot area and apart
+-- objects that have slots lie in memory, after the boot area and apart
 pub record ObjectsLie (s : State) : Type 0 where
   pub few : s.memory_bits ≤ 24
   pub aligned : (offset : ℕ) → slot_count (s.objects offset) ≢ 0 → offset % 16 ≡ 0
@@ -47,7 +47,7 @@ pub record ObjectsLie (s : State) : Type 0 where
   pub boot : (n : ℕ) → slots_from s n ≢ 0 → boot_area_slots s.boot_radix ≤ n
   pub apart : (n m : ℕ) → n < m → slots_from s n ≢ 0 → slots_from s m ≢ 0 → n + slots_from s n ≤ m
 
--- who waits at an object that is there stands in its queue, and nobody waits where nothing is unless that is noted
+-- who waits at an object that is there is in its queue, and nobody waits where nothing is unless that is noted
 pub record WaitersAreNoted (s : State) (noted : Bool) : Type 0 where
   pub queued : (thread queue : ℕ) → waits_at s thread queue ≡ true → is_some (s.objects queue) ≡ true → 1 ≤ times_in (waiting_at (s.objects queue)) thread
   pub awake : noted ≡ false → (thread queue : ℕ) → waits_at s thread queue ≡ true → is_some (s.objects queue) ≡ true

@@ -1,4 +1,4 @@
-//! What Retype tells those that keep objects.
+//! What Retype reports to those that keep objects.
 
 ghost use Rattle.std.specs.Prelude.{ℕ, ◌≡◌, ◌+◌, ◌^◌, ◌<◌, List, Some, length};
 ghost use Rattle.cnode_ops.specs.Placed.{IsPlaced, new_objects, with_placed};
@@ -17,7 +17,7 @@ pub enum NewType {
     Object(Kind),
 }
 
-/// Some objects of one type, one behind another from an offset on.
+/// Some objects of one type, one after another from an offset on.
 #[derive(Clone, Copy)]
 pub struct NewRange {
     pub kind: NewType,
@@ -34,9 +34,9 @@ pub struct Placing {
     pub watermark: u32,
 }
 
-/// Those that Retype tells of new objects: they keep what the slots do not.
+/// Those to which Retype reports new objects: they keep what the slots do not.
 pub trait Begins {
-    // The state that this, the slots and the bytes of memory stand for.
+    // The state that this, the slots and the bytes of memory represent.
     ghost state: { Self → Slots → List ℕ → State };
 
     // How these have to agree for objects to begin.

@@ -1,4 +1,4 @@
-//! What a removal tells those that keep objects and mappings.
+//! What a removal reports to those that keep objects and mappings.
 
 ghost use Rattle.std.specs.Prelude.{ℕ, ◌≡◌, ◌^◌, ◌<◌, ◌↔◌, [], List, None, Some, false, length};
 ghost use Rattle.model.specs.Capabilities.CapabilityKinds.{names_object, object_of, unmapped};
@@ -12,9 +12,9 @@ ghost use Rattle.removal_laws.specs.Steps.{IsThere, ended, unmapped_at, unused};
 use model::{Cap, Slot};
 use slots::SlotStore;
 
-/// Those that a removal tells of mappings and objects that go: they keep what the slots do not.
+/// Those to which a removal reports mappings and objects that go: they keep what the slots do not.
 pub trait Ends {
-    // The state that this, the slots and the bytes of memory stand for.
+    // The state that this, the slots and the bytes of memory represent.
     ghost state: { Self → Slots → List ℕ → State };
 
     // How these have to agree for mappings to be taken away.
@@ -30,8 +30,8 @@ pub trait Ends {
         ensures order { S.order store.new ≡ S.order store.old }
         ensures agree { Agree self.new (S.slots store.new) (S.memory store.new) };
 
-    /// Ends the object that a removed capability named, and that no other names. It has not ended yet: nobody is told
-    /// of an end twice.
+    /// Ends the object that a removed capability named, and that no other names. It has not ended yet: no end is
+    /// reported twice.
     fn end<S: SlotStore>(&mut self, store: &mut S, removed: Cap)
         requires agree { Agree self.old (S.slots store.old) (S.memory store.old) }
         requires there { IsThere (state self.old (S.slots store.old) (S.memory store.old)) removed }
@@ -56,7 +56,7 @@ pub trait Ends {
         requires { Agree self.now (S.slots store.now) (S.memory store.now) }
         ensures { (result ≡ false) ↔ (waiting_at ((state self.now (S.slots store.now) (S.memory store.now)).objects offset) ≡ []) };
 
-    /// Threads that wait at objects that are gone stand at their call again and run, in rising order of
+    /// Threads that wait at objects that are gone are at their call again and run, in rising order of
     /// their addresses.
     fn wake<S: SlotStore>(&mut self, store: &mut S)
         requires agree { Agree self.old (S.slots store.old) (S.memory store.old) }

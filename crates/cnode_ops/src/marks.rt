@@ -1,4 +1,4 @@
-//! A mark for each slot, so that a set of slots tells of each at once whether it is one of them.
+//! A mark for each slot, so that a set of slots says of each at once whether it is one of them.
 
 ghost use Rattle.std.specs.Prelude.{ℕ, ◌≡◌, ◌≢◌, ◌^◌, false, true, replicate};
 ghost use Rattle.cnode_ops.specs.Marked.{is_marked};
@@ -7,7 +7,7 @@ use crate::bits::{has_bit, with_bit};
 use model::Slot;
 use std::marker::Model;
 
-/// How many slots a word tells of.
+/// How many slots a word has marks of.
 const WORD_SLOTS: u32 = 64;
 
 /// Words for all slots of the largest memory.

@@ -11,7 +11,7 @@ use cspace::{destination_slot, source_slot};
 use model::{Cap, KError, Slot, SlotName};
 use slots::SlotStore;
 
-/// What stands around a call on a CNode.
+/// The context of a call on a CNode.
 #[derive(Clone, Copy)]
 pub struct NodeCall {
     /// The root of the caller's capability space, in which sources are named.

@@ -30,7 +30,7 @@ pub fn may_have_child<S: SlotStore>(store: &S, slot: Slot) -> Result<(), KError>
     Ok(())
 }
 
-/// Where so many objects stand behind the watermark of untyped memory, and the watermark behind them, if
+/// Where so many objects are after the watermark of untyped memory, and the watermark after them, if
 /// they fit (`NotEnoughMemory`).
 fn places(memory: UntypedMemory, new: NewType, count: u32) -> Result<(u32, u32), KError>
     requires valid { IsCapability (Untyped memory.offset memory.bits memory.watermark) }
@@ -44,7 +44,7 @@ fn places(memory: UntypedMemory, new: NewType, count: u32) -> Result<(u32, u32),
     }
 }
 
-/// Makes objects in the unused part of untyped memory, which stands in `slot`, with their first
+/// Makes objects in the unused part of untyped memory, which is in `slot`, with their first
 /// capabilities in a window of a CNode.
 ///
 /// The first check that fails gives the error: there is no such type or its size is too small

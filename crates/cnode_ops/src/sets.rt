@@ -29,7 +29,7 @@ fn if_taken<S: SlotStore>(store: &S, slot: Slot) -> Option<Slot>
     }
 }
 
-/// The full slot of these behind another in the store's order, or the first one.
+/// The full slot of these after another in the store's order, or the first one.
 pub(crate) fn next_removed<S: SlotStore>(
     store: &S,
     set: &Removed,

@@ -134,7 +134,7 @@ module _ (o : Tables) (slots now : Slots) (old memory : List ℕ) (new : NewObje
     marked-room : depth_of (recapped slots at.parent used) at.parent < 255
     marked-room = subst (λ (n : ℕ). n < 255) (sym (depth-same 256 (parent_at slots) (parent_at (recapped slots at.parent used)) (parent-recapped slots at.parent used) at.parent)) room
 
-    -- nothing stands where the objects are to stand
+    -- nothing is where the objects are to be
     new-free : IsFree s new.first (new.first + new.count * size_of new)
     new-free =
         let unused = unused-free s sound at.parent placed.offset placed.bits placed.used placed.memory in

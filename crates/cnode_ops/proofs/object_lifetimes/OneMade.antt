@@ -46,7 +46,7 @@ frame-aligned kinds.RootTable place aligned is = absurd (let clash : false ≡ t
 
 -- ---- the record
 
--- what stands in the tables afterwards
+-- what is in the tables afterwards
 kind-put : (s : State) (k : Kind) (place : ℕ) (made : List ℕ) (offset : ℕ) (kind : NewObject) → kind_at (begun s made k place) offset ≡ Some kind
     → (kind_at s offset ≡ Some kind) ⊎ ((offset ≡ place) × (kind ≡ kind_of (new_object k)))
 kind-put s k place made offset kind is = elim (eqb_tells offset place) [

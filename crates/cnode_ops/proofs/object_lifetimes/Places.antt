@@ -1,4 +1,4 @@
--- The place of a new object: nothing stands there, and what is at it when its room is made.
+-- The place of a new object: nothing is there, and what is at it when its room is made.
 use Rattle.std.proofs.Common.{ℕ, ◌≡◌, ◌∙◌, ◌+◌, ◌/◌, ◌%◌, ◌^◌, ◌<◌, inl, inr, Bool, true, false, if◌then◌else◌, Option, Some, None, IsSome, option_map, List, pow_pos, refl, sym, ap, subst, arith}
 use Rattle.kernel_invariant.proofs.Laws.{alone, slots-alone, some-one, window-apart}
 use Rattle.kernel_invariant.specs.Growing.{Growing}

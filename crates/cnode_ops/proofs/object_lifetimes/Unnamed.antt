@@ -105,7 +105,7 @@ unnamed-part slots from to until unnamed less x offset is =
 
 -- ---- at first
 
--- where no object stands, none is named
+-- where no object is, none is named
 free-unnamed : (s : State) (from to : ℕ) → IsSound s → IsFree s from to → NoneNamed s.slots from to
 free-unnamed s from to sound free x offset is =
     let named = object-kind (capability_at s.slots x) offset (ap (λ (o : Option ℕ). option_map_or (λ n. n == offset) o false) is ∙ eq-eqb offset offset refl) in

@@ -21,7 +21,7 @@ abbrev pub MayUse : Cap → ℕ → Type 0
 MayUse (Untyped offset bits used) watermark = watermark ≤ 2 ^ bits
 MayUse _ watermark = ⊥
 
--- each object stands at a multiple of its size, in memory of 2^24 bytes
+-- each object is at a multiple of its size, in memory of 2^24 bytes
 pub record AreLaid (new : NewObjects) : Type 0 where
   pub aligned : new.first % size_of new ≡ 0
   pub near : new.first + new.count * size_of new ≤ 2 ^ 24

@@ -1,4 +1,4 @@
--- What a kernel keeps, whatever its store is, and the state that it stands for.
+-- What a kernel keeps, whatever its store is, and the state that it represents.
 use Rattle.std.specs.Prelude.{ℕ, ◌≡◌, List}
 use Rattle.model.specs.Capabilities.Slots.{Slots}
 use Rattle.model.specs.Kernel.State.{State}
@@ -10,7 +10,7 @@ pub record Parts (S : Type 0) : Type 0 where
   pub store : S
   pub tables : Tables
 
--- the state, where one is told which slots and which bytes a store holds
+-- the state, given which slots and which bytes a store holds
 abbrev pub state_in : {S : Type 0} → (S → Slots) → (S → List ℕ) → Parts S → State
 state_in slots memory kernel = state_of kernel.tables (slots kernel.store) (memory kernel.store)
 

@@ -10,7 +10,7 @@ use slots::SlotStore;
 use std::marker::Model;
 
 /// All that a kernel keeps: a store of slots and memory, and the objects beside it. It is always whole: the state that
-/// it stands for is sound, and slots, page tables, objects and bytes agree.
+/// it represents is sound, and slots, page tables, objects and bytes agree.
 #[derive(Drop)]
 pub struct Kernel<S: SlotStore> {
     pub store: S,

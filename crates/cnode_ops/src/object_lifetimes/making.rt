@@ -136,7 +136,7 @@ fn begin_object<S: SlotStore>(objects: &mut Objects, store: &mut S, kind: NewTyp
     }
 }
 
-/// Makes one object at a place where nothing stands, with its first capability in an empty slot, derived
+/// Makes one object at a place where nothing is, with its first capability in an empty slot, derived
 /// from `parent`.
 pub(crate) fn make_one<S: SlotStore>(
     objects: &mut Objects,
