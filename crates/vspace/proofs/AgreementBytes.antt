@@ -1,4 +1,4 @@
--- The bytes of slots change: no table stands there, so the tables agree as before, and what may be put stays so.
+-- The bytes of slots change: no table is there, so the tables agree as before, and what may be put stays so.
 use Rattle.std.proofs.Common.{◌≡◌, ◌∙◌, ℕ, inl, inr, Some, None, List, refl, sym, subst, arith}
 use Rattle.model.specs.Capabilities.Slots.{SameOutside, Slots, capability_at}
 use Rattle.model.specs.declared.capabilities.Cap.{Cap}
@@ -9,7 +9,7 @@ use Rattle.vspace.specs.Tables.{IsTable, TablesAgree}
 use Rattle.vspace.proofs.AgreementSlots.{agree-beside}
 use Rattle.vspace.proofs.Steps.{word-outside}
 
--- each table that a capability names stands apart from slots
+-- each table that a capability names is apart from slots
 stands-as : (slots : Slots) (memory : List ℕ) (t table : ℕ) → table ≡ t → IsTable slots memory t → IsTable slots memory table
 stands-as slots memory t table same stands = subst (λ (u : ℕ). IsTable slots memory u) (sym same) stands
 

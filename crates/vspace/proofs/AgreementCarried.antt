@@ -30,7 +30,7 @@ pub record Carries (old new : Slots) : Type 0 where
   pub kept_tables : (y table : ℕ) (m : TableMapping) → capability_at old y ≡ PageTable table (Some m) → Holds new (PageTable table (Some m))
   pub kept_frames : (y frame : ℕ) (r : Rights) (m : FrameMapping) → capability_at old y ≡ Frame frame r (Some m) → Holds new (Frame frame r (Some m))
 
--- tables stand as before, with the same words
+-- tables are as before, with the same words
 pub record Stays (old new : Slots) (before after : List ℕ) : Type 0 where
   pub size : length after ≡ length before
   pub stands : (table : ℕ) → IsNamedTable old table → IsTable old before table → IsTable new after table

@@ -20,7 +20,7 @@ use Rattle.vspace.specs.Tables.{MapsTable, TablesAgree}
 use Rattle.vspace.proofs.FrameSteps.{region_or_zero, root_or_zero}
 use Rattle.vspace.proofs.Unmapping.{table-one}
 
--- the regions whose page tables go and stand in slots that were looked at
+-- the regions whose page tables go and are in slots that were looked at
 pub record GoesBefore (slots : Slots) (offset : ℕ) (done : ℕ → Bool) (root region : ℕ) : Type 0 where
   pub slot : ℕ
   pub looked : done slot ≡ true
@@ -282,7 +282,7 @@ module _ (old : Slots) (memory : List ℕ) (agree : TablesAgree old memory) (off
               ∙ sym (table-entry (old n) t (Some m) held),
         )
 
-        -- what does not stand in the region is lost only if it was before
+        -- what is not in the region is lost only if it was before
         lost-before : (y : ℕ) (c : Cap) → y ≢ n → capability_at old y ≡ c → lies_in_region m c ≡ false → IsMappedIn (GoesBefore old offset more) c → IsMappedIn (GoesBefore old offset done) c
         lost-before y (Frame f r (Some k)) other at outside is = elim (before-split k.root (k.page / 2 ^ 10) is) [
           | inl earlier ↦ earlier

@@ -280,7 +280,7 @@ pointer-found slots memory read root region t agree same maps =
     ap (λ (m : List ℕ). table_in m root region) same
     ∙ table_in-some memory root region t (omega (arith, stands.within, fine.1.1)) table.aligned (agree.pointers maps.slot t _ maps.held)
 
--- a page table stands on a page
+-- a page table is on a page
 pub table-place : (slots : Slots) (memory : List ℕ) (y t : ℕ) (m : Option TableMapping) → TablesAgree slots memory → capability_at slots y ≡ PageTable t m → IsPlace t 12
 table-place slots memory y t m agree held =
     let fine : IsCapability (PageTable t m) = subst (λ (c : Cap). IsCapability c) held (agree.valid y) in

@@ -28,7 +28,7 @@ slots_after slots x f r c = recapped slots x (Frame f r c)
 pub index_small : (n : ℕ) → n % 2 ^ 10 < 2 ^ 10
 index_small n = omega arith
 
--- the page table that the entry stands in
+-- the page table that the entry is in
 pub table_stands : (slots : Slots) (memory after : List ℕ) (x f : ℕ) (r : Rights) (o c : Option FrameMapping) (table j word : ℕ) (tm : TableMapping) → FrameStep slots memory after x f r o c table j word tm → IsTable slots memory table
 table_stands slots memory after x f r o c table j word tm step = step.agree.tables step.at_slot _ _ step.at_held
 

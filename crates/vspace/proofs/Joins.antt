@@ -139,7 +139,7 @@ walk-no_table : (memory : List ℕ) (root address : ℕ) (access : Access) → e
 unfolding walk
 walk-no_table memory root address access none = rw none refl
 
--- behind the root table's pointer to a table
+-- after the root table's pointer to a table
 abbrev last_step : List ℕ → ℕ → Access → ℕ → Option ℕ
 last_step memory address access last = if is_leaf last then leaf_place memory last 12 address access else None
 

@@ -22,7 +22,7 @@ use Rattle.vspace.specs.Answers.{FreeEntry, GivesMapped, MappingAnswer, PageAnsw
 use Rattle.vspace.specs.Tables.{AreNear, Holds, MapsFrame, MapsTable, TablesAgree}
 use Rattle.vspace.proofs.Taken.{holds-none, holds-one}
 
--- the checks behind the root table, by what each answers
+-- the checks after the root table, by what each answers
 abbrev checks : Bool → Bool → Bool → Bool → Bool → Result State KError → Result State KError
 checks low aligned there free allowed last = do
   _ ← check low InvalidArgument
@@ -35,7 +35,7 @@ checks low aligned there free allowed last = do
 abbrev mapping_of : ℕ → ℕ → Rights → ℕ → FrameMapping
 mapping_of root page r w = record { root = root; page = page; rights = mapping_rights r w }
 
--- the checks behind the root table
+-- the checks after the root table
 abbrev behind_root : State → Slots → ℕ → ℕ → Rights → ℕ → ℕ → ℕ → Result State KError
 behind_root s slots x f r address w root =
     checks (nat_lt address address_limit) (address % page_size == 0)
@@ -47,7 +47,7 @@ behind_root s slots x f r address w root =
 defined : (s : State) (slots : Slots) (cspace : Cap) (caller : Option ℕ) (x f : ℕ) (r : Rights) (n : SlotName) (address w : ℕ) → map_frame (with_slots s slots) (frame_call cspace caller x f r None) r n address w ≡ (root_named slots cspace n >>= behind_root s slots x f r address w)
 defined s slots cspace caller x f r n address w = refl
 
--- with a root table, what the checks behind it give
+-- with a root table, what the checks after it give
 with_root : (s : State) (slots : Slots) (cspace : Cap) (caller : Option ℕ) (x f : ℕ) (r : Rights) (n : SlotName) (address w root : ℕ) → root_named slots cspace n ≡ Ok root → map_frame (with_slots s slots) (frame_call cspace caller x f r None) r n address w ≡ behind_root s slots x f r address w root
 with_root s slots cspace caller x f r n address w root is =
     defined s slots cspace caller x f r n address w ∙ ap (λ found. found >>= behind_root s slots x f r address w) is

@@ -1,4 +1,4 @@
--- What the entries of a region's page table tell of the frames that are mapped in the region.
+-- What the entries of a region's page table say of the frames that are mapped in the region.
 use Rattle.std.proofs.Common.{◌≡◌, ◌≢◌, ◌∙◌, ℕ, ◌+◌, ◌-◌, ◌*◌, ◌/◌, ◌%◌, ◌^◌, ◌<◌, inl, inr, true, false, Option, Some, None, List, refl, sym, ap, subst, arith}
 use Rattle.std.specs.Prelude.{nat_le}
 use Rattle.std.proofs.lemmas.Bool.{eq-eqb}

@@ -18,7 +18,7 @@ use Rattle.vspace.specs.Tables.{TablesAgree}
 use Rattle.vspace.proofs.TableRemovals.{TableRemoval, agree-table_unmapped}
 use Rattle.vspace.proofs.Writes.{Written, same-outside}
 
--- what is unmapped stands in no region
+-- what is unmapped is in no region
 unmapped-stands : (m : TableMapping) (c : Cap) → lies_in_region m (unmapped c) ≡ false
 unmapped-stands m (Frame f r o) = refl
 unmapped-stands m (PageTable _ _) = refl

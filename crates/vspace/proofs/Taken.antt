@@ -1,4 +1,4 @@
--- What the entries of the tables tell of the mappings that capabilities hold.
+-- What the entries of the tables say of the mappings that capabilities hold.
 use Rattle.std.proofs.Common.{◌≡◌, ◌∙◌, ℕ, ◌+◌, ◌*◌, ◌/◌, ◌%◌, ◌^◌, ◌<◌, ◌⊎◌, inl, inr, Bool, true, false, Some, None, List, refl, ap, subst, arith}
 use Rattle.std.proofs.lemmas.Bool.Decides.{eqb_tells}
 use Rattle.std.proofs.lemmas.List.Folds.{list_any_at, list_any_none}

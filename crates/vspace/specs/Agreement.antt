@@ -10,17 +10,17 @@ use Rattle.model.specs.declared.capabilities.TableMapping.{TableMapping}
 use Rattle.vspace.specs.Kept.{IsBeside, IsNamedTable}
 use Rattle.vspace.specs.Tables.{Holds, IsTable}
 
--- a table of 4096 bytes stands here, and each of its words is 0
+-- a table of 4096 bytes is here, and each of its words is 0
 pub record IsBlank (slots : Slots) (memory : List ℕ) (table : ℕ) : Type 0 where
   pub stands : IsTable slots memory table
   pub zero : (i : ℕ) → i < 2 ^ 10 → word_at memory (table + 4 * i) ≡ 0
 
--- a root table that no capability names yet may stand here: all its words are 0, and it is no page table
+-- a root table that no capability names yet may be here: all its words are 0, and it is no page table
 pub record IsNewRoot (slots : Slots) (memory : List ℕ) (root : ℕ) : Type 0 where
   pub blank : IsBlank slots memory root
   pub no_page_table : (slot : ℕ) (m : Option TableMapping) → capability_at slots slot ≢ PageTable root m
 
--- a page table may stand here: all its words are 0, and no capability names it yet, nor maps a page table under it
+-- a page table may be here: all its words are 0, and no capability names it yet, nor maps a page table under it
 pub record IsNewPageTable (slots : Slots) (memory : List ℕ) (table : ℕ) : Type 0 where
   pub blank : IsBlank slots memory table
   pub no_page_table : (slot : ℕ) (m : Option TableMapping) → capability_at slots slot ≢ PageTable table m
@@ -43,7 +43,7 @@ IsWithoutTables (PageTable table m) = ⊥
 IsWithoutTables (RootTable root) = ⊥
 IsWithoutTables capability = ⊤
 
--- the bytes of these slots stand in no table that a capability names
+-- the bytes of these slots are in no table that a capability names
 abbrev pub IsOutsideTables : Slots → ℕ → ℕ → Type 0
 IsOutsideTables slots first count =
     (table place : ℕ) → IsNamedTable slots table → first ≤ place / 16 → place / 16 < first + count → IsBeside place table

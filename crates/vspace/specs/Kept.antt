@@ -16,11 +16,11 @@ NamesTable capability table = ⊥
 abbrev pub IsNamedTable : Slots → ℕ → Type 0
 IsNamedTable slots table = (slot : ℕ) × NamesTable (capability_at slots slot) table
 
--- a byte stands before or behind a table
+-- a byte is before or after a table
 abbrev pub IsBeside : ℕ → ℕ → Type 0
 IsBeside place table = (place < table) ⊎ (table + page_size ≤ place)
 
--- the bytes that stand in no open slot and in no table that a capability names are the same
+-- the bytes that are in no open slot and in no table that a capability names are the same
 pub record SameBesideTables (slots : Slots) (old new : List ℕ) : Type 0 where
   pub size : length new ≡ length old
   pub bytes : (place : ℕ) → slots (place / 16) ≡ None → ((table : ℕ) → IsNamedTable slots table → IsBeside place table) → slice_index new place ≡ slice_index old place

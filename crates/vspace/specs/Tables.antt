@@ -1,4 +1,4 @@
--- How the page tables in machine memory stand for the mappings that capabilities hold.
+-- How the page tables in machine memory represent the mappings that capabilities hold.
 -- RISC-V Privileged Architecture, "Sv32: Page-Based 32-bit Virtual-Memory Systems".
 use Rattle.std.specs.Prelude.{ℕ, ◌≡◌, ◌≢◌, ◌+◌, ◌*◌, ◌/◌, ◌%◌, ◌^◌, ◌<◌, ◌≤◌, ◌⊎◌, Option, Some, None, option_and_then, List, length}
 use Rattle.model.specs.Shared.Bytes.{word_at}
@@ -16,7 +16,7 @@ use Rattle.model.specs.declared.rights.Rights.{Rights}
 abbrev pub Holds : Slots → Cap → Type 0
 Holds slots capability = (slot : ℕ) × (capability_at slots slot ≡ capability)
 
--- a table of 4096 bytes stands here, where no slot is
+-- a table of 4096 bytes is here, where no slot is
 pub record IsTable (slots : Slots) (memory : List ℕ) (table : ℕ) : Type 0 where
   pub aligned : table % 2 ^ 12 ≡ 0
   pub within : table + 2 ^ 12 ≤ length memory
@@ -42,7 +42,7 @@ pub record MapsFrame (slots : Slots) (root page : ℕ) : Type 0 where
 -- the tables in memory have the entries of the mappings that capabilities hold, and no other valid ones
 pub record TablesAgree (slots : Slots) (memory : List ℕ) : Type 0 where
   pub valid : (slot : ℕ) → IsCapability (capability_at slots slot)
-  -- root tables and page tables stand apart from slots
+  -- root tables and page tables are apart from slots
   pub roots : (slot root : ℕ) → capability_at slots slot ≡ RootTable root → IsTable slots memory root
   pub tables : (slot table : ℕ) (m : Option TableMapping) → capability_at slots slot ≡ PageTable table m → IsTable slots memory table
   -- a page table that is mapped has a pointer in its root table
@@ -67,6 +67,6 @@ pub record TablesAgree (slots : Slots) (memory : List ℕ) : Type 0 where
   pub mapped_apart : (a b t table : ℕ) (m : TableMapping) (n : Option TableMapping) → capability_at slots a ≡ PageTable t (Some m)
       → capability_at slots b ≡ PageTable table n → m.root ≢ table
 
--- none of the slots stands behind the end of a state's memory
+-- none of the slots is after the end of a state's memory
 abbrev pub AreNear : State → Slots → Type 0
 AreNear s slots = (slot : ℕ) → IsFull slots slot → slot < 2 ^ s.memory_bits / 16

@@ -41,7 +41,7 @@ pub fn a_capability_without_tables_may_change()
         → IsWithoutTables capability → IsCapability capability → TablesAgree (recapped slots slot capability) memory }
 {}
 
-/// Slots may be opened whose bytes stand in no table.
+/// Slots may be opened whose bytes are in no table.
 pub fn slots_may_be_opened()
     ensures { (slots : Slots) (memory : List ℕ) (first count : ℕ)
         → TablesAgree slots memory → ((slot : ℕ) → first ≤ slot → slot < first + count → slots slot ≡ None)
@@ -55,13 +55,13 @@ pub fn slots_may_be_closed()
         → TablesAgree (closed slots first count) memory }
 {}
 
-/// The bytes that stand in no table may change.
+/// The bytes that are in no table may change.
 pub fn bytes_beside_tables_may_change()
     ensures { (slots : Slots) (old new : List ℕ)
         → TablesAgree slots old → SameInTables slots old new → TablesAgree slots new }
 {}
 
-/// The bytes of slots may change: no table stands there.
+/// The bytes of slots may change: no table is there.
 pub fn bytes_of_slots_may_change()
     ensures { (slots : Slots) (old new : List ℕ)
         → TablesAgree slots old → SameOutside slots old new → TablesAgree slots new }

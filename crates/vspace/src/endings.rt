@@ -109,7 +109,7 @@ fn end_region<S: SlotStore>(store: &mut S, root: u32, region: u32)
 
 /// Unmaps all that is mapped in the page table or under the root table at an offset, which ends, and the
 /// page table itself: their entries in memory are cleared, and no capability says any more that it is
-/// mapped there. The table's own capability may stand in its slot still, or have gone before: where none
+/// mapped there. The table's own capability may be in its slot still, or have gone before: where none
 /// names the table any more, exactly the mappings under a root table go.
 pub fn end_tables<S: SlotStore>(store: &mut S, offset: u32)
     requires agree { TablesAgree (S.slots store.old) (S.memory store.old) }

@@ -1,4 +1,4 @@
--- The entries that are read tell what capabilities map.
+-- The entries that are read say what capabilities map.
 use Rattle.std.proofs.Common.{◌∙◌, ◌/◌, ◌%◌, ◌^◌, sym, arith}
 use Rattle.vspace.proofs.Places.{entry-near, none-there, page-free, page-taken, table-stands, table-there}
 use Rattle.vspace.proofs.frames.free_entry.Goals as goal

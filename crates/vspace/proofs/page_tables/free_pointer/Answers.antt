@@ -1,4 +1,4 @@
--- The entry that is read tells what capabilities map.
+-- The entry that is read says what capabilities map.
 use Rattle.std.proofs.Common.{◌∙◌, sym, ap}
 use Rattle.std.specs.Option.{is_some}
 use Rattle.vspace.proofs.TableOutcomes.{pointer-free, pointer-taken}
