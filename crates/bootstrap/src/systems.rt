@@ -24,9 +24,13 @@ use kernel_machine::Machine;
 use model::{BootFault, ImageHeader, UntypedEntry};
 use std::alloc::Global;
 
-/// Loads an image into a new machine by kernel calls alone. Nothing is left of a machine that could not be loaded.
+/// Loads an image into a new machine by kernel calls alone.
 ///
 /// seL4 Reference Manual, "System Bootstrapping"; the calls and their order are this project's own.
+///
+/// # Errors
+///
+/// What kept the image from being loaded ([`BootFault`]). Nothing is left of the machine then.
 pub fn load_unverified(alloc: Global, image: &ImageRef<'_>) -> Result<Machine, BootFault>
     ensures loaded { IfOk result (λ machine. booted image.now ≡ Ok (state_in machine)) }
     ensures fault { IfErr result (λ fault. (fault ≡ OutOfMemory) ⊎ (booted image.now ≡ Err fault)) }

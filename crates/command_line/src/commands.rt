@@ -23,6 +23,10 @@ pub struct Form<'a> {
 }
 
 /// What the words after a program's name say, if it has these commands.
+///
+/// # Errors
+///
+/// The words are no request, or memory is refused.
 pub fn matches<'a, S: AsStr>(
     alloc: Global,
     name: &'a str,

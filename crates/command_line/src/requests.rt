@@ -44,6 +44,10 @@ pub enum Request<'a> {
 }
 
 /// The request that the words after the program's name make.
+///
+/// # Errors
+///
+/// The words are no request, or memory is refused.
 pub fn parse<'a, S: AsStr>(alloc: Global, words: &'a [S]) -> Result<Request<'a>, WordsFault> {
     let matches = matches(alloc, "microsys", &COMMANDS, words)?;
     requested(&matches).ok_or(WordsFault::Usage)

@@ -11,8 +11,11 @@ use crate::lookup;
 use model::{Cap, KError, LookupFailure, Slot, SlotName};
 use slots::{SlotMap, is_taken};
 
-/// The slot of this name in the capability space of a root. The depth is out of its range
-/// (`RangeError`), or the lookup fails or leaves bits of the name over (`FailedLookup`).
+/// The slot of this name in the capability space of a root.
+///
+/// # Errors
+///
+/// The depth is out of its range (`RangeError`), or the lookup fails or leaves bits of the name over (`FailedLookup`).
 pub fn argument_slot<S: SlotMap>(slots: &S, root: Cap, name: SlotName) -> Result<Slot, KError>
     requires { IsCapability root }
     ensures { result ≡ argument_slot (S.slots slots.now) root name }
@@ -26,8 +29,11 @@ pub fn argument_slot<S: SlotMap>(slots: &S, root: Cap, name: SlotName) -> Result
     }
 }
 
-/// The slot of this name, which has to hold a capability: errors as [`argument_slot`] has them, and then
-/// an empty slot is a `FailedLookup`.
+/// The slot of this name, which has to hold a capability.
+///
+/// # Errors
+///
+/// Those of [`argument_slot`]; then, the slot is empty (`FailedLookup`).
 pub fn source_slot<S: SlotMap>(slots: &S, root: Cap, name: SlotName) -> Result<Slot, KError>
     requires { IsCapability root }
     ensures value { result ≡ source_slot (S.slots slots.now) root name }
@@ -41,8 +47,11 @@ pub fn source_slot<S: SlotMap>(slots: &S, root: Cap, name: SlotName) -> Result<S
     }
 }
 
-/// The slot of this name, which has to be empty: errors as [`argument_slot`] has them, and then a slot
-/// that holds a capability is a `DeleteFirst`.
+/// The slot of this name, which has to be empty.
+///
+/// # Errors
+///
+/// Those of [`argument_slot`]; then, the slot holds a capability (`DeleteFirst`).
 pub fn destination_slot<S: SlotMap>(slots: &S, root: Cap, name: SlotName) -> Result<Slot, KError>
     requires { IsCapability root }
     ensures { result ≡ destination_slot (S.slots slots.now) root name }
@@ -55,8 +64,11 @@ pub fn destination_slot<S: SlotMap>(slots: &S, root: Cap, name: SlotName) -> Res
     }
 }
 
-/// The slot that a system call names, with all 32 bits of the address to be used; bits that are left over
-/// are ignored. The error is that of the lookup, and then an empty slot is a missing capability.
+/// The slot that a system call names, with all 32 bits of the address to be used; bits that are left over are ignored.
+///
+/// # Errors
+///
+/// That of the lookup; then, the slot is empty (a missing capability).
 pub fn called_slot<S: SlotMap>(slots: &S, root: Cap, address: u32) -> Result<Slot, LookupFailure>
     requires { IsCapability root }
     ensures value { result ≡ called_slot (S.slots slots.now) root address }

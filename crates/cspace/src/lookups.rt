@@ -50,9 +50,13 @@ fn resolve(node: Node, address: u32, left: u32) -> Result<(u32, u32), LookupFail
     Ok((bits_of(address, rest, u32::from(node.radix)), rest))
 }
 
-/// The slot that the low `depth` bits of an address name in the capability space of a root, and how
-/// many bits are left after it. The address is read from its high end; the lookup ends where no bits
-/// are left, or in front of a slot that holds no CNode.
+/// The slot that the low `depth` bits of an address name in the capability space of a root, and how many bits are left after
+/// it. The address is read from its high end; the lookup ends where no bits are left, or in front of a slot that holds no
+/// CNode.
+///
+/// # Errors
+///
+/// Where the lookup fails and why, with how many bits were left there ([`LookupFailure`]).
 pub fn lookup<S: SlotMap>(
     slots: &S,
     root: Cap,

@@ -12,8 +12,11 @@ ghost use Rattle.model.specs.declared.capabilities.Cap.TheVariants.{Empty};
 use model::{Cap, KError, Slot};
 use slots::SlotStore;
 
-/// Puts a capability into an empty slot, as a child of another. It is an illegal operation where the
-/// child would be deeper than 255; then nothing changes.
+/// Puts a capability into an empty slot, as a child of another.
+///
+/// # Errors
+///
+/// The child would be deeper than 255 (`IllegalOperation`). Nothing changes then.
 pub fn insert_child<S: SlotStore>(
     store: &mut S,
     slot: Slot,

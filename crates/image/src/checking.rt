@@ -27,8 +27,11 @@ impl Model for Image {
 }
 
 impl Image {
-    /// The image of these parts. Where a field is out of its range or its order, the parts are handed
-    /// back as they were.
+    /// The image of these parts.
+    ///
+    /// # Errors
+    ///
+    /// The parts as they were, where a field is out of its range or its order.
     pub fn checked(parts: Parts) -> Result<Image, Parts>
         ensures ok { IfOk result (λ image. (image ≡ parts) × (whole_image.fits parts ≡ true)) }
         ensures err { IfErr result (λ back. (back ≡ parts) × (whole_image.fits parts ≡ false)) }

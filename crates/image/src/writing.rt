@@ -14,6 +14,10 @@ use std::alloc::{AllocError, Global};
 const MAGIC: u32 = 0x5359_534D;
 
 /// The bytes of an image: its one spelling.
+///
+/// # Errors
+///
+/// Memory may be refused.
 pub fn write(alloc: Global, image: &Image) -> Result<Vec<u8>, AllocError>
     ensures bytes { IfOk result (λ bytes. bytes.items ≡ whole_image.spelling image.now) }
     ensures spelled { IfOk result (λ bytes. IsSpelling whole_image bytes.items image.now) }

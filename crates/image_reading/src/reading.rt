@@ -369,7 +369,11 @@ fn image_at(bytes: &[u8]) -> Result<(ImageRef<'_>, usize), Refusal>
     Ok((image, end))
 }
 
-/// The image that the bytes spell, all of them, or what is refused first.
+/// The image that the bytes spell, all of them.
+///
+/// # Errors
+///
+/// What is refused first, from 1 to 5.
 pub fn read(bytes: &[u8]) -> Result<ImageRef<'_>, Refusal>
     ensures { result ≡ reading whole_image bytes.now }
 {

@@ -6,12 +6,13 @@ ghost use Rattle.model.specs.Kernel.CallForms.{decode, form_of};
 use crate::calls::call_of;
 use model::{Cap, Invocation, KError};
 
-/// The call that a message makes on a capability: its label names the call, `extra_capabilities` are
-/// those that it carries, and `words` are those within its length. Further words are ignored.
+/// The call that a message makes on a capability: its label names the call, `extra_capabilities` are those that it carries,
+/// and `words` are those within its length. Further words are ignored.
 ///
-/// The first check that fails gives the error: the message carries capabilities (`TruncatedMessage`),
-/// the capability has no call of this label (`IllegalOperation`), or fewer words than the call lists
-/// (`TruncatedMessage`).
+/// # Errors
+///
+/// The first check that fails gives the error: the message carries capabilities (`TruncatedMessage`), the capability has no
+/// call of this label (`IllegalOperation`), or fewer words than the call lists (`TruncatedMessage`).
 #[tactic(auto, using(crate::proofs::Decoded::decoded))]
 pub fn decode_call(
     capability: Cap,

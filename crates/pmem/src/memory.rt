@@ -28,6 +28,10 @@ impl Model for Mem {
 
 impl Mem {
     /// Memory of 2^`bits` bytes, all zero.
+    ///
+    /// # Errors
+    ///
+    /// Memory may be refused.
     pub fn new(alloc: Global, bits: u32) -> Result<Self, AllocError>
         requires least { 16 ≤ bits }
         requires most { bits ≤ 24 }

@@ -42,6 +42,10 @@ enum Line {
 }
 
 /// The events of a list: lines `step`, `step N`, `tick` and `irq N`, empty lines and comments.
+///
+/// # Errors
+///
+/// The first line that is none of these, or memory is refused.
 pub fn events(alloc: Global, bytes: &[u8]) -> Result<Vec<Event>, EventsFault>
     ensures most { IfOk result (λ events. length events.items ≤ 1000000) }
 {

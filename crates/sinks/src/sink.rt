@@ -129,8 +129,11 @@ impl<W: Write + Drop> Sink for WriterSink<W> {
     }
 }
 
-/// Puts all of the bytes, in as many pieces as the sink wants. An `Err` is a piece of which it took
-/// nothing; what it took before is a beginning of the bytes.
+/// Puts all of the bytes, in as many pieces as the sink wants.
+///
+/// # Errors
+///
+/// A piece of which it took nothing; what it took before is a beginning of the bytes.
 pub fn put_all<S: Sink>(sink: &mut S, bytes: &[u8]) -> Result<(), SinkFault>
     ensures ok { OnOk result (Grows (S.contents sink.old) (S.contents sink.new) bytes.now) }
     ensures err { OnErr result (GrowsByBeginning (S.contents sink.old) (S.contents sink.new) bytes.now) }

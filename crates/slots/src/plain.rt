@@ -32,6 +32,10 @@ impl Model for PlainSlots {
 
 impl PlainSlots {
     /// Memory of 2^`bits` bytes, all zero, and no open slot.
+    ///
+    /// # Errors
+    ///
+    /// Memory may be refused.
     pub fn new(alloc: Global, bits: u32) -> Result<Self, AllocError>
         requires least { 16 ≤ bits }
         requires most { bits ≤ 24 }

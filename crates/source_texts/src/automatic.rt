@@ -27,6 +27,10 @@ fn put_thread(text: &mut String, line: &str) -> Result<(), AllocError> {
 }
 
 /// The text with the budget 1 for each one that is to be found. Its lines are where they were.
+///
+/// # Errors
+///
+/// Memory may be refused.
 pub fn with_budgets(alloc: Global, text: &str) -> Result<Budgets, AllocError> {
     let mut budgets = Budgets {
         text: String::new(alloc),

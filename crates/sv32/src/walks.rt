@@ -70,9 +70,12 @@ fn translate(memory: &Mem, root: u32, address: u32, access: Access) -> Option<u3
     }
 }
 
-/// The offset in memory of the byte that a virtual address names for an access, under the root table
-/// at the offset `root`. All 34 bits of a physical address count: a table or a byte that memory does
-/// not have is a page fault.
+/// The offset in memory of the byte that a virtual address names for an access, under the root table at the offset `root`.
+///
+/// # Errors
+///
+/// A page fault: no leaf with the right is there. All 34 bits of a physical address count: a table or a byte that memory does
+/// not have is a page fault, too.
 pub fn walk(memory: &Mem, root: u32, address: u32, access: Access) -> Result<u32, PageFault>
     ensures { result ≡ ok_or (walk memory.now root address access) page_fault }
 {

@@ -49,6 +49,10 @@ pub enum ToolRequest<'a> {
 }
 
 /// The request that the words after the program's name make.
+///
+/// # Errors
+///
+/// The words are no request, or memory is refused.
 pub fn parse_words<'a, S: AsStr>(
     alloc: Global,
     words: &'a [S],

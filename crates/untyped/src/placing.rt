@@ -26,9 +26,13 @@ fn size_of_bits(bits: u8) -> u64
     1u64 << bits
 }
 
-/// Where `count` objects of 2^`object_bits` bytes lie after the watermark of an untyped of
-/// 2^`bits` bytes: the place of the first one within the untyped, and the new watermark, after the
-/// last. The objects are aligned to their size and lie one after another.
+/// Where `count` objects of 2^`object_bits` bytes lie after the watermark of an untyped of 2^`bits` bytes: the place of the
+/// first one within the untyped, and the new watermark, after the last. The objects are aligned to their size and lie one
+/// after another.
+///
+/// # Errors
+///
+/// They do not fit (`NotEnoughMemory`).
 pub fn place(
     bits: u8,
     watermark: u32,

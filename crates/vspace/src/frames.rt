@@ -56,8 +56,11 @@ pub fn may_be_mapped(rights: Rights) -> bool
     rights.contains(Rights::READ) || rights.contains(Rights::EXECUTE)
 }
 
-/// The number of the page at an address that can be mapped: a multiple of 4096 (else `AlignmentError`) in the lower half (else
-/// `InvalidArgument`).
+/// The number of the page at an address that can be mapped.
+///
+/// # Errors
+///
+/// The address is no multiple of 4096 (`AlignmentError`), or not in the lower half (`InvalidArgument`).
 pub fn page_named(address: u32) -> Result<u32, KError>
     ensures value { result ≡ page_named address }
     ensures near { IfOk result (λ page. page < 2 ^ 19) }
@@ -140,14 +143,15 @@ fn leaf_word(frame: u32, rights: Rights) -> u32
     Pte::leaf(frame, rights).0
 }
 
-/// Maps a frame at a page, in the page table of its region under the named root table. `rights` is a
-/// rights word; the mapping has those of them that the capability allows.
+/// Maps a frame at a page, in the page table of its region under the named root table. `rights` is a rights word; the mapping
+/// has those of them that the capability allows.
 ///
-/// The first check that fails gives the error: the capability is mapped already or the named slot
-/// holds no root table (`InvalidCapability`), the name is wrong (`RangeError`, `FailedLookup`), the
-/// address is in the upper half (`InvalidArgument`) or inside a page (`AlignmentError`), no page table
-/// is there (`FailedLookup`), the page is taken (`DeleteFirst`), neither read nor execute is left
-/// (`InvalidArgument`). Nothing changes then.
+/// # Errors
+///
+/// The first check that fails gives the error: the capability is mapped already or the named slot holds no root table
+/// (`InvalidCapability`), the name is wrong (`RangeError`, `FailedLookup`), the address is in the upper half
+/// (`InvalidArgument`) or inside a page (`AlignmentError`), no page table is there (`FailedLookup`), the page is taken
+/// (`DeleteFirst`), neither read nor execute is left (`InvalidArgument`). Nothing changes then.
 pub fn map_frame<S: SlotStore>(
     store: &mut S,
     cspace: Cap,

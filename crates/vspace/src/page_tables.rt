@@ -90,10 +90,11 @@ fn pointer_word(table: u32) -> u32
 
 /// Maps a page table for a region of 4 MiB under the named root table.
 ///
-/// The first check that fails gives the error: the capability is mapped already or the named slot
-/// holds no root table (`InvalidCapability`), the name is wrong (`RangeError`, `FailedLookup`), the
-/// address is in the upper half (`InvalidArgument`) or inside a region (`AlignmentError`), the region
-/// is taken (`DeleteFirst`). Nothing changes then.
+/// # Errors
+///
+/// The first check that fails gives the error: the capability is mapped already or the named slot holds no root table
+/// (`InvalidCapability`), the name is wrong (`RangeError`, `FailedLookup`), the address is in the upper half
+/// (`InvalidArgument`) or inside a region (`AlignmentError`), the region is taken (`DeleteFirst`). Nothing changes then.
 pub fn map_table<S: SlotStore>(
     store: &mut S,
     cspace: Cap,

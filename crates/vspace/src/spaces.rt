@@ -12,8 +12,12 @@ use model::{Access, Cap, PageFault};
 use slots::SlotStore;
 use sv32::walk;
 
-/// The place in memory that a virtual address names for an access under a root table: the byte of the
-/// frame that a capability maps at its page, if the mapping has the right.
+/// The place in memory that a virtual address names for an access under a root table: the byte of the frame that a capability
+/// maps at its page.
+///
+/// # Errors
+///
+/// No capability maps a frame there with the right (`PageFault`).
 pub fn place_under<S: SlotStore>(
     store: &S,
     root: u32,

@@ -64,6 +64,10 @@ impl NumberSet {
     }
 
     /// Puts a number in, after the others, if it is not there.
+    ///
+    /// # Errors
+    ///
+    /// Memory may be refused.
     pub fn insert(&mut self, number: u32) -> Result<(), Refusal>
         ensures put { OnOk result (self.new ≡ (if is_member number self.old then self.old else self.old ++ number ∷ [])) }
         ensures memory { IfErr result (λ refusal. refusal ≡ OutOfMemory) }

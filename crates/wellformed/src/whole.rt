@@ -25,8 +25,12 @@ fn check_phases(alloc: Global, image: &ImageRef<'_>) -> Result<(), Refusal>
     check_threads(alloc, image)
 }
 
-/// Whether the image is well formed: whether its untypeds, objects, capabilities, mappings and threads keep their rules, before
-/// any program is looked at. An `Err` names the first rule that is broken, phase after phase, or says that memory was refused.
+/// Whether the image is well formed: whether its untypeds, objects, capabilities, mappings and threads keep their rules,
+/// before any program is looked at.
+///
+/// # Errors
+///
+/// The first rule that is broken, phase after phase, or that memory was refused.
 pub fn well_formed(alloc: Global, image: &ImageRef<'_>) -> Result<(), Refusal>
     // No rule is broken.
     ensures formed { OnOk result (IsWellFormed image.now) }

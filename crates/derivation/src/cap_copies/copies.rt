@@ -113,7 +113,11 @@ fn with_payload(capability: Cap, payload: u32) -> Cap
     }
 }
 
-/// A copy of a capability, if it may be copied (`IllegalOperation`).
+/// A copy of a capability.
+///
+/// # Errors
+///
+/// The capability may not be copied (`IllegalOperation`).
 pub fn copy_of(held: Cap, rights_word: u32) -> Result<Cap, KError>
     ensures value { result ≡ copy_of held rights_word }
     ensures kin { IfOk result (λ copy. object_of copy ≡ object_of held) }
@@ -125,9 +129,12 @@ pub fn copy_of(held: Cap, rights_word: u32) -> Result<Cap, KError>
     Ok(copied(held, rights_word))
 }
 
-/// A copy with a badge or a guard word. The first check that fails gives the error: the capability may
-/// not be copied or has a badge already (`IllegalOperation`), the badge is too great (`RangeError`), the
-/// guard word is none of the CNode (`IllegalOperation`).
+/// A copy with a badge or a guard word.
+///
+/// # Errors
+///
+/// The first check that fails gives the error: the capability may not be copied or has a badge already (`IllegalOperation`),
+/// the badge is too great (`RangeError`), the guard word is none of the CNode (`IllegalOperation`).
 pub fn minted_copy_of(held: Cap, rights_word: u32, payload: u32) -> Result<Cap, KError>
     ensures value { result ≡ minted_copy_of held rights_word payload }
     ensures kin { IfOk result (λ copy. object_of copy ≡ object_of held) }
@@ -145,8 +152,11 @@ pub fn minted_copy_of(held: Cap, rights_word: u32, payload: u32) -> Result<Cap, 
     Ok(with_payload(copied(held, rights_word), payload))
 }
 
-/// The capability with another guard word, if it names a CNode. It is an illegal operation on an
-/// endpoint and a notification, and with a guard word that is none of the CNode.
+/// The capability with another guard word, if it names a CNode.
+///
+/// # Errors
+///
+/// It is an endpoint's or a notification's, or the guard word is none of the CNode (`IllegalOperation`).
 pub fn mutation_of(held: Cap, payload: u32) -> Result<Cap, KError>
     ensures value { result ≡ mutation_of held payload }
     ensures kin { IfOk result (λ left. object_of left ≡ object_of held) }

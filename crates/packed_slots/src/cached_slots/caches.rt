@@ -157,6 +157,10 @@ impl Tlb {
 
     /// The offset in memory of the byte that a virtual address names for an access, under the root table at the offset
     /// `root`, as [`sv32::walk`] has it. Asks that what is kept lies in memory.
+    ///
+    /// # Errors
+    ///
+    /// No entry or leaf is there for the access (`PageFault`).
     pub fn walk(
         &self,
         memory: &Mem,
