@@ -1,5 +1,7 @@
 //! Files by their names, read and written whole.
 
+mod streams;
 mod whole;
 
+pub use streams::{FileCause, STANDARD, StreamFault, read_file, read_stream, write_file};
 pub use whole::{FileFault, read_bytes, read_text, write_bytes};

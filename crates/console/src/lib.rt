@@ -8,5 +8,8 @@ mod reports;
 
 pub use arguments::words;
 pub use command_line::WordsFault;
-pub use files::{FileFault, read_bytes, read_text, write_bytes};
+pub use files::{
+    FileCause, FileFault, STANDARD, StreamFault, read_bytes, read_file, read_stream, read_text,
+    write_bytes, write_file,
+};
 pub use reports::{DONE, REFUSED, failed, refused, wrong_words};
