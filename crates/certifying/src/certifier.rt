@@ -72,7 +72,7 @@ pub enum Unfit {
 
 impl Unfit {
     /// What is wrong with a thread.
-    fn of_thread(thread: u32, fault: Fault) -> Self {
+    pub(crate) fn of_thread(thread: u32, fault: Fault) -> Self {
         match fault {
             Fault::At { point, reason } => Unfit::Thread {
                 thread,
@@ -262,7 +262,7 @@ fn all_bounds(
 
 impl Given<'_, '_> {
     /// The thread's certificate.
-    fn certificate(&self) -> Result<Certificate, Fault>
+    pub(crate) fn certificate(&self) -> Result<Certificate, Fault>
         requires { IsGiven self.now.space self.now.slots.now self.now.lists_stray }
     {
         let Flow { table, ways } = self.flow()?;
@@ -273,7 +273,7 @@ impl Given<'_, '_> {
     }
 
     /// The graph of the program's ways.
-    fn graph(&self, table: &Table<'_, '_>, ways: Vec<Way>) -> Result<Graph, Fault> {
+    pub(crate) fn graph(&self, table: &Table<'_, '_>, ways: Vec<Way>) -> Result<Graph, Fault> {
         let bounds = all_bounds(self.alloc, self.count(), table)?;
         let entry = self.space.thread.header().entry;
         Graph::new(self.alloc, self.count(), entry, ways, bounds)
@@ -298,7 +298,11 @@ impl Given<'_, '_> {
     }
 
     /// The changes of slots at a point.
-    fn changes_at(&self, table: &Table<'_, '_>, point: u32) -> Result<Vec<NotedSlot>, Fault>
+    pub(crate) fn changes_at(
+        &self,
+        table: &Table<'_, '_>,
+        point: u32,
+    ) -> Result<Vec<NotedSlot>, Fault>
         requires { IsGiven self.now.space self.now.slots.now self.now.lists_stray }
     {
         match table.state(point) {
@@ -367,7 +371,7 @@ impl Given<'_, '_> {
 }
 
 /// Whether a thread's certificate has records.
-fn has_records(thread: &ThreadRef<'_>) -> bool
+pub(crate) fn has_records(thread: &ThreadRef<'_>) -> bool
     ensures { result ≡ false → thread.now.records ≡ [] }
 {
     thread.records().next().is_some()

@@ -97,7 +97,7 @@ struct Round {
 #[derive(Drop)]
 pub(crate) struct Counting {
     graph: Graph,
-    loops: Loops,
+    pub(crate) loops: Loops,
     costs: Costs,
 }
 
@@ -557,7 +557,7 @@ impl Counting {
     }
 
     /// Finds the costs of a loop, and keeps them.
-    fn solve(&mut self, number: usize) -> Result<(), Fault> {
+    pub(crate) fn solve(&mut self, number: usize) -> Result<(), Fault> {
         let header = match self.loops.all.get(number) {
             Some(one) => one.header,
             None => return Ok(()),

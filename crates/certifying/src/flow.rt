@@ -192,7 +192,7 @@ impl<'a, 's> Given<'a, 's> {
 
     /// Follows the ways on from a point, and answers which point is looked at next: the first of those that they change, or the
     /// next one.
-    fn follow(&self, table: &mut Table<'_, '_>, point: u32) -> Result<u32, Fault>
+    pub(crate) fn follow(&self, table: &mut Table<'_, '_>, point: u32) -> Result<u32, Fault>
         requires { IsGiven self.now.space self.now.slots.now self.now.lists_stray }
     {
         let next = point.saturating_add(1);
@@ -350,7 +350,7 @@ impl<'a, 's> Given<'a, 's> {
     }
 
     /// What is known of all points before any way is followed.
-    fn begun(&self) -> Result<Table<'a, 's>, Fault>
+    pub(crate) fn begun(&self) -> Result<Table<'a, 's>, Fault>
         requires { IsGiven self.now.space self.now.slots.now self.now.lists_stray }
     {
         let mut table = Table::new(*self, self.count())?;
@@ -361,7 +361,7 @@ impl<'a, 's> Given<'a, 's> {
     }
 
     /// Narrows all ranges until none changes.
-    fn narrow_all(&self, table: &mut Table<'_, '_>) -> Result<(), Fault>
+    pub(crate) fn narrow_all(&self, table: &mut Table<'_, '_>) -> Result<(), Fault>
         requires { IsGiven self.now.space self.now.slots.now self.now.lists_stray }
     {
         let mut round = self.narrow(table, None)?;
@@ -392,7 +392,7 @@ impl<'a, 's> Given<'a, 's> {
 }
 
 /// Adds ways behind others.
-fn add_ways(all: &mut Vec<Way>, ways: &Ways) -> Result<(), Fault> {
+pub(crate) fn add_ways(all: &mut Vec<Way>, ways: &Ways) -> Result<(), Fault> {
     if let Some(way) = ways.next {
         all.push(way)?;
     }

@@ -5,6 +5,7 @@ mod calls;
 mod certifier;
 mod costs;
 mod faults;
+mod findings;
 mod flow;
 mod forms;
 mod graph;
@@ -19,3 +20,4 @@ mod ways;
 
 pub use certifier::{Certificate, Effort, Record, Unfit, certificates};
 pub use faults::{Fault, Reason};
+pub use findings::{Finding, ThreadFindings, findings_in};
