@@ -1,8 +1,6 @@
 -- The slots that were looked at last.
 use Rattle.std.specs.Prelude.{◌≡◌, Bool, true, List}
-use Rattle.certifying.specs.Given.{IsGiven}
 use Rattle.certifying.specs.declared.calls.Given.{Given}
-use Rattle.model.specs.Acceptance.NotedStates.{NotedSlot}
 use Rattle.typestate.specs.Differences.{changed}
 use Rattle.typestate.specs.Logs.{Shows}
 use Rattle.typestate.specs.Strays.{NoneStray}
@@ -11,7 +9,6 @@ use Rattle.typestate.specs.declared.logs.Part.{Part}
 use Rattle.typestate.specs.declared.logs.ShownPart.{ShownPart}
 
 pub record IsLookedAt (given : Given) (log : List LogEntry) (part : Part) (shown : ShownPart) (known clean : Bool) : Type 0 where
-  pub given_is : IsGiven given.space given.slots.now given.lists_stray
   -- a part of the log is shown, where it is known
   pub shows : known ≡ true → Shows log part shown
   pub none_stray : clean ≡ true → NoneStray given.space.image.now given.space.thread.now (changed given.slots.now shown.changes)

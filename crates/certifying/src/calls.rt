@@ -1,6 +1,12 @@
 //! What system calls leave, by the rules of acceptance.
 
-ghost use Rattle.certifying.specs.Given.{IsGiven};
+ghost use Rattle.std.specs.Prelude.{◌≡◌, [], Some, slice_get};
+ghost use Rattle.std.specs.List.{list_any};
+ghost use Rattle.model.specs.Acceptance.Accepted.{IsWellFormed};
+ghost use Rattle.model.specs.Acceptance.NotedStates.{image_slots};
+ghost use Rattle.typestate.specs.Orders.{Rise};
+ghost use Rattle.typestate.specs.Strays.{is_stray_in};
+ghost use Rattle.typestate.specs.Unlinked.{AreUnlinked};
 
 use crate::shared::{Called, Shared, Stretch};
 use crate::tables::are_same_changes;
@@ -21,6 +27,15 @@ pub(crate) struct Given<'a, 's> {
     pub(crate) lists_stray: bool,
     pub(crate) effort: Effort,
     pub(crate) alloc: Global,
+    ghost formed: { IsWellFormed space.image.now },
+    ghost place: { slice_get space.image.now.threads number ≡ Some space.thread.now },
+    ghost listed: { slots.now ≡ image_slots space.image.now space.thread.now },
+    ghost rising: { Rise slots.now },
+    ghost unlinked: { AreUnlinked slots.now },
+    // Of the slots that the image lists, each by itself.
+    ghost told: { lists_stray ≡ list_any (is_stray_in space []) slots.now },
+    // Its certificate has no records.
+    ghost bare: { space.thread.now.records ≡ [] },
 }
 
 /// The changes that make a difference to the image's slots.
@@ -67,9 +82,7 @@ impl Given<'_, '_> {
     }
 
     /// Those of some changes that make a difference to the image's slots, of several to one slot the last, in the order of their keys.
-    pub(crate) fn told(&self, changes: &[LogEntry]) -> Result<Vec<NotedSlot>, Fault>
-        requires { IsGiven self.now.space self.now.slots.now self.now.lists_stray }
-    {
+    pub(crate) fn told(&self, changes: &[LogEntry]) -> Result<Vec<NotedSlot>, Fault> {
         let mut log = SlotLog::new(self.alloc);
         let part = log.follow(Part { first: 0, end: 0 }, changes)?;
         let left = log.shown(part)?;
@@ -82,9 +95,7 @@ impl Given<'_, '_> {
         shared: &mut Shared<'_, '_>,
         one: Stretch,
         other: Stretch,
-    ) -> Result<bool, Fault>
-        requires { IsGiven self.now.space self.now.slots.now self.now.lists_stray }
-    {
+    ) -> Result<bool, Fault> {
         if shared.are_known_same(one, other) {
             return Ok(true);
         }

@@ -3,7 +3,6 @@
 ghost use Rattle.std.specs.Prelude.{◌≡◌, ◌<◌, [], false};
 ghost use Rattle.model.specs.Acceptance.Accepted.{IsWellFormed};
 ghost use Rattle.thread_spaces.specs.Given.{AreOffsets};
-ghost use Rattle.certifying.specs.Given.{IsGiven};
 
 use crate::calls::Given;
 use crate::costs::{Costs, Counting, cost_at};
@@ -66,7 +65,7 @@ pub enum Unfit {
         point: u32,
         reason: Reason,
     },
-    /// Memory was refused.
+    /// Out of memory.
     OutOfMemory,
 }
 
@@ -169,8 +168,8 @@ fn writes_term(way: &Way, cost: &Form) -> bool {
     false
 }
 
-/// The measure that the rules take for the next point behind a way, where no record stands there: behind a wait the budget, and else
-/// one less. None, where the way writes a register of the measure.
+/// The measure that the rules take for the next point after a way, if it has no record: after a wait the budget, and else one less.
+/// None, where the way writes a register of the measure.
 fn following(way: &Way, measure: Option<Form>, budget: i64) -> Option<Form> {
     if way.is_wait {
         return Some(Form::constant(budget));
@@ -191,8 +190,8 @@ fn suffices(graph: &Graph, costs: &Costs, point: u32, measure: Option<Form>) -> 
     }
 }
 
-/// Marks the points where no measure follows from the point before, or one that is not enough: so behind a register of the measure
-/// that is written, and behind a copy on which the measure goes on.
+/// Marks the points where no measure follows from the point before, or one that is not enough: so after a register of the measure
+/// is written, and after a copy on which the measure goes on.
 fn mark_behind_writes(graph: &Graph, costs: &Costs, budget: i64, marks: &mut Vec<bool>) {
     let mut measure = None;
     'ways: for way in &graph.ways {
@@ -223,7 +222,7 @@ fn marked_points(graph: &Graph, costs: &Costs, budget: i64) -> Result<Vec<bool>,
     Ok(marks)
 }
 
-/// The least budget: what the entry has to have with the registers at the start, and what stands behind waits.
+/// The least budget: what the entry has to have with the registers at the start, and what points after waits have to have.
 fn budget_of(graph: &Graph, costs: &Costs, start: &Bounds) -> u64 {
     let mut most = 1;
     if let Some(cost) = cost_at(costs, graph.entry) {
@@ -262,18 +261,36 @@ fn all_bounds(
 
 impl Given<'_, '_> {
     /// The thread's certificate.
-    pub(crate) fn certificate(&self) -> Result<Certificate, Fault>
-        requires { IsGiven self.now.space self.now.slots.now self.now.lists_stray }
-    {
+    fn certificate(&self) -> Result<Certificate, Fault> {
         let Flow { table, ways } = self.flow()?;
-        let graph = self.graph(&table, ways)?;
+        let mut counting = self.counting(&table, ways)?;
+        counting.solve_all()?;
+        self.certificate_by(counting, &table)
+    }
+
+    /// The program's ways and loops, whose costs are not known.
+    pub(crate) fn counting(
+        &self,
+        table: &Table<'_, '_>,
+        ways: Vec<Way>,
+    ) -> Result<Counting, Fault> {
+        let graph = self.graph(table, ways)?;
         let loops = Loops::of(&graph)?;
-        let (graph, costs) = Counting::new(graph, loops)?.finish()?;
-        self.certified(&graph, &costs, &table)
+        Counting::new(graph, loops)
+    }
+
+    /// The thread's certificate, by the costs of all loops.
+    pub(crate) fn certificate_by(
+        &self,
+        counting: Counting,
+        table: &Table<'_, '_>,
+    ) -> Result<Certificate, Fault> {
+        let (graph, costs) = counting.finish()?;
+        self.certified(&graph, &costs, table)
     }
 
     /// The graph of the program's ways.
-    pub(crate) fn graph(&self, table: &Table<'_, '_>, ways: Vec<Way>) -> Result<Graph, Fault> {
+    fn graph(&self, table: &Table<'_, '_>, ways: Vec<Way>) -> Result<Graph, Fault> {
         let bounds = all_bounds(self.alloc, self.count(), table)?;
         let entry = self.space.thread.header().entry;
         Graph::new(self.alloc, self.count(), entry, ways, bounds)
@@ -302,9 +319,7 @@ impl Given<'_, '_> {
         &self,
         table: &Table<'_, '_>,
         point: u32,
-    ) -> Result<Vec<NotedSlot>, Fault>
-        requires { IsGiven self.now.space self.now.slots.now self.now.lists_stray }
-    {
+    ) -> Result<Vec<NotedSlot>, Fault> {
         match table.state(point) {
             Some(state) => self.told(table.shared.part(state.changes)),
             None => Ok(Vec::new(self.alloc)),
@@ -319,9 +334,7 @@ impl Given<'_, '_> {
         needs: &[Registers],
         table: &Table<'_, '_>,
         marks: &[bool],
-    ) -> Result<Vec<Record>, Fault>
-        requires { IsGiven self.now.space self.now.slots.now self.now.lists_stray }
-    {
+    ) -> Result<Vec<Record>, Fault> {
         let mut records = Vec::new(graph.alloc);
         'points: for point in 0..graph.count {
             if let (true, Some(cost), Some(bounds)) = (
@@ -347,9 +360,7 @@ impl Given<'_, '_> {
         graph: &Graph,
         costs: &Costs,
         table: &Table<'_, '_>,
-    ) -> Result<Certificate, Fault>
-        requires { IsGiven self.now.space self.now.slots.now self.now.lists_stray }
-    {
+    ) -> Result<Certificate, Fault> {
         let budget = self.budget(graph, costs)?;
         let marks = self.marks(graph, costs, budget)?;
         let needs = self.noted(graph, costs)?;
@@ -377,7 +388,7 @@ pub(crate) fn has_records(thread: &ThreadRef<'_>) -> bool
     thread.records().next().is_some()
 }
 
-/// The certificate of a thread of a well-formed image, by its number. Records that stand are refused.
+/// The certificate of a thread of a well-formed image, by its number. A thread that has records is refused.
 fn certificate_of(
     alloc: Global,
     image: &ImageRef<'_>,

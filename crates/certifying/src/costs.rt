@@ -67,7 +67,7 @@ impl Unit {
         }
     }
 
-    /// This and a register behind its own.
+    /// This and a register after its own.
     fn and(&self, counter: &Unit) -> Unit {
         Unit {
             form: self.form.plus(&counter.form),
@@ -140,7 +140,7 @@ fn better(first: Option<Solved>, second: Option<Solved>) -> Option<Solved> {
     }
 }
 
-/// Each of some forms with each register behind its own.
+/// Each of some forms with each register after its own.
 fn together(alloc: Global, units: &[Unit], counters: &[Unit]) -> Result<Vec<Unit>, Fault> {
     let mut all = Vec::new(alloc);
     'units: for unit in units {
@@ -550,7 +550,7 @@ impl Counting {
     }
 
     /// The points of a region, as a list of their own.
-    fn copied_points(&self, region: Option<usize>) -> Result<Vec<u32>, Fault> {
+    pub(crate) fn copied_points(&self, region: Option<usize>) -> Result<Vec<u32>, Fault> {
         let mut points = Vec::new(self.graph.alloc);
         points.extend_from_slice(self.points_of(region))?;
         Ok(points)
@@ -574,11 +574,16 @@ impl Counting {
         Ok(())
     }
 
-    /// The graph, and the costs of all points of the program.
-    pub(crate) fn finish(mut self) -> Result<(Graph, Costs), Fault> {
+    /// Finds the costs of all loops.
+    pub(crate) fn solve_all(&mut self) -> Result<(), Fault> {
         'loops: for number in (0..self.loops.all.len()).rev() {
             self.solve(number)?;
         }
+        Ok(())
+    }
+
+    /// The graph, and the costs of all points of the program, whose loops have theirs.
+    pub(crate) fn finish(mut self) -> Result<(Graph, Costs), Fault> {
         let points = self.copied_points(None)?;
         let all = Region {
             number: None,

@@ -10,11 +10,11 @@ pub enum Reason {
     Refused(Refusal),
     /// A way on leads out of the program, or to no instruction.
     LeavesProgram,
-    /// The slots behind it differ from those on another way to the point that it leads to.
+    /// The slots after it differ from those on another way to the point that it leads to.
     SlotsDiffer,
     /// No measure is found that falls over the loop that begins there.
     NoMeasure,
-    /// A record stands there already.
+    /// It has a record already.
     NotBare,
 }
 
@@ -23,7 +23,7 @@ pub enum Reason {
 pub enum Fault {
     /// For what is wrong at a point of its program, from 0.
     At { point: u32, reason: Reason },
-    /// Memory was refused.
+    /// Out of memory.
     OutOfMemory,
 }
 

@@ -1,20 +1,19 @@
-//! What is known of threads without certificates, also of those for which none is found: what holds at each point, and all that is
-//! wrong.
+//! What is known of threads without certificates, also of those for which none is found: what holds at each point, and all that
+//! is wrong.
 
 ghost use Rattle.std.specs.Prelude.{◌≡◌, ◌<◌, [], false};
 ghost use Rattle.model.specs.Acceptance.Accepted.{IsWellFormed};
 ghost use Rattle.thread_spaces.specs.Given.{AreOffsets};
-ghost use Rattle.certifying.specs.Given.{IsGiven};
 
 use crate::calls::Given;
 use crate::certifier::{Record, Unfit, has_records};
 use crate::costs::Counting;
-use crate::flow::add_ways;
-use crate::loops::Loops;
+use crate::flow::{MOST_VISITS, add_ways};
 use crate::tables::Table;
 use crate::ways::Way;
 use crate::{Effort, Fault, Reason};
 use image_reading::{ImageRef, read};
+use ranges::Bounds;
 use std::alloc::Global;
 use thread_spaces::{given_space, offsets_of, reached_of, slots_of, windows_of};
 use wellformed::well_formed;
@@ -39,7 +38,18 @@ pub struct ThreadFindings {
     pub least: Option<u64>,
 }
 
-/// Whether this is said of the point already.
+impl ThreadFindings {
+    /// Nothing is found.
+    fn new(alloc: Global) -> Self {
+        ThreadFindings {
+            known: Vec::new(alloc),
+            wrong: Vec::new(alloc),
+            least: None,
+        }
+    }
+}
+
+/// Whether this is noted of the point already.
 fn is_noted(wrong: &[Finding], point: u32, reason: Reason) -> bool {
     'findings: for finding in wrong {
         if finding.point == point && finding.reason == reason {
@@ -49,8 +59,11 @@ fn is_noted(wrong: &[Finding], point: u32, reason: Reason) -> bool {
     false
 }
 
-/// Notes what is wrong at a point, once.
-fn note(alloc: Global, wrong: &mut Vec<Finding>, point: u32, reason: Reason) -> Result<(), Fault> {
+/// Notes what is wrong at a point, once. Out of memory is passed on.
+fn note(alloc: Global, wrong: &mut Vec<Finding>, fault: Fault) -> Result<(), Fault> {
+    let Fault::At { point, reason } = fault else {
+        return Err(Fault::OutOfMemory);
+    };
     if !is_noted(wrong, point, reason) {
         wrong.push(Finding {
             point,
@@ -62,73 +75,103 @@ fn note(alloc: Global, wrong: &mut Vec<Finding>, point: u32, reason: Reason) -> 
 }
 
 impl Counting {
-    /// Whether a loop has one inside that has no measure.
-    fn is_around(&self, number: usize, failing: &[usize]) -> bool {
-        'loops: for inner in failing {
-            if let Some(one) = self.loops.all.get(*inner) {
-                if self.loops.has(Some(number), one.header) {
-                    return true;
-                }
+    /// Whether a loop has a point inside where something is wrong.
+    fn is_around(&self, number: usize, wrong: &[Finding]) -> bool {
+        'findings: for finding in wrong {
+            if self.loops.has(Some(number), finding.point) {
+                return true;
             }
         }
         false
     }
 
-    /// The loops without a measure, by their numbers. What is around one of them is not looked at.
-    fn failing(&mut self, alloc: Global) -> Result<Vec<usize>, Fault> {
-        let mut failing = Vec::new(alloc);
-        'loops: for number in (0..self.loops.all.len()).rev() {
-            if self.is_around(number, &failing) {
-                continue;
-            }
-            match self.solve(number) {
-                Ok(()) => {}
-                Err(Fault::OutOfMemory) => return Err(Fault::OutOfMemory),
-                Err(Fault::At { .. }) => failing.push(number)?,
-            }
+    /// Finds the costs of a loop, and answers whether it has a measure.
+    fn has_measure(&mut self, number: usize) -> Result<bool, Fault> {
+        match self.solve(number) {
+            Ok(()) => Ok(true),
+            Err(Fault::At { .. }) => Ok(false),
+            Err(Fault::OutOfMemory) => Err(Fault::OutOfMemory),
         }
-        Ok(failing)
     }
 
-    /// Notes the loops without a measure.
-    fn note_failing(mut self, alloc: Global, wrong: &mut Vec<Finding>) -> Result<(), Fault> {
-        let failing = self.failing(alloc)?;
-        'loops: for number in failing {
-            if let Some(one) = self.loops.all.get(number) {
-                let mut points = Vec::new(alloc);
-                points.extend_from_slice(&one.points)?;
-                wrong.push(Finding {
-                    point: one.header,
-                    reason: Reason::NoMeasure,
-                    points,
-                })?;
-            }
+    /// Notes a loop that has no measure.
+    fn note_unmeasured(&self, number: usize, wrong: &mut Vec<Finding>) -> Result<(), Fault> {
+        if let Some(one) = self.loops.all.get(number) {
+            let points = self.copied_points(Some(number))?;
+            wrong.push(Finding {
+                point: one.header,
+                reason: Reason::NoMeasure,
+                points,
+            })?;
+        }
+        Ok(())
+    }
+
+    /// Finds the costs of a loop, or notes that it has no measure. A loop around a point where something is wrong is passed over.
+    fn note_loop(&mut self, number: usize, wrong: &mut Vec<Finding>) -> Result<(), Fault> {
+        if self.is_around(number, wrong) || self.has_measure(number)? {
+            return Ok(());
+        }
+        self.note_unmeasured(number, wrong)
+    }
+
+    /// Finds the costs of all loops, and notes those without a measure.
+    fn note_loops(&mut self, wrong: &mut Vec<Finding>) -> Result<(), Fault> {
+        'loops: for number in (0..self.loops.all.len()).rev() {
+            self.note_loop(number, wrong)?;
         }
         Ok(())
     }
 }
 
 impl Given<'_, '_> {
+    /// Follows the ways on from a point if it has changed, and answers which point is looked at next.
+    fn follow_one(
+        &self,
+        table: &mut Table<'_, '_>,
+        wrong: &mut Vec<Finding>,
+        point: u32,
+    ) -> Result<u32, Fault> {
+        let next = point.saturating_add(1);
+        if !table.take(point) {
+            return Ok(next);
+        }
+        match self.follow(table, point) {
+            Ok(changed) => Ok(changed),
+            Err(fault) => {
+                note(self.alloc, wrong, fault)?;
+                Ok(next)
+            }
+        }
+    }
+
     /// Follows the ways on from all points that change, and goes on where something is wrong.
-    fn follow_on(&self, table: &mut Table<'_, '_>, wrong: &mut Vec<Finding>) -> Result<(), Fault>
-        requires { IsGiven self.now.space self.now.slots.now self.now.lists_stray }
-    {
+    fn follow_on(&self, table: &mut Table<'_, '_>, wrong: &mut Vec<Finding>) -> Result<(), Fault> {
         let mut point = 0u32;
-        'visits: for _ in 0..u64::MAX {
+        'visits: for _ in 0..MOST_VISITS {
             if self.count() <= point {
                 break;
             }
-            let mut next = point.saturating_add(1);
-            if table.take(point) {
-                match self.follow(table, point) {
-                    Ok(changed) => next = changed,
-                    Err(Fault::OutOfMemory) => return Err(Fault::OutOfMemory),
-                    Err(Fault::At { point, reason }) => note(self.alloc, wrong, point, reason)?,
-                }
-            }
-            point = next;
+            point = self.follow_one(table, wrong, point)?;
         }
         Ok(())
+    }
+
+    /// Adds the ways on from a point if it is reached, or notes what is wrong there.
+    fn add_ways_at(
+        &self,
+        table: &mut Table<'_, '_>,
+        wrong: &mut Vec<Finding>,
+        all: &mut Vec<Way>,
+        point: u32,
+    ) -> Result<(), Fault> {
+        let Some(state) = table.state(point) else {
+            return Ok(());
+        };
+        match self.ways(point, &state, &mut table.shared) {
+            Ok(ways) => add_ways(all, &ways),
+            Err(fault) => note(self.alloc, wrong, fault),
+        }
     }
 
     /// The ways on from all points that are reached, but for those where something is wrong, which is noted.
@@ -136,93 +179,114 @@ impl Given<'_, '_> {
         &self,
         table: &mut Table<'_, '_>,
         wrong: &mut Vec<Finding>,
-    ) -> Result<Vec<Way>, Fault>
-        requires { IsGiven self.now.space self.now.slots.now self.now.lists_stray }
-    {
+    ) -> Result<Vec<Way>, Fault> {
         let mut all = Vec::new(self.alloc);
         'points: for point in 0..self.count() {
-            if let Some(state) = table.state(point) {
-                match self.ways(point, &state, &mut table.shared) {
-                    Ok(ways) => add_ways(&mut all, &ways)?,
-                    Err(Fault::OutOfMemory) => return Err(Fault::OutOfMemory),
-                    Err(Fault::At { point, reason }) => note(self.alloc, wrong, point, reason)?,
-                }
-            }
+            self.add_ways_at(table, wrong, &mut all, point)?;
         }
         Ok(all)
     }
 
+    /// Narrows all ranges, where nothing is wrong: no way leads on from a point where something is, so that less might hold in a
+    /// loop around it than is known.
+    fn narrow_sound(
+        &self,
+        table: &mut Table<'_, '_>,
+        wrong: &mut Vec<Finding>,
+    ) -> Result<(), Fault> {
+        self.ways_found(table, wrong)?;
+        if wrong.is_empty() {
+            self.narrow_all(table)?;
+        }
+        Ok(())
+    }
+
+    /// What is known at a point, of which the ranges are given.
+    fn known_at(
+        &self,
+        table: &Table<'_, '_>,
+        point: u32,
+        bounds: &Bounds,
+    ) -> Result<Record, Fault> {
+        let changes = self.changes_at(table, point)?;
+        Ok(Record {
+            point,
+            constant: 0,
+            terms: Vec::new(self.alloc),
+            bounds: *bounds,
+            changes,
+        })
+    }
+
     /// What is known at all points that are reached.
-    fn known(&self, table: &Table<'_, '_>) -> Result<Vec<Record>, Fault>
-        requires { IsGiven self.now.space self.now.slots.now self.now.lists_stray }
-    {
+    fn known(&self, table: &Table<'_, '_>) -> Result<Vec<Record>, Fault> {
         let mut known = Vec::new(self.alloc);
         'points: for point in 0..self.count() {
             if let Some(bounds) = table.bounds(point) {
-                known.push(Record {
-                    point,
-                    constant: 0,
-                    terms: Vec::new(self.alloc),
-                    bounds,
-                    changes: self.changes_at(table, point)?,
-                })?;
+                known.push(self.known_at(table, point, &bounds)?)?;
             }
         }
         Ok(known)
     }
 
-    /// The least budget of a thread, of whose ways none is wrong, or what is wrong with its measures.
-    fn least(
-        &self,
-        table: &Table<'_, '_>,
-        ways: Vec<Way>,
-        wrong: &mut Vec<Finding>,
-    ) -> Result<Option<u64>, Fault>
-        requires { IsGiven self.now.space self.now.slots.now self.now.lists_stray }
-    {
-        match self.certificate() {
-            Ok(certificate) => return Ok(Some(certificate.budget)),
-            Err(Fault::OutOfMemory) => return Err(Fault::OutOfMemory),
-            Err(Fault::At { point, reason }) => {
-                let graph = self.graph(table, ways)?;
-                let loops = Loops::of(&graph)?;
-                Counting::new(graph, loops)?.note_failing(self.alloc, wrong)?;
-                if wrong.is_empty() {
-                    note(self.alloc, wrong, point, reason)?;
-                }
-            }
-        }
-        Ok(None)
+    /// The least budget, by the costs of all loops.
+    fn least_by(&self, counting: Counting, table: &Table<'_, '_>) -> Result<u64, Fault> {
+        let certificate = self.certificate_by(counting, table)?;
+        Ok(certificate.budget)
     }
 
-    /// What is found of the thread. Ranges are narrowed only where nothing is wrong: no way leads on from a point where something is,
-    /// so that less might hold in a loop around it than is known.
-    fn found(&self) -> Result<ThreadFindings, Fault>
-        requires { IsGiven self.now.space self.now.slots.now self.now.lists_stray }
-    {
-        let mut wrong = Vec::new(self.alloc);
-        let mut table = self.begun()?;
-        self.follow_on(&mut table, &mut wrong)?;
-        let mut ways = self.ways_found(&mut table, &mut wrong)?;
-        if wrong.is_empty() {
-            self.narrow_all(&mut table)?;
-            ways = self.ways_found(&mut table, &mut wrong)?;
+    /// The least budget, or what is wrong with the measures of the program's loops.
+    fn least_of(
+        &self,
+        mut counting: Counting,
+        table: &Table<'_, '_>,
+        wrong: &mut Vec<Finding>,
+    ) -> Result<Option<u64>, Fault> {
+        counting.note_loops(wrong)?;
+        if !wrong.is_empty() {
+            return Ok(None);
         }
-        let known = self.known(&table)?;
-        let least = if wrong.is_empty() {
-            self.least(&table, ways, &mut wrong)?
-        } else {
-            None
-        };
-        Ok(ThreadFindings {
-            known,
-            wrong,
-            least,
-        })
+        match self.least_by(counting, table) {
+            Ok(budget) => Ok(Some(budget)),
+            Err(fault) => {
+                note(self.alloc, wrong, fault)?;
+                Ok(None)
+            }
+        }
+    }
+
+    /// The least budget of a thread in which nothing is wrong so far, or what is wrong with its measures.
+    fn least(
+        &self,
+        table: &mut Table<'_, '_>,
+        wrong: &mut Vec<Finding>,
+    ) -> Result<Option<u64>, Fault> {
+        let ways = self.ways_found(table, wrong)?;
+        let counting = self.counting(table, ways)?;
+        self.least_of(counting, table, wrong)
+    }
+
+    /// Adds all that is found of the thread.
+    fn find(&self, table: &mut Table<'_, '_>, findings: &mut ThreadFindings) -> Result<(), Fault> {
+        self.follow_on(table, &mut findings.wrong)?;
+        self.narrow_sound(table, &mut findings.wrong)?;
+        findings.known = self.known(table)?;
+        if findings.wrong.is_empty() {
+            findings.least = self.least(table, &mut findings.wrong)?;
+        }
+        Ok(())
+    }
+
+    /// What is found of the thread.
+    fn found(&self) -> Result<ThreadFindings, Fault> {
+        let mut table = self.begun()?;
+        let mut findings = ThreadFindings::new(self.alloc);
+        self.find(&mut table, &mut findings)?;
+        Ok(findings)
     }
 }
 
-/// What is found of a thread of a well-formed image, by its number. Records that stand are refused.
+/// What is found of a thread of a well-formed image, by its number. A thread that has records is refused.
 fn findings_of(
     alloc: Global,
     image: &ImageRef<'_>,
@@ -262,7 +326,7 @@ fn findings_of(
 ///
 /// # Errors
 ///
-/// The image is not well formed, a thread has records, or memory was refused.
+/// The image is not well formed, a thread has records, or memory ran out.
 pub fn findings_in(alloc: Global, bytes: &[u8]) -> Result<Vec<ThreadFindings>, Unfit> {
     let image = match read(bytes) {
         Ok(image) => image,

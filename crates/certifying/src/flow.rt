@@ -1,7 +1,5 @@
 //! What is known at each point of a program: ranges are joined and widened until nothing grows, and then narrowed.
 
-ghost use Rattle.certifying.specs.Given.{IsGiven};
-
 use crate::calls::Given;
 use crate::marks::Marks;
 use crate::ranged::joined;
@@ -15,7 +13,7 @@ use rv32_isa::decode;
 use std::alloc::Global;
 
 /// How many points are looked at at most, one after another: each range grows only so often.
-const MOST_VISITS: u32 = 1_000_000_000;
+pub(crate) const MOST_VISITS: u32 = 1_000_000_000;
 
 /// How often ranges are narrowed at most.
 const MOST_NARROWINGS: u32 = 20;
@@ -177,9 +175,7 @@ impl<'a, 's> Given<'a, 's> {
     }
 
     /// The ways on from a point, if it is reached and nothing is wrong there with what is known so far.
-    fn ways_so_far(&self, table: &mut Table<'_, '_>, point: u32) -> Result<Option<Ways>, Fault>
-        requires { IsGiven self.now.space self.now.slots.now self.now.lists_stray }
-    {
+    fn ways_so_far(&self, table: &mut Table<'_, '_>, point: u32) -> Result<Option<Ways>, Fault> {
         let Some(state) = table.state(point) else {
             return Ok(None);
         };
@@ -192,9 +188,7 @@ impl<'a, 's> Given<'a, 's> {
 
     /// Follows the ways on from a point, and answers which point is looked at next: the first of those that they change, or the
     /// next one.
-    pub(crate) fn follow(&self, table: &mut Table<'_, '_>, point: u32) -> Result<u32, Fault>
-        requires { IsGiven self.now.space self.now.slots.now self.now.lists_stray }
-    {
+    pub(crate) fn follow(&self, table: &mut Table<'_, '_>, point: u32) -> Result<u32, Fault> {
         let next = point.saturating_add(1);
         match self.ways_so_far(table, point)? {
             Some(ways) => {
@@ -211,9 +205,7 @@ impl<'a, 's> Given<'a, 's> {
         table: &mut Table<'_, '_>,
         way: &Way,
         changes: Stretch,
-    ) -> Result<(), Fault>
-        requires { IsGiven self.now.space self.now.slots.now self.now.lists_stray }
-    {
+    ) -> Result<(), Fault> {
         let Some(state) = table.state(way.target) else {
             return Ok(());
         };
@@ -227,16 +219,14 @@ impl<'a, 's> Given<'a, 's> {
     }
 
     /// Follows a way with these slots, and answers which point is looked at next: its target, if more is known there now and it
-    /// stands before the given one.
+    /// is before the given one.
     fn reach_along(
         &self,
         table: &mut Table<'_, '_>,
         way: Option<Way>,
         changes: Stretch,
         next: u32,
-    ) -> Result<u32, Fault>
-        requires { IsGiven self.now.space self.now.slots.now self.now.lists_stray }
-    {
+    ) -> Result<u32, Fault> {
         let Some(way) = way else {
             return Ok(next);
         };
@@ -247,11 +237,9 @@ impl<'a, 's> Given<'a, 's> {
         Ok(next)
     }
 
-    /// Follows the ways on from all points that change, always from the first of them: so a loop is gone round until nothing changes
-    /// in it before what stands behind it is looked at.
-    fn follow_all(&self, table: &mut Table<'_, '_>) -> Result<(), Fault>
-        requires { IsGiven self.now.space self.now.slots.now self.now.lists_stray }
-    {
+    /// Follows the ways on from all points that change, always from the first of them: so a loop is repeated until nothing changes
+    /// in it before what is after it is looked at.
+    fn follow_all(&self, table: &mut Table<'_, '_>) -> Result<(), Fault> {
         let mut point = 0u32;
         'visits: for _ in 0..MOST_VISITS {
             if self.count() <= point {
@@ -286,9 +274,7 @@ impl<'a, 's> Given<'a, 's> {
 
     /// Goes over all points once, in their order. Where the round before is given, ranges are narrowed, and of ways back those of
     /// that round count.
-    fn narrow(&self, table: &mut Table<'_, '_>, before: Option<&Round>) -> Result<Round, Fault>
-        requires { IsGiven self.now.space self.now.slots.now self.now.lists_stray }
-    {
+    fn narrow(&self, table: &mut Table<'_, '_>, before: Option<&Round>) -> Result<Round, Fault> {
         let mut ahead = Arrivals::new(self.alloc, self.count())?;
         let mut back = Arrivals::new(self.alloc, self.count())?;
         let mut leads = Vec::new(self.alloc);
@@ -335,10 +321,8 @@ impl<'a, 's> Given<'a, 's> {
         Ok(some)
     }
 
-    /// All ways on from points that are reached. The first point where something is wrong is told.
-    fn all_ways(&self, table: &mut Table<'_, '_>) -> Result<Vec<Way>, Fault>
-        requires { IsGiven self.now.space self.now.slots.now self.now.lists_stray }
-    {
+    /// All ways on from points that are reached. The first point where something is wrong is reported.
+    fn all_ways(&self, table: &mut Table<'_, '_>) -> Result<Vec<Way>, Fault> {
         let mut all = Vec::new(self.alloc);
         'points: for point in 0..self.count() {
             if let Some(state) = table.state(point) {
@@ -350,9 +334,7 @@ impl<'a, 's> Given<'a, 's> {
     }
 
     /// What is known of all points before any way is followed.
-    pub(crate) fn begun(&self) -> Result<Table<'a, 's>, Fault>
-        requires { IsGiven self.now.space self.now.slots.now self.now.lists_stray }
-    {
+    pub(crate) fn begun(&self) -> Result<Table<'a, 's>, Fault> {
         let mut table = Table::new(*self, self.count())?;
         self.add_constants(&mut table)?;
         let entry = self.space.thread.header().entry;
@@ -361,9 +343,7 @@ impl<'a, 's> Given<'a, 's> {
     }
 
     /// Narrows all ranges until none changes.
-    pub(crate) fn narrow_all(&self, table: &mut Table<'_, '_>) -> Result<(), Fault>
-        requires { IsGiven self.now.space self.now.slots.now self.now.lists_stray }
-    {
+    pub(crate) fn narrow_all(&self, table: &mut Table<'_, '_>) -> Result<(), Fault> {
         let mut round = self.narrow(table, None)?;
         'narrowings: for _ in 0..MOST_NARROWINGS {
             let forgets = self.forget_unreached(table, &round)?;
@@ -380,9 +360,7 @@ impl<'a, 's> Given<'a, 's> {
     }
 
     /// What is known of all points of the program.
-    pub(crate) fn flow(&self) -> Result<Flow<'a, 's>, Fault>
-        requires { IsGiven self.now.space self.now.slots.now self.now.lists_stray }
-    {
+    pub(crate) fn flow(&self) -> Result<Flow<'a, 's>, Fault> {
         let mut table = self.begun()?;
         self.follow_all(&mut table)?;
         self.narrow_all(&mut table)?;
@@ -391,7 +369,7 @@ impl<'a, 's> Given<'a, 's> {
     }
 }
 
-/// Adds ways behind others.
+/// Appends ways to others.
 pub(crate) fn add_ways(all: &mut Vec<Way>, ways: &Ways) -> Result<(), Fault> {
     if let Some(way) = ways.next {
         all.push(way)?;

@@ -110,7 +110,7 @@ impl Form {
         opposite.greatest(bounds).saturating_neg()
     }
 
-    /// Adds so many times what a register is behind a way, in words of the registers before it, or what it is at most.
+    /// Adds so many times what a register is after a way, in words of the registers before it, or what it is at most.
     fn add_value(&mut self, times: i64, value: Value, way: &Way) {
         match value {
             Value::Same(register) => self.add(register, times),
@@ -137,7 +137,7 @@ impl Form {
         }
     }
 
-    /// A form behind a way, in words of the registers before it: at least that.
+    /// A form after a way, in words of the registers before it: at least that.
     pub(crate) fn before(&self, way: &Way) -> Form {
         let mut made = Form::constant(self.constant);
         'registers: for register in 1..32u32 {

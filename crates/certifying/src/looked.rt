@@ -1,7 +1,6 @@
 //! The slots that were looked at last, along a straight run of a program.
 
 ghost use Rattle.std.specs.Prelude.{◌≡◌, [], IfOk, List, true};
-ghost use Rattle.certifying.specs.Given.{IsGiven};
 ghost use Rattle.model.specs.Acceptance.NotedStates.{NotedSlot};
 ghost use Rattle.typestate.specs.Differences.{changed};
 ghost use Rattle.typestate.specs.Logs.{Shows};
@@ -31,7 +30,7 @@ pub(crate) struct Looked<'a, 's> {
     log: SlotLog,
     part: Part,
     shown: ShownPart,
-    /// Whether the part is shown: it is not, where memory was refused in between.
+    /// Whether the part is shown: it is not, where memory ran out in between.
     is_known: bool,
     /// Whether it is known that no slot is one that the thread may not have.
     is_clean: bool,
@@ -48,7 +47,7 @@ impl<'a, 's> Model for Looked<'a, 's> {
     ghost invariant = { λ looked. IsLookedAt looked.given looked.log looked.part looked.shown looked.is_known looked.is_clean };
 }
 
-/// Goes on from a part that is shown to one with changes that follow it. Memory may be refused.
+/// Goes on from a part that is shown to one with changes that follow it. Fails if out of memory.
 fn followed(
     log: &mut SlotLog,
     part: Part,
@@ -68,7 +67,6 @@ fn followed(
 impl<'a, 's> Looked<'a, 's> {
     /// No changes, where a stretch begins.
     pub(crate) fn before(given: Given<'a, 's>, stretch: Stretch) -> Result<Self, Fault>
-        requires { IsGiven given.space given.slots.now given.lists_stray }
         ensures { IfOk result (λ looked. looked ≡ true) }
     {
         let log = SlotLog::new(given.alloc);
@@ -97,7 +95,7 @@ impl<'a, 's> Looked<'a, 's> {
         Ok(())
     }
 
-    /// Begins anew, unless a stretch begins with what is shown.
+    /// Begins again, unless a stretch begins with what is shown.
     fn begin(&mut self, stretch: Stretch) -> Result<(), Fault>
         ensures { IfOk result (λ _. self.new ≡ true) }
     {
@@ -107,7 +105,7 @@ impl<'a, 's> Looked<'a, 's> {
         Ok(())
     }
 
-    /// Goes on to the changes of a stretch, which stands in a list of changes. What it begins with is not gone through again.
+    /// Goes on to the changes of a stretch, which is in a list of changes. What it begins with is not gone through again.
     pub(crate) fn go_on(&mut self, changes: &[LogEntry], stretch: Stretch) -> Result<(), Fault>
         ensures { IfOk result (λ _. self.new ≡ true) }
     {
@@ -120,7 +118,7 @@ impl<'a, 's> Looked<'a, 's> {
         self.grow(more)
     }
 
-    /// Notes where the changes stand that are shown.
+    /// Notes where the changes are that are shown.
     pub(crate) fn stand(&mut self, stretch: Stretch) {
         self.stretch = stretch;
     }

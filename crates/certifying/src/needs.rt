@@ -126,7 +126,7 @@ fn add_call(needed: &mut Registers, bounds: &Bounds) {
     }
 }
 
-/// What an instruction rests on, whatever is needed behind it.
+/// What an instruction rests on, whatever is needed after it.
 fn add_own(needed: &mut Registers, instr: Instr, bounds: &Bounds) {
     match instr {
         Instr::Load { rs1, .. } | Instr::Store { rs1, .. } => needed.add_all(&[rs1]),
@@ -166,7 +166,7 @@ fn decides(ways: &[Way], needs: &[Registers], bounds: &Bounds, both: [Register; 
     false
 }
 
-/// Adds what is needed before a way for what is needed behind it.
+/// Adds what is needed before a way for what is needed after it.
 fn add_behind(needed: &mut Registers, way: &Way, behind: &Registers, instr: Instr) {
     let mut writes = false;
     'registers: for register in 1..32u32 {

@@ -1,7 +1,6 @@
 //! The changes to slots at all points of a program, in one log: points share those that were made before them.
 
 ghost use Rattle.std.specs.Prelude.{◌≡◌, []};
-ghost use Rattle.certifying.specs.Given.{IsGiven};
 
 use crate::Fault;
 use crate::calls::Given;
@@ -56,13 +55,13 @@ pub(crate) struct Called {
     held: Stretch,
     /// The changes that it makes.
     made: Stretch,
-    /// The registers behind it.
+    /// The registers after it.
     pub(crate) behind: Behind,
-    /// The changes behind it.
+    /// The changes after it.
     pub(crate) left: Stretch,
 }
 
-/// The changes that a system call makes, and those behind it.
+/// The changes that a system call makes, and those after it.
 #[derive(Clone, Copy)]
 struct Stretches {
     made: Stretch,
@@ -70,7 +69,7 @@ struct Stretches {
 }
 
 impl Called {
-    /// What a system call leaves in a state, of which the changes that it makes, and those behind it, stand there.
+    /// What a system call leaves in a state, with the changes that it makes, and those after it.
     fn of(state: &State, behind: &Behind, stretches: &Stretches) -> Self {
         Called {
             before: state.bounds,
@@ -97,7 +96,7 @@ pub(crate) struct Shared<'a, 's> {
     looked: Looked<'a, 's>,
     /// Those that were looked at, each as it was last.
     calls: Vec<Called>,
-    /// Which of them stands at each point.
+    /// Which of them is at each point.
     at: Vec<Option<usize>>,
     /// The last stretches that were compared and leave the same.
     same: Option<Same>,
@@ -114,9 +113,7 @@ fn part_of(changes: &[LogEntry], stretch: Stretch) -> &[LogEntry] {
 
 impl<'a, 's> Shared<'a, 's> {
     /// No changes at any of so many points.
-    pub(crate) fn new(given: Given<'a, 's>, count: u32) -> Result<Self, Fault>
-        requires { IsGiven given.space given.slots.now given.lists_stray }
-    {
+    pub(crate) fn new(given: Given<'a, 's>, count: u32) -> Result<Self, Fault> {
         let alloc = given.alloc;
         let mut at = Vec::new(alloc);
         'points: for _ in 0..count {
@@ -166,7 +163,7 @@ impl<'a, 's> Shared<'a, 's> {
         }
     }
 
-    /// Appends changes, and answers where they stand.
+    /// Appends changes, and answers where they are.
     fn append(&mut self, made: &[LogEntry]) -> Result<Stretch, Fault> {
         let first = self.changes.len();
         self.changes.extend_from_slice(made)?;
@@ -205,7 +202,7 @@ impl<'a, 's> Shared<'a, 's> {
         }
     }
 
-    /// The changes behind a system call at a point, of which those before it and those that it makes are given.
+    /// The changes after a system call at a point, of which those before it and those that it makes are given.
     fn stretches(
         &mut self,
         alloc: Global,

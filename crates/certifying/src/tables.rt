@@ -1,7 +1,5 @@
 //! What is known of all points so far.
 
-ghost use Rattle.certifying.specs.Given.{IsGiven};
-
 use crate::Fault;
 use crate::calls::Given;
 use crate::ranged::{joined, widened};
@@ -95,9 +93,7 @@ pub(crate) fn are_same_entries(first: &[LogEntry], second: &[LogEntry]) -> bool 
 
 impl<'a, 's> Table<'a, 's> {
     /// Nothing is known of any of so many points.
-    pub(crate) fn new(given: Given<'a, 's>, count: u32) -> Result<Self, Fault>
-        requires { IsGiven given.space given.slots.now given.lists_stray }
-    {
+    pub(crate) fn new(given: Given<'a, 's>, count: u32) -> Result<Self, Fault> {
         let alloc = given.alloc;
         let mut places = Vec::new(alloc);
         'points: for _ in 0..count {
@@ -123,7 +119,7 @@ impl<'a, 's> Table<'a, 's> {
         Ok(())
     }
 
-    /// Puts a value and those beside it behind the thresholds.
+    /// Appends a value and those beside it to the thresholds.
     fn push_threshold(&mut self, value: u32) -> Result<(), Fault> {
         self.thresholds.push(value.saturating_sub(1))?;
         self.thresholds.push(value)?;

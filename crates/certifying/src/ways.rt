@@ -1,7 +1,6 @@
 //! The ways on from a point in a state.
 
 ghost use Rattle.std.specs.Prelude.{IfOk};
-ghost use Rattle.certifying.specs.Given.{IsGiven};
 ghost use Rattle.model.specs.Machine.Instructions.{IsInstr};
 
 use crate::calls::Given;
@@ -51,14 +50,14 @@ pub(crate) struct Way {
     /// The ranges before the instruction, of the values that come this way.
     pub(crate) before: Bounds,
     pub(crate) behind: Bounds,
-    /// Whether instructions are counted anew behind it.
+    /// Whether the count of instructions begins again after it.
     pub(crate) is_wait: bool,
     /// Whether it is that of a jump, or of a branch that is taken.
     pub(crate) is_jump: bool,
     pub(crate) effect: Effect,
 }
 
-/// The ways on from a point, and the slots behind it.
+/// The ways on from a point, and the slots after it.
 #[derive(Clone, Copy)]
 pub(crate) struct Ways {
     pub(crate) next: Option<Way>,
@@ -182,9 +181,7 @@ impl Given<'_, '_> {
         point: u32,
         state: &State,
         shared: &mut Shared<'_, '_>,
-    ) -> Result<Ways, Fault>
-        requires { IsGiven self.now.space self.now.slots.now self.now.lists_stray }
-    {
+    ) -> Result<Ways, Fault> {
         let called = self.called(point, state, shared)?;
         let way = Way {
             from: point,
@@ -208,9 +205,7 @@ impl Given<'_, '_> {
         point: u32,
         state: &State,
         shared: &mut Shared<'_, '_>,
-    ) -> Result<Ways, Fault>
-        requires { IsGiven self.now.space self.now.slots.now self.now.lists_stray }
-    {
+    ) -> Result<Ways, Fault> {
         let instr = self.instruction(point)?;
         if let Instr::Ecall = instr {
             return self.ways_behind_call(point, state, shared);

@@ -1,4 +1,4 @@
--- The log keeps the part that is shown, and what follows is put behind.
+-- The log keeps the part that is shown, and what follows is appended.
 use Rattle.std.proofs.Common.{◌∙◌, List, sym, ap, subst}
 use Rattle.model.specs.Acceptance.NotedStates.{NotedSlot}
 use Rattle.typestate.specs.Replays.{replayed}

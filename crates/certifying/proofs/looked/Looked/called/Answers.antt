@@ -24,7 +24,7 @@ pub invariant_of-own : goal.invariant_of-own
 invariant_of-own c =
     let given = c.self.inside.given in
     let state = known_with c.args.bounds.now (slots_of c.slots-slots.result) nothing in
-    let none = sym (c.has_stray_slots.ensures c.args.at.point state refl (bare-point given.space.thread.now c.args.at.point c.self.invariant.given_is.bare)) ∙ c.if-has_stray_slots.false in
+    let none = sym (c.has_stray_slots.ensures c.args.at.point state refl (bare-point given.space.thread.now c.args.at.point given.bare)) ∙ c.if-has_stray_slots.false in
     record {
       inside = c.no_stray_slot_leads_outside.ensures given.space.image.now given.space.thread.now c.args.at.point state none;
       own = c.slots_are_own.ensures c.args.at.point state refl none;
@@ -37,17 +37,19 @@ invariant_of-self-2 c =
     let own = given.space.thread.now in
     let here = slots_of c.slots-slots.result in
     let state = known_with c.args.bounds.now here nothing in
-    let none = sym (c.has_stray_slots.ensures c.args.at.point state refl (bare-point own c.args.at.point c.self.invariant.given_is.bare)) ∙ c.if-has_stray_slots.false in
+    let none = sym (c.has_stray_slots.ensures c.args.at.point state refl (bare-point own c.args.at.point given.bare)) ∙ c.if-has_stray_slots.false in
     let made = c.after_call.new.made.items in
     let tidy : IsTidyBehind image own here made (Ok c.in-Ok.behind) =
     subst (λ (r : Result Behind Refusal). IsTidyBehind image own here made r) c.in-Ok.is c.in_ok-behind.ensures.tidy in
     let same : changed given.slots.now c.followed.new.shown.changes ≡ replayed here made =
-    c.in_ok-self-inside.ensures.same given.slots.now c.self.invariant.given_is.rising c.self.invariant.given_is.unlinked
+    c.in_ok-self-inside.ensures.same given.slots.now given.rising given.unlinked
     ∙ ap (λ (l : List LogEntry). replayed (changed given.slots.now c.self.inside.shown.changes) l) c.deref.ensures.value
     ∙ ap (λ (l : List NotedSlot). replayed l made) (sym c.slots-slots.ensures.slots) in
     record {
-      given_is = c.self.invariant.given_is;
       shows = λ _. c.in_ok-self-inside.ensures.shows;
       none_stray = λ is. subst (λ (all : List NotedSlot). NoneStray image own all) (sym same)
           (tidy is (c.points_without_stray_slots_have_none.ensures image own c.args.at.point state none));
     }
+
+pub slots_are_own-requires-clause-listed : goal.slots_are_own-requires-clause-listed
+slots_are_own-requires-clause-listed c = record { number = c.self.inside.given.number; listed = c.self.inside.given.place }
