@@ -3,7 +3,7 @@
 use crate::pieces::{around_auto, is_certificate};
 use std::alloc::{AllocError, Global};
 
-/// The greatest budget, which stands where one is to be found.
+/// The greatest budget, which is written where one is to be found.
 const GREATEST_BUDGET: &[u8] = b"0x4000000000000000";
 
 /// Adds a line, which is empty if it is one of a certificate.
@@ -23,7 +23,7 @@ fn add_bare(bare: &mut Vec<u8>, line: &[u8]) -> Result<(), AllocError> {
     Ok(())
 }
 
-/// The text without its certificates, and with the greatest budget where one is to be found. Each line stands where it stood.
+/// The text without its certificates, and with the greatest budget where one is to be found. Each line keeps its number.
 pub fn bare_text(alloc: Global, text: &str) -> Result<Vec<u8>, AllocError> {
     let mut bare = Vec::new(alloc);
     'lines: for line in text.as_bytes().split_inclusive(|byte| *byte == b'\n') {

@@ -1,4 +1,4 @@
-//! On which lines of a text its threads and their instructions stand, and the names of its objects.
+//! On which lines of a text its threads and their instructions are, and the names of its objects.
 
 use asm_line::{Line, parse_line};
 use std::alloc::{AllocError, Global};
@@ -25,7 +25,7 @@ impl ThreadText<'_> {
     }
 }
 
-/// What stands where in a text.
+/// What is where in a text.
 #[derive(Drop)]
 pub struct Layout<'a> {
     /// The names of the objects, by their numbers.
@@ -71,7 +71,7 @@ impl<'a> Layout<'a> {
     }
 }
 
-/// What stands where in a text that describes an image.
+/// What is where in a text that describes an image.
 pub fn layout_of<'a>(alloc: Global, text: &'a str) -> Result<Layout<'a>, AllocError> {
     let mut layout = Layout {
         objects: Vec::new(alloc),

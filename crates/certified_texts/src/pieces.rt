@@ -1,6 +1,6 @@
 //! Lines as bytes, and the words in them.
 
-/// The word that stands for a budget that is to be found.
+/// The word for a budget that is to be found.
 const AUTO: &[u8] = b"auto";
 
 /// Which word of a `thread` line is the budget, from 0.
@@ -19,7 +19,7 @@ fn parts_words(byte: u8) -> bool {
     matches!(byte, b' ' | b'\t' | b',' | b'\r' | b'\n')
 }
 
-/// What stands before a comment.
+/// What is before a comment.
 fn without_comment(line: &[u8]) -> &[u8] {
     match line.iter().position(|byte| *byte == b'#') {
         Some(end) => line.split_at(end).0,
@@ -27,7 +27,7 @@ fn without_comment(line: &[u8]) -> &[u8] {
     }
 }
 
-/// The first word of a text, which may be empty, and what stands behind it.
+/// The first word of a text, which may be empty, and what is after it.
 fn first_word(text: &[u8]) -> (&[u8], &[u8]) {
     let start = text
         .iter()
@@ -41,12 +41,12 @@ fn first_word(text: &[u8]) -> (&[u8], &[u8]) {
     text.split_at(end)
 }
 
-/// What stands before the last so many bytes.
+/// What is before the last so many bytes.
 fn before_last(text: &[u8], count: usize) -> &[u8] {
     text.split_at(text.len().saturating_sub(count)).0
 }
 
-/// What stands behind the first so many bytes.
+/// What is after the first so many bytes.
 fn behind_first(text: &[u8], count: usize) -> &[u8] {
     text.split_at(text.len().min(count)).1
 }

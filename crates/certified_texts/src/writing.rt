@@ -6,7 +6,7 @@ use crate::records::add_record;
 use certifying::{Certificate, Record};
 use std::alloc::{AllocError, Global};
 
-/// A thread's certificate, and which of its records stand in the text.
+/// A thread's certificate, and which of its records are in the text.
 #[derive(Drop)]
 pub struct Draft {
     pub certificate: Certificate,
@@ -23,12 +23,12 @@ impl Draft {
         Ok(Draft { certificate, kept })
     }
 
-    /// Whether a record stands in the text.
+    /// Whether a record is in the text.
     pub fn keeps(&self, record: usize) -> bool {
         self.kept.get(record).copied().unwrap_or(false)
     }
 
-    /// Sets whether a record stands in the text.
+    /// Sets whether a record is in the text.
     pub fn keep(&mut self, record: usize, stands: bool) {
         if let Some(kept) = self.kept.get_mut(record) {
             *kept = stands;
@@ -36,14 +36,14 @@ impl Draft {
     }
 }
 
-/// A record, and the line that it stands before.
+/// A record, and the line that it is before.
 #[derive(Clone, Copy)]
 struct PlacedRecord<'r> {
     line: u64,
     record: &'r Record,
 }
 
-/// The records that stand in the text, in the order of their lines.
+/// The records that are in the text, in the order of their lines.
 fn placed_records<'r>(
     alloc: Global,
     layout: &Layout<'_>,
@@ -71,20 +71,20 @@ fn budget_on(layout: &Layout<'_>, drafts: &[Draft], line: u64) -> u64 {
     1
 }
 
-/// A text that is written anew.
+/// A text that is written again.
 #[derive(Drop)]
 struct Written<'r, 't> {
     alloc: Global,
     layout: &'r Layout<'t>,
     drafts: &'r [Draft],
     records: Vec<PlacedRecord<'r>>,
-    /// How many of the records stand in the text.
+    /// How many of the records are in the text.
     done: usize,
     text: Vec<u8>,
 }
 
 impl Written<'_, '_> {
-    /// Adds the record that stands before a line, if there is one.
+    /// Adds the record that is before a line, if there is one.
     fn add_record_before(&mut self, line: u64) -> Result<(), AllocError> {
         if let Some(placed) = self.records.get(self.done) {
             if placed.line == line {
