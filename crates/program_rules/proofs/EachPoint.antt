@@ -1,9 +1,9 @@
 -- What is kept of each point, as the points are gone through.
-use Rattle.std.proofs.Common.{ℕ, zero, suc, ◌≡◌, ◌∙◌, ◌+◌, Option, List, refl, sym, ap, subst, arith}
+use Rattle.std.proofs.Common.{ℕ, zero, suc, ◌≡◌, ◌∙◌, ◌+◌, Option, Some, None, List, refl, sym, ap, subst, arith}
 use Rattle.std.specs.Prelude.{slice_index_or}
 use Rattle.measure.specs.Measures.{measure_of}
 use Rattle.model.specs.Acceptance.NotedStates.{NotedSlot, record_of}
-use Rattle.model.specs.Acceptance.PointStates.{Known, follows, noted, noted_or}
+use Rattle.model.specs.Acceptance.PointStates.{Noted, Known, follows, noted, noted_or}
 use Rattle.model.specs.Images.Described.{Numbered}
 use Rattle.model.specs.Images.Image.{Image, StateRecord, Thread}
 use Rattle.program_rules.specs.Kept.{AreKept, HasPart, IsCleanIn, IsKeptAt, IsPlain, IsRead, IsSound, before, noted_by}
@@ -20,6 +20,11 @@ pub noted-is : (image : Image) (t : Numbered) (point : ℕ) → noted image t po
 unfolding noted
 noted-is image t zero = refl
 noted-is image t (suc point) = refl
+
+-- what the point before leaves counts only where there is no record
+pub noted-or-same : (image : Image) (t : Thread) (r : Option StateRecord) (x y : Noted) → (r ≡ None → x ≡ y) → noted_or image t r x ≡ noted_or image t r y
+noted-or-same image t None x y same = same refl
+noted-or-same image t (Some r) x y same = refl
 
 -- ---- a log that grows
 
@@ -54,6 +59,7 @@ pub grown : (image : Image) (t : Numbered) (slots : List NotedSlot) (old new : L
 grown image t slots old new ks keeps are = record {
   each = λ k d below. let one = slice_index_or ks.points.items k d in grown-at image t slots old new one.point one.kept keeps (are.each k d below);
   placed = are.placed;
+  alike = are.alike;
 }
 
 -- what follows from a point is what is before the next one

@@ -3,7 +3,7 @@ use Rattle.std.proofs.Common.{ℕ, ◌≡◌, ◌≢◌, ◌∙◌, ◌+◌, ◌
 use Rattle.std.specs.Option.{option_map_or}
 use Rattle.model.specs.Acceptance.CallRules.{AfterCall}
 use Rattle.model.specs.Acceptance.Edges.{Edge, after, behind, branch_edge, branch_ranges}
-use Rattle.model.specs.Acceptance.NotedStates.{NotedSlot, PointState, record_of}
+use Rattle.model.specs.Acceptance.NotedStates.{PointState, record_of}
 use Rattle.model.specs.Acceptance.PointRules.{call_edge, edge_rules, noted_at, point_at, program_edge}
 use Rattle.model.specs.Acceptance.PointStates.{Noted, Known, Missing, Unmeasured, address_of, behind_call, call_at, follows, follows_call, follows_edge, follows_instruction, instruction_at, noted, noted_or, point_of}
 use Rattle.model.specs.Acceptance.Rules.{first_broken}
@@ -16,10 +16,8 @@ use Rattle.model.specs.declared.refusals.Point.{Point}
 use Rattle.model.specs.declared.refusals.Refusal.{Refusal}
 use Rattle.program_rules.proofs.EachPoint.{next-before, noted-is}
 use Rattle.program_rules.proofs.EdgeRules.{call-told, told_of}
-use Rattle.program_rules.specs.Kept.{IsKeptAt, before, has_state, noted_by}
+use Rattle.program_rules.specs.Kept.{before, has_state}
 use Rattle.program_rules.specs.PointChecks.{later_rules, way_rules}
-use Rattle.program_rules.specs.declared.kept.Kept.{Kept}
-use Rattle.typestate.specs.declared.log_entries.LogEntry.{LogEntry}
 
 -- what follows from an instruction that is no system call
 plain-follows : (image : Image) (t : Numbered) (point : ℕ) (s : PointState) (instr : Instr) → instr ≢ Ecall
@@ -81,11 +79,11 @@ module _ (image : Image) (t : Numbered) (point : ℕ) (s : PointState) (instr : 
       ∙ left-next
 
 -- the next point, as it was found: it has a state, and is the one at that address
-pub next-found : (image : Image) (t : Numbered) (slots : List NotedSlot) (log : List LogEntry) (point next address : ℕ) (k : Kept) → IsKeptAt image t slots log next k
-    → true ≡ has_state (noted_by slots log k) → next ≡ point + 1 → Some next ≡ point_at t.thread (address + 4)
-    → address ≡ address_of t.thread point → (has_state (noted image t (point + 1)) ≡ true) × (Some (point + 1) ≡ point_at t.thread (address_of t.thread point + 4))
-next-found image t slots log point next address k here has is at place = (
-  ap (λ (n : ℕ). has_state (noted image t n)) (sym is) ∙ ap has_state (sym here.same) ∙ sym has,
+pub next-found : (image : Image) (t : Numbered) (point next address : ℕ) → has_state (noted image t next) ≡ true → next ≡ point + 1
+    → Some next ≡ point_at t.thread (address + 4) → address ≡ address_of t.thread point
+    → (has_state (noted image t (point + 1)) ≡ true) × (Some (point + 1) ≡ point_at t.thread (address_of t.thread point + 4))
+next-found image t point next address has is at place = (
+  ap (λ (n : ℕ). has_state (noted image t n)) (sym is) ∙ has,
   ap (λ (n : ℕ). Some n) (sym is) ∙ at ∙ ap (λ (n : ℕ). point_at t.thread (n + 4)) place,
 )
 

@@ -38,10 +38,9 @@ rises least (r ∷ rs) above rise = (
 pub record AreLeft (t : Thread) (point : ℕ) (rest : List StateRecord) : Type 0 where
   pub rising : Rise point rest
   pub same : (other : ℕ) → point ≤ other → record_of t other ≡ found other rest
-  pub fit : (k : ℕ) (r : StateRecord) → slice_get rest k ≡ Some r → RecordFits t.header.words r
 
 pub all-left : (t : Thread) → CertificateFits t → AreLeft t 0 t.records
-all-left t fits = record { rising = rises 0 t.records (λ k r at. omega arith) fits.points_rise; same = λ other le. refl; fit = fits.each }
+all-left t fits = record { rising = rises 0 t.records (λ k r at. omega arith) fits.points_rise; same = λ other le. refl }
 
 none-below : (least other : ℕ) (rs : List StateRecord) → Rise least rs → other < least → found other rs ≡ None
 none-below least other [] rising lt = refl
@@ -54,7 +53,7 @@ none-below least other (r ∷ rs) rising lt = elim (eqb_tells r.header.point oth
 pub next-record : (t : Thread) (point : ℕ) (rest : List StateRecord) → AreLeft t point rest
     → (record_of t point ≡ taken point rest) × AreLeft t (point + 1) (behind point rest)
 next-record t point [] left =
-    (left.same point (omega arith), record { rising = tt; same = λ other le. left.same other (omega (arith, le)); fit = left.fit })
+    (left.same point (omega arith), record { rising = tt; same = λ other le. left.same other (omega (arith, le)) })
 next-record t point (r ∷ rest) left = elim (eqb_tells r.header.point point) [
   | inl here ↦ (
     left.same point (omega arith) ∙ ap (λ (b : Bool). if b then Some r else found point rest) here.0 ∙ sym (ap (λ (b : Bool). if b then Some r else None) here.0),
@@ -64,24 +63,34 @@ next-record t point (r ∷ rest) left = elim (eqb_tells r.header.point point) [
         | inl again ↦ absurd (let first : r.header.point ≡ point = here.1 in let second : r.header.point ≡ other = again.1 in omega (arith, le, first, second))
         | inr apart ↦ left.same other (omega (arith, le)) ∙ ap (λ (b : Bool). if b then Some r else found other rest) apart.0
       ];
-      fit = λ k s at. left.fit (suc k) s at;
     }),
   )
   | inr apart ↦
       let above : point + 1 ≤ r.header.point = omega (arith, left.rising.0, apart.1) in (
         left.same point (omega arith) ∙ none-below (point + 1) point (r ∷ rest) (above, left.rising.1) (omega arith) ∙ sym (ap (λ (b : Bool). if b then Some r else None) apart.0),
         subst (λ (b : Bool). AreLeft t (point + 1) (if b then rest else r ∷ rest)) (sym apart.0)
-            (record { rising = (above, left.rising.1); same = λ other le. left.same other (omega (arith, le)); fit = left.fit }),
+            (record { rising = (above, left.rising.1); same = λ other le. left.same other (omega (arith, le)) }),
       )
 ]
 
--- the record that is taken is one of the certificate's
-pub taken-fits : (t : Thread) (point : ℕ) (rest : List StateRecord) (r : StateRecord) → AreLeft t point rest → taken point rest ≡ Some r → RecordFits t.header.words r
-taken-fits t point [] r left is = absurd (let clash : ◌≡◌ {A = Option StateRecord} None (Some r) = is in cc)
-taken-fits t point (s ∷ rest) r left is = elim (eqb_tells s.header.point point) [
-  | inl here ↦ left.fit 0 r (sym (ap (λ (b : Bool). if b then Some s else None) here.0) ∙ is)
-  | inr apart ↦ absurd (let clash : ◌≡◌ {A = Option StateRecord} None (Some r) = sym (ap (λ (b : Bool). if b then Some s else None) apart.0) ∙ is in cc)
+-- a record that is found is one of those
+found-fits : (words point : ℕ) (rs : List StateRecord) (r : StateRecord) → ((k : ℕ) (s : StateRecord) → slice_get rs k ≡ Some s → RecordFits words s)
+    → found point rs ≡ Some r → RecordFits words r
+found-fits words point [] r fit is = absurd (let clash : ◌≡◌ {A = Option StateRecord} None (Some r) = is in cc)
+found-fits words point (s ∷ rest) r fit is = elim (eqb_tells s.header.point point) [
+  | inl here ↦ fit 0 r (sym (ap (λ (b : Bool). if b then Some s else found point rest) here.0) ∙ is)
+  | inr apart ↦ found-fits words point rest r (λ k other at. fit (suc k) other at) (sym (ap (λ (b : Bool). if b then Some s else found point rest) apart.0) ∙ is)
 ]
+
+pub record-fits : (t : Thread) (point : ℕ) (r : StateRecord) → CertificateFits t → record_of t point ≡ Some r → RecordFits t.header.words r
+record-fits t point r fits is = found-fits t.header.words point t.records r fits.each is
+
+-- whether the next point has a record, by the records that are left
+pub is-next : (t : Thread) (point : ℕ) (rest next : List StateRecord) (is : Bool) → AreLeft t point rest → next ≡ behind point rest → is ≡ is_some (taken (point + 1) next)
+    → is ≡ is_some (record_of t (point + 1))
+is-next t point rest next is left same found =
+    found ∙ ap (λ (rs : List StateRecord). is_some (taken (point + 1) rs)) same
+    ∙ ap is_some (sym (next-record t (point + 1) (behind point rest) (next-record t point rest left).1).0)
 
 pub no-record : (o : Option StateRecord) → is_some o ≡ false → o ≡ None
 no-record None is = refl

@@ -1,11 +1,17 @@
 -- What is kept of some points, and where the others begin, as points are put behind.
-use Rattle.std.proofs.Common.{ℕ, zero, suc, ◌≡◌, ◌∙◌, ◌⊎◌, ◌+◌, ◌-◌, ◌<◌, ◌≤◌, ◌++◌, inl, inr, Option, Some, None, List, [], ◌∷◌, length, refl, sym, ap, subst, arith}
+use Rattle.std.proofs.Common.{ℕ, zero, suc, ◌≡◌, ◌∙◌, ◌⊎◌, ◌+◌, ◌-◌, ◌<◌, ◌≤◌, ◌++◌, inl, inr, Bool, Option, Some, None, List, [], ◌∷◌, length, refl, sym, ap, subst, arith}
 use Rattle.std.proofs.lemmas.Bool.{cases_lt}
 use Rattle.std.proofs.lemmas.List.{get_or-append-add, get_or_append_left, length-append}
 use Rattle.std.specs.Prelude.{slice_get, slice_index_or}
-use Rattle.model.specs.Images.Image.{Thread}
-use Rattle.program_rules.specs.Kept.{IsPlaced, IsPlain}
+use Rattle.model.specs.Acceptance.NotedStates.{NotedSlot}
+use Rattle.model.specs.Acceptance.PointStates.{noted}
+use Rattle.model.specs.Images.Described.{Numbered}
+use Rattle.model.specs.Images.Image.{Image, Thread}
+use Rattle.program_rules.specs.Kept.{HasKept, IsPlaced, IsPlain, has_state, is_known, noted_by}
+use Rattle.program_rules.specs.declared.kept.Kept.TheVariants as kept
+use Rattle.program_rules.specs.declared.kept.Kept.{Kept}
 use Rattle.program_rules.specs.declared.kept_points.KeptPoint.{KeptPoint}
+use Rattle.typestate.specs.declared.log_entries.LogEntry.{LogEntry}
 
 pushed : {A : Type 0} (xs : List A) (x : A) (point : ℕ) (k : A) → slice_get (xs ++ x ∷ []) point ≡ Some k → (slice_get xs point ≡ Some k) ⊎ ((point ≡ length xs) × (k ≡ x))
 pushed {A} [] x zero k h = inr (refl, let same : ◌≡◌ {A = Option A} (Some x) (Some k) = h in sym (let is : x ≡ k = cc same in is))
@@ -36,16 +42,16 @@ kept-more t ks k point place is = record {
       is.plain d other (subst (λ (e : KeptPoint). e.point ≤ other) (get_or_append_left ks (k ∷ []) d place is.inside) from) below;
 }
 
+at-end : (ks : List KeptPoint) (k d : KeptPoint) → slice_index_or (ks ++ k ∷ []) (length ks) d ≡ k
+at-end ks k d = let here : length ks ≡ length ks + 0 = omega arith in ap (λ n. slice_index_or (ks ++ k ∷ []) n d) here ∙ get_or-append-add ks (k ∷ []) 0 d
+
 -- the one that is kept last
 last-kept : (t : Thread) (ks : List KeptPoint) (k : KeptPoint) → IsPlaced t (ks ++ k ∷ []) k.point (length ks)
 last-kept t ks k = record {
   inside = let long = length-append ks (k ∷ []) in omega (arith, long);
-  before = λ d. subst (λ (e : KeptPoint). e.point ≤ k.point) (sym (at-end d)) (omega arith);
-  plain = λ d other from below. absurd (let first = subst (λ (e : KeptPoint). e.point ≤ other) (at-end d) from in omega (arith, first, below));
+  before = λ d. subst (λ (e : KeptPoint). e.point ≤ k.point) (sym (at-end ks k d)) (omega arith);
+  plain = λ d other from below. absurd (let first = subst (λ (e : KeptPoint). e.point ≤ other) (at-end ks k d) from in omega (arith, first, below));
 }
-  where
-    at-end : (d : KeptPoint) → slice_index_or (ks ++ k ∷ []) (length ks) d ≡ k
-    at-end d = let here : length ks ≡ length ks + 0 = omega arith in ap (λ n. slice_index_or (ks ++ k ∷ []) n d) here ∙ get_or-append-add ks (k ∷ []) 0 d
 
 abbrev pub ArePlaced : Thread → List KeptPoint → List ℕ → Type 0
 ArePlaced t ks places = (point place : ℕ) → slice_get places point ≡ Some place → IsPlaced t ks point place
@@ -68,6 +74,47 @@ placed-kept t ks places k count are other found is = elim (pushed places (length
   | inr here ↦
       let same : k.point ≡ other = sym (here.0 ∙ count) in
       subst (λ (n : ℕ). IsPlaced t (ks ++ k ∷ []) other n) (sym here.1) (subst (λ (n : ℕ). IsPlaced t (ks ++ k ∷ []) n (length ks)) same (last-kept t ks k))
+]
+
+-- ---- where they have states
+
+-- the default does not count
+any-default : (ks : List KeptPoint) (place : ℕ) (d e : KeptPoint) → place < length ks → slice_index_or ks place d ≡ slice_index_or ks place e
+any-default [] place d e less = absurd (omega (arith, less))
+any-default (k ∷ ks) zero d e less = refl
+any-default (k ∷ ks) (suc place) d e less = any-default ks place d e (omega (arith, less))
+
+pub kept-there : (ks : List KeptPoint) (place : ℕ) (k : KeptPoint) (has : Bool) → place < length ks → k ≡ slice_index_or ks place k → is_known k.kept ≡ has → HasKept ks place has
+kept-there ks place k has less is known = λ d.
+    ap (λ (e : KeptPoint). is_known e.kept) (any-default ks place d k less) ∙ ap (λ (e : KeptPoint). is_known e.kept) (sym is) ∙ known
+
+pub known-state : (slots : List NotedSlot) (log : List LogEntry) (k : Kept) → is_known k ≡ has_state (noted_by slots log k)
+known-state slots log (kept.Known k) = refl
+known-state slots log kept.Missing = refl
+known-state slots log kept.Unmeasured = refl
+
+abbrev pub AreAlike : Image → Numbered → List KeptPoint → List ℕ → Type 0
+AreAlike image t ks places = (point place : ℕ) → slice_get places point ≡ Some place → HasKept ks place (has_state (noted image t point))
+
+-- a point that follows is put behind
+pub alike-later : (image : Image) (t : Numbered) (ks : List KeptPoint) (places : List ℕ) (point place : ℕ) → length places ≡ point → HasKept ks place (has_state (noted image t point))
+    → AreAlike image t ks places → AreAlike image t ks (places ++ place ∷ [])
+alike-later image t ks places point place count here are other found is = elim (pushed places place other found is) [
+  | inl known ↦ are other found known
+  | inr last ↦
+      subst (λ (n : ℕ). HasKept ks n (has_state (noted image t other))) (sym last.1)
+      (subst (λ (n : ℕ). HasKept ks place (has_state (noted image t n))) (sym (last.0 ∙ count)) here)
+]
+
+-- a point that is kept is put behind
+pub alike-kept : (image : Image) (t : Numbered) (ks : List KeptPoint) (places : List ℕ) (k : KeptPoint) → length places ≡ k.point → is_known k.kept ≡ has_state (noted image t k.point)
+    → ArePlaced t.thread ks places → AreAlike image t ks places → AreAlike image t (ks ++ k ∷ []) (places ++ length ks ∷ [])
+alike-kept image t ks places k count has placed are other found is = elim (pushed places (length ks) other found is) [
+  | inl known ↦ λ d. ap (λ (e : KeptPoint). is_known e.kept) (get_or_append_left ks (k ∷ []) d found (placed other found known).inside) ∙ are other found known d
+  | inr last ↦
+      subst (λ (n : ℕ). HasKept (ks ++ k ∷ []) n (has_state (noted image t other))) (sym last.1)
+      (subst (λ (n : ℕ). HasKept (ks ++ k ∷ []) (length ks) (has_state (noted image t n))) (sym (last.0 ∙ count))
+      (λ d. ap (λ (e : KeptPoint). is_known e.kept) (at-end ks k d) ∙ has))
 ]
 
 -- the place of a point

@@ -92,10 +92,21 @@ pub record IsPlaced (t : Thread) (points : List KeptPoint) (point place : ℕ) :
   pub before : (d : KeptPoint) → (slice_index_or points place d).point ≤ point
   pub plain : (d : KeptPoint) (other : ℕ) → (slice_index_or points place d).point ≤ other → other < point → IsPlain t other
 
--- of some points, and where the others begin
+-- whether a state is kept
+abbrev pub is_known : Kept → Bool
+is_known (kept.Known k) = true
+is_known kept.Missing = false
+is_known kept.Unmeasured = false
+
+-- of a place a state is kept, or not
+abbrev pub HasKept : List KeptPoint → ℕ → Bool → Type 0
+HasKept points place has = (d : KeptPoint) → is_known (slice_index_or points place d).kept ≡ has
+
+-- of some points, and where the others begin: at one that has a state, if they have one
 pub record AreKept (image : Image) (t : Numbered) (slots : List NotedSlot) (log : List LogEntry) (kept : KeptPoints) : Type 0 where
   pub each : All (λ k. IsKeptAt image t slots log k.point k.kept) kept.points.items
   pub placed : (point place : ℕ) → slice_get kept.places.items point ≡ Some place → IsPlaced t.thread kept.points.items point place
+  pub alike : (point place : ℕ) → slice_get kept.places.items point ≡ Some place → HasKept kept.points.items place (has_state (noted image t point))
 
 -- all points of the program
 pub record IsRead (image : Image) (t : Numbered) (slots : List NotedSlot) (log : List LogEntry) (kept : KeptPoints) : Type 0 where
@@ -107,10 +118,10 @@ abbrev pub before : Image → Numbered → ℕ → Noted
 before image t zero = Missing
 before image t (suc point) = follows image t point (noted image t point)
 
--- the points up to this one, and what is left for it
+-- the points up to this one, and what is left for it, if it has no record
 pub record IsReadTo (image : Image) (t : Numbered) (slots : List NotedSlot) (point : ℕ) (log : List LogEntry) (kept : KeptPoints) (derived : Kept) : Type 0 where
   pub count : length kept.places.items ≡ point
   pub noted : AreKept image t slots log kept
-  pub same : noted_by slots log derived ≡ before image t point
+  pub same : record_of t.thread point ≡ None → noted_by slots log derived ≡ before image t point
   pub sound : IsSound log point derived
   pub clean : IsCleanIn image t.thread slots log derived

@@ -5,15 +5,14 @@ ghost use Rattle.measure.specs.Measures.{measure_of};
 ghost use Rattle.model.specs.Acceptance.NotedStates.{record_of};
 ghost use Rattle.model.specs.Acceptance.PointRules.{call_edge, edge_rules, noted_at};
 ghost use Rattle.model.specs.Acceptance.PointStates.{address_of, instruction_at, point_of};
-ghost use Rattle.model.specs.Acceptance.PointStates as states;
 ghost use Rattle.model.specs.Acceptance.Rules.{first_broken};
 ghost use Rattle.model.specs.declared.instructions.Instr.TheVariants.{Ecall};
-ghost use Rattle.program_rules.specs.Kept.{IsCleanIn, IsRead, IsSound, state_by};
+ghost use Rattle.program_rules.specs.Kept.{IsKeptAt, IsRead, state_by};
 ghost use Rattle.program_rules.specs.PointChecks.{later_rules};
 ghost use Rattle.program_rules.specs.Programs.{thread_of};
 ghost use Rattle.program_rules.specs.declared.kept.Kept.TheVariants as kept;
 ghost use Rattle.typestate.specs.Calls.{behind_with};
-ghost use Rattle.typestate.specs.Logs.{KeepsParts, Shows, part_of};
+ghost use Rattle.typestate.specs.Logs.{KeepsParts, Shows, ShowsSome, part_of};
 ghost use Rattle.wellformed.specs.Answering.{Answers};
 ghost use Rattle.typestate.specs.Replays.{replayed};
 
@@ -72,10 +71,12 @@ impl Program<'_, '_> {
         )
     }
 
-    /// Whether the way on behind a system call that leaves this, and makes these changes of slots, keeps its rules.
+    /// Whether the way on behind a system call that leaves this, and makes these changes of slots, keeps its rules. What is shown goes on
+    /// to the slots that it leaves.
     fn behind_rules(
         &self,
         points: &mut Points,
+        shown: &mut ShownPart,
         point: u32,
         known: &Known,
         behind: &Behind,
@@ -83,7 +84,8 @@ impl Program<'_, '_> {
     ) -> Result<(), Refusal>
         requires read { IsRead self.now.space.image.now (thread_of self.now) self.now.slots.now points.old.log points.old.kept }
         requires within { point < self.now.space.thread.now.header.words }
-        requires sound { IsSound points.old.log point (kept.Known known.now) }
+        requires shown { Shows points.old.log known.now.part shown.old }
+        ensures shown { IfOk result (λ _. ShowsSome points.new.log shown.new) }
         ensures broken { Answers (first_broken (edge_rules self.now.space.thread.now (point_of (thread_of self.now) point) (measure_of known.now.measure)
             (call_edge (address_of self.now.space.thread.now point) known.now.bounds (behind_with (replayed (replayed self.now.slots.now (part_of points.old.log known.now.part)) made.now) behind.now))
             (noted_at self.now.space.image.now (thread_of self.now) (address_of self.now.space.thread.now point + 4)))) result }
@@ -91,9 +93,8 @@ impl Program<'_, '_> {
         ensures others { IfOk result (λ _. KeepsParts points.old.log points.new.log) }
     {
         let part = points.log.follow(known.part, made)?;
-        let mut shown = ShownPart::new(self.alloc);
-        points.log.show(&mut shown, part)?;
-        self.way_behind(points, &shown, point, known, behind, part)
+        points.log.show(shown, part)?;
+        self.way_behind(points, shown, point, known, behind, part)
     }
 
     /// Whether the system call at a point is accepted, and keeps the rules on its way on. It is not looked at again where the next point
@@ -101,7 +102,7 @@ impl Program<'_, '_> {
     pub(crate) fn call_rules(
         &self,
         points: &mut Points,
-        shown: &ShownPart,
+        shown: &mut ShownPart,
         point: u32,
         noted: Option<&RecordRef<'_>>,
         is_next_noted: bool,
@@ -112,10 +113,9 @@ impl Program<'_, '_> {
         requires is { instruction_at self.now.space.thread.now point ≡ Some Ecall }
         requires noted { option_map (λ r. r.now) noted ≡ record_of self.now.space.thread.now point }
         requires next { is_next_noted ≡ false → record_of self.now.space.thread.now (point + 1) ≡ None }
-        requires known { states.Known (state_by self.now.slots.now points.old.log known.now) ≡ states.noted self.now.space.image.now (thread_of self.now) point }
-        requires sound { IsSound points.old.log point (kept.Known known.now) }
-        requires shown { Shows points.old.log known.now.part shown.now }
-        requires clean { IsCleanIn self.now.space.image.now self.now.space.thread.now self.now.slots.now points.old.log (kept.Known known.now) }
+        requires kept { IsKeptAt self.now.space.image.now (thread_of self.now) self.now.slots.now points.old.log point (kept.Known known.now) }
+        requires shown { Shows points.old.log known.now.part shown.old }
+        ensures shown { IfOk result (λ _. ShowsSome points.new.log shown.new) }
         ensures broken { Answers (first_broken (later_rules self.now.space.image.now (thread_of self.now) point (state_by self.now.slots.now points.old.log known.now) (Some Ecall))) result }
         ensures read { IfOk result (λ _. IsRead self.now.space.image.now (thread_of self.now) self.now.slots.now points.new.log points.new.kept) }
         ensures others { IfOk result (λ _. KeepsParts points.old.log points.new.log) }
@@ -135,7 +135,7 @@ impl Program<'_, '_> {
         )? {
             None => Ok(()),
             Some(Err(refusal)) => Err(refusal),
-            Some(Ok(behind)) => self.behind_rules(points, point, known, &behind, &made),
+            Some(Ok(behind)) => self.behind_rules(points, shown, point, known, &behind, &made),
         }
     }
 }

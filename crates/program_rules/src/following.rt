@@ -1,6 +1,6 @@
 //! What follows from the state of a point.
 
-ghost use Rattle.std.specs.Prelude.{ℕ, ◌≡◌, ◌≢◌, ◌+◌, ◌<◌, ◌≤ℤ◌, ◌^◌, ◌-◌, ◌≤◌, [], IfOk, List, negsuc, option_map, Some, true};
+ghost use Rattle.std.specs.Prelude.{ℕ, ◌≡◌, ◌≢◌, ◌+◌, ◌<◌, ◌≤ℤ◌, ◌^◌, ◌-◌, ◌≤◌, [], IfOk, List, false, negsuc, option_map, Some, true};
 ghost use Rattle.measure.specs.Measures.{measure_of};
 ghost use Rattle.model.specs.Acceptance.Edges.{after};
 ghost use Rattle.model.specs.Acceptance.Measures.{Measure as NotedMeasure};
@@ -224,11 +224,13 @@ impl Program<'_, '_> {
         ))
     }
 
-    /// What is kept of the point behind this one, where no record notes that one. Memory may be refused.
+    /// What is kept of the point after this one, if no record notes that one: it is not worked out where one does. Memory may be
+    /// refused.
     pub(crate) fn following(
         &self,
         point: u32,
         noted: Option<&RecordRef<'_>>,
+        is_next_noted: bool,
         kept: &Kept,
         log: &mut SlotLog,
         shown: &ShownPart,
@@ -238,11 +240,14 @@ impl Program<'_, '_> {
         requires sound { IsSound log.old point kept.now }
         requires shown { ShowsKept log.old shown.now kept.now }
         requires clean { IsCleanIn self.now.space.image.now self.now.space.thread.now self.now.slots.now log.old kept.now }
-        ensures same { IfOk result (λ k. noted_by self.now.slots.now log.new k ≡ follows self.now.space.image.now (thread_of self.now) point (noted_by self.now.slots.now log.old kept.now)) }
+        ensures same { IfOk result (λ k. is_next_noted ≡ false → noted_by self.now.slots.now log.new k ≡ follows self.now.space.image.now (thread_of self.now) point (noted_by self.now.slots.now log.old kept.now)) }
         ensures sound { IfOk result (IsSound log.new (point + 1)) }
         ensures clean { IfOk result (IsCleanIn self.now.space.image.now self.now.space.thread.now self.now.slots.now log.new) }
         ensures others { IfOk result (λ _. KeepsParts log.old log.new) }
     {
+        if is_next_noted {
+            return Ok(Kept::Missing);
+        }
         let Kept::Known(known) = kept else {
             return Ok(Kept::Missing);
         };

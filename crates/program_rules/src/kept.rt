@@ -4,7 +4,7 @@ ghost use Rattle.std.specs.Prelude.{◌≡◌, IfOk, List};
 ghost use Rattle.measure.specs.Measures.{measure_of};
 ghost use Rattle.model.specs.Acceptance.NotedStates.{NotedSlot};
 ghost use Rattle.program_rules.specs.point_rules.Points.{HasImage, noted_of, state_of};
-ghost use Rattle.program_rules.specs.Kept.{HasPart, ShowsKept, has_state, noted_by, state_by};
+ghost use Rattle.program_rules.specs.Kept.{HasPart, ShowsKept, is_known, noted_by, state_by};
 ghost use Rattle.typestate.specs.Differences.{changed, slots_of};
 ghost use Rattle.typestate.specs.Logs.{Shows, ShowsSome};
 ghost use Rattle.typestate.specs.Orders.{Rise};
@@ -59,7 +59,7 @@ impl Known {
 impl Kept {
     /// Whether a state is noted.
     pub(crate) fn has_state(&self) -> bool
-        ensures { (slots : List NotedSlot) (log : List LogEntry) → result ≡ has_state (noted_by slots log self.now) }
+        ensures { result ≡ is_known self.now }
     {
         matches!(self, Kept::Known(_))
     }

@@ -1,6 +1,6 @@
 //! What is noted of all points of a program.
 
-ghost use Rattle.std.specs.Prelude.{ℕ, ◌≡◌, ◌+◌, ◌<◌, ◌≤◌, ◌≤ℤ◌, ◌^◌, IfOk, IfSome, List, length, negsuc, option_map};
+ghost use Rattle.std.specs.Prelude.{ℕ, ◌≡◌, ◌+◌, ◌<◌, ◌≤◌, ◌≤ℤ◌, ◌^◌, IfOk, IfSome, List, is_some, length, negsuc, option_map};
 ghost use Rattle.model.specs.Acceptance.NotedStates.{NotedSlot, image_slots, record_of, record_state};
 ghost use Rattle.model.specs.Acceptance.PointStates as states;
 ghost use Rattle.model.specs.Images.Image.{Image, Thread};
@@ -64,19 +64,20 @@ fn noted_or(
 }
 
 impl Points {
-    /// Notes the next point: by its record, or by what the point before leaves. An `Ok` is what it leaves in turn. Memory may be
-    /// refused.
+    /// Notes the next point: by its record, or by what the point before leaves. An `Ok` is what it leaves in turn, if no record notes
+    /// the point after it. Memory may be refused.
     fn note(
         &mut self,
         program: &Program<'_, '_>,
         point: u32,
         noted: Option<&RecordRef<'_>>,
+        is_next_noted: bool,
         derived: Kept,
         shown: &mut ShownPart,
     ) -> Result<Kept, AllocError>
         requires within { point < program.now.space.thread.now.header.words }
         requires noted { option_map (λ r. r.now) noted ≡ record_of program.now.space.thread.now point }
-        requires fits { IfSome noted (λ r. (length r.now.terms ≤ 4) × (negsuc (2 ^ 62) ≤ℤ r.now.header.constant)) }
+        requires next { is_next_noted ≡ is_some (record_of program.now.space.thread.now (point + 1)) }
         requires read { IsReadTo program.now.space.image.now (thread_of program.now) program.now.slots.now point self.old.log self.old.kept derived }
         requires shown { ShowsSome self.old.log shown.old }
         ensures read { IfOk result (IsReadTo program.now.space.image.now (thread_of program.now) program.now.slots.now (point + 1) self.new.log self.new.kept) }
@@ -85,7 +86,7 @@ impl Points {
         let found = noted_or(&mut self.log, noted, derived)?;
         found.show(&self.log, shown)?;
         let state = program.looked_at(point, noted, &found, &self.log, shown);
-        let left = program.following(point, noted, &state, &mut self.log, shown)?;
+        let left = program.following(point, noted, is_next_noted, &state, &mut self.log, shown)?;
         self.kept
             .push(program.space.thread, point, noted.is_none(), state)?;
         Ok(left)
@@ -104,7 +105,15 @@ impl Points {
         let mut shown = ShownPart::new(program.alloc);
         'notes: for point in 0..program.space.thread.word_count() {
             let noted = records.take(point);
-            derived = points.note(program, point, noted.as_ref(), derived, &mut shown)?;
+            let is_next_noted = records.is_next(point + 1);
+            derived = points.note(
+                program,
+                point,
+                noted.as_ref(),
+                is_next_noted,
+                derived,
+                &mut shown,
+            )?;
         }
         Ok(points)
     }

@@ -5,10 +5,9 @@ ghost use Rattle.std.specs.List.{range_with_len};
 ghost use Rattle.model.specs.Acceptance.NotedStates.{record_of};
 ghost use Rattle.model.specs.Acceptance.PointRules.{entry_rules, point_rules, rules_of_program, state_rules};
 ghost use Rattle.model.specs.Acceptance.PointStates.{noted};
-ghost use Rattle.model.specs.Acceptance.PointStates as states;
 ghost use Rattle.model.specs.Acceptance.Rules.{first_broken};
 ghost use Rattle.program_rules.specs.FoundPages.{AreFound};
-ghost use Rattle.program_rules.specs.Kept.{IsCleanIn, IsRead, IsSound, state_by};
+ghost use Rattle.program_rules.specs.Kept.{IsKeptAt, IsRead, state_by};
 ghost use Rattle.program_rules.specs.Programs.{thread_of};
 ghost use Rattle.program_rules.specs.SameParts.{AreSame};
 ghost use Rattle.program_rules.specs.declared.kept.Kept.TheVariants as kept;
@@ -32,7 +31,7 @@ impl Program<'_, '_> {
     fn state_rules(
         &self,
         points: &mut Points,
-        shown: &ShownPart,
+        shown: &mut ShownPart,
         point: u32,
         noted: Option<&RecordRef<'_>>,
         is_next_noted: bool,
@@ -44,10 +43,8 @@ impl Program<'_, '_> {
         requires within { point < self.now.space.thread.now.header.words }
         requires noted { option_map (λ r. r.now) noted ≡ record_of self.now.space.thread.now point }
         requires next { is_next_noted ≡ false → record_of self.now.space.thread.now (point + 1) ≡ None }
-        requires known { states.Known (state_by self.now.slots.now points.old.log known.now) ≡ states.noted self.now.space.image.now (thread_of self.now) point }
-        requires sound { IsSound points.old.log point (kept.Known known.now) }
-        requires part { Shows points.old.log known.now.part shown.now }
-        requires clean { IsCleanIn self.now.space.image.now self.now.space.thread.now self.now.slots.now points.old.log (kept.Known known.now) }
+        requires kept { IsKeptAt self.now.space.image.now (thread_of self.now) self.now.slots.now points.old.log point (kept.Known known.now) }
+        requires part { Shows points.old.log known.now.part shown.old }
         requires same { AreSame self.now.slots.now points.old.log same.old }
         requires found { AreFound self.now.space.image.now self.now.space.thread.now self.now.slots.now points.old.log found.old }
         requires found_part { found.old.part ≡ known.now.part }
@@ -55,6 +52,7 @@ impl Program<'_, '_> {
         ensures found { IfOk result (λ _. AreFound self.now.space.image.now self.now.space.thread.now self.now.slots.now points.new.log found.new) }
         ensures broken { Answers (first_broken (state_rules self.now.space.image.now (thread_of self.now) point (state_by self.now.slots.now points.old.log known.now))) result }
         ensures read { IfOk result (λ _. IsRead self.now.space.image.now (thread_of self.now) self.now.slots.now points.new.log points.new.kept) }
+        ensures shown { IfOk result (λ _. ShowsSome points.new.log shown.new) }
         ensures others { IfOk result (λ _. KeepsParts points.old.log points.new.log) }
     {
         let instr = decode(self.space.thread.word(point));
@@ -80,6 +78,7 @@ impl Program<'_, '_> {
         point: u32,
         noted: Option<&RecordRef<'_>>,
         is_next_noted: bool,
+        kept: &Kept,
         same: &mut SameParts,
         found: &mut FoundPages,
     ) -> Result<(), Refusal>
@@ -87,6 +86,7 @@ impl Program<'_, '_> {
         requires within { point < self.now.space.thread.now.header.words }
         requires noted { option_map (λ r. r.now) noted ≡ record_of self.now.space.thread.now point }
         requires next { is_next_noted ≡ false → record_of self.now.space.thread.now (point + 1) ≡ None }
+        requires kept { IsKeptAt self.now.space.image.now (thread_of self.now) self.now.slots.now points.old.log point kept.now }
         requires some { ShowsSome points.old.log shown.old }
         requires same { AreSame self.now.slots.now points.old.log same.old }
         requires found { AreFound self.now.space.image.now self.now.space.thread.now self.now.slots.now points.old.log found.old }
@@ -95,8 +95,9 @@ impl Program<'_, '_> {
         ensures broken { Answers (first_broken (point_rules self.now.space.image.now (thread_of self.now) point)) result }
         ensures read { IfOk result (λ _. IsRead self.now.space.image.now (thread_of self.now) self.now.slots.now points.new.log points.new.kept) }
         ensures shown { IfOk result (λ _. ShowsSome points.new.log shown.new) }
+        ensures others { IfOk result (λ _. KeepsParts points.old.log points.new.log) }
     {
-        match points.kept.at(self, &points.log, point) {
+        match kept {
             Kept::Known(known) => {
                 points.log.show(shown, known.part)?;
                 found.go_on(known.part);
@@ -106,7 +107,7 @@ impl Program<'_, '_> {
                     point,
                     noted,
                     is_next_noted,
-                    &known,
+                    known,
                     same,
                     found,
                 )
@@ -124,6 +125,7 @@ impl Program<'_, '_> {
         let mut shown = ShownPart::new(self.alloc);
         let mut same = SameParts::new(self.alloc);
         let mut found = FoundPages::new(self.alloc);
+        let mut kept = points.kept.at(self, &points.log, 0);
         'rules: for point in 0..self.space.thread.word_count() {
             let noted = records.take(point);
             let is_next_noted = records.is_next(point + 1);
@@ -133,9 +135,11 @@ impl Program<'_, '_> {
                 point,
                 noted.as_ref(),
                 is_next_noted,
+                &kept,
                 &mut same,
                 &mut found,
             )?;
+            kept = points.kept.after(self, &points.log, point, &kept);
         }
         Ok(())
     }

@@ -329,9 +329,7 @@ impl Program<'_, '_> {
             return false;
         }
         match self.point_at(self.address(point) + 4) {
-            Some(next) => {
-                next == point + 1 && points.kept.at(self, &points.log, next).has_state()
-            }
+            Some(next) => next == point + 1 && points.kept.has_state(next),
             None => false,
         }
     }

@@ -4,9 +4,9 @@ use Rattle.std.proofs.lemmas.List.Elements.{All-append, All-cons, All-nil}
 use Rattle.std.specs.List.{All}
 use Rattle.std.specs.Vec.{vec_len}
 use Rattle.model.specs.Images.Image.{Thread}
-use Rattle.program_rules.proofs.Placed.{ArePlaced, placed-kept, placed-later}
+use Rattle.program_rules.proofs.Placed.{AreAlike, ArePlaced, alike-kept, alike-later, known-state, placed-kept, placed-later}
 use Rattle.program_rules.proofs.kept_points.KeptPoints.push.Goals as goal
-use Rattle.program_rules.specs.Kept.{IsKeptAt, IsPlain}
+use Rattle.program_rules.specs.Kept.{HasKept, IsKeptAt, IsPlain, has_state}
 use Rattle.program_rules.specs.declared.kept_points.KeptPoint.{KeptPoint}
 
 pub returns-in-Some-clause-kept : goal.returns-in-Some-clause-kept
@@ -15,8 +15,11 @@ returns-in-Some-clause-kept c = λ image t slots log same is old.
     record {
       each = old.each;
       placed = subst (λ (places : List ℕ). ArePlaced t.thread ks places) (sym c.in_ok-push.ensures.items)
-          (placed-later t.thread ks c.args.self.now.places.items c.args.point c.in-Some.place c.requires.count c.in-Some.ensures.0 c.in-Some.ensures.1
-          (subst (λ (own : Thread). IsPlain own (c.args.point - 1)) (sym same) c.in-Some.ensures.2) old.placed);
+          (placed-later t.thread ks c.args.self.now.places.items c.args.point c.in-Some.place c.requires.count c.in-Some.ensures.before.0 c.in-Some.ensures.before.1
+          (subst (λ (own : Thread). IsPlain own (c.args.point - 1)) (sym same) c.in-Some.ensures.before.2) old.placed);
+      alike = subst (λ (places : List ℕ). AreAlike image t ks places) (sym c.in_ok-push.ensures.items)
+          (alike-later image t ks c.args.self.now.places.items c.args.point c.in-Some.place c.requires.count
+          (subst (HasKept ks c.in-Some.place) (c.has_state.ensures ∙ known-state slots log c.args.kept ∙ ap has_state is.same) c.in-Some.ensures.alike) old.alike);
     }
 
 pub returns-clause-kept : goal.returns-clause-kept
@@ -32,4 +35,7 @@ returns-clause-kept c = λ image t slots log same is old.
       placed = subst (λ (all : List KeptPoint). ArePlaced t.thread all c.push-2.new.self.items) (sym c.in_ok-push-3.ensures.items)
           (subst (λ (places : List ℕ). ArePlaced t.thread (ks ++ k ∷ []) places) (sym behind)
           (placed-kept t.thread ks c.args.self.now.places.items k c.requires.count old.placed));
+      alike = subst (λ (all : List KeptPoint). AreAlike image t all c.push-2.new.self.items) (sym c.in_ok-push-3.ensures.items)
+          (subst (λ (places : List ℕ). AreAlike image t (ks ++ k ∷ []) places) (sym behind)
+          (alike-kept image t ks c.args.self.now.places.items k c.requires.count (known-state slots log c.args.kept ∙ ap has_state is.same) old.placed old.alike));
     }

@@ -1,14 +1,25 @@
 -- A point has the state of its record, or what the point before leaves.
-use Rattle.std.proofs.Common.{◌≡◌, ◌∙◌, Option, List, refl, sym, ap, subst}
+use Rattle.std.proofs.Common.{◌≡◌, ◌∙◌, ◌≤◌, ◌^◌, negsuc, Option, Some, None, option_map, is_some, IfSome, List, length, refl, sym, ap, subst}
+use Rattle.std.specs.Prelude.{◌≤ℤ◌}
 use Rattle.model.specs.Acceptance.NotedStates.{NotedSlot, image_slots, record_of}
 use Rattle.model.specs.Acceptance.PointStates.{follows, noted, noted_or}
 use Rattle.model.specs.Images.Image.{StateRecord}
-use Rattle.program_rules.proofs.EachPoint.{grown, has-part, next-before, noted-is}
+use Rattle.program_rules.proofs.EachPoint.{grown, has-part, next-before, noted-is, noted-or-same}
+use Rattle.program_rules.proofs.NextRecords.{record-fits}
 use Rattle.program_rules.proofs.ShownParts.{some-grown}
 use Rattle.program_rules.proofs.points.Points.note.Goals as goal
-use Rattle.program_rules.specs.Kept.{IsKeptAt, noted_by}
+use Rattle.program_rules.specs.Kept.{IsKeptAt, before as states_before, noted_by}
 use Rattle.program_rules.specs.Programs.{thread_of}
 use Rattle.typestate.specs.Orders.{Rise}
+
+pub noted_or-requires : goal.noted_or-requires
+noted_or-requires c =
+    let own = c.args.program.now.space.thread.now in
+    elim c.args.noted as (λ o. option_map (λ r. r.now) o ≡ record_of own c.args.point
+    → IfSome o (λ r. (length r.now.terms ≤ 4) × (negsuc (2 ^ 62) ≤ℤ r.now.header.constant))) [
+      | None ↦ λ is. tt
+      | Some r ↦ λ is. let fits = record-fits own c.args.point r.now c.args.program.now.fits (sym is) in (fits.terms, fits.constant)
+    ] c.requires.noted
 
 pub looked_at-state-requires-clause-sound : goal.looked_at-state-requires-clause-sound
 looked_at-state-requires-clause-sound c = c.in_ok-found.ensures.sound c.args.point c.requires.read.sound
@@ -42,14 +53,14 @@ returns-clause-read c =
     ∙ c.in_ok-found.ensures.same image own (subst Rise c.args.program.now.listed c.args.program.now.rising)
     ∙ ap (λ (r : Option StateRecord). noted_or image own r (noted_by (image_slots image own) old c.args.derived)) c.requires.noted
     ∙ ap (λ (all : List NotedSlot). noted_or image own (record_of own point) (noted_by all old c.args.derived)) (sym c.args.program.now.listed)
-    ∙ ap (noted_or image own (record_of own point)) before.same
+    ∙ noted-or-same image own (record_of own point) (noted_by slots old c.args.derived) (states_before image t point) before.same
     ∙ sym (noted-is image t point) in
     let is : IsKeptAt image t slots log point state = record { same = same; sound = c.looked_at-state.ensures.sound; clean = c.looked_at-state.ensures.clean } in
     let more = c.in_ok-push.ensures.kept image t slots log refl is (grown image t slots old log kept c.in_ok-found.ensures.others before.noted) in
     record {
       count = c.in_ok-push.ensures.count;
       noted = grown image t slots log c.following.new.log c.push.new.self c.in_ok-left.ensures.others more;
-      same = c.in_ok-left.ensures.same ∙ ap (follows image t point) same ∙ next-before image t point;
+      same = λ none. c.in_ok-left.ensures.same (c.requires.next ∙ ap is_some none) ∙ ap (follows image t point) same ∙ next-before image t point;
       sound = c.in_ok-left.ensures.sound;
       clean = c.in_ok-left.ensures.clean;
     }

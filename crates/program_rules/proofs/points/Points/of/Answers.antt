@@ -1,10 +1,8 @@
 -- One point after another.
-use Rattle.std.proofs.Common.{◌≡◌, ◌∙◌, ◌+◌, ◌≤◌, ◌^◌, negsuc, Some, None, option_map, IfSome, List, length, refl, sym, subst}
-use Rattle.std.specs.Prelude.{◌≤ℤ◌}
+use Rattle.std.proofs.Common.{◌∙◌, ◌+◌, List, refl, sym, subst}
 use Rattle.model.specs.Images.Image.{StateRecord}
-use Rattle.program_rules.proofs.NextRecords.{AreLeft, all-left, next-record, taken-fits}
+use Rattle.program_rules.proofs.NextRecords.{AreLeft, all-left, is-next, next-record}
 use Rattle.program_rules.proofs.points.Points.of.Goals as goal
-use Rattle.program_rules.specs.Left.{taken}
 use Rattle.program_rules.specs.Programs.{thread_of}
 
 pub notes-init : goal.notes-init
@@ -16,7 +14,7 @@ notes-init c =
       record {
         count = c.new.ensures.count;
         noted = c.new.ensures.kept image t c.args.program.now.slots.now log;
-        same = refl;
+        same = λ none. refl;
         sound = tt;
         clean = tt;
       },
@@ -29,14 +27,10 @@ note-requires-clause-noted c =
     c.as_ref.ensures.value ∙ c.take-noted.ensures.record
     ∙ sym (next-record c.args.program.now.space.thread.now c.notes.point c.notes.records c.notes.invariant.1).0
 
-pub note-requires-clause-fits : goal.note-requires-clause-fits
-note-requires-clause-fits c =
-    let own = c.args.program.now.space.thread.now in
-    elim c.as_ref.result as (λ o. option_map (λ r. r.now) o ≡ taken c.notes.point c.notes.records
-    → IfSome o (λ r. (length r.now.terms ≤ 4) × (negsuc (2 ^ 62) ≤ℤ r.now.header.constant))) [
-      | None ↦ λ is. tt
-      | Some r ↦ λ is. let fits = taken-fits own c.notes.point c.notes.records r.now c.notes.invariant.1 (sym is) in (fits.terms, fits.constant)
-    ] (c.as_ref.ensures.value ∙ c.take-noted.ensures.record)
+pub note-requires-clause-next : goal.note-requires-clause-next
+note-requires-clause-next c =
+    is-next c.args.program.now.space.thread.now c.notes.point c.notes.records c.take-noted.new.self c.is_next-is_next_noted.result c.notes.invariant.1 c.take-noted.ensures.left
+    c.is_next-is_next_noted.ensures
 
 pub notes-preserved : goal.notes-preserved
 notes-preserved c =

@@ -8,17 +8,28 @@ use Rattle.model.specs.Acceptance.Rules.{first_broken}
 use Rattle.model.specs.declared.refusals.Refusal.{Refusal}
 use Rattle.program_rules.proofs.EachPoint.{grown-read}
 use Rattle.program_rules.proofs.Outcomes.{always}
+use Rattle.program_rules.proofs.ShownParts.{some-grown, some-shown}
 use Rattle.program_rules.proofs.programs.Program.behind_rules.Goals as goal
 use Rattle.program_rules.specs.Kept.{IsRead}
 use Rattle.program_rules.specs.Programs.{thread_of}
 use Rattle.typestate.specs.Calls.{behind_with}
-use Rattle.typestate.specs.Logs.{KeepsParts}
+use Rattle.typestate.specs.Logs.{KeepsParts, ShowsSome}
 use Rattle.wellformed.specs.Answering.{Answers}
 
 pub way_behind-requires-clause-read : goal.way_behind-requires-clause-read
 way_behind-requires-clause-read c =
     grown-read c.args.self.now.space.image.now (thread_of c.args.self.now) c.args.self.now.slots.now c.args.points.now.log c.follow.new.self
     c.args.points.now.kept c.in_ok-part.ensures.others c.requires.read
+
+pub show-requires-clause-old : goal.show-requires-clause-old
+show-requires-clause-old c =
+    some-grown c.args.points.now.log c.follow.new.self c.args.shown.now c.in_ok-part.ensures.others
+    (some-shown c.args.points.now.log c.args.known.now.part c.args.shown.now c.requires.shown)
+
+pub returns-clause-shown : goal.returns-clause-shown
+returns-clause-shown c =
+    always (ShowsSome c.follow.new.self c.show.new.shown) c.way_behind.result
+    (some-shown c.follow.new.self c.in_ok-part.part c.show.new.shown c.in_ok-show.ensures)
 
 pub returns-clause-read : goal.returns-clause-read
 returns-clause-read c =

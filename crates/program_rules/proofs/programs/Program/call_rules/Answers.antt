@@ -8,6 +8,7 @@ use Rattle.model.specs.Acceptance.Rules.{first_broken}
 use Rattle.model.specs.declared.refusals.Refusal.{Refusal}
 use Rattle.program_rules.proofs.Called.{call-any}
 use Rattle.program_rules.proofs.EdgeRules.{call-told}
+use Rattle.program_rules.proofs.ShownParts.{some-shown}
 use Rattle.program_rules.proofs.programs.Program.call_rules.Goals as goal
 use Rattle.program_rules.specs.Kept.{state_by}
 use Rattle.program_rules.specs.Programs.{thread_of}
@@ -23,11 +24,17 @@ use Rattle.typestate.specs.declared.log_entries.LogEntry.{LogEntry}
 pub called-requires-clause-clean : goal.called-requires-clause-clean
 called-requires-clause-clean c = λ is.
     subst (λ (all : List NotedSlot). NoneStray c.args.self.now.space.image.now c.args.self.now.space.thread.now all)
-    (sym (c.slots-slots.ensures.slots ∙ c.requires.shown.same c.args.self.now.slots.now c.args.self.now.rising c.args.self.now.unlinked)) (c.requires.clean is)
+    (sym (c.slots-slots.ensures.slots ∙ c.requires.shown.same c.args.self.now.slots.now c.args.self.now.rising c.args.self.now.unlinked)) (c.requires.kept.clean is)
 
 pub returns-then-leaves_next-clause-broken : goal.returns-then-leaves_next-clause-broken
 returns-then-leaves_next-clause-broken c =
-    c.leaves_next.ensures.call (state_by c.args.self.now.slots.now c.args.points.now.log c.args.known.now) c.if-leaves_next.true c.requires.known c.requires.is
+    c.leaves_next.ensures.call (state_by c.args.self.now.slots.now c.args.points.now.log c.args.known.now) c.if-leaves_next.true c.requires.kept.same c.requires.is
+
+pub returns-then-leaves_next-clause-shown : goal.returns-then-leaves_next-clause-shown
+returns-then-leaves_next-clause-shown c = some-shown c.args.points.now.log c.args.known.now.part c.args.shown.now c.requires.shown
+
+pub returns-in-None-clause-shown : goal.returns-in-None-clause-shown
+returns-in-None-clause-shown c = some-shown c.args.points.now.log c.args.known.now.part c.args.shown.now c.requires.shown
 
 pub returns-in-None-clause-broken : goal.returns-in-None-clause-broken
 returns-in-None-clause-broken c =

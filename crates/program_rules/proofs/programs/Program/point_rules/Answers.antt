@@ -1,34 +1,25 @@
 -- By what is kept of the point.
-use Rattle.std.proofs.Common.{◌≡◌, ◌∙◌, inl, inr, Option, sym, ap, subst}
+use Rattle.std.proofs.Common.{◌≡◌, ◌∙◌, inl, inr, Option, refl, sym, ap, subst}
 use Rattle.model.specs.Acceptance.PointStates.{Known, Missing, Unmeasured, noted}
 use Rattle.model.specs.declared.refusals.Refusal.{Refusal}
-use Rattle.program_rules.proofs.Outcomes.{follows-from}
 use Rattle.program_rules.proofs.PointLists.{noted-rules}
-use Rattle.program_rules.proofs.ShownParts.{some-grown, some-shown}
 use Rattle.program_rules.proofs.programs.Program.point_rules.Goals as goal
-use Rattle.program_rules.specs.Kept.{IsCleanIn, IsSound, noted_by, state_by}
+use Rattle.program_rules.specs.Kept.{IsKeptAt, IsSound, noted_by, state_by}
 use Rattle.program_rules.specs.Programs.{thread_of}
 use Rattle.program_rules.specs.declared.kept.Kept.{Kept}
-use Rattle.typestate.specs.Logs.{KeepsParts, ShowsSome}
 use Rattle.wellformed.specs.Answering.{Answers}
 
-pub state_rules-requires-clause-sound : goal.state_rules-requires-clause-sound
-state_rules-requires-clause-sound c =
-    let is = c.at.ensures in
-    subst (λ (k : Kept). IsSound c.args.points.now.log c.args.point k) c.in-Known.is is.sound
-
-pub state_rules-requires-clause-clean : goal.state_rules-requires-clause-clean
-state_rules-requires-clause-clean c =
+pub state_rules-requires-clause-kept : goal.state_rules-requires-clause-kept
+state_rules-requires-clause-kept c =
     let image = c.args.self.now.space.image.now in
     let t = thread_of c.args.self.now in
-    let is = c.at.ensures in
-    subst (λ (k : Kept). IsCleanIn image t.thread c.args.self.now.slots.now c.args.points.now.log k) c.in-Known.is is.clean
+    subst (IsKeptAt image t c.args.self.now.slots.now c.args.points.now.log c.args.point) c.in-Known.is c.requires.kept
 
 pub returns-in_ok-show-in-Known-clause-broken : goal.returns-in_ok-show-in-Known-clause-broken
 returns-in_ok-show-in-Known-clause-broken c =
     let image = c.args.self.now.space.image.now in
     let t = thread_of c.args.self.now in
-    let is = c.at.ensures in
+    let is = c.requires.kept in
     let known : Known (state_by c.args.self.now.slots.now c.args.points.now.log c.in-Known.known) ≡ noted image t c.args.point =
     ap (noted_by c.args.self.now.slots.now c.args.points.now.log) (sym c.in-Known.is) ∙ is.same in
     subst (λ (x : Option Refusal). Answers x c.state_rules.result)
@@ -38,7 +29,7 @@ pub returns-in-Missing : goal.returns-in-Missing
 returns-in-Missing c =
     let image = c.args.self.now.space.image.now in
     let t = thread_of c.args.self.now in
-    let is = c.at.ensures in
+    let is = c.requires.kept in
     record {
       broken = elim c.in-Missing.is [
         | inl missing ↦ sym (noted-rules image t c.args.point Missing (ap (noted_by c.args.self.now.slots.now c.args.points.now.log) (sym missing) ∙ is.same))
@@ -48,27 +39,16 @@ returns-in-Missing c =
       found = c.requires.found;
       read = c.requires.read;
       shown = c.requires.some;
+      others = λ part held. (held, refl);
     }
-
-pub state_rules-requires-clause-known : goal.state_rules-requires-clause-known
-state_rules-requires-clause-known c =
-    let is = c.at.ensures in
-    ap (noted_by c.args.self.now.slots.now c.args.points.now.log) (sym c.in-Known.is) ∙ is.same
 
 pub show-requires-clause-held : goal.show-requires-clause-held
 show-requires-clause-held c =
-    let is = c.at.ensures in
+    let is = c.requires.kept in
     (subst (λ (k : Kept). IsSound c.args.points.now.log c.args.point k) c.in-Known.is is.sound).0
-
-pub returns-in_ok-show-in-Known-clause-shown : goal.returns-in_ok-show-in-Known-clause-shown
-returns-in_ok-show-in-Known-clause-shown c =
-    let log = c.state_rules.new.points.log in
-    follows-from (λ _. KeepsParts c.args.points.now.log log) (λ _. ShowsSome log c.show.new.shown) c.state_rules.result
-    (λ _ keeps. some-grown c.args.points.now.log log c.show.new.shown keeps (some-shown c.args.points.now.log c.in-Known.known.part c.show.new.shown c.in_ok-show-in-Known.ensures))
-    c.state_rules.ensures.others
 
 pub state_rules-requires-clause-found : goal.state_rules-requires-clause-found
 state_rules-requires-clause-found c =
-    let is = c.at.ensures in
+    let is = c.requires.kept in
     c.go_on.ensures.found c.args.self.now.space.image.now c.args.self.now.space.thread.now c.args.self.now.slots.now c.args.points.now.log
     (subst (λ (k : Kept). IsSound c.args.points.now.log c.args.point k) c.in-Known.is is.sound).0 c.requires.found

@@ -2,6 +2,7 @@
 use Rattle.std.proofs.Common.{◌∙◌, ◌+◌, is_some, List, ap, refl, sym, subst, arith}
 use Rattle.model.specs.Acceptance.PointRules.{point_rules}
 use Rattle.model.specs.Images.Image.{StateRecord}
+use Rattle.program_rules.proofs.EachPoint.{grown-at}
 use Rattle.program_rules.proofs.NextRecords.{AreLeft, all-left, next-record, no-record}
 use Rattle.program_rules.proofs.Outcomes.{passed-on}
 use Rattle.program_rules.proofs.PointLists.{one-more-kept, refused-here}
@@ -18,7 +19,24 @@ rules-init c =
       c.new-shown.ensures.shown c.args.points.now.log,
       c.new-same.ensures c.args.self.now.slots.now c.args.points.now.log,
       c.new-found.ensures c.args.self.now.space.image.now own c.args.self.now.slots.now c.args.points.now.log,
+      λ less. c.at-kept.ensures,
     )
+
+pub at-kept-requires-clause-within : goal.at-kept-requires-clause-within
+at-kept-requires-clause-within c = let entry = c.args.self.now.entry in omega (arith, entry)
+
+pub point_rules-requires-clause-kept : goal.point_rules-requires-clause-kept
+point_rules-requires-clause-kept c =
+    let least = c.rules-test.true in
+    let count = c.word_count-point-end.ensures.value in
+    c.rules.invariant.6 (omega (arith, least, count))
+
+pub after-kept-requires-clause-kept : goal.after-kept-requires-clause-kept
+after-kept-requires-clause-kept c =
+    let least = c.rules-test.true in
+    let count = c.word_count-point-end.ensures.value in
+    grown-at c.args.self.now.space.image.now (thread_of c.args.self.now) c.args.self.now.slots.now c.rules.points.log c.point_rules.new.points.log c.rules.point c.rules.kept
+    c.in_ok-point_rules.ensures.others (c.rules.invariant.6 (omega (arith, least, count)))
 
 pub point_rules-requires-clause-noted : goal.point_rules-requires-clause-noted
 point_rules-requires-clause-noted c =
@@ -41,6 +59,7 @@ rules-preserved c =
       c.in_ok-point_rules.ensures.shown,
       c.in_ok-point_rules.ensures.same,
       c.in_ok-point_rules.ensures.found,
+      c.after-kept.ensures,
     )
 
 pub point_rules-requires-clause-next : goal.point_rules-requires-clause-next

@@ -1,5 +1,5 @@
 -- No point so far breaks a rule, and the records that are left are those of the points to come.
-use Rattle.std.proofs.Common.{◌≡◌, None}
+use Rattle.std.proofs.Common.{◌≡◌, ◌<◌, None}
 use Rattle.std.specs.List.{range_with_len}
 use Rattle.std.specs.Prelude.{flat_map}
 use Rattle.model.specs.Acceptance.PointRules.{point_rules}
@@ -7,7 +7,7 @@ use Rattle.model.specs.Acceptance.Rules.{first_broken}
 use Rattle.program_rules.proofs.NextRecords.{AreLeft}
 use Rattle.program_rules.proofs.programs.Program.points_rules.Given as goal
 use Rattle.program_rules.specs.FoundPages.{AreFound}
-use Rattle.program_rules.specs.Kept.{IsRead}
+use Rattle.program_rules.specs.Kept.{IsKeptAt, IsRead}
 use Rattle.program_rules.specs.Programs.{thread_of}
 use Rattle.program_rules.specs.SameParts.{AreSame}
 use Rattle.typestate.specs.Logs.{ShowsSome}
@@ -19,3 +19,4 @@ invariant-rules l =
     IsRead image t l.fn.self.slots.now l.points.log l.points.kept × AreLeft l.fn.self.space.thread.now l.point l.records
     × (first_broken (flat_map (point_rules image t) (range_with_len 0 l.point)) ≡ None) × ShowsSome l.points.log l.shown × AreSame l.fn.self.slots.now l.points.log l.same
     × AreFound image t.thread l.fn.self.slots.now l.points.log l.found
+    × (l.point < t.thread.header.words → IsKeptAt image t l.fn.self.slots.now l.points.log l.point l.kept)

@@ -16,8 +16,8 @@ use Rattle.program_rules.specs.Kept.{state_by}
 use Rattle.program_rules.specs.PointChecks.{later_rules, own_rules}
 use Rattle.program_rules.specs.Programs.{thread_of}
 use Rattle.program_rules.specs.SameParts.{AreSame}
-use Rattle.program_rules.proofs.ShownParts.{same-grown}
-use Rattle.typestate.specs.Logs.{KeepsParts}
+use Rattle.program_rules.proofs.ShownParts.{same-grown, some-shown}
+use Rattle.typestate.specs.Logs.{KeepsParts, ShowsSome}
 use Rattle.typestate.specs.Calls.{known_with}
 use Rattle.typestate.specs.Differences.{slots_of}
 use Rattle.typestate.specs.Strays.{NoneStray}
@@ -26,7 +26,7 @@ use Rattle.wellformed.specs.Answering.{Answers}
 pub own_rules-requires-clause-clean : goal.own_rules-requires-clause-clean
 own_rules-requires-clause-clean c = λ is.
     subst (λ (all : List NotedSlot). NoneStray c.args.self.now.space.image.now c.args.self.now.space.thread.now all)
-    (sym (c.slots-slots.ensures.slots ∙ c.requires.part.same c.args.self.now.slots.now c.args.self.now.rising c.args.self.now.unlinked)) (c.requires.clean is)
+    (sym (c.slots-slots.ensures.slots ∙ c.requires.part.same c.args.self.now.slots.now c.args.self.now.rising c.args.self.now.unlinked)) (c.requires.kept.clean is)
 
 pub returns-in_err-own_rules-clause-broken : goal.returns-in_err-own_rules-clause-broken
 returns-in_err-own_rules-clause-broken c =
@@ -72,6 +72,15 @@ returns-in-Some-clause-broken c =
     (ap (λ (all : List NotedSlot). known_with bounds all m) (c.slots-slots.ensures.slots ∙ c.requires.part.same c.args.self.now.slots.now c.args.self.now.rising c.args.self.now.unlinked))
     c.in_ok-own_rules.ensures.broken
     (subst (λ (broken : Option Refusal). Answers broken c.ways_rules.result) (sym (plain-later image t c.args.point s c.in-Some.instr plain)) c.ways_rules.ensures.answers)
+
+pub returns-in-Some-clause-shown : goal.returns-in-Some-clause-shown
+returns-in-Some-clause-shown c =
+    let log = c.args.points.now.log in
+    let shown = c.args.shown.now in
+    always (ShowsSome log shown) c.ways_rules.result (some-shown log c.args.known.now.part shown c.requires.part)
+
+pub returns-in-None-clause-shown : goal.returns-in-None-clause-shown
+returns-in-None-clause-shown c = some-shown c.args.points.now.log c.args.known.now.part c.args.shown.now c.requires.part
 
 pub returns-in-Some-Ecall-clause-same : goal.returns-in-Some-Ecall-clause-same
 returns-in-Some-Ecall-clause-same c =
