@@ -1,18 +1,20 @@
 //! Refusals of what a text declares before its threads.
 
-use crate::lines::push_line;
+use crate::lines::{Text, push_line};
 use image_reading::ImageRef;
 use model::Refusal;
 use source_texts::{
-    CapabilityLine, FrameLine, ObjectLine, Source, SourceText, TableLine, UntypedLine,
+    CapabilityLine, FrameLine, ObjectLine, Source, SourceText, TableLine, UntypedLine, word_at,
 };
 use std::alloc::{AllocError, Global};
 
 /// A text, the image that it makes, and what the text declares.
 #[derive(Clone, Copy, Drop)]
-pub(crate) struct Items<'t, 'm, 'x, 'j, 'i> {
+pub(crate) struct Items<'f, 't, 'm, 'x, 'j, 'i> {
     pub(crate) alloc: Global,
-    pub(crate) text: &'t str,
+    pub(crate) text: Text<'f, 't>,
+    /// The name of the rule that is broken.
+    pub(crate) rule: &'static str,
     pub(crate) source: &'m SourceText<'x>,
     pub(crate) image: &'j ImageRef<'i>,
 }
@@ -175,7 +177,12 @@ fn tell_filled_code(to: &mut String, name: &str, line: u64) -> Result<(), AllocE
     )
 }
 
-impl Items<'_, '_, '_, '_, '_> {
+impl Items<'_, '_, '_, '_, '_, '_> {
+    /// Puts the head of what is told of a line.
+    pub(crate) fn push_line(&self, to: &mut String, line: u64) -> Result<(), AllocError> {
+        push_line(to, &self.text, line, self.rule)
+    }
+
     /// Tells that an object is of another kind than is wanted.
     fn tell_kind(&self, to: &mut String, number: usize, wanted: &str) -> Result<(), AllocError> {
         let name = self.source.object_name(number);
@@ -195,7 +202,7 @@ impl Items<'_, '_, '_, '_, '_> {
         let Some(untyped) = self.source.untypeds.get(item as usize) else {
             return Ok(());
         };
-        push_line(to, self.text, untyped.line)?;
+        self.push_line(to, untyped.line)?;
         self.tell_bytes(to, item, u64::from(untyped.offset), power(untyped.bits))
     }
 
@@ -252,7 +259,7 @@ impl Items<'_, '_, '_, '_, '_> {
         let Some(untyped) = self.source.untypeds.get(object.untyped) else {
             return Ok(());
         };
-        push_line(to, self.text, object.line)?;
+        self.push_line(to, object.line)?;
         let bits = bits_of(object);
         let used = self.used_before(item as usize, object.untyped);
         tell_room(to, untyped, power(bits), behind(used, bits))
@@ -279,14 +286,24 @@ impl Items<'_, '_, '_, '_, '_> {
         )
     }
 
+    /// The line `memory`: the first that says something.
+    fn memory_line(&self) -> u64 {
+        let mut number = 0u64;
+        for line in self.text.content.lines() {
+            number = number.saturating_add(1);
+            if word_at(line, 0).is_some() {
+                return number;
+            }
+        }
+        1
+    }
+
     /// Tells that the boot CNode has too few slots.
     fn tell_boot(&self, to: &mut String) -> Result<(), AllocError> {
         let given = self.image.header().boot_radix;
         let (there, needed) = (power(given), self.boot_slots());
-        write!(
-            to,
-            "line `memory`: the boot CNode has {there} slots, and needs {needed}: "
-        )?;
+        self.push_line(to, self.memory_line())?;
+        write!(to, "the boot CNode has {there} slots, and needs {needed}: ")?;
         self.push_boot_needs(to)?;
         let radix = radix_for(given, needed);
         write!(to, "  the radix has to be {radix} or more\n")
@@ -313,7 +330,7 @@ impl Items<'_, '_, '_, '_, '_> {
         let Some(capability) = self.capability_line(item) else {
             return Ok(());
         };
-        push_line(to, self.text, capability.line)?;
+        self.push_line(to, capability.line)?;
         if self.source.kind(capability.cnode) != 5 {
             return self.tell_kind(to, capability.cnode, "CNode");
         }
@@ -382,7 +399,7 @@ impl Items<'_, '_, '_, '_, '_> {
         };
         for interrupt in &self.source.interrupts {
             if interrupt.number == number {
-                push_line(to, self.text, interrupt.line)?;
+                self.push_line(to, interrupt.line)?;
                 return self.tell_kind(to, interrupt.notification, "notification");
             }
         }
@@ -391,7 +408,7 @@ impl Items<'_, '_, '_, '_, '_> {
 
     /// Tells what is wrong with a table.
     fn tell_table(&self, to: &mut String, table: &TableLine) -> Result<(), AllocError> {
-        push_line(to, self.text, table.line)?;
+        self.push_line(to, table.line)?;
         if self.source.kind(table.root) != 8 {
             return self.tell_kind(to, table.root, "root table");
         }
@@ -429,7 +446,7 @@ impl Items<'_, '_, '_, '_, '_> {
 
     /// Tells what is wrong with a frame's mapping.
     fn tell_frame(&self, to: &mut String, frame: &FrameLine) -> Result<(), AllocError> {
-        push_line(to, self.text, frame.line)?;
+        self.push_line(to, frame.line)?;
         if self.source.kind(frame.root) != 8 {
             return self.tell_kind(to, frame.root, "root table");
         }
@@ -536,7 +553,7 @@ impl Items<'_, '_, '_, '_, '_> {
     fn tell_content(&self, to: &mut String) -> Result<(), AllocError> {
         for content in &self.source.contents {
             if self.source.kind(content.frame) != 6 {
-                push_line(to, self.text, content.line)?;
+                self.push_line(to, content.line)?;
                 return self.tell_kind(to, content.frame, "frame");
             }
         }
@@ -548,7 +565,7 @@ impl Items<'_, '_, '_, '_, '_> {
         let Some(frame) = self.frame_line(item.saturating_sub(self.image.header().tables)) else {
             return Ok(());
         };
-        push_line(to, self.text, frame.line)?;
+        self.push_line(to, frame.line)?;
         let name = self.source.object_name(frame.frame);
         if frame.rights == 7 {
             return write!(
@@ -643,7 +660,7 @@ impl Items<'_, '_, '_, '_, '_> {
 pub fn tell_item(
     alloc: Global,
     to: &mut String,
-    text: &str,
+    text: Text<'_, '_>,
     source: &SourceText<'_>,
     image: &ImageRef<'_>,
     refusal: Refusal,
@@ -651,6 +668,7 @@ pub fn tell_item(
     let items = Items {
         alloc,
         text,
+        rule: refusal.name(),
         source,
         image,
     };

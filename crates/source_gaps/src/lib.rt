@@ -7,7 +7,8 @@ mod lines;
 mod nearest;
 mod syntax;
 mod thread_gaps;
+mod words;
 
 pub use item_gaps::tell_item;
-pub use lines::code_on;
+pub use lines::{Text, code_on, push_place};
 pub use syntax::tell_fault;

@@ -1,39 +1,87 @@
-//! Lines of a text.
+//! Lines of a text, and where they stand.
 
 use std::alloc::AllocError;
 
-/// A line of a text by its number, from 1; an empty one if there is none.
-pub(crate) fn line_of(text: &str, number: u64) -> &str {
-    let mut at = 0u64;
-    for line in text.lines() {
-        at = at.saturating_add(1);
-        if at == number {
-            return line;
+/// A text, and the name of the file that it is from.
+#[derive(Clone, Copy, Drop)]
+pub struct Text<'f, 't> {
+    pub file: &'f str,
+    pub content: &'t str,
+}
+
+impl<'t> Text<'_, 't> {
+    /// A line by its number, from 1; an empty one if there is none.
+    pub fn line(&self, number: u64) -> &'t str {
+        let mut at = 0u64;
+        for line in self.content.lines() {
+            at = at.saturating_add(1);
+            if at == number {
+                return line;
+            }
         }
+        ""
     }
-    ""
 }
 
 /// What a line says, without its comment and the blanks around.
-fn said_on(text: &str, number: u64) -> &str {
-    let line = line_of(text, number);
+fn said_on(line: &str) -> &str {
     match line.split_once('#') {
         Some((said, _)) => said.trim(),
         None => line.trim(),
     }
 }
 
-/// The instruction on a line by its number, from 1, without the label before it and the comment behind it.
-pub fn code_on(text: &str, number: u64) -> &str {
-    let said = said_on(text, number);
+/// The instruction on a line by its number, from 1, without the label before it and the comment after it.
+pub fn code_on<'t>(text: &Text<'_, 't>, number: u64) -> &'t str {
+    let said = said_on(text.line(number));
     match said.split_once(':') {
         Some((_, code)) => code.trim(),
         None => said,
     }
 }
 
-/// Puts the head of an explanation: the line and what stands on it.
-pub(crate) fn push_line(to: &mut String, text: &str, number: u64) -> Result<(), AllocError> {
-    let said = said_on(text, number);
-    write!(to, "line {number}, `{said}`: ")
+/// Whether a word is a place in a file of C, as `FILE.c:12`.
+fn is_source_place(word: &str) -> bool {
+    match word.split_once(':') {
+        Some((file, number)) => {
+            (file.ends_with(".c") || file.ends_with(".h")) && number.parse::<u32>().is_ok()
+        }
+        None => false,
+    }
+}
+
+/// The place in a file of C that a line comes from, as its comment says.
+fn source_place(line: &str) -> Option<&str> {
+    let (_, comment) = line.split_once('#')?;
+    let word = comment.split_whitespace().next()?;
+    if is_source_place(word) {
+        Some(word)
+    } else {
+        None
+    }
+}
+
+/// Puts where a line stands, by its number, from 1: the line of C that it comes from, if its comment says so, and then the line
+/// itself.
+pub fn push_place(to: &mut String, text: &Text<'_, '_>, number: u64) -> Result<(), AllocError> {
+    if let Some(place) = source_place(text.line(number)) {
+        write!(to, "{place}: ")?;
+    }
+    let file = text.file;
+    write!(to, "{file}:{number}: ")
+}
+
+/// Puts the head of what is told of a line: where it stands, which rule is broken, if it is one by name, and what stands there.
+pub(crate) fn push_line(
+    to: &mut String,
+    text: &Text<'_, '_>,
+    number: u64,
+    rule: &str,
+) -> Result<(), AllocError> {
+    push_place(to, text, number)?;
+    if !rule.is_empty() {
+        write!(to, "{rule}: ")?;
+    }
+    let said = said_on(text.line(number));
+    write!(to, "`{said}`: ")
 }

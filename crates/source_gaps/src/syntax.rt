@@ -1,17 +1,21 @@
 //! What is wrong with a text that makes no image.
 
-use crate::forms::{WORDS, form_of, long_form, register_name};
-use crate::lines::{line_of, push_line};
+use crate::forms::{WORDS, form_of, long_form};
+use crate::lines::{Text, push_line};
 use crate::nearest::Nearest;
+use crate::words::{
+    Wanted, has_upper_case, push_size_fault, push_upper_case, push_word_fault, wanted_by,
+};
 use asm::SourceFault;
 use asm_line::parse_line;
 use source_texts::{has_automatic_budget, word_at};
-use std::alloc::AllocError;
+use std::alloc::{AllocError, Global};
 
 /// A text, and the line of it that is at fault.
 #[derive(Clone, Copy, Drop)]
-struct Fault<'t> {
-    text: &'t str,
+struct Fault<'f, 't> {
+    alloc: Global,
+    text: Text<'f, 't>,
     number: u64,
     line: &'t str,
     /// How many words stand before the one that says what the line is: a label or none.
@@ -120,30 +124,7 @@ fn range_words(keyword: &str) -> &'static str {
     }
 }
 
-/// What stands in the brackets of a word, or the word if it has none.
-fn inside_brackets(word: &str) -> &str {
-    let inside = match word.split_once('(') {
-        Some((_, inside)) => inside,
-        None => word,
-    };
-    match inside.split_once(')') {
-        Some((name, _)) => name,
-        None => inside,
-    }
-}
-
-/// Puts how a register is written, if a word is its usual name.
-fn push_register(to: &mut String, name: &str) -> Result<(), AllocError> {
-    match register_name(name) {
-        Some(number) => write!(
-            to,
-            "  registers are written x0 to x31: `{name}` is `x{number}`\n"
-        ),
-        None => Ok(()),
-    }
-}
-
-impl<'t> Fault<'t> {
+impl<'t> Fault<'_, 't> {
     /// A word of the line, counted from the one that says what the line is.
     fn word(&self, place: usize) -> Option<&'t str> {
         word_at(self.line, self.before.saturating_add(place))
@@ -157,7 +138,7 @@ impl<'t> Fault<'t> {
     /// The line before this one on which a name is declared.
     fn declared_at(&self, name: &str) -> Option<u64> {
         let mut number = 0u64;
-        for line in self.text.lines() {
+        for line in self.text.content.lines() {
             number = number.saturating_add(1);
             if number >= self.number {
                 return None;
@@ -173,7 +154,7 @@ impl<'t> Fault<'t> {
     fn label_line(&self, name: &str) -> Option<u64> {
         let mut number = 0u64;
         let mut found = None;
-        for line in self.text.lines() {
+        for line in self.text.content.lines() {
             number = number.saturating_add(1);
             match word_at(line, 0) {
                 Some("thread") if number <= self.number => found = None,
@@ -191,7 +172,7 @@ impl<'t> Fault<'t> {
     fn nearest_name(&self, name: &str) -> Option<&'t str> {
         let mut nearest = Nearest::to(name);
         let mut number = 0u64;
-        for line in self.text.lines() {
+        for line in self.text.content.lines() {
             number = number.saturating_add(1);
             if number < self.number {
                 if let Some(candidate) = declared_on(line) {
@@ -206,7 +187,7 @@ impl<'t> Fault<'t> {
     fn nearest_label(&self, name: &str) -> Option<&'t str> {
         let mut nearest = Nearest::to(name);
         let mut number = 0u64;
-        for line in self.text.lines() {
+        for line in self.text.content.lines() {
             number = number.saturating_add(1);
             match word_at(line, 0) {
                 Some("thread") if number <= self.number => nearest = Nearest::to(name),
@@ -237,24 +218,55 @@ impl<'t> Fault<'t> {
         write!(to, "  form: `{keyword}{between}{operands}`; {ranges}\n")
     }
 
-    /// Registers by their usual names.
-    fn push_registers(&self, to: &mut String) -> Result<(), AllocError> {
-        for place in 1..5 {
-            let word = self.word(place).unwrap_or("");
-            push_register(to, inside_brackets(word))?;
+    /// Puts the first word of the line that is not as its form has it, and answers whether there is one.
+    fn push_wrong_word(&self, to: &mut String) -> Result<bool, AllocError> {
+        let Some(form) = form_of(self.keyword()) else {
+            return Ok(false);
+        };
+        let mut place = 0usize;
+        for token in form.operands.split_whitespace() {
+            place = place.saturating_add(1);
+            if wanted_by(token) == Wanted::Rest {
+                return self.push_wrong_rest(to);
+            }
+            let Some(word) = self.word(place) else {
+                write!(to, "{token} is missing\n")?;
+                return Ok(true);
+            };
+            if push_word_fault(to, token, word)? {
+                return Ok(true);
+            }
         }
-        Ok(())
+        match self.word(place.saturating_add(1)) {
+            Some(word) => {
+                write!(to, "`{word}` is one word too many\n")?;
+                Ok(true)
+            }
+            None => Ok(false),
+        }
+    }
+
+    /// Puts what is wrong with what a form leaves open, and answers whether something is.
+    fn push_wrong_rest(&self, to: &mut String) -> Result<bool, AllocError> {
+        if self.keyword() != "object" {
+            return Ok(false);
+        }
+        push_size_fault(to, self.word(3).unwrap_or(""), self.word(4))
     }
 
     /// A line that has not the form of those that begin with its word.
     fn push_other_form(&self, to: &mut String) -> Result<(), AllocError> {
-        to.push_str("not of the form that such a line has\n")?;
-        self.push_form(to)?;
-        self.push_registers(to)
+        if !self.push_wrong_word(to)? {
+            to.push_str("not of the form that such a line has\n")?;
+        }
+        self.push_form(to)
     }
 
     /// A word with which no line begins.
     fn push_no_keyword(&self, to: &mut String, keyword: &str) -> Result<(), AllocError> {
+        if has_upper_case(keyword) {
+            return push_upper_case(to, keyword);
+        }
         if let Some(long) = long_form(keyword) {
             return write!(to, "there is no `{keyword}`: write {long}\n");
         }
@@ -262,17 +274,113 @@ impl<'t> Fault<'t> {
         self.push_nearest(to, nearest_word(keyword))
     }
 
-    /// A line that is none of the text form, or stands out of its place.
-    fn push_syntax(&self, to: &mut String) -> Result<(), AllocError> {
-        if parse_line(self.line).is_ok() {
-            return to.push_str(place_words(self.keyword()));
+    /// The thread that no line has ended before this one, by the line that begins it.
+    fn open_thread(&self) -> Option<(u64, &'t str)> {
+        let mut number = 0u64;
+        let mut open = None;
+        for line in self.text.content.lines() {
+            number = number.saturating_add(1);
+            if number >= self.number {
+                return open;
+            }
+            match word_at(line, 0) {
+                Some("thread") => open = Some((number, line)),
+                Some("end") => open = None,
+                _ => {}
+            }
         }
-        if has_automatic_budget(self.line) {
-            return to.push_str(
-                "the budget is still to be found: certify the text first, or write a number\n",
+        open
+    }
+
+    /// Whether the line belongs to no thread: where one is open, its end is missing.
+    fn ends_threads(&self) -> bool {
+        matches!(
+            self.keyword(),
+            "memory" | "untyped" | "object" | "irq" | "cap" | "table" | "map" | "data" | "thread"
+        )
+    }
+
+    /// Whether all words are behind the line.
+    fn is_last(&self) -> bool {
+        let mut number = 0u64;
+        for line in self.text.content.lines() {
+            number = number.saturating_add(1);
+            if number > self.number && word_at(line, 0).is_some() {
+                return false;
+            }
+        }
+        true
+    }
+
+    /// A line that stands out of its place.
+    fn push_out_of_place(&self, to: &mut String) -> Result<(), AllocError> {
+        let keyword = self.keyword();
+        if keyword == "thread" && self.is_last() {
+            let name = self.word(1).unwrap_or("");
+            let line = self.number;
+            return write!(
+                to,
+                "thread {name} (line {line}) has no instruction and no `end`\n"
             );
         }
+        if let Some((line, begins)) = self.open_thread() {
+            let name = word_at(begins, 1).unwrap_or("");
+            if self.ends_threads() {
+                return write!(
+                    to,
+                    "thread {name} (line {line}) has no `end` before this line\n"
+                );
+            }
+            if self.is_last() && keyword != "end" {
+                return write!(to, "thread {name} (line {line}) has no `end`\n");
+            }
+        }
+        to.push_str(place_words(keyword))
+    }
+
+    /// Puts what other languages have and a text has not: other comments, and other letters. Answers whether it is there.
+    fn push_foreign(&self, to: &mut String) -> Result<bool, AllocError> {
+        if !self.line.is_ascii() {
+            to.push_str("only ASCII, also in comments\n")?;
+            return Ok(true);
+        }
+        let said = match self.line.split_once('#') {
+            Some((said, _)) => said,
+            None => self.line,
+        };
+        for mark in [";", "//", "/*"] {
+            if said.contains(mark) {
+                write!(to, "`#` begins a comment, and not `{mark}`\n")?;
+                return Ok(true);
+            }
+        }
+        Ok(false)
+    }
+
+    /// Whether the line is one of the text form, but for a budget that is to be found.
+    fn is_line(&self) -> Result<bool, AllocError> {
+        if !has_automatic_budget(self.line) {
+            return Ok(parse_line(self.line).is_ok());
+        }
+        let mut ignored = String::new(self.alloc);
+        Ok(!self.push_wrong_word(&mut ignored)?)
+    }
+
+    /// A line that is none of the text form, or stands out of its place.
+    fn push_syntax(&self, to: &mut String) -> Result<(), AllocError> {
+        if self.push_foreign(to)? {
+            return Ok(());
+        }
+        if self.is_line()? {
+            return self.push_out_of_place(to);
+        }
         let keyword = self.keyword();
+        if self.before == 1 {
+            let label = word_at(self.line, 0).unwrap_or("");
+            if has_upper_case(label) {
+                return push_upper_case(to, label);
+            }
+        }
         if form_of(keyword).is_some() {
             return self.push_other_form(to);
         }
@@ -385,7 +493,7 @@ impl<'t> Fault<'t> {
     fn same_key_line(&self) -> Option<u64> {
         let mut number = 0u64;
         let mut found = None;
-        for line in self.text.lines() {
+        for line in self.text.content.lines() {
             number = number.saturating_add(1);
             if number >= self.number {
                 return found;
@@ -401,8 +509,10 @@ impl<'t> Fault<'t> {
 
     /// A number out of its range, or what is there already.
     fn push_range(&self, to: &mut String) -> Result<(), AllocError> {
-        if parse_line(self.line).is_err() {
-            to.push_str("a number is out of its range\n")?;
+        if parse_line(self.line).is_err() && !has_automatic_budget(self.line) {
+            if !self.push_wrong_word(to)? {
+                to.push_str("a number is out of its range\n")?;
+            }
             return self.push_form(to);
         }
         if let Some(line) = self.same_key_line() {
@@ -418,15 +528,21 @@ impl<'t> Fault<'t> {
 /// # Errors
 ///
 /// Want of memory.
-pub fn tell_fault(to: &mut String, text: &str, found: SourceFault) -> Result<(), AllocError> {
-    let line = line_of(text, found.line);
+pub fn tell_fault(
+    alloc: Global,
+    to: &mut String,
+    text: Text<'_, '_>,
+    found: SourceFault,
+) -> Result<(), AllocError> {
+    let line = text.line(found.line);
     let fault = Fault {
+        alloc,
         text,
         number: found.line,
         line,
         before: words_before(line),
     };
-    push_line(to, text, found.line)?;
+    push_line(to, &text, found.line, "")?;
     match found.kind {
         1 => fault.push_syntax(to),
         2 => fault.push_unknown(to),

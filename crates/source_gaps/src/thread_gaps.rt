@@ -1,8 +1,8 @@
 //! Refusals of threads as the image starts them.
 
 use crate::item_gaps::Items;
-use crate::lines::push_line;
 use image_reading::ThreadRef;
+use model::Refusal;
 use source_texts::{CapabilityLine, Source, SourceThread};
 use std::alloc::AllocError;
 use thread_spaces::reached_of;
@@ -39,18 +39,19 @@ fn tell_thread_guard(to: &mut String, guard: u32, radix: u32) -> Result<(), Allo
     )
 }
 
-impl Items<'_, '_, '_, '_, '_> {
+impl Items<'_, '_, '_, '_, '_, '_> {
     /// The CNodes that a thread of the image reaches.
     fn reached(&self, thread: &ThreadRef<'_>) -> Result<NumberSet, AllocError> {
         match reached_of(self.alloc, self.image, thread) {
             Ok(found) => Ok(found),
-            Err(_) => Err(AllocError),
+            Err(Refusal::OutOfMemory) => Err(AllocError),
+            Err(_) => Ok(NumberSet::new(self.alloc)),
         }
     }
 
     /// Puts the head of what is told of a thread.
     fn push_thread(&self, to: &mut String, thread: &SourceThread<'_>) -> Result<(), AllocError> {
-        push_line(to, self.text, thread.line)?;
+        self.push_line(to, thread.line)?;
         let name = self.source.object_name(thread.tcb);
         write!(to, "thread {name} ")
     }
