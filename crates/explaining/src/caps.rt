@@ -64,7 +64,7 @@ fn kind_number(capability: Cap) -> u32 {
     }
 }
 
-impl Scene<'_, '_, '_, '_, '_> {
+impl Scene<'_, '_, '_, '_, '_, '_, '_> {
     /// The name of the object of a kind that stands at an offset, if the text declares it.
     fn name_at(&self, kind: u32, offset: u32) -> Option<&str> {
         for (number, object) in self.source.objects.iter().enumerate() {

@@ -28,7 +28,7 @@ fn push_above(to: &mut String, value: i128, budget: u64, above: i128) -> Result<
     }
 }
 
-impl Scene<'_, '_, '_, '_, '_> {
+impl Scene<'_, '_, '_, '_, '_, '_, '_> {
     /// The values that the thread starts with.
     fn start_values(&self) -> [u32; 32] {
         let mut words = [0; 32];

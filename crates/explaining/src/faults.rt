@@ -1,22 +1,21 @@
 //! What becomes of an explanation.
 
-use sinks::SinkFault;
 use std::alloc::{AllocError, AllocFailed};
 
 /// What a text turned out to be.
-#[derive(Clone, Copy, Debug, PartialEq, Eq)]
-pub enum Explained {
+#[derive(Drop)]
+pub enum Explanation {
     /// It makes an image, and that is accepted.
     Accepted,
-    /// It is no text of an image, or its image is refused: the reason was put.
-    Refused,
+    /// It is no text of an image, or its image is refused: why, in lines.
+    Refused(String),
 }
 
 /// Why nothing is explained.
 #[derive(Clone, Copy, Debug, PartialEq, Eq)]
 pub enum ExplainFault {
-    /// The output takes no more.
-    Output,
+    /// Two parts of the program say different things of the text.
+    Disagreement,
     /// Memory was refused.
     OutOfMemory,
 }
@@ -30,11 +29,5 @@ impl From<AllocError> for ExplainFault {
 impl<T: Drop> From<AllocFailed<T>> for ExplainFault {
     fn from(_refused: AllocFailed<T>) -> ExplainFault {
         ExplainFault::OutOfMemory
-    }
-}
-
-impl From<SinkFault> for ExplainFault {
-    fn from(_fault: SinkFault) -> ExplainFault {
-        ExplainFault::Output
     }
 }

@@ -20,7 +20,7 @@ fn push_miss(to: &mut String, way: &Way, miss: &Miss) -> Result<(), AllocError> 
     }
 }
 
-impl Scene<'_, '_, '_, '_, '_> {
+impl Scene<'_, '_, '_, '_, '_, '_, '_> {
     /// The line of the record of a point.
     pub(crate) fn record_line(&self, point: u32) -> Option<u64> {
         self.thread.record_line(point as usize)
@@ -107,7 +107,9 @@ impl Scene<'_, '_, '_, '_, '_> {
         target: u32,
         there: &State,
     ) -> Result<(), AllocError> {
-        self.tell_ranges(to, way, target, there)?;
+        if self.known.is_none() {
+            self.tell_ranges(to, way, target, there)?;
+        }
         let difference = Difference {
             here: &way.changes,
             there: &there.changes,
@@ -115,6 +117,9 @@ impl Scene<'_, '_, '_, '_, '_> {
             target: Some(target),
         };
         self.push_differences(to, &difference)?;
+        if self.known.is_some() {
+            return Ok(());
+        }
         self.tell_measures(to, way, state, target, there)
     }
 

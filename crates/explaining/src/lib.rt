@@ -3,10 +3,13 @@
 
 mod call_words;
 mod caps;
+mod causes;
 mod entry_gaps;
 mod explanations;
 mod faults;
+mod findings;
 mod gaps;
+mod loops;
 mod page_gaps;
 mod point_words;
 mod programs;
@@ -14,8 +17,11 @@ mod scenes;
 mod slot_gaps;
 mod states;
 mod system_calls;
+mod texts;
 mod ways;
 
 pub use call_words::error_name;
-pub use explanations::explain;
-pub use faults::{ExplainFault, Explained};
+pub use explanations::{Certificates, explain, tell_refused};
+pub use faults::{ExplainFault, Explanation};
+pub use source_gaps::{Text, push_place};
+pub use texts::wants_certificates;

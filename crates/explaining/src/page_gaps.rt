@@ -4,7 +4,7 @@ use crate::caps::mapping_words;
 use crate::point_words::push_range;
 use crate::scenes::Scene;
 use crate::states::State;
-use model::{Cap, FrameEntry, FrameMapping, Instr, LoadOp, Register, StoreOp};
+use model::{Cap, FrameEntry, FrameMapping, Instr, LoadOp, Range, Register, StoreOp};
 use rv32_isa::decode;
 use std::alloc::AllocError;
 use typestate::{NotedSlot, SlotKey};
@@ -75,6 +75,15 @@ fn access_of(instr: Instr) -> Option<Access> {
     }
 }
 
+/// The first and the last of the bytes that an access can reach with these values of its register.
+fn reached(access: &Access, range: Range) -> (i64, i64) {
+    let least = i64::from(range.low).saturating_add(access.offset);
+    let greatest = i64::from(range.high)
+        .saturating_add(access.offset)
+        .saturating_add(access.width.saturating_sub(1));
+    (least, greatest)
+}
+
 /// Puts what parts a page from so many before it.
 fn push_separator(to: &mut String, before: u32) -> Result<(), AllocError> {
     to.push_str(if before == 0 { " " } else { ", " })
@@ -99,7 +108,7 @@ fn push_whole(to: &mut String, number: i64) -> Result<(), AllocError> {
     write!(to, "{sign}{size:#x}")
 }
 
-impl Scene<'_, '_, '_, '_, '_> {
+impl Scene<'_, '_, '_, '_, '_, '_, '_> {
     /// The rights with which the image maps a page.
     fn listed_rights(&self, page: u32) -> u32 {
         let root = self.space.thread.header().root;
@@ -232,17 +241,13 @@ impl Scene<'_, '_, '_, '_, '_> {
             wanted,
             right,
             base,
-            offset,
-            width,
+            ..
         } = access;
         if base.0 >= 32 {
             return Ok(());
         }
         let range = state.bounds.get(base);
-        let least = i64::from(range.low).saturating_add(offset);
-        let greatest = i64::from(range.high)
-            .saturating_add(offset)
-            .saturating_add(width.saturating_sub(1));
+        let (least, greatest) = reached(&access, range);
         self.push_head(to, point)?;
         write!(to, "{name} ")?;
         push_bytes(to, least, greatest)?;
@@ -251,7 +256,7 @@ impl Scene<'_, '_, '_, '_, '_> {
         push_range(to, range)?;
         if least < 0 || greatest > 0xffff_ffff {
             return to.push_str(
-                "\n  no such bytes are there: narrow the register by a branch or a record before it\n",
+                "\n  no such bytes are there: narrow the register by a branch before it\n",
             );
         }
         to.push_str("\n")?;
@@ -274,6 +279,29 @@ impl Scene<'_, '_, '_, '_, '_> {
             self.push_mapped(to, state)?;
         }
         Ok(())
+    }
+
+    /// The register with the address of the load or store at a point.
+    pub(crate) fn base_at(&self, point: u32) -> Option<u8> {
+        let access = self.access_at(point)?;
+        Some(access.base.0)
+    }
+
+    /// Whether the load or store at a point can reach what is not mapped for it.
+    pub(crate) fn reaches_unmapped(&self, point: u32, state: &State) -> bool {
+        let Some(access) = self.access_at(point) else {
+            return false;
+        };
+        if access.base.0 >= 32 {
+            return false;
+        }
+        let range = state.bounds.get(access.base);
+        let (least, greatest) = reached(&access, range);
+        if least < 0 || greatest > 0xffff_ffff {
+            return true;
+        }
+        self.unmapped_page(state, page_at(least), page_at(greatest), access.right)
+            .is_some()
     }
 
     /// The load or store at a point.

@@ -4,7 +4,7 @@ use crate::scenes::Scene;
 use crate::states::State;
 use measure::Measure;
 use model::{Range, Register};
-use source_gaps::code_on;
+use source_gaps::{code_on, push_place};
 use std::alloc::AllocError;
 
 /// From here on numbers are told in hexadecimal digits.
@@ -62,12 +62,13 @@ fn push_bound(to: &mut String, number: u8, range: Range, is_first: bool) -> Resu
     push_range(to, range)
 }
 
-/// Puts what is known of the registers that have not all values.
-fn push_bounds(to: &mut String, state: &State) -> Result<(), AllocError> {
+/// Puts what is known of the registers that have not all values; those that are 0 can be left out.
+fn push_bounds(to: &mut String, state: &State, leaves_zero: bool) -> Result<(), AllocError> {
     let mut is_first = true;
     for number in 1..32u8 {
         let range = state.bounds.get(Register(number));
-        if !is_full(range) {
+        let is_left = is_full(range) || (leaves_zero && range.high == 0);
+        if !is_left {
             push_bound(to, number, range, is_first)?;
             is_first = false;
         }
@@ -78,26 +79,39 @@ fn push_bounds(to: &mut String, state: &State) -> Result<(), AllocError> {
     Ok(())
 }
 
-impl Scene<'_, '_, '_, '_, '_> {
+impl Scene<'_, '_, '_, '_, '_, '_, '_> {
     /// Puts a point as its line and its instruction.
     pub(crate) fn push_point(&self, to: &mut String, point: u32) -> Result<(), AllocError> {
         let line = self.line(point);
-        let code = code_on(self.text, line);
+        let code = code_on(&self.text, line);
         write!(to, "line {line}, `{code}`")
     }
 
-    /// Puts the head of what is told of a point.
+    /// Puts where a point stands in the text, and which rule is broken.
+    pub(crate) fn push_rule(
+        &self,
+        to: &mut String,
+        point: u32,
+        rule: &str,
+    ) -> Result<(), AllocError> {
+        push_place(to, &self.text, self.line(point))?;
+        write!(to, "{rule}: ")
+    }
+
+    /// Puts the head of what is told of a point, after the place and the rule.
     pub(crate) fn push_head(&self, to: &mut String, point: u32) -> Result<(), AllocError> {
-        let line = self.line(point);
         let name = self.source.object_name(self.thread.tcb);
-        let code = code_on(self.text, line);
-        write!(to, "line {line}, thread {name}, `{code}`: ")
+        let code = code_on(&self.text, self.line(point));
+        write!(to, "thread {name}, `{code}`: ")
     }
 
     /// Puts the line of what is known at a point.
     pub(crate) fn push_state(&self, to: &mut String, state: &State) -> Result<(), AllocError> {
         to.push_str("  known here: ")?;
-        push_bounds(to, state)?;
+        push_bounds(to, state, self.known.is_some())?;
+        if self.known.is_some() {
+            return to.push_str("\n");
+        }
         to.push_str("; measure ")?;
         push_measure(to, &state.measure)?;
         let budget = self.space.thread.header().budget;

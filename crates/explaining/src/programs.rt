@@ -6,9 +6,11 @@ ghost use Rattle.explaining.specs.Given.{IsGiven};
 
 use crate::scenes::Scene;
 use crate::states::{Found, State};
+use certifying::{Record, ThreadFindings};
 use image::ImageRef;
 use model::{Instr, Point, Refusal};
 use rv32_isa::decode;
+use source_gaps::Text;
 use source_texts::SourceText;
 use std::alloc::{AllocError, Global};
 use thread_spaces::{given_space, offsets_of, reached_of, slots_of, windows_of};
@@ -28,6 +30,33 @@ pub(crate) fn point_of(refusal: Refusal) -> Option<Point> {
         | Refusal::CallRefused(at, _)
         | Refusal::PoolLost(at) => Some(at),
         _ => None,
+    }
+}
+
+/// What is told of a thread.
+#[derive(Clone, Copy)]
+pub(crate) enum Subject<'k> {
+    /// That a point is refused, with the certificate that stands.
+    Refused { point: u32, refusal: Refusal },
+    /// What was found of it without a certificate.
+    Found(&'k ThreadFindings),
+}
+
+impl<'k> Subject<'k> {
+    /// What was found at the points of the thread.
+    fn known(&self) -> Option<&'k [Record]> {
+        match self {
+            Subject::Refused { .. } => None,
+            Subject::Found(findings) => Some(&findings.known),
+        }
+    }
+}
+
+/// What is wrong on the ways on from a point of a thread without a certificate.
+fn found_words(refusal: Refusal) -> &'static str {
+    match refusal {
+        Refusal::CapNotThere(_) => "two ways leave different slots where they meet\n",
+        _ => "a way on leads out of the program\n",
     }
 }
 
@@ -66,7 +95,7 @@ fn may_be_of_entry(refusal: Refusal) -> bool {
     )
 }
 
-impl Scene<'_, '_, '_, '_, '_> {
+impl Scene<'_, '_, '_, '_, '_, '_, '_> {
     /// Whether the instruction at a point is a system call.
     fn is_call(&self, point: u32) -> bool {
         point < self.space.thread.word_count()
@@ -86,6 +115,9 @@ impl Scene<'_, '_, '_, '_, '_> {
         match refusal {
             Refusal::NotMapped(_) => {
                 self.tell_page(to, point, state)?;
+                if let Some(base) = self.base_at(point) {
+                    self.push_cause(to, point, base)?;
+                }
                 self.push_state(to, state)
             }
             Refusal::CallNotConstant(_) => self.tell_not_constant(to, point, state),
@@ -124,7 +156,12 @@ impl Scene<'_, '_, '_, '_, '_> {
     ) -> Result<(), AllocError>
         requires { IsGiven self.now.space self.now.slots.now self.now.lists_stray }
     {
-        self.tell_plain(to, point, onward_words(refusal))?;
+        let words = if self.known.is_some() {
+            found_words(refusal)
+        } else {
+            onward_words(refusal)
+        };
+        self.tell_plain(to, point, words)?;
         if let Refusal::MeasureNotFalling(_) = refusal {
             self.tell_least(to, state)?;
         }
@@ -146,12 +183,36 @@ impl Scene<'_, '_, '_, '_, '_> {
     ) -> Result<(), AllocError>
         requires { IsGiven self.now.space self.now.slots.now self.now.lists_stray }
     {
+        self.tell_named(to, point, refusal, refusal.name())
+    }
+
+    /// Tells what is refused at a point, by the name of a rule.
+    pub(crate) fn tell_named(
+        &self,
+        to: &mut String,
+        point: u32,
+        refusal: Refusal,
+        rule: &str,
+    ) -> Result<(), AllocError>
+        requires { IsGiven self.now.space self.now.slots.now self.now.lists_stray }
+    {
+        self.push_rule(to, point, rule)?;
         if may_be_of_entry(refusal) && self.tell_entry(to, point)? {
             return Ok(());
         }
         match plain_words(refusal) {
             Some(words) => self.tell_plain(to, point, words),
             None => self.tell_found(to, point, refusal),
+        }
+    }
+
+    /// Tells what is to be told of the thread.
+    fn tell_subject(&self, to: &mut String, subject: Subject<'_>) -> Result<(), AllocError>
+        requires { IsGiven self.now.space self.now.slots.now self.now.lists_stray }
+    {
+        match subject {
+            Subject::Refused { point, refusal } => self.tell_point(to, point, refusal),
+            Subject::Found(findings) => self.tell_findings(to, findings),
         }
     }
 
@@ -170,24 +231,24 @@ impl Scene<'_, '_, '_, '_, '_> {
     }
 }
 
-/// Tells what is refused at a point of the program of a thread of a well-formed image.
-pub(crate) fn tell_program(
+/// Tells what is wrong with a thread of a well-formed image, by its number.
+pub(crate) fn tell_thread(
     alloc: Global,
     to: &mut String,
-    text: &str,
+    text: &Text<'_, '_>,
     source: &SourceText<'_>,
     image: &ImageRef<'_>,
-    at: Point,
-    refusal: Refusal,
+    number: u32,
+    subject: Subject<'_>,
 ) -> Result<(), AllocError>
     requires formed { IsWellFormed image.now }
-    requires number { at.thread < image.now.header.threads }
+    requires number { number < image.now.header.threads }
 {
-    let Some(thread_text) = source.threads.get(at.thread as usize) else {
+    let Some(thread_text) = source.threads.get(number as usize) else {
         return Ok(());
     };
     let offsets = offsets_of(alloc, image)?;
-    let thread = image.thread(at.thread);
+    let thread = image.thread(number);
     let Ok(cnodes) = reached_of(alloc, image, &thread) else {
         return Err(AllocError);
     };
@@ -197,14 +258,15 @@ pub(crate) fn tell_program(
     let lists_stray = space.lists_stray(&slots);
     let scene = Scene {
         space,
-        number: at.thread,
+        number,
         slots: &slots,
         lists_stray,
         offsets: &offsets,
         alloc,
-        text,
+        text: *text,
         source,
         thread: thread_text,
+        known: subject.known(),
     };
-    scene.tell_point(to, at.point, refusal)
+    scene.tell_subject(to, subject)
 }

@@ -3,15 +3,17 @@
 ghost use Rattle.std.specs.Prelude.{◌≡◌};
 ghost use Rattle.model.specs.Acceptance.NotedStates.{record_of};
 
+use certifying::Record;
 use image::{RecordRef, ThreadRef};
 use model::Cap;
+use source_gaps::Text;
 use source_texts::{SourceText, SourceThread};
 use std::alloc::{AllocError, Global};
 use typestate::{NotedSlot, NotedSlots, SlotKey, Space};
 
 /// A thread of a well-formed image whose program is looked at, with what the text says of it.
 #[derive(Clone, Copy)]
-pub(crate) struct Scene<'a, 's, 'm, 't, 'x> {
+pub(crate) struct Scene<'a, 's, 'm, 'f, 't, 'x, 'k> {
     pub(crate) space: Space<'a, 's>,
     /// Which of the image's threads it is, from 0 on.
     pub(crate) number: u32,
@@ -21,9 +23,11 @@ pub(crate) struct Scene<'a, 's, 'm, 't, 'x> {
     /// Where the image's objects stand.
     pub(crate) offsets: &'s [u32],
     pub(crate) alloc: Global,
-    pub(crate) text: &'t str,
+    pub(crate) text: Text<'f, 't>,
     pub(crate) source: &'m SourceText<'x>,
     pub(crate) thread: &'m SourceThread<'x>,
+    /// What was found at the points of a thread without a certificate, in their order.
+    pub(crate) known: Option<&'k [Record]>,
 }
 
 /// The record of a point, if it has one.
@@ -74,7 +78,7 @@ pub(crate) fn is_same_slot(first: &NotedSlot, second: &NotedSlot) -> bool {
     first.capability == second.capability && is_same_parent(first.parent, second.parent)
 }
 
-impl Scene<'_, '_, '_, '_, '_> {
+impl Scene<'_, '_, '_, '_, '_, '_, '_> {
     /// What a slot holds where these changes are made.
     pub(crate) fn slot_with(&self, changes: &[NotedSlot], key: SlotKey) -> NotedSlot {
         for change in changes {

@@ -29,7 +29,7 @@ pub(crate) struct Difference<'c> {
     pub(crate) target: Option<u32>,
 }
 
-impl Scene<'_, '_, '_, '_, '_> {
+impl Scene<'_, '_, '_, '_, '_, '_, '_> {
     /// Puts what a slot holds.
     fn push_held(&self, to: &mut String, slot: &NotedSlot) -> Result<(), AllocError> {
         match slot.capability {
@@ -75,7 +75,11 @@ impl Scene<'_, '_, '_, '_, '_> {
             Some(target) => {
                 to.push_str(" on the way to ")?;
                 self.push_point(to, target)?;
-                to.push_str(", where it is noted with ")
+                to.push_str(if self.known.is_some() {
+                    ", where another way leaves "
+                } else {
+                    ", where it is noted with "
+                })
             }
             None => to.push_str(" at the start; noted is "),
         }
@@ -88,6 +92,9 @@ impl Scene<'_, '_, '_, '_, '_> {
         difference: &Difference<'_>,
         here: &NotedSlot,
     ) -> Result<(), AllocError> {
+        if self.known.is_some() {
+            return to.push_str("; make the slots equal before the ways meet\n");
+        }
         match difference.record {
             Some(line) if is_among(difference.here, here.key) => {
                 self.push_missing_line(to, here, line)

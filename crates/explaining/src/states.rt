@@ -8,6 +8,7 @@ ghost use Rattle.typestate.specs.Differences.{slots_of};
 ghost use Rattle.typestate.specs.Logs.{Holds};
 
 use crate::scenes::{Scene, record_at, told};
+use certifying::Record;
 use image::RecordRef;
 use measure::Measure;
 use model::{Instr, Point, Range, RangeEntry, Refusal, Register};
@@ -77,6 +78,19 @@ fn kept_with(left: Left, changes: &Vec<NotedSlot>) -> Result<Found, AllocError> 
     Ok(kept_of(left, changes.clone()?))
 }
 
+/// What was found at a point, among all that was found.
+fn found_in(known: &[Record], point: u32) -> Result<Found, AllocError> {
+    let place = known.binary_search_by_key(&point, |record| record.point);
+    match known.get(place.unwrap_or(known.len())) {
+        Some(record) => Ok(Found::Known(State {
+            bounds: record.bounds,
+            measure: Measure::new(0),
+            changes: record.changes.clone()?,
+        })),
+        None => Ok(Found::Missing),
+    }
+}
+
 /// The ranges that a record notes.
 fn bounds_of(record: &RecordRef<'_>) -> Bounds {
     let mut bounds = Bounds::full();
@@ -97,7 +111,7 @@ fn measure_of(record: &RecordRef<'_>) -> Measure {
     measure
 }
 
-impl<'a> Scene<'a, '_, '_, '_, '_> {
+impl<'a> Scene<'a, '_, '_, '_, '_, '_, '_> {
     /// The last record up to a point.
     fn last_record(&self, point: u32) -> Option<RecordRef<'a>> {
         let mut last = None;
@@ -141,6 +155,16 @@ impl<'a> Scene<'a, '_, '_, '_, '_> {
 
     /// What is known at a point.
     pub(crate) fn state_at(&self, point: u32) -> Result<Found, AllocError>
+        requires { IsGiven self.now.space self.now.slots.now self.now.lists_stray }
+    {
+        match self.known {
+            Some(known) => found_in(known, point),
+            None => self.noted_at(point),
+        }
+    }
+
+    /// What is known at a point by the records of the image.
+    fn noted_at(&self, point: u32) -> Result<Found, AllocError>
         requires { IsGiven self.now.space self.now.slots.now self.now.lists_stray }
     {
         let Some(record) = self.last_record(point) else {

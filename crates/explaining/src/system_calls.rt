@@ -69,7 +69,7 @@ fn capability_of(found: &Option<(SlotKey, Cap)>) -> Cap {
     }
 }
 
-impl Scene<'_, '_, '_, '_, '_> {
+impl Scene<'_, '_, '_, '_, '_, '_, '_> {
     /// The value of a register, if it has one alone.
     fn single(&self, state: &State, number: u8) -> Option<u32> {
         if number >= 32 {
@@ -143,12 +143,18 @@ impl Scene<'_, '_, '_, '_, '_> {
         to: &mut String,
         point: u32,
         state: &State,
-    ) -> Result<(), AllocError> {
+    ) -> Result<(), AllocError>
+        requires { IsGiven self.now.space self.now.slots.now self.now.lists_stray }
+    {
         self.push_head(to, point)?;
-        if let Some((register, what)) = self.varying(state) {
+        let varying = self.varying(state);
+        if let Some((register, what)) = varying {
             self.push_argument(to, state, register, what)?;
         }
         to.push_str("; it has to have one value: set it just before\n")?;
+        if let Some((register, _)) = varying {
+            self.push_cause(to, point, register)?;
+        }
         self.push_state(to, state)
     }
 

@@ -126,7 +126,7 @@ impl Way {
     }
 }
 
-impl Scene<'_, '_, '_, '_, '_> {
+impl Scene<'_, '_, '_, '_, '_, '_, '_> {
     /// The way along an edge of an instruction.
     fn way_along(&self, instr: Instr, state: &State, edge: &Edge) -> Result<Way, AllocError>
         requires { IsInstr instr }

@@ -10,13 +10,13 @@ use Rattle.typestate.specs.Strays.{is_stray_in}
 use Rattle.typestate.specs.Unlinked.{AreUnlinked}
 use Rattle.typestate.specs.declared.spaces.Space.{Space}
 use Rattle.typestate.proofs.Laws.{image-unlinked}
-use Rattle.explaining.proofs.programs.tell_program.Goals as goal
+use Rattle.explaining.proofs.programs.tell_thread.Goals as goal
 
-pub tell_point-requires : goal.tell_point-requires
-tell_point-requires c =
+pub tell_subject-requires : goal.tell_subject-requires
+tell_subject-requires c =
     let image = c.args.image.now in
     let t = c.thread-thread.result in
-    let listed : IsListed image t = record { number = c.args.at.thread; listed = c.thread-thread.ensures } in
+    let listed : IsListed image t = record { number = c.args.number; listed = c.thread-thread.ensures } in
     let space : Space = c.given_space-space.result in
     let image-is = sym c.given_space-space.ensures.image in
     let thread-is = sym c.given_space-space.ensures.thread in
