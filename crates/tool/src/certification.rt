@@ -42,6 +42,8 @@ pub enum NotCertified {
     Line { line: u64, why: Why },
     /// Its image is refused for something that stands on no line of a program.
     Image(Refusal),
+    /// Two parts of the program say different things of the text.
+    Disagreement,
     /// Memory was refused.
     OutOfMemory,
 }
@@ -210,7 +212,7 @@ fn searched<P: Progress>(
             }
         }
     }
-    Err(searched_in_vain(first.unwrap_or(NotCertified::OutOfMemory)))
+    Err(searched_in_vain(first.unwrap_or(NotCertified::Disagreement)))
 }
 
 /// The text with these certificates, from which the records go that it does not need.
@@ -242,10 +244,27 @@ pub fn certified<P: Progress>(
 {
     let bytes = bare_text(alloc, text)?;
     let Ok(bare) = std::str::from_utf8(bytes.as_slice()) else {
-        return Err(NotCertified::Source(SourceFault { line: 1, kind: 1 }));
+        return Err(NotCertified::Disagreement);
     };
     let layout = layout_of(alloc, bare)?;
     let drafts = searched(alloc, text, bare, &layout, progress)?;
     progress.reach(Stage::Judged);
     shortest(alloc, text, &layout, drafts, progress)
+}
+
+/// The line `THREAD budget N` of each thread of a text for which certificates are found that the verifier accepts. Whoever watches is
+/// told when they are found, and when the verifier has judged them.
+pub fn budgets_found<P: Progress>(
+    alloc: Global,
+    text: &str,
+    progress: &mut P,
+) -> Result<String, NotCertified> {
+    let bytes = bare_text(alloc, text)?;
+    let Ok(bare) = std::str::from_utf8(bytes.as_slice()) else {
+        return Err(NotCertified::Disagreement);
+    };
+    let layout = layout_of(alloc, bare)?;
+    let drafts = searched(alloc, text, bare, &layout, progress)?;
+    progress.reach(Stage::Judged);
+    Ok(budgets_of(alloc, &layout, drafts.as_slice())?)
 }

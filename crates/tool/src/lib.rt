@@ -3,6 +3,7 @@
 
 mod certification;
 mod commands;
+mod faults;
 mod messages;
 mod trials;
 

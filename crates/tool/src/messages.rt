@@ -1,92 +1,59 @@
-//! The line that says why a text gets no certificates.
+//! What is told of a text that gets no certificates, or is refused.
 
 use crate::certification::{NotCertified, Why};
-use asm::SourceFault;
-use certifying::Reason;
-use explaining::error_name;
+use explaining::{Certificates, ExplainFault, Text, push_place, tell_refused};
 use model::Refusal;
 use std::alloc::{AllocError, Global};
 
-/// A refusal of a point in plain words.
-fn words_of(refusal: Refusal) -> &'static str {
-    match refusal {
-        Refusal::IllegalInstruction(_) => "no instruction of a program",
-        Refusal::ComputedJump(_) => "a jump to an address from a register",
-        Refusal::BadTarget(_) => "no state where this leads",
-        Refusal::RangeNotKept(_) => "range not kept",
-        Refusal::NotMapped(_) => "page not mapped",
-        Refusal::MeasureNotFalling(_) => "measure not falling",
-        Refusal::OverBudget(_) => "over budget",
-        Refusal::CallNotConstant(_) => "call not constant",
-        Refusal::CapNotThere(_) => "capability not there",
-        Refusal::CallRefused(..) => "call refused",
-        Refusal::PoolLost(_) => "memory of the image is lost",
-        _ => "refused",
-    }
-}
-
-/// The line of a refusal on a line of the text.
-fn refusal_line(alloc: Global, line: u64, refusal: Refusal) -> Result<String, AllocError> {
-    let name = refusal.name();
-    let words = words_of(refusal);
-    match refusal {
-        Refusal::CallRefused(_, error) => {
-            let number = error.number();
-            let error = error_name(error);
-            format!(in alloc; "line {line} {name}: {words} with error {number} {error}\n")
-        }
-        _ => format!(in alloc; "line {line} {name}: {words}\n"),
-    }
-}
-
-/// The line of what stops certificates on a line of the text.
-fn reason_line(alloc: Global, line: u64, reason: Reason) -> Result<String, AllocError> {
-    match reason {
-        Reason::Refused(refusal) => refusal_line(alloc, line, refusal),
-        Reason::LeavesProgram => {
-            format!(in alloc; "line {line} LeavesProgram: a way on leaves the program\n")
-        }
-        Reason::SlotsDiffer => {
-            format!(in alloc; "line {line} SlotsDiffer: slots differ at this join\n")
-        }
-        Reason::NoMeasure => {
-            format!(in alloc; "line {line} NoMeasure: no measure for this loop\n")
-        }
-        Reason::NotBare => format!(in alloc; "line {line} NotBare: a record stands there\n"),
-    }
-}
-
-/// The line of an image that is refused, as `microsys verify` has it.
-fn image_line(alloc: Global, refusal: Refusal) -> Result<String, AllocError> {
+/// The line that says that the verifier refuses what was found, which is no fault of the text.
+fn not_accepted(
+    alloc: Global,
+    text: &Text<'_, '_>,
+    line: u64,
+    refusal: Refusal,
+) -> Result<String, AllocError> {
+    let mut told = String::new(alloc);
+    push_place(&mut told, text, line)?;
     let number = refusal.number();
     let name = refusal.name();
-    let (first, second) = refusal.items();
-    format!(in alloc; "refused {number} {name} {first} {second}\n")
+    write!(
+        &mut told,
+        "NotAccepted: the verifier refuses the certificate that is found, by {number} {name}: a fault of certify, please report it with the text\n"
+    )?;
+    Ok(told)
 }
 
-/// The line that says why a text gets no certificates.
-pub(crate) fn line_of(alloc: Global, fault: NotCertified) -> Result<String, AllocError> {
+/// What is told where nothing is found wrong with a text, though it gets no certificates.
+fn told_of_nothing(
+    alloc: Global,
+    text: &Text<'_, '_>,
+    fault: NotCertified,
+) -> Result<String, ExplainFault> {
     match fault {
-        NotCertified::Source(SourceFault { line, kind }) => {
-            format!(in alloc; "source {line} {kind}\n")
-        }
-        NotCertified::Line { line, why } => match why {
-            Why::Unfit(reason) => reason_line(alloc, line, reason),
-            Why::BudgetTooSmall { given, least } => {
-                format!(in alloc;
-                    "line {line} BudgetTooSmall: {given} is below the least budget, {least}\n"
-                )
-            }
-            Why::Refused(refusal) => refusal_line(alloc, line, refusal),
-            Why::NotAccepted(refusal) => {
-                let number = refusal.number();
-                let name = refusal.name();
-                format!(in alloc;
-                    "line {line} NotAccepted: what certify found is refused by {number} {name}, which is its own fault\n"
-                )
-            }
-        },
-        NotCertified::Image(refusal) => image_line(alloc, refusal),
-        NotCertified::OutOfMemory => Err(AllocError),
+        NotCertified::Line {
+            line,
+            why: Why::NotAccepted(refusal) | Why::Refused(refusal),
+        } => Ok(not_accepted(alloc, text, line, refusal)?),
+        _ => Err(ExplainFault::Disagreement),
+    }
+}
+
+/// Why a text gets no certificates, in lines.
+pub(crate) fn told_of(
+    alloc: Global,
+    text: &Text<'_, '_>,
+    certificates: Certificates,
+    fault: NotCertified,
+) -> Result<String, ExplainFault> {
+    match fault {
+        NotCertified::OutOfMemory => return Err(ExplainFault::OutOfMemory),
+        NotCertified::Disagreement => return Err(ExplainFault::Disagreement),
+        _ => {}
+    }
+    let told = tell_refused(alloc, text, certificates)?;
+    if told.is_empty() {
+        told_of_nothing(alloc, text, fault)
+    } else {
+        Ok(told)
     }
 }

@@ -4,7 +4,7 @@ ghost use Rattle.std.specs.Prelude.{IfOk, OnOk};
 ghost use Rattle.tool.specs.AcceptedTexts.{IsAcceptedText};
 
 use crate::certification::{NotCertified, refused};
-use asm::{SourceFault, assemble};
+use asm::assemble;
 use certified_texts::{Draft, Layout, certified_text};
 use image::write;
 use progress::{Progress, Stage};
@@ -48,7 +48,7 @@ pub(crate) fn judged(
 {
     let written = certified_text(alloc, text, layout, drafts)?;
     let Ok(certified) = std::str::from_utf8(written.as_slice()) else {
-        return Err(NotCertified::Source(SourceFault { line: 1, kind: 1 }));
+        return Err(NotCertified::Disagreement);
     };
     check(alloc, layout, certified)?;
     Ok(written)

@@ -1,0 +1,141 @@
+//! Why a request was not carried out, and how that is told.
+
+use console::{REFUSED, STANDARD, StreamFault, WordsFault, failed, refused, wrong_words};
+use drawing::DrawingFault;
+use explaining::ExplainFault;
+use sinks::{Sink, SinkFault, put_all};
+use std::alloc::{AllocError, Global};
+
+/// Why a request was not carried out.
+pub(crate) enum ToolFault<'a> {
+    /// The words are no request.
+    Usage,
+    /// A file or standard input is not read, or a file not written.
+    Stream(StreamFault<'a>),
+    /// Standard output takes no more.
+    Output,
+    /// Memory was refused.
+    Memory,
+    /// The text is refused, and these lines say why.
+    Refused(String),
+    /// Two parts of the program say different things of a text, whose file this is.
+    Disagreement(&'a str),
+    /// This line is none of what is to be drawn.
+    Malformed(u64),
+}
+
+impl From<SinkFault> for ToolFault<'_> {
+    fn from(_fault: SinkFault) -> Self {
+        ToolFault::Output
+    }
+}
+
+impl From<AllocError> for ToolFault<'_> {
+    fn from(_fault: AllocError) -> Self {
+        ToolFault::Memory
+    }
+}
+
+impl From<WordsFault> for ToolFault<'_> {
+    fn from(fault: WordsFault) -> Self {
+        match fault {
+            WordsFault::Usage => ToolFault::Usage,
+            WordsFault::OutOfMemory => ToolFault::Memory,
+        }
+    }
+}
+
+impl<'a> From<StreamFault<'a>> for ToolFault<'a> {
+    fn from(fault: StreamFault<'a>) -> Self {
+        match fault {
+            StreamFault::OutOfMemory => ToolFault::Memory,
+            fault => ToolFault::Stream(fault),
+        }
+    }
+}
+
+impl From<DrawingFault> for ToolFault<'_> {
+    fn from(fault: DrawingFault) -> Self {
+        match fault {
+            DrawingFault::Malformed { line } => ToolFault::Malformed(line),
+            DrawingFault::Output => ToolFault::Output,
+            DrawingFault::OutOfMemory => ToolFault::Memory,
+        }
+    }
+}
+
+/// Why a text of this file is not explained.
+pub(crate) fn unexplained(fault: ExplainFault, file: &str) -> ToolFault<'_> {
+    match fault {
+        ExplainFault::Disagreement => ToolFault::Disagreement(file),
+        ExplainFault::OutOfMemory => ToolFault::Memory,
+    }
+}
+
+/// The name of a file as it is told.
+pub(crate) fn told_name(source: &str) -> &str {
+    if source == STANDARD {
+        "<stdin>"
+    } else {
+        source
+    }
+}
+
+/// The line of a file that is not read or not written, and why.
+fn stream_line(alloc: Global, fault: StreamFault<'_>) -> Result<String, AllocError> {
+    match fault {
+        StreamFault::File { name, cause } => {
+            let words = cause.words();
+            format!(in alloc; "file {name}: {words}")
+        }
+        StreamFault::NotText { name, line } => {
+            let name = told_name(name);
+            format!(in alloc; "{name}:{line}: not UTF-8: only ASCII, also in comments")
+        }
+        StreamFault::OutOfMemory => Err(AllocError),
+    }
+}
+
+/// Puts the line of a file that is not read or not written, and answers the exit status.
+fn tell_stream<E: Sink>(alloc: Global, fault: StreamFault<'_>, errors: &mut E) -> u8 {
+    match stream_line(alloc, fault) {
+        Ok(line) => failed(errors, line.as_bytes(), b""),
+        Err(_) => failed(errors, b"memory", b""),
+    }
+}
+
+/// Puts the line of a text on which two parts of the program disagree, and answers the exit status.
+fn tell_disagreement<E: Sink>(alloc: Global, file: &str, errors: &mut E) -> u8 {
+    let line = format!(in alloc;
+        "{file}:1: Disagreement: two parts of the program say different things of this text: please report it, with the text"
+    );
+    match line {
+        Ok(line) => failed(errors, line.as_bytes(), b""),
+        Err(_) => failed(errors, b"Disagreement: please report it", b""),
+    }
+}
+
+/// Says why a request was not carried out, and answers the exit status. What is refused is told on standard error.
+pub(crate) fn report<W: Sink, E: Sink>(
+    alloc: Global,
+    fault: ToolFault<'_>,
+    output: &mut W,
+    errors: &mut E,
+) -> u8 {
+    match fault {
+        ToolFault::Usage => wrong_words(errors),
+        ToolFault::Stream(fault) => tell_stream(alloc, fault, errors),
+        ToolFault::Output => failed(errors, b"output", b""),
+        ToolFault::Memory => failed(errors, b"memory", b""),
+        ToolFault::Refused(told) => {
+            let _ = put_all(errors, told.as_bytes());
+            REFUSED
+        }
+        ToolFault::Disagreement(file) => tell_disagreement(alloc, file, errors),
+        ToolFault::Malformed(line) => refused(
+            format!(in alloc; "line {line} Malformed: not read\n"),
+            output,
+            errors,
+        ),
+    }
+}
