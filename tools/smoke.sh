@@ -117,6 +117,8 @@ part_with "python3 riscv64-unknown-elf-as qemu-riscv32" "tools/rv32i_table.py" s
 part_with "python3 clang llvm-objcopy" "tools/instruction_table.py" same_words
 part_with python3 "tools/from_c/run.sh --cheap" tools/from_c/run.sh --cheap
 part_with crates/microsys/out/microsys "tools/failing/run.sh" tools/failing/run.sh
+part_with crates/microsys_tool/out/microsys_tool "tools/explaining/check.py" tools/explaining/check.py \
+    crates/microsys_tool/out/microsys_tool
 for script in bench damage kernel_run large_images memory certify; do
     echo "skipped: tools/$script/run.sh: takes minutes, and the built product"
 done

@@ -24,13 +24,13 @@ is_certified() {
 "$here/kinds.py" "$room"
 for text in "$room"/found/*.txt; do
     if ! is_certified "$text"; then
-        echo "$(basename "$text"): $(cat "$room/said")"
+        echo "$(basename "$text"): $(cat "$room/errors")"
         exit 1
     fi
 done
 for text in "$room"/none/*.txt; do
-    if is_certified "$text" || ! grep -q ' NoMeasure: ' "$room/said"; then
-        echo "$(basename "$text"): $(cat "$room/said")"
+    if is_certified "$text" || ! grep -q ' NoMeasure: ' "$room/errors"; then
+        echo "$(basename "$text"): $(cat "$room/said" "$room/errors")"
         exit 1
     fi
 done
@@ -41,7 +41,7 @@ for text in "$room"/loop*.txt; do
     if is_certified "$text"; then
         accepted=$((accepted + 1))
     else
-        echo "$(basename "$text"): $(cat "$room/said")"
+        echo "$(basename "$text"): $(cat "$room/errors")"
     fi
 done
 echo "$accepted of 200 programs have certificates"

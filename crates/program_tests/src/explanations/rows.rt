@@ -1,21 +1,25 @@
 //! Texts with a line put another way.
 
 use crate::texts::with_line;
-use explaining::explain;
+use explaining::{Explanation, Text, explain};
 use progress::Quiet;
-use sinks::{MemorySink, Sink};
 use std::alloc::Global;
 use std::process::Abort;
 use std::test::Fail;
 
 /// What is said of a text.
 fn said_of(alloc: Global, text: &str) -> Result<String, Fail> {
-    let mut sink = MemorySink::new(alloc, 4096);
-    explain(alloc, text, &mut sink, &mut Quiet)
+    let text = Text {
+        file: "text",
+        content: text,
+    };
+    match explain(alloc, &text, &mut Quiet)
         .ok()
-        .ok_or("nothing is said")?;
-    let said = std::str::from_utf8(sink.bytes())?;
-    Ok(format!(in alloc; "{said}")?)
+        .ok_or("nothing is said")?
+    {
+        Explanation::Refused(told) => Ok(told),
+        Explanation::Accepted => Ok(format!(in alloc; "accepted\n")?),
+    }
 }
 
 /// Each text is explained as its row says: behind `@` the number of a line and what stands in its place, then what is said.
