@@ -32,7 +32,7 @@ pub(crate) fn rights_words(rights: Rights) -> &'static str {
     }
 }
 
-/// What a capability is to, and where that stands.
+/// What a capability is to, and where that is.
 fn kind_words(capability: Cap) -> (&'static str, u32) {
     match capability {
         Cap::Empty => ("nothing", 0),
@@ -65,7 +65,7 @@ fn kind_number(capability: Cap) -> u32 {
 }
 
 impl Scene<'_, '_, '_, '_, '_, '_, '_> {
-    /// The name of the object of a kind that stands at an offset, if the text declares it.
+    /// The name of the object of a kind that is at an offset, if the text declares it.
     fn name_at(&self, kind: u32, offset: u32) -> Option<&str> {
         for (number, object) in self.source.objects.iter().enumerate() {
             if object.kind == kind && self.offsets.get(number) == Some(&offset) {

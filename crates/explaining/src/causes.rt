@@ -1,19 +1,18 @@
 //! Why a register can have many values: what writes it, and what that comes from.
 
-ghost use Rattle.explaining.specs.Given.{IsGiven};
-
 use crate::point_words::{is_full, push_range};
 use crate::scenes::Scene;
-use crate::states::{Called, Found, State};
+use crate::states::{Found, State};
 use model::{ImmediateOp, Instr, Range, RegisterOp};
 use program_rules::registers_of;
 use rv32_isa::decode;
-use std::alloc::AllocError;
+use std::alloc::{AllocError, Global};
+use typestate::Written;
 
 /// How many instructions are named at most of which a value comes.
 const MOST_STEPS: u32 = 4;
 
-/// What stands in a register behind an instruction that writes it.
+/// What is in a register after an instruction that writes it.
 #[derive(Clone, Copy)]
 pub(crate) struct Write {
     pub(crate) point: u32,
@@ -69,11 +68,12 @@ pub(crate) fn is_step(instr: Instr) -> bool {
     }
 }
 
-/// From where an instruction loads, in words: the stack has its address in x2.
-pub(crate) fn loaded_from(instr: Instr) -> Option<&'static str> {
+/// Where what an instruction writes comes from, if it is computed of no register: the stack has its address in x2.
+pub(crate) fn origin_words(instr: Instr) -> Option<&'static str> {
     match instr {
-        Instr::Load { rs1, .. } if rs1.0 == 2 => Some("the stack"),
-        Instr::Load { .. } => Some("memory"),
+        Instr::Load { rs1, .. } if rs1.0 == 2 => Some("loaded from the stack on "),
+        Instr::Load { .. } => Some("loaded from memory on "),
+        Instr::Ecall => Some("what the call leaves on "),
         _ => None,
     }
 }
@@ -85,25 +85,84 @@ fn push_can_be(to: &mut String, range: Range) -> Result<(), AllocError> {
     to.push_str("\n")
 }
 
-/// Puts a point on the stack of those that are looked at, unless it was.
-fn visit(stack: &mut Vec<u32>, seen: &mut Vec<bool>, point: u32) -> Result<(), AllocError> {
-    if let Some(mark) = seen.get_mut(point as usize) {
-        if !*mark {
-            *mark = true;
-            stack.push(point)?;
+/// Whether a register is one of those that a system call writes.
+fn is_written(written: Written, register: u8) -> bool {
+    for one in registers_of(written) {
+        if one.0 == register {
+            return true;
         }
     }
-    Ok(())
+    false
+}
+
+/// The points that are looked at.
+#[derive(Drop)]
+struct Visits {
+    seen: Vec<bool>,
+    /// Those that are still to be looked at.
+    stack: Vec<u32>,
+}
+
+/// A mark for each of so many points.
+fn marks(alloc: Global, count: usize) -> Result<Vec<bool>, AllocError> {
+    let mut marks = Vec::new(alloc);
+    marks.resize(count, false)?;
+    Ok(marks)
+}
+
+impl Visits {
+    /// None of so many points.
+    fn new(alloc: Global, count: usize) -> Result<Self, AllocError> {
+        Ok(Visits {
+            seen: marks(alloc, count)?,
+            stack: Vec::new(alloc),
+        })
+    }
+
+    /// Adds a point, unless it was added before.
+    fn add(&mut self, point: u32) -> Result<(), AllocError> {
+        match self.seen.get_mut(point as usize) {
+            Some(mark) if !*mark => {
+                *mark = true;
+                self.stack.push(point)?;
+                Ok(())
+            }
+            _ => Ok(()),
+        }
+    }
+
+    /// Adds the points that lead to a point.
+    fn add_sources(&mut self, into: &[Vec<u32>], point: u32) -> Result<(), AllocError> {
+        if let Some(sources) = into.get(point as usize) {
+            for source in sources {
+                self.add(*source)?;
+            }
+        }
+        Ok(())
+    }
+}
+
+/// A list for each of so many points.
+fn lists(alloc: Global, count: u32) -> Result<Vec<Vec<u32>>, AllocError> {
+    let mut lists = Vec::new(alloc);
+    for _ in 0..count {
+        lists.push(Vec::new(alloc))?;
+    }
+    Ok(lists)
 }
 
 /// Notes that a point is led to from another.
 fn note_source(into: &mut Vec<Vec<u32>>, from: u32, target: Option<u32>) -> Result<(), AllocError> {
-    if let Some(target) = target {
-        if let Some(sources) = into.get_mut(target as usize) {
+    let Some(target) = target else {
+        return Ok(());
+    };
+    match into.get_mut(target as usize) {
+        Some(sources) => {
             sources.push(from)?;
+            Ok(())
         }
+        None => Ok(()),
     }
-    Ok(())
 }
 
 /// An offset as what is added to an address.
@@ -135,41 +194,36 @@ impl Scene<'_, '_, '_, '_, '_, '_, '_> {
         }
     }
 
+    /// Notes where the instruction at a point leads.
+    fn note_leads(&self, into: &mut Vec<Vec<u32>>, point: u32) -> Result<(), AllocError> {
+        let Some(instr) = self.instruction_at(point) else {
+            return Ok(());
+        };
+        let [taken, next] = self.leads(point, instr);
+        note_source(into, point, taken)?;
+        note_source(into, point, next)
+    }
+
     /// From which points each point is led to.
     fn sources(&self) -> Result<Vec<Vec<u32>>, AllocError> {
-        let mut into = Vec::new(self.alloc);
-        for _ in 0..self.space.thread.word_count() {
-            into.push(Vec::new(self.alloc))?;
-        }
-        for point in 0..self.space.thread.word_count() {
-            if let Some(instr) = self.instruction_at(point) {
-                let [taken, next] = self.leads(point, instr);
-                note_source(&mut into, point, taken)?;
-                note_source(&mut into, point, next)?;
-            }
+        let count = self.space.thread.word_count();
+        let mut into = lists(self.alloc, count)?;
+        for point in 0..count {
+            self.note_leads(&mut into, point)?;
         }
         Ok(into)
     }
 
     /// Whether the system call at a point writes a register.
-    fn call_writes(&self, point: u32, state: &State, register: u8) -> Result<bool, AllocError>
-        requires { IsGiven self.now.space self.now.slots.now self.now.lists_stray }
-    {
-        let Ok(Called { behind, .. }) = self.called(point, state)? else {
-            return Ok(false);
-        };
-        for written in registers_of(behind.written) {
-            if written.0 == register {
-                return Ok(true);
-            }
+    fn call_writes(&self, point: u32, state: &State, register: u8) -> Result<bool, AllocError> {
+        match &self.called(point, state)? {
+            Ok(called) => Ok(is_written(called.behind.written, register)),
+            Err(_) => Ok(false),
         }
-        Ok(false)
     }
 
     /// Whether a point writes a register.
-    fn writes(&self, point: u32, instr: Instr, register: u8) -> Result<bool, AllocError>
-        requires { IsGiven self.now.space self.now.slots.now self.now.lists_stray }
-    {
+    fn writes(&self, point: u32, instr: Instr, register: u8) -> Result<bool, AllocError> {
         if register == 0 {
             return Ok(false);
         }
@@ -182,10 +236,8 @@ impl Scene<'_, '_, '_, '_, '_, '_, '_> {
         }
     }
 
-    /// What a register holds behind a point that writes it.
-    fn range_behind(&self, point: u32, register: u8) -> Result<Range, AllocError>
-        requires { IsGiven self.now.space self.now.slots.now self.now.lists_stray }
-    {
+    /// What a register holds after a point that writes it.
+    fn range_after(&self, point: u32, register: u8) -> Result<Range, AllocError> {
         let Found::Known(state) = self.state_at(point)? else {
             return Ok(Range::FULL);
         };
@@ -197,9 +249,7 @@ impl Scene<'_, '_, '_, '_, '_, '_, '_> {
     }
 
     /// What a register holds before a point.
-    pub(crate) fn range_before(&self, point: u32, register: u8) -> Result<Range, AllocError>
-        requires { IsGiven self.now.space self.now.slots.now self.now.lists_stray }
-    {
+    pub(crate) fn range_before(&self, point: u32, register: u8) -> Result<Range, AllocError> {
         match self.state_at(point)? {
             Found::Known(state) if register < 32 => {
                 Ok(state.bounds.get(model::Register(register)))
@@ -209,9 +259,7 @@ impl Scene<'_, '_, '_, '_, '_, '_, '_> {
     }
 
     /// What a point writes to a register, if it does.
-    fn write_at(&self, point: u32, register: u8) -> Result<Option<Write>, AllocError>
-        requires { IsGiven self.now.space self.now.slots.now self.now.lists_stray }
-    {
+    fn write_at(&self, point: u32, register: u8) -> Result<Option<Write>, AllocError> {
         let Some(instr) = self.instruction_at(point) else {
             return Ok(None);
         };
@@ -221,58 +269,45 @@ impl Scene<'_, '_, '_, '_, '_, '_, '_> {
         Ok(Some(Write {
             point,
             instr,
-            range: self.range_behind(point, register)?,
+            range: self.range_after(point, register)?,
         }))
     }
 
-    /// Of what is written to a register on the ways to a point, with no other write behind it, that with the most values.
-    fn widest_write(
+    /// Of what is written to a register at points that are visited, that with the most values. Where a point does not write it, those
+    /// that lead there are visited too.
+    fn widest_of(
         &self,
         into: &[Vec<u32>],
-        point: u32,
         register: u8,
-    ) -> Result<Option<Write>, AllocError>
-        requires { IsGiven self.now.space self.now.slots.now self.now.lists_stray }
-    {
-        let mut seen = Vec::new(self.alloc);
-        for _ in into {
-            seen.push(false)?;
-        }
-        let mut stack = Vec::new(self.alloc);
+        visits: &mut Visits,
+    ) -> Result<Option<Write>, AllocError> {
         let mut widest: Option<Write> = None;
-        self.visit_sources(into, point, &mut seen, &mut stack)?;
         for _ in 0..into.len() {
-            let Some(source) = stack.pop() else {
+            let Some(source) = visits.stack.pop() else {
                 break;
             };
             match self.write_at(source, register)? {
                 Some(write) => widest = Some(wider(widest, write)),
-                None => self.visit_sources(into, source, &mut seen, &mut stack)?,
+                None => visits.add_sources(into, source)?,
             }
         }
         Ok(widest)
     }
 
-    /// Puts the points that lead to a point on a stack.
-    fn visit_sources(
+    /// Of what is written to a register on the ways to a point, with no other write after it, that with the most values.
+    fn widest_write(
         &self,
         into: &[Vec<u32>],
         point: u32,
-        seen: &mut Vec<bool>,
-        stack: &mut Vec<u32>,
-    ) -> Result<(), AllocError> {
-        if let Some(sources) = into.get(point as usize) {
-            for source in sources {
-                visit(stack, seen, *source)?;
-            }
-        }
-        Ok(())
+        register: u8,
+    ) -> Result<Option<Write>, AllocError> {
+        let mut visits = Visits::new(self.alloc, into.len())?;
+        visits.add_sources(into, point)?;
+        self.widest_of(into, register, &mut visits)
     }
 
     /// Of the registers of which a write is computed, that with the most values, if one has more than one.
-    fn widest_operand(&self, write: &Write) -> Result<Option<u8>, AllocError>
-        requires { IsGiven self.now.space self.now.slots.now self.now.lists_stray }
-    {
+    fn widest_operand(&self, write: &Write) -> Result<Option<u8>, AllocError> {
         let mut widest = None;
         let mut most = 0u32;
         for operand in operands(write.instr) {
@@ -285,28 +320,15 @@ impl Scene<'_, '_, '_, '_, '_, '_, '_> {
         Ok(widest)
     }
 
-    /// Puts what writes a register, and answers of which register that comes, if that has to be told.
-    fn push_write(
-        &self,
-        to: &mut String,
-        register: u8,
-        write: &Write,
-    ) -> Result<Option<u8>, AllocError>
-        requires { IsGiven self.now.space self.now.slots.now self.now.lists_stray }
-    {
-        write!(to, "  x{register} is ")?;
-        if let Some(place) = loaded_from(write.instr) {
-            write!(to, "loaded from {place} on ")?;
-            self.push_point(to, write.point)?;
-            push_can_be(to, write.range)?;
-            return Ok(None);
-        }
-        if let Instr::Ecall = write.instr {
-            to.push_str("what the call leaves on ")?;
-            self.push_point(to, write.point)?;
-            push_can_be(to, write.range)?;
-            return Ok(None);
-        }
+    /// Puts that a value comes from elsewhere, and what it can be.
+    fn push_origin(&self, to: &mut String, origin: &str, write: &Write) -> Result<(), AllocError> {
+        to.push_str(origin)?;
+        self.push_point(to, write.point)?;
+        push_can_be(to, write.range)
+    }
+
+    /// Puts where a value is computed, and returns of which register it comes, if that is still to be explained.
+    fn push_computed(&self, to: &mut String, write: &Write) -> Result<Option<u8>, AllocError> {
         to.push_str("written on ")?;
         self.push_point(to, write.point)?;
         if is_step(write.instr) {
@@ -318,15 +340,30 @@ impl Scene<'_, '_, '_, '_, '_, '_, '_> {
         Ok(operand)
     }
 
+    /// Puts what writes a register, and returns of which register that comes, if that is still to be explained.
+    fn push_write(
+        &self,
+        to: &mut String,
+        register: u8,
+        write: &Write,
+    ) -> Result<Option<u8>, AllocError> {
+        write!(to, "  x{register} is ")?;
+        match origin_words(write.instr) {
+            Some(origin) => {
+                self.push_origin(to, origin, write)?;
+                Ok(None)
+            }
+            None => self.push_computed(to, write),
+        }
+    }
+
     /// Puts of which register a write comes.
     fn push_operand(
         &self,
         to: &mut String,
         write: &Write,
         operand: Option<u8>,
-    ) -> Result<(), AllocError>
-        requires { IsGiven self.now.space self.now.slots.now self.now.lists_stray }
-    {
+    ) -> Result<(), AllocError> {
         match operand {
             Some(operand) => {
                 write!(to, ", where x{operand} is ")?;
@@ -337,32 +374,56 @@ impl Scene<'_, '_, '_, '_, '_, '_, '_> {
         }
     }
 
+    /// Puts what writes a register on the ways to a point, if it can have more than one value, and returns the point of that and the
+    /// register that it comes of, if that is still to be explained.
+    fn push_step_back(
+        &self,
+        to: &mut String,
+        into: &[Vec<u32>],
+        point: u32,
+        register: u8,
+    ) -> Result<Option<(u32, u8)>, AllocError> {
+        match self.widest_write(into, point, register)? {
+            Some(write) if width(write.range) > 0 => {
+                let operand = self.push_write(to, register, &write)?;
+                match operand {
+                    Some(operand) => Ok(Some((write.point, operand))),
+                    None => Ok(None),
+                }
+            }
+            _ => Ok(None),
+        }
+    }
+
+    /// Puts what writes a register on the ways to a point, and what that comes from, step by step.
+    fn push_steps_back(
+        &self,
+        to: &mut String,
+        into: &[Vec<u32>],
+        point: u32,
+        register: u8,
+    ) -> Result<(), AllocError> {
+        let mut at = point;
+        let mut wanted = register;
+        for _ in 0..MOST_STEPS {
+            let Some((before, operand)) = self.push_step_back(to, into, at, wanted)? else {
+                break;
+            };
+            at = before;
+            wanted = operand;
+        }
+        Ok(())
+    }
+
     /// Puts why a register can have many values before a point: what writes it, and what that comes from.
     pub(crate) fn push_cause(
         &self,
         to: &mut String,
         point: u32,
         register: u8,
-    ) -> Result<(), AllocError>
-        requires { IsGiven self.now.space self.now.slots.now self.now.lists_stray }
-    {
+    ) -> Result<(), AllocError> {
         let into = self.sources()?;
-        let mut at = point;
-        let mut wanted = register;
-        for _ in 0..MOST_STEPS {
-            let Some(write) = self.widest_write(&into, at, wanted)? else {
-                break;
-            };
-            if width(write.range) == 0 {
-                break;
-            }
-            let Some(operand) = self.push_write(to, wanted, &write)? else {
-                break;
-            };
-            at = write.point;
-            wanted = operand;
-        }
-        Ok(())
+        self.push_steps_back(to, &into, point, register)
     }
 
     /// Puts why a register can have any value before a point, if it can.
@@ -371,9 +432,7 @@ impl Scene<'_, '_, '_, '_, '_, '_, '_> {
         to: &mut String,
         point: u32,
         register: u8,
-    ) -> Result<(), AllocError>
-        requires { IsGiven self.now.space self.now.slots.now self.now.lists_stray }
-    {
+    ) -> Result<(), AllocError> {
         if is_full(self.range_before(point, register)?) {
             self.push_cause(to, point, register)?;
         }

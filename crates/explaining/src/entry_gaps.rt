@@ -1,7 +1,5 @@
 //! What is missed at a thread's entry.
 
-ghost use Rattle.explaining.specs.Given.{IsGiven};
-
 use crate::point_words::{push_measure, push_number, push_range};
 use crate::scenes::Scene;
 use crate::slot_gaps::Difference;
@@ -48,8 +46,8 @@ impl Scene<'_, '_, '_, '_, '_, '_, '_> {
         }
     }
 
-    /// Tells that a register starts with a value outside of its range.
-    fn tell_start(
+    /// Reports that a register starts with a value outside of its range.
+    fn report_start(
         &self,
         to: &mut String,
         point: u32,
@@ -62,23 +60,28 @@ impl Scene<'_, '_, '_, '_, '_, '_, '_> {
         self.push_source(to, point)
     }
 
-    /// Tells which registers start outside of their ranges, and answers whether one does.
-    fn tell_starts(&self, to: &mut String, point: u32, state: &State) -> Result<bool, AllocError> {
+    /// Reports which registers start outside of their ranges, and returns whether one does.
+    fn report_starts(
+        &self,
+        to: &mut String,
+        point: u32,
+        state: &State,
+    ) -> Result<bool, AllocError> {
         let words = self.start_values();
         let mut is_told = false;
         for number in 1..32u8 {
             let value = words[usize::from(number)];
             let range = state.bounds.get(Register(number));
             if value < range.low || value > range.high {
-                self.tell_start(to, point, number, value, range)?;
+                self.report_start(to, point, number, value, range)?;
                 is_told = true;
             }
         }
         Ok(is_told)
     }
 
-    /// Tells that the measure at the entry is above the budget, and answers whether it is.
-    fn tell_budget(&self, to: &mut String, state: &State) -> Result<bool, AllocError> {
+    /// Reports that the measure at the entry is above the budget, and returns whether it is.
+    fn report_budget(&self, to: &mut String, state: &State) -> Result<bool, AllocError> {
         let value = value_at(&state.measure, &self.start_values());
         let budget = self.space.thread.header().budget;
         let above = value.saturating_sub(i128::from(budget));
@@ -94,8 +97,8 @@ impl Scene<'_, '_, '_, '_, '_, '_, '_> {
         Ok(true)
     }
 
-    /// Tells which slots at the entry differ from the image's, and answers whether one does.
-    fn tell_slots(&self, to: &mut String, point: u32, state: &State) -> Result<bool, AllocError> {
+    /// Reports which slots at the entry differ from the image's, and returns whether one does.
+    fn report_slots(&self, to: &mut String, point: u32, state: &State) -> Result<bool, AllocError> {
         let before = to.len();
         let difference = Difference {
             here: &[],
@@ -107,8 +110,8 @@ impl Scene<'_, '_, '_, '_, '_, '_, '_> {
         Ok(to.len() > before)
     }
 
-    /// Tells that the entry has no record.
-    fn tell_unnoted(&self, to: &mut String, point: u32) -> Result<(), AllocError> {
+    /// Reports that the entry has no record.
+    fn report_unnoted(&self, to: &mut String, point: u32) -> Result<(), AllocError> {
         self.push_head(to, point)?;
         let line = self.line(point);
         write!(
@@ -117,15 +120,15 @@ impl Scene<'_, '_, '_, '_, '_, '_, '_> {
         )
     }
 
-    /// Tells the first thing that is missed at the entry in a state, and answers whether something is.
-    fn tell_gap(&self, to: &mut String, point: u32, state: &State) -> Result<bool, AllocError> {
-        if self.tell_starts(to, point, state)? {
+    /// Reports the first thing that is missed at the entry in a state, and returns whether something is.
+    fn report_gap(&self, to: &mut String, point: u32, state: &State) -> Result<bool, AllocError> {
+        if self.report_starts(to, point, state)? {
             return Ok(true);
         }
-        if self.tell_slots(to, point, state)? {
+        if self.report_slots(to, point, state)? {
             return Ok(true);
         }
-        self.tell_budget(to, state)
+        self.report_budget(to, state)
     }
 
     /// Puts that the thread does not start as the record of its entry says, and what is missed.
@@ -135,27 +138,25 @@ impl Scene<'_, '_, '_, '_, '_, '_, '_> {
         to.push_str(gap)
     }
 
-    /// Tells what is missed at the entry in a state, and answers whether something is.
-    fn tell_noted(&self, to: &mut String, point: u32, state: &State) -> Result<bool, AllocError> {
+    /// Reports what is missed at the entry in a state, and returns whether something is.
+    fn report_noted(&self, to: &mut String, point: u32, state: &State) -> Result<bool, AllocError> {
         let mut gap = String::new(self.alloc);
-        let is_told = self.tell_gap(&mut gap, point, state)?;
+        let is_told = self.report_gap(&mut gap, point, state)?;
         if is_told {
             self.push_gap(to, point, &gap)?;
         }
         Ok(is_told)
     }
 
-    /// Tells what is missed at the entry, and answers whether something is.
-    pub(crate) fn tell_entry(&self, to: &mut String, point: u32) -> Result<bool, AllocError>
-        requires { IsGiven self.now.space self.now.slots.now self.now.lists_stray }
-    {
+    /// Reports what is missed at the entry, and returns whether something is.
+    pub(crate) fn report_entry(&self, to: &mut String, point: u32) -> Result<bool, AllocError> {
         if point != self.space.thread.header().entry {
             return Ok(false);
         }
         match self.state_at(point)? {
-            Found::Known(state) => self.tell_noted(to, point, &state),
+            Found::Known(state) => self.report_noted(to, point, &state),
             Found::Unmeasured | Found::Missing => {
-                self.tell_unnoted(to, point)?;
+                self.report_unnoted(to, point)?;
                 Ok(true)
             }
         }

@@ -1,7 +1,5 @@
 //! What is found wrong with a thread that has no certificate.
 
-ghost use Rattle.explaining.specs.Given.{IsGiven};
-
 use crate::loops::Loop;
 use crate::scenes::Scene;
 use crate::states::Found;
@@ -10,8 +8,8 @@ use model::{Point, Refusal};
 use source_gaps::push_place;
 use std::alloc::AllocError;
 
-/// How many points of a thread are told of at most.
-const MOST_TOLD: u32 = 20;
+/// How many mistakes of a thread are reported at most, unless one point has more.
+const MOST_REPORTED: u32 = 20;
 
 impl Scene<'_, '_, '_, '_, '_, '_, '_> {
     /// A point of the thread as refusals name it.
@@ -22,10 +20,8 @@ impl Scene<'_, '_, '_, '_, '_, '_, '_> {
         }
     }
 
-    /// Tells of a loop that has no measure.
-    fn tell_unmeasured(&self, to: &mut String, finding: &Finding) -> Result<(), AllocError>
-        requires { IsGiven self.now.space self.now.slots.now self.now.lists_stray }
-    {
+    /// Reports of a loop that has no measure.
+    fn report_unmeasured(&self, to: &mut String, finding: &Finding) -> Result<(), AllocError> {
         let mut points = Vec::new(self.alloc);
         points.extend_from_slice(&finding.points)?;
         points.sort_unstable();
@@ -33,66 +29,60 @@ impl Scene<'_, '_, '_, '_, '_, '_, '_> {
             header: finding.point,
             points: &points,
         };
-        self.tell_loop(to, &of)
+        self.report_loop(to, &of)
     }
 
-    /// Tells what is wrong at a point.
-    fn tell_finding(&self, to: &mut String, finding: &Finding) -> Result<(), AllocError>
-        requires { IsGiven self.now.space self.now.slots.now self.now.lists_stray }
-    {
+    /// Reports what is wrong at a point.
+    fn report_finding(&self, to: &mut String, finding: &Finding) -> Result<(), AllocError> {
         let point = finding.point;
         let at = self.place(point);
         match finding.reason {
-            Reason::Refused(refusal) => self.tell_point(to, point, refusal),
+            Reason::Refused(refusal) => self.report_point(to, point, refusal),
             Reason::LeavesProgram => {
-                self.tell_named(to, point, Refusal::BadTarget(at), "LeavesProgram")
+                self.report_named(to, point, Refusal::BadTarget(at), "LeavesProgram")
             }
             Reason::SlotsDiffer => {
-                self.tell_named(to, point, Refusal::CapNotThere(at), "SlotsDiffer")
+                self.report_named(to, point, Refusal::CapNotThere(at), "SlotsDiffer")
             }
-            Reason::NoMeasure => self.tell_unmeasured(to, finding),
+            Reason::NoMeasure => self.report_unmeasured(to, finding),
             Reason::NotBare => Ok(()),
         }
     }
 
-    /// Tells that the load or store at a point can reach what is not mapped, if it can, and answers whether it does.
-    fn tell_reached(&self, to: &mut String, point: u32) -> Result<bool, AllocError>
-        requires { IsGiven self.now.space self.now.slots.now self.now.lists_stray }
-    {
+    /// Reports that the load or store at a point can reach what is not mapped, if it can, and returns whether it does.
+    fn report_reached(&self, to: &mut String, point: u32) -> Result<bool, AllocError> {
         let Found::Known(state) = self.state_at(point)? else {
             return Ok(false);
         };
         if !self.reaches_unmapped(point, &state) {
             return Ok(false);
         }
-        self.tell_point(to, point, Refusal::NotMapped(self.place(point)))?;
+        self.report_point(to, point, Refusal::NotMapped(self.place(point)))?;
         Ok(true)
     }
 
-    /// Tells all that is wrong at a point, and answers how much it is.
-    fn tell_wrong(
+    /// Reports all that is wrong at a point, and returns how much it is.
+    fn report_wrong(
         &self,
         to: &mut String,
         findings: &ThreadFindings,
         point: u32,
-    ) -> Result<u32, AllocError>
-        requires { IsGiven self.now.space self.now.slots.now self.now.lists_stray }
-    {
+    ) -> Result<u32, AllocError> {
         let mut count = 0u32;
         for finding in &findings.wrong {
             if finding.point == point {
-                self.tell_finding(to, finding)?;
+                self.report_finding(to, finding)?;
                 count = count.saturating_add(1);
             }
         }
-        if self.tell_reached(to, point)? {
+        if self.report_reached(to, point)? {
             count = count.saturating_add(1);
         }
         Ok(count)
     }
 
-    /// Tells that the budget is below the least, if it is.
-    fn tell_small_budget(
+    /// Reports that the budget is below the least, if it is.
+    fn report_small_budget(
         &self,
         to: &mut String,
         findings: &ThreadFindings,
@@ -112,21 +102,29 @@ impl Scene<'_, '_, '_, '_, '_, '_, '_> {
         }
     }
 
-    /// Tells all that is wrong with the thread, in the order of its points.
-    pub(crate) fn tell_findings(
+    /// Reports that more can be wrong from a point on.
+    fn report_more(&self, to: &mut String, point: u32) -> Result<(), AllocError> {
+        self.push_rule(to, point, "More")?;
+        let name = self.source.object_name(self.thread.tcb);
+        write!(
+            to,
+            "thread {name}: more can be wrong from here on: mend what is reported above first\n"
+        )
+    }
+
+    /// Reports all that is wrong with the thread, in the order of its points.
+    pub(crate) fn report_findings(
         &self,
         to: &mut String,
         findings: &ThreadFindings,
-    ) -> Result<(), AllocError>
-        requires { IsGiven self.now.space self.now.slots.now self.now.lists_stray }
-    {
+    ) -> Result<(), AllocError> {
         let mut count = 0u32;
         for record in &findings.known {
-            if MOST_TOLD <= count {
-                return to.push_str("and more: mend these first\n");
+            if MOST_REPORTED <= count {
+                return self.report_more(to, record.point);
             }
-            count = count.saturating_add(self.tell_wrong(to, findings, record.point)?);
+            count = count.saturating_add(self.report_wrong(to, findings, record.point)?);
         }
-        self.tell_small_budget(to, findings)
+        self.report_small_budget(to, findings)
     }
 }

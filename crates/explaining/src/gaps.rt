@@ -1,7 +1,5 @@
 //! What is missed on the ways on from a point.
 
-ghost use Rattle.explaining.specs.Given.{IsGiven};
-
 use crate::point_words::{push_measure, push_range};
 use crate::scenes::Scene;
 use crate::slot_gaps::Difference;
@@ -36,8 +34,8 @@ impl Scene<'_, '_, '_, '_, '_, '_, '_> {
         }
     }
 
-    /// Tells which ranges are left on a way.
-    fn tell_ranges(
+    /// Reports which ranges are left on a way.
+    fn report_ranges(
         &self,
         to: &mut String,
         way: &Way,
@@ -60,8 +58,8 @@ impl Scene<'_, '_, '_, '_, '_, '_, '_> {
         Ok(())
     }
 
-    /// Tells by how much a measure misses.
-    fn tell_measures(
+    /// Reports by how much a measure misses.
+    fn report_measures(
         &self,
         to: &mut String,
         way: &Way,
@@ -98,8 +96,8 @@ impl Scene<'_, '_, '_, '_, '_, '_, '_> {
         }
     }
 
-    /// Tells what is missed on a way to a point of which something is known.
-    fn tell_known(
+    /// Reports what is missed on a way to a point of which something is known.
+    fn report_known(
         &self,
         to: &mut String,
         way: &Way,
@@ -108,7 +106,7 @@ impl Scene<'_, '_, '_, '_, '_, '_, '_> {
         there: &State,
     ) -> Result<(), AllocError> {
         if self.known.is_none() {
-            self.tell_ranges(to, way, target, there)?;
+            self.report_ranges(to, way, target, there)?;
         }
         let difference = Difference {
             here: &way.changes,
@@ -120,28 +118,26 @@ impl Scene<'_, '_, '_, '_, '_, '_, '_> {
         if self.known.is_some() {
             return Ok(());
         }
-        self.tell_measures(to, way, state, target, there)
+        self.report_measures(to, way, state, target, there)
     }
 
-    /// Tells what is missed on a way.
-    fn tell_way(
+    /// Reports what is missed on a way.
+    fn report_way(
         &self,
         to: &mut String,
         point: u32,
         way: &Way,
         state: &State,
-    ) -> Result<(), AllocError>
-        requires { IsGiven self.now.space self.now.slots.now self.now.lists_stray }
-    {
+    ) -> Result<(), AllocError> {
         let Some(target) = self.point_at(way.target) else {
             return to.push_str(
-                "  the way on leaves the program behind its last word: end it with a jump\n",
+                "  the way on leaves the program after its last word: end it with a jump\n",
             );
         };
         match self.state_at(target)? {
-            Found::Known(there) => self.tell_known(to, way, state, target, &there),
+            Found::Known(there) => self.report_known(to, way, state, target, &there),
             Found::Unmeasured => {
-                to.push_str("  behind it stands ")?;
+                to.push_str("  after it comes ")?;
                 self.push_point(to, target)?;
                 let writer = target.saturating_sub(1);
                 if writer == point {
@@ -162,24 +158,22 @@ impl Scene<'_, '_, '_, '_, '_, '_, '_> {
         }
     }
 
-    /// Tells what is missed on all ways on from a point, and what is known there.
-    pub(crate) fn tell_ways(
+    /// Reports what is missed on all ways on from a point, and what is known there.
+    pub(crate) fn report_ways(
         &self,
         to: &mut String,
         point: u32,
         state: &State,
-    ) -> Result<(), AllocError>
-        requires { IsGiven self.now.space self.now.slots.now self.now.lists_stray }
-    {
+    ) -> Result<(), AllocError> {
         let ways = self.ways(point, state)?;
         for way in &ways {
-            self.tell_way(to, point, way, state)?;
+            self.report_way(to, point, way, state)?;
         }
         self.push_state(to, state)
     }
 
-    /// Tells that the measure at a point is too small by itself, if it is.
-    pub(crate) fn tell_least(&self, to: &mut String, state: &State) -> Result<(), AllocError> {
+    /// Reports that the measure at a point is too small by itself, if it is.
+    pub(crate) fn report_least(&self, to: &mut String, state: &State) -> Result<(), AllocError> {
         let least = least(&state.measure, &state.bounds);
         if least < 1 {
             let by = 1i128.saturating_sub(least);

@@ -1,18 +1,22 @@
 //! Why a text is refused: by its lines and names, what is known there, and by how much it misses.
 #![tactic(auto)]
 
+mod builds;
 mod call_words;
 mod caps;
 mod causes;
 mod entry_gaps;
 mod explanations;
 mod faults;
+mod faulty_lines;
 mod findings;
+mod formed;
 mod gaps;
 mod loops;
 mod page_gaps;
 mod point_words;
 mod programs;
+mod requests;
 mod scenes;
 mod slot_gaps;
 mod states;
@@ -21,7 +25,8 @@ mod texts;
 mod ways;
 
 pub use call_words::error_name;
-pub use explanations::{Certificates, explain, tell_refused};
+pub use explanations::{explain, report_refused};
 pub use faults::{ExplainFault, Explanation};
+pub use requests::Certificates;
 pub use source_gaps::{Text, push_place};
 pub use texts::wants_certificates;

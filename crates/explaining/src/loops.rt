@@ -1,11 +1,10 @@
 //! Loops without a measure: why nothing counts their turns.
 
-ghost use Rattle.explaining.specs.Given.{IsGiven};
-
-use crate::causes::{is_step, loaded_from, written_by};
+use crate::causes::{is_step, origin_words, written_by};
 use crate::point_words::push_range;
 use crate::scenes::Scene;
 use crate::states::Found;
+use crate::ways::Way;
 use model::{ImmediateOp, Instr};
 use std::alloc::AllocError;
 
@@ -22,6 +21,14 @@ impl Loop<'_> {
     /// Whether a point is in it.
     fn has(&self, point: u32) -> bool {
         self.points.binary_search(&point).is_ok()
+    }
+}
+
+/// Whether a point is not in a loop.
+fn is_outside(of: &Loop<'_>, point: Option<u32>) -> bool {
+    match point {
+        Some(point) => !of.has(point),
+        None => false,
     }
 }
 
@@ -58,9 +65,7 @@ impl Scene<'_, '_, '_, '_, '_, '_, '_> {
         register: u8,
         point: u32,
         instr: Instr,
-    ) -> Result<(), AllocError>
-        requires { IsGiven self.now.space self.now.slots.now self.now.lists_stray }
-    {
+    ) -> Result<(), AllocError> {
         write!(to, "  x{register} changes ")?;
         if let Some(stride) = stride(instr) {
             write!(to, "by {stride} ")?;
@@ -73,20 +78,11 @@ impl Scene<'_, '_, '_, '_, '_, '_, '_> {
         self.push_full_cause(to, of.header, register)
     }
 
-    /// Puts what becomes of a register in each turn.
-    fn push_turn(&self, to: &mut String, of: &Loop<'_>, register: u8) -> Result<(), AllocError>
-        requires { IsGiven self.now.space self.now.slots.now self.now.lists_stray }
-    {
-        let Some((point, instr)) = self.turn_of(of, register) else {
-            return self.push_unwritten(to, of, register);
-        };
-        if is_step(instr) {
-            return self.push_step(to, of, register, point, instr);
-        }
-        write!(to, "  x{register} is ")?;
-        match loaded_from(instr) {
-            Some(place) => {
-                write!(to, "loaded from {place} on ")?;
+    /// Puts that a register is written anew in each turn.
+    fn push_anew(&self, to: &mut String, point: u32, instr: Instr) -> Result<(), AllocError> {
+        match origin_words(instr) {
+            Some(origin) => {
+                to.push_str(origin)?;
                 self.push_point(to, point)?;
                 to.push_str(", so it can be anything in each turn\n")
             }
@@ -98,48 +94,86 @@ impl Scene<'_, '_, '_, '_, '_, '_, '_> {
         }
     }
 
+    /// Puts what becomes of a register in each turn.
+    fn push_turn(&self, to: &mut String, of: &Loop<'_>, register: u8) -> Result<(), AllocError> {
+        match self.turn_of(of, register) {
+            None => self.push_unwritten(to, of, register),
+            Some((point, instr)) if is_step(instr) => {
+                self.push_step(to, of, register, point, instr)
+            }
+            Some((point, instr)) => {
+                write!(to, "  x{register} is ")?;
+                self.push_anew(to, point, instr)
+            }
+        }
+    }
+
     /// Puts that no turn changes a register, or that a call does.
-    fn push_unwritten(&self, to: &mut String, of: &Loop<'_>, register: u8) -> Result<(), AllocError>
-        requires { IsGiven self.now.space self.now.slots.now self.now.lists_stray }
-    {
+    fn push_unwritten(
+        &self,
+        to: &mut String,
+        of: &Loop<'_>,
+        register: u8,
+    ) -> Result<(), AllocError> {
         write!(to, "  x{register} is ")?;
         push_range(to, self.range_before(of.header, register)?)?;
         to.push_str(", and no instruction of the loop changes it\n")?;
         self.push_full_cause(to, of.header, register)
     }
 
-    /// Whether a way leads out of a loop from a point.
-    fn leads_out(&self, of: &Loop<'_>, point: u32) -> Result<bool, AllocError>
-        requires { IsGiven self.now.space self.now.slots.now self.now.lists_stray }
-    {
-        let Found::Known(state) = self.state_at(point)? else {
-            return Ok(false);
-        };
-        for way in &self.ways(point, &state)? {
-            match self.point_at(way.target) {
-                Some(target) if of.has(target) => {}
-                _ => return Ok(true),
+    /// Whether an address is that of a point of a loop.
+    fn is_inside(&self, of: &Loop<'_>, address: u32) -> bool {
+        match self.point_at(address) {
+            Some(point) => of.has(point),
+            None => false,
+        }
+    }
+
+    /// Whether one of some ways leads out of a loop.
+    fn has_way_out(&self, of: &Loop<'_>, ways: &[Way]) -> bool {
+        for way in ways {
+            if !self.is_inside(of, way.target) {
+                return true;
             }
         }
-        Ok(false)
+        false
+    }
+
+    /// Whether a way leads out of a loop from a point.
+    fn leads_out(&self, of: &Loop<'_>, point: u32) -> Result<bool, AllocError> {
+        match self.state_at(point)? {
+            Found::Known(state) => {
+                let ways = self.ways(point, &state)?;
+                Ok(self.has_way_out(of, &ways))
+            }
+            Found::Unmeasured | Found::Missing => Ok(false),
+        }
     }
 
     /// Whether an instruction of a loop would lead out of it for some values of its registers.
     fn may_lead_out(&self, of: &Loop<'_>, point: u32) -> bool {
-        let Some(instr) = self.instruction_at(point) else {
-            return false;
-        };
-        if !matches!(instr, Instr::Branch { .. }) {
-            return false;
+        match self.instruction_at(point) {
+            Some(instr) if matches!(instr, Instr::Branch { .. }) => {
+                let [taken, next] = self.leads(point, instr);
+                is_outside(of, taken) || is_outside(of, next)
+            }
+            _ => false,
         }
-        for target in self.leads(point, instr) {
-            if let Some(target) = target {
-                if !of.has(target) {
-                    return true;
-                }
+    }
+
+    /// Puts what becomes of two registers in each turn, but for x0.
+    fn push_turns(
+        &self,
+        to: &mut String,
+        of: &Loop<'_>,
+        registers: [u8; 2],
+    ) -> Result<(), AllocError> {
+        for register in registers {
+            if register != 0 {
+                self.push_turn(to, of, register)?;
             }
         }
-        false
+        Ok(())
     }
 
     /// Puts on what a way out of a loop depends.
@@ -149,34 +183,34 @@ impl Scene<'_, '_, '_, '_, '_, '_, '_> {
         of: &Loop<'_>,
         point: u32,
         head: &str,
-    ) -> Result<(), AllocError>
-        requires { IsGiven self.now.space self.now.slots.now self.now.lists_stray }
-    {
+    ) -> Result<(), AllocError> {
         to.push_str(head)?;
         self.push_point(to, point)?;
         to.push_str("\n")?;
-        let Some(Instr::Branch { rs1, rs2, .. }) = self.instruction_at(point) else {
-            return Ok(());
-        };
-        for register in [rs1.0, rs2.0] {
-            if register != 0 {
-                self.push_turn(to, of, register)?;
-            }
+        match self.instruction_at(point) {
+            Some(Instr::Branch { rs1, rs2, .. }) => self.push_turns(to, of, [rs1.0, rs2.0]),
+            _ => Ok(()),
         }
-        Ok(())
     }
 
-    /// Puts on what the ways out of a loop depend, and answers whether there are some.
-    fn push_exits(&self, to: &mut String, of: &Loop<'_>) -> Result<bool, AllocError>
-        requires { IsGiven self.now.space self.now.slots.now self.now.lists_stray }
-    {
+    /// Puts on what the way out of a loop at a point depends, if there can be one, and returns whether there is one.
+    fn push_exit_at(&self, to: &mut String, of: &Loop<'_>, point: u32) -> Result<bool, AllocError> {
+        if self.leads_out(of, point)? {
+            self.push_exit(to, of, point, "  a way out is on ")?;
+            return Ok(true);
+        }
+        if self.may_lead_out(of, point) {
+            self.push_exit(to, of, point, "  never left on ")?;
+        }
+        Ok(false)
+    }
+
+    /// Puts on what the ways out of a loop depend, and returns whether there are some.
+    fn push_exits(&self, to: &mut String, of: &Loop<'_>) -> Result<bool, AllocError> {
         let mut some = false;
         for point in of.points {
-            if self.leads_out(of, *point)? {
-                self.push_exit(to, of, *point, "  a way out is on ")?;
+            if self.push_exit_at(to, of, *point)? {
                 some = true;
-            } else if self.may_lead_out(of, *point) {
-                self.push_exit(to, of, *point, "  never left on ")?;
             }
         }
         Ok(some)
@@ -198,27 +232,29 @@ impl Scene<'_, '_, '_, '_, '_, '_, '_> {
         }
     }
 
-    /// Tells why nothing counts the turns of a loop.
-    pub(crate) fn tell_loop(&self, to: &mut String, of: &Loop<'_>) -> Result<(), AllocError>
-        requires { IsGiven self.now.space self.now.slots.now self.now.lists_stray }
-    {
-        self.push_rule(to, of.header, "NoMeasure")?;
-        self.push_head(to, of.header)?;
-        if of.points.is_empty() {
-            return to.push_str(
-                "no measure of at most four registers is found: a loop with fewer counters has one\n",
-            );
-        }
+    /// Reports why nothing counts the turns of a loop with points, after its head.
+    fn report_turns(&self, to: &mut String, of: &Loop<'_>) -> Result<(), AllocError> {
         to.push_str("no wait on this loop ")?;
         self.push_lines(to, of)?;
         to.push_str(", and no register counts its turns\n")?;
-        if !self.push_exits(to, of)? {
-            return to.push_str(
-                "  no way leads out of it: put a wait (Recv) on it, or a branch that ends it\n",
-            );
+        let is_left = self.push_exits(to, of)?;
+        to.push_str(if is_left {
+            "  count the turns in a register with a known range, down to 0 or up to a limit\n"
+        } else {
+            "  no way leads out of it: put a wait (Recv) on it, or a branch that ends it\n"
+        })
+    }
+
+    /// Reports why nothing counts the turns of a loop.
+    pub(crate) fn report_loop(&self, to: &mut String, of: &Loop<'_>) -> Result<(), AllocError> {
+        self.push_rule(to, of.header, "NoMeasure")?;
+        self.push_head(to, of.header)?;
+        if of.points.is_empty() {
+            to.push_str(
+                "no measure of at most four registers is found: a loop with fewer counters has one\n",
+            )
+        } else {
+            self.report_turns(to, of)
         }
-        to.push_str(
-            "  count the turns in a register with a known range, down to 0 or up to a limit\n",
-        )
     }
 }

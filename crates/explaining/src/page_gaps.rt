@@ -192,7 +192,7 @@ impl Scene<'_, '_, '_, '_, '_, '_, '_> {
         write!(to, "{address:#x} {name} ({words})")
     }
 
-    /// Puts the pages that are mapped by changed slots, behind so many others, and returns how many all are.
+    /// Puts the pages that are mapped by changed slots, after so many others, and returns how many all are.
     fn push_changed(&self, to: &mut String, state: &State, before: u32) -> Result<u32, AllocError> {
         let mut count = before;
         for change in &state.changes {
@@ -223,8 +223,8 @@ impl Scene<'_, '_, '_, '_, '_, '_, '_> {
         write!(to, " ({words})")
     }
 
-    /// Tells which bytes a load or a store can reach, and which of them is not mapped.
-    pub(crate) fn tell_page(
+    /// Reports which bytes a load or a store can reach, and which of them is not mapped.
+    pub(crate) fn report_page(
         &self,
         to: &mut String,
         point: u32,
@@ -260,11 +260,11 @@ impl Scene<'_, '_, '_, '_, '_, '_, '_> {
             );
         }
         to.push_str("\n")?;
-        self.tell_unmapped(to, state, page_at(least), page_at(greatest), right, wanted)
+        self.report_unmapped(to, state, page_at(least), page_at(greatest), right, wanted)
     }
 
-    /// Tells which of some pages is the first that is not mapped with a right, and which are.
-    fn tell_unmapped(
+    /// Reports which of some pages is the first that is not mapped with a right, and which are.
+    fn report_unmapped(
         &self,
         to: &mut String,
         state: &State,

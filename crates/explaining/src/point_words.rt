@@ -7,10 +7,10 @@ use model::{Range, Register};
 use source_gaps::{code_on, push_place};
 use std::alloc::AllocError;
 
-/// From here on numbers are told in hexadecimal digits.
+/// From here on numbers are written in hexadecimal digits.
 const LARGE: u32 = 1024;
 
-/// Puts a word: small ones as decimal digits, others behind `0x`.
+/// Puts a word: small ones as decimal digits, others after `0x`.
 pub(crate) fn push_number(to: &mut String, number: u32) -> Result<(), AllocError> {
     if number < LARGE {
         write!(to, "{number}")
@@ -55,7 +55,7 @@ pub(crate) fn push_measure(to: &mut String, measure: &Measure) -> Result<(), All
     Ok(())
 }
 
-/// Puts the range of a register, behind others or as the first.
+/// Puts the range of a register, after others or as the first.
 fn push_bound(to: &mut String, number: u8, range: Range, is_first: bool) -> Result<(), AllocError> {
     to.push_str(if is_first { "" } else { ", " })?;
     write!(to, "x{number} ")?;
@@ -87,7 +87,7 @@ impl Scene<'_, '_, '_, '_, '_, '_, '_> {
         write!(to, "line {line}, `{code}`")
     }
 
-    /// Puts where a point stands in the text, and which rule is broken.
+    /// Puts the place of a point in the text, and which rule is broken.
     pub(crate) fn push_rule(
         &self,
         to: &mut String,
@@ -98,7 +98,7 @@ impl Scene<'_, '_, '_, '_, '_, '_, '_> {
         write!(to, "{rule}: ")
     }
 
-    /// Puts the head of what is told of a point, after the place and the rule.
+    /// Puts the head of a report on a point, after the place and the rule.
     pub(crate) fn push_head(&self, to: &mut String, point: u32) -> Result<(), AllocError> {
         let name = self.source.object_name(self.thread.tcb);
         let code = code_on(&self.text, self.line(point));

@@ -1,13 +1,10 @@
 //! Refusals at points of programs.
 
-ghost use Rattle.std.specs.Prelude.{◌<◌};
-ghost use Rattle.model.specs.Acceptance.Accepted.{IsWellFormed};
-ghost use Rattle.explaining.specs.Given.{IsGiven};
-
+use crate::faults::ExplainFault;
+use crate::formed::FormedImage;
 use crate::scenes::Scene;
 use crate::states::{Found, State};
 use certifying::{Record, ThreadFindings};
-use image::ImageRef;
 use model::{Instr, Point, Refusal};
 use rv32_isa::decode;
 use source_gaps::Text;
@@ -33,10 +30,10 @@ pub(crate) fn point_of(refusal: Refusal) -> Option<Point> {
     }
 }
 
-/// What is told of a thread.
+/// What is reported of a thread.
 #[derive(Clone, Copy)]
 pub(crate) enum Subject<'k> {
-    /// That a point is refused, with the certificate that stands.
+    /// That a point is refused, with the certificate in the image.
     Refused { point: u32, refusal: Refusal },
     /// What was found of it without a certificate.
     Found(&'k ThreadFindings),
@@ -65,8 +62,8 @@ fn onward_words(refusal: Refusal) -> &'static str {
     match refusal {
         Refusal::RangeNotKept(_) => "a register can leave its range on a way on\n",
         Refusal::MeasureNotFalling(_) => "the measure does not fall\n",
-        Refusal::OverBudget(_) => "the measure behind the wait can be above the budget\n",
-        Refusal::CapNotThere(_) => "the slots behind it are not those that are noted there\n",
+        Refusal::OverBudget(_) => "the measure after the wait can be above the budget\n",
+        Refusal::CapNotThere(_) => "the slots after it are not those that are noted there\n",
         _ => "a way on leads to where nothing is known\n",
     }
 }
@@ -102,127 +99,118 @@ impl Scene<'_, '_, '_, '_, '_, '_, '_> {
             && matches!(decode(self.space.thread.word(point)), Some(Instr::Ecall))
     }
 
-    /// Tells what is refused at a point in a state.
-    fn tell_state(
+    /// Reports what is refused at a point in a state.
+    fn report_state(
         &self,
         to: &mut String,
         point: u32,
         refusal: Refusal,
         state: &State,
-    ) -> Result<(), AllocError>
-        requires { IsGiven self.now.space self.now.slots.now self.now.lists_stray }
-    {
+    ) -> Result<(), AllocError> {
         match refusal {
             Refusal::NotMapped(_) => {
-                self.tell_page(to, point, state)?;
+                self.report_page(to, point, state)?;
                 if let Some(base) = self.base_at(point) {
                     self.push_cause(to, point, base)?;
                 }
                 self.push_state(to, state)
             }
-            Refusal::CallNotConstant(_) => self.tell_not_constant(to, point, state),
-            Refusal::CallRefused(_, error) => self.tell_refused(to, point, state, error),
-            Refusal::CapNotThere(_) => self.tell_missing_slot(to, point, refusal, state),
-            _ => self.tell_onward(to, point, refusal, state),
+            Refusal::CallNotConstant(_) => self.report_not_constant(to, point, state),
+            Refusal::CallRefused(_, error) => self.report_refused(to, point, state, error),
+            Refusal::CapNotThere(_) => self.report_missing_slot(to, point, refusal, state),
+            _ => self.report_onward(to, point, refusal, state),
         }
     }
 
-    /// Tells which slot is not there, or is one that the thread may not have.
-    fn tell_missing_slot(
+    /// Reports which slot is not there, or is one that the thread may not have.
+    fn report_missing_slot(
         &self,
         to: &mut String,
         point: u32,
         refusal: Refusal,
         state: &State,
-    ) -> Result<(), AllocError>
-        requires { IsGiven self.now.space self.now.slots.now self.now.lists_stray }
-    {
+    ) -> Result<(), AllocError> {
         if self.has_stray_slots(point, state)? {
-            return self.tell_stray(to, point, state);
+            return self.report_stray(to, point, state);
         }
         if self.is_call(point) && self.refusal_of_call(point, state)?.is_some() {
-            return self.tell_not_there(to, point, state);
+            return self.report_not_there(to, point, state);
         }
-        self.tell_onward(to, point, refusal, state)
+        self.report_onward(to, point, refusal, state)
     }
 
-    /// Tells what is missed on the ways on from a point.
-    fn tell_onward(
+    /// Reports what is missed on the ways on from a point.
+    fn report_onward(
         &self,
         to: &mut String,
         point: u32,
         refusal: Refusal,
         state: &State,
-    ) -> Result<(), AllocError>
-        requires { IsGiven self.now.space self.now.slots.now self.now.lists_stray }
-    {
+    ) -> Result<(), AllocError> {
         let words = if self.known.is_some() {
             found_words(refusal)
         } else {
             onward_words(refusal)
         };
-        self.tell_plain(to, point, words)?;
+        self.report_plain(to, point, words)?;
         if let Refusal::MeasureNotFalling(_) = refusal {
-            self.tell_least(to, state)?;
+            self.report_least(to, state)?;
         }
-        self.tell_ways(to, point, state)
+        self.report_ways(to, point, state)
     }
 
-    /// Tells what is refused at a point, whatever is known there.
-    fn tell_plain(&self, to: &mut String, point: u32, reason: &str) -> Result<(), AllocError> {
+    /// Reports what is refused at a point, whatever is known there.
+    fn report_plain(&self, to: &mut String, point: u32, reason: &str) -> Result<(), AllocError> {
         self.push_head(to, point)?;
         to.push_str(reason)
     }
 
-    /// Tells what is refused at a point.
-    pub(crate) fn tell_point(
+    /// Reports what is refused at a point.
+    pub(crate) fn report_point(
         &self,
         to: &mut String,
         point: u32,
         refusal: Refusal,
-    ) -> Result<(), AllocError>
-        requires { IsGiven self.now.space self.now.slots.now self.now.lists_stray }
-    {
-        self.tell_named(to, point, refusal, refusal.name())
+    ) -> Result<(), AllocError> {
+        self.report_named(to, point, refusal, refusal.name())
     }
 
-    /// Tells what is refused at a point, by the name of a rule.
-    pub(crate) fn tell_named(
+    /// Reports what is refused at a point, by the name of a rule.
+    pub(crate) fn report_named(
         &self,
         to: &mut String,
         point: u32,
         refusal: Refusal,
         rule: &str,
-    ) -> Result<(), AllocError>
-        requires { IsGiven self.now.space self.now.slots.now self.now.lists_stray }
-    {
+    ) -> Result<(), AllocError> {
         self.push_rule(to, point, rule)?;
-        if may_be_of_entry(refusal) && self.tell_entry(to, point)? {
+        if may_be_of_entry(refusal) && self.report_entry(to, point)? {
             return Ok(());
         }
         match plain_words(refusal) {
-            Some(words) => self.tell_plain(to, point, words),
-            None => self.tell_found(to, point, refusal),
+            Some(words) => self.report_plain(to, point, words),
+            None => self.report_found(to, point, refusal),
         }
     }
 
-    /// Tells what is to be told of the thread.
-    fn tell_subject(&self, to: &mut String, subject: Subject<'_>) -> Result<(), AllocError>
-        requires { IsGiven self.now.space self.now.slots.now self.now.lists_stray }
-    {
+    /// Reports what is wrong with the thread.
+    fn report_subject(&self, to: &mut String, subject: Subject<'_>) -> Result<(), AllocError> {
         match subject {
-            Subject::Refused { point, refusal } => self.tell_point(to, point, refusal),
-            Subject::Found(findings) => self.tell_findings(to, findings),
+            Subject::Refused { point, refusal } => self.report_point(to, point, refusal),
+            Subject::Found(findings) => self.report_findings(to, findings),
         }
     }
 
-    /// Tells what is refused at a point, by what is known there.
-    fn tell_found(&self, to: &mut String, point: u32, refusal: Refusal) -> Result<(), AllocError>
-        requires { IsGiven self.now.space self.now.slots.now self.now.lists_stray }
-    {
+    /// Reports what is refused at a point, by what is known there.
+    fn report_found(
+        &self,
+        to: &mut String,
+        point: u32,
+        refusal: Refusal,
+    ) -> Result<(), AllocError> {
         match self.state_at(point)? {
-            Found::Known(state) => self.tell_state(to, point, refusal, &state),
-            Found::Unmeasured | Found::Missing => self.tell_plain(
+            Found::Known(state) => self.report_state(to, point, refusal, &state),
+            Found::Unmeasured | Found::Missing => self.report_plain(
                 to,
                 point,
                 "nothing is known here: put a record before it\n",
@@ -231,36 +219,40 @@ impl Scene<'_, '_, '_, '_, '_, '_, '_> {
     }
 }
 
-/// Tells what is wrong with a thread of a well-formed image, by its number.
-pub(crate) fn tell_thread(
+/// Reports what is wrong with a thread of a well-formed image, by its number.
+///
+/// # Errors
+///
+/// The image or the text has no such thread, or memory was refused.
+pub(crate) fn report_thread(
     alloc: Global,
     to: &mut String,
     text: &Text<'_, '_>,
     source: &SourceText<'_>,
-    image: &ImageRef<'_>,
+    formed: FormedImage<'_, '_>,
     number: u32,
     subject: Subject<'_>,
-) -> Result<(), AllocError>
-    requires formed { IsWellFormed image.now }
-    requires number { number < image.now.header.threads }
-{
+) -> Result<(), ExplainFault> {
+    let image = formed.image;
     let Some(thread_text) = source.threads.get(number as usize) else {
-        return Ok(());
+        return Err(ExplainFault::Disagreement);
     };
+    if number >= image.header().threads {
+        return Err(ExplainFault::Disagreement);
+    }
     let offsets = offsets_of(alloc, image)?;
     let thread = image.thread(number);
     let Ok(cnodes) = reached_of(alloc, image, &thread) else {
-        return Err(AllocError);
+        return Err(ExplainFault::OutOfMemory);
     };
     let windows = windows_of(alloc, image, &thread, &offsets, &cnodes)?;
     let slots = slots_of(alloc, image, &thread, &offsets, &cnodes)?;
     let space = given_space(image, &thread, &offsets, &windows);
-    let lists_stray = space.lists_stray(&slots);
     let scene = Scene {
         space,
         number,
         slots: &slots,
-        lists_stray,
+        lists_stray: space.lists_stray(&slots),
         offsets: &offsets,
         alloc,
         text: *text,
@@ -268,5 +260,5 @@ pub(crate) fn tell_thread(
         thread: thread_text,
         known: subject.known(),
     };
-    scene.tell_subject(to, subject)
+    Ok(scene.report_subject(to, subject)?)
 }

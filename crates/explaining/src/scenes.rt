@@ -1,7 +1,12 @@
 //! A thread whose program is looked at.
 
-ghost use Rattle.std.specs.Prelude.{◌≡◌};
-ghost use Rattle.model.specs.Acceptance.NotedStates.{record_of};
+ghost use Rattle.std.specs.Prelude.{◌≡◌, [], Some, slice_get};
+ghost use Rattle.std.specs.List.{list_any};
+ghost use Rattle.model.specs.Acceptance.Accepted.{IsWellFormed};
+ghost use Rattle.model.specs.Acceptance.NotedStates.{image_slots, record_of};
+ghost use Rattle.typestate.specs.Orders.{Rise};
+ghost use Rattle.typestate.specs.Strays.{is_stray_in};
+ghost use Rattle.typestate.specs.Unlinked.{AreUnlinked};
 
 use certifying::Record;
 use image::{RecordRef, ThreadRef};
@@ -17,10 +22,11 @@ pub(crate) struct Scene<'a, 's, 'm, 'f, 't, 'x, 'k> {
     pub(crate) space: Space<'a, 's>,
     /// Which of the image's threads it is, from 0 on.
     pub(crate) number: u32,
+    /// The slots that the image lists in the thread's CNodes.
     pub(crate) slots: &'s [NotedSlot],
-    /// Whether a slot that the image lists is one that the thread may not have.
+    /// Whether one of these is one that the thread may not have.
     pub(crate) lists_stray: bool,
-    /// Where the image's objects stand.
+    /// The offsets of the image's objects.
     pub(crate) offsets: &'s [u32],
     pub(crate) alloc: Global,
     pub(crate) text: Text<'f, 't>,
@@ -28,6 +34,12 @@ pub(crate) struct Scene<'a, 's, 'm, 'f, 't, 'x, 'k> {
     pub(crate) thread: &'m SourceThread<'x>,
     /// What was found at the points of a thread without a certificate, in their order.
     pub(crate) known: Option<&'k [Record]>,
+    ghost formed: { IsWellFormed space.image.now },
+    ghost place: { slice_get space.image.now.threads number ≡ Some space.thread.now },
+    ghost listed: { slots.now ≡ image_slots space.image.now space.thread.now },
+    ghost rising: { Rise slots.now },
+    ghost unlinked: { AreUnlinked slots.now },
+    ghost told: { lists_stray ≡ list_any (is_stray_in space []) slots.now },
 }
 
 /// The record of a point, if it has one.
@@ -53,7 +65,10 @@ fn listed(slots: &[NotedSlot], key: SlotKey) -> Cap {
 }
 
 /// The changes that make a difference to the image's slots.
-pub(crate) fn told(alloc: Global, slots: &NotedSlots<'_>) -> Result<Vec<NotedSlot>, AllocError> {
+pub(crate) fn differing(
+    alloc: Global,
+    slots: &NotedSlots<'_>,
+) -> Result<Vec<NotedSlot>, AllocError> {
     let mut kept = Vec::new(alloc);
     for change in slots.changes.iter() {
         let before = listed(slots.image, change.key);

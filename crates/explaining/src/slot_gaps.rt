@@ -1,7 +1,5 @@
 //! Slots that differ, and slots that a thread may not have.
 
-ghost use Rattle.explaining.specs.Given.{IsGiven};
-
 use crate::scenes::{Scene, is_same_slot};
 use crate::states::State;
 use model::Cap;
@@ -99,12 +97,12 @@ impl Scene<'_, '_, '_, '_, '_, '_, '_> {
             Some(line) if is_among(difference.here, here.key) => {
                 self.push_missing_line(to, here, line)
             }
-            Some(line) => write!(to, "; take the line of this slot behind line {line} away\n"),
+            Some(line) => write!(to, "; take away the line of this slot after line {line}\n"),
             None => to.push_str("; put a record there\n"),
         }
     }
 
-    /// Puts the line of a slot that has to stand behind another line.
+    /// Puts the line of a slot that has to come after another line.
     fn push_missing_line(
         &self,
         to: &mut String,
@@ -113,7 +111,7 @@ impl Scene<'_, '_, '_, '_, '_, '_, '_> {
     ) -> Result<(), AllocError> {
         to.push_str("; write ")?;
         self.push_slot_line(to, slot)?;
-        write!(to, " behind line {line}\n")
+        write!(to, " after line {line}\n")
     }
 
     /// Puts all slots that differ.
@@ -134,9 +132,7 @@ impl Scene<'_, '_, '_, '_, '_, '_, '_> {
     }
 
     /// Puts why a slot is one that the thread may not have.
-    fn push_stray(&self, to: &mut String, slot: &NotedSlot) -> Result<(), AllocError>
-        requires { IsGiven self.now.space self.now.slots.now self.now.lists_stray }
-    {
+    fn push_stray(&self, to: &mut String, slot: &NotedSlot) -> Result<(), AllocError> {
         let is_own = self.space.is_own(slot.key);
         let reason = match slot.capability {
             _ if !is_own => "no such slot is in the thread's CNodes",
@@ -154,15 +150,13 @@ impl Scene<'_, '_, '_, '_, '_, '_, '_> {
         write!(to, ": {reason}\n")
     }
 
-    /// Tells which noted slots may be those that the thread may not have.
-    pub(crate) fn tell_stray(
+    /// Reports which noted slots may be those that the thread may not have.
+    pub(crate) fn report_stray(
         &self,
         to: &mut String,
         point: u32,
         state: &State,
-    ) -> Result<(), AllocError>
-        requires { IsGiven self.now.space self.now.slots.now self.now.lists_stray }
-    {
+    ) -> Result<(), AllocError> {
         self.push_head(to, point)?;
         to.push_str("a slot is noted here that the thread may not have\n")?;
         let changes = &state.changes;

@@ -2,12 +2,11 @@
 
 ghost use Rattle.std.specs.Prelude.{◌≡◌, ◌≤ℤ◌, ◌-◌, ◌^◌, [], negsuc};
 ghost use Rattle.measure.specs.Measures.{measure_of};
-ghost use Rattle.explaining.specs.Given.{IsGiven};
 ghost use Rattle.model.specs.Acceptance.NotedStates.{PointState, has_stray_slots};
 ghost use Rattle.typestate.specs.Differences.{slots_of};
 ghost use Rattle.typestate.specs.Logs.{Holds};
 
-use crate::scenes::{Scene, record_at, told};
+use crate::scenes::{Scene, differing, record_at};
 use certifying::Record;
 use image::RecordRef;
 use measure::Measure;
@@ -125,26 +124,21 @@ impl<'a> Scene<'a, '_, '_, '_, '_, '_, '_> {
 
     /// What a part of a log changes of the image's slots.
     fn changes_of(&self, log: &SlotLog, part: Part) -> Result<Vec<NotedSlot>, AllocError>
-        requires given { IsGiven self.now.space self.now.slots.now self.now.lists_stray }
         requires held { Holds log.now part }
     {
         let shown = log.shown(part)?;
-        told(self.alloc, &shown.slots(self.slots))
+        differing(self.alloc, &shown.slots(self.slots))
     }
 
     /// The changes that a record notes.
-    fn noted_changes(&self, record: &RecordRef<'_>) -> Result<Vec<NotedSlot>, AllocError>
-        requires { IsGiven self.now.space self.now.slots.now self.now.lists_stray }
-    {
+    fn noted_changes(&self, record: &RecordRef<'_>) -> Result<Vec<NotedSlot>, AllocError> {
         let mut log = SlotLog::new(self.alloc);
         let part = log.note(record)?;
         self.changes_of(&log, part)
     }
 
     /// What a record notes.
-    fn state_of(&self, record: &RecordRef<'_>) -> Result<State, AllocError>
-        requires { IsGiven self.now.space self.now.slots.now self.now.lists_stray }
-    {
+    fn state_of(&self, record: &RecordRef<'_>) -> Result<State, AllocError> {
         let changes = self.noted_changes(record)?;
         Ok(State {
             bounds: bounds_of(record),
@@ -154,9 +148,7 @@ impl<'a> Scene<'a, '_, '_, '_, '_, '_, '_> {
     }
 
     /// What is known at a point.
-    pub(crate) fn state_at(&self, point: u32) -> Result<Found, AllocError>
-        requires { IsGiven self.now.space self.now.slots.now self.now.lists_stray }
-    {
+    pub(crate) fn state_at(&self, point: u32) -> Result<Found, AllocError> {
         match self.known {
             Some(known) => found_in(known, point),
             None => self.noted_at(point),
@@ -164,23 +156,19 @@ impl<'a> Scene<'a, '_, '_, '_, '_, '_, '_> {
     }
 
     /// What is known at a point by the records of the image.
-    fn noted_at(&self, point: u32) -> Result<Found, AllocError>
-        requires { IsGiven self.now.space self.now.slots.now self.now.lists_stray }
-    {
+    fn noted_at(&self, point: u32) -> Result<Found, AllocError> {
         let Some(record) = self.last_record(point) else {
             return Ok(Found::Missing);
         };
         let mut found = Found::Known(self.state_of(&record)?);
         for place in record.point()..point {
-            found = self.found_behind(place, &found)?;
+            found = self.found_after(place, &found)?;
         }
         Ok(found)
     }
 
-    /// What is found behind a point of which this is found.
-    fn found_behind(&self, point: u32, found: &Found) -> Result<Found, AllocError>
-        requires { IsGiven self.now.space self.now.slots.now self.now.lists_stray }
-    {
+    /// What is found after a point of which this is found.
+    fn found_after(&self, point: u32, found: &Found) -> Result<Found, AllocError> {
         match found {
             Found::Known(state) => self.following(point, state),
             Found::Unmeasured | Found::Missing => Ok(Found::Missing),
@@ -188,9 +176,7 @@ impl<'a> Scene<'a, '_, '_, '_, '_, '_, '_> {
     }
 
     /// What follows from a point in a state for the next one.
-    fn following(&self, point: u32, state: &State) -> Result<Found, AllocError>
-        requires { IsGiven self.now.space self.now.slots.now self.now.lists_stray }
-    {
+    fn following(&self, point: u32, state: &State) -> Result<Found, AllocError> {
         let thread = self.space.thread;
         if point >= thread.word_count() || state.measure.constant() < -(1 << 62) - 65536 {
             return Ok(Found::Missing);
@@ -207,7 +193,6 @@ impl<'a> Scene<'a, '_, '_, '_, '_, '_, '_> {
 
     /// What follows from a system call in a state, if it is not refused.
     fn following_call(&self, point: u32, state: &State) -> Result<Found, AllocError>
-        requires given { IsGiven self.now.space self.now.slots.now self.now.lists_stray }
         requires measure { negsuc (2 ^ 63 - 2) ≤ℤ (measure_of state.now.measure).constant }
     {
         match self.called(point, state)? {
@@ -225,15 +210,13 @@ impl<'a> Scene<'a, '_, '_, '_, '_, '_, '_> {
         &self,
         point: u32,
         state: &State,
-    ) -> Result<Result<Called, Refusal>, AllocError>
-        requires { IsGiven self.now.space self.now.slots.now self.now.lists_stray }
-    {
+    ) -> Result<Result<Called, Refusal>, AllocError> {
         let mut log = SlotLog::new(self.alloc);
         let part = log.note_changes(&state.changes)?;
         let mut made = Vec::new(self.alloc);
         match self.answered_in(point, &state.bounds, &log, part, &mut made)? {
             Ok(behind) => {
-                let changes = self.changes_behind(&mut log, part, &made)?;
+                let changes = self.changes_after(&mut log, part, &made)?;
                 Ok(Ok(Called { behind, changes }))
             }
             Err(refusal) => Ok(Err(refusal)),
@@ -250,7 +233,6 @@ impl<'a> Scene<'a, '_, '_, '_, '_, '_, '_> {
         part: Part,
         made: &mut Vec<LogEntry>,
     ) -> Result<Result<Behind, Refusal>, AllocError>
-        requires given { IsGiven self.now.space self.now.slots.now self.now.lists_stray }
         requires held { Holds log.now part }
         requires none { made.old.items ≡ [] }
     {
@@ -263,13 +245,12 @@ impl<'a> Scene<'a, '_, '_, '_, '_, '_, '_> {
     }
 
     /// What a part of a log changes of the image's slots, and changes that follow it.
-    fn changes_behind(
+    fn changes_after(
         &self,
         log: &mut SlotLog,
         part: Part,
         made: &[LogEntry],
     ) -> Result<Vec<NotedSlot>, AllocError>
-        requires given { IsGiven self.now.space self.now.slots.now self.now.lists_stray }
         requires held { Holds log.old part }
     {
         let part = log.follow(part, made)?;
@@ -278,7 +259,6 @@ impl<'a> Scene<'a, '_, '_, '_, '_, '_, '_> {
 
     /// Whether one of some slots at a point is one that the thread may not have, or its record notes one outside of its CNodes.
     fn have_stray_slot(&self, point: u32, slots: &NotedSlots<'_>) -> bool
-        requires given { IsGiven self.now.space self.now.slots.now self.now.lists_stray }
         requires image { slots.now.image.now ≡ self.now.slots.now }
         ensures { (state : PointState) → state.slots ≡ slots_of slots.now → result ≡ has_stray_slots self.now.space.image.now self.now.space.thread.now point state }
     {
@@ -293,9 +273,7 @@ impl<'a> Scene<'a, '_, '_, '_, '_, '_, '_> {
     }
 
     /// Whether a slot at a point is one that the thread may not have, or its record notes one outside of its CNodes.
-    pub(crate) fn has_stray_slots(&self, point: u32, state: &State) -> Result<bool, AllocError>
-        requires { IsGiven self.now.space self.now.slots.now self.now.lists_stray }
-    {
+    pub(crate) fn has_stray_slots(&self, point: u32, state: &State) -> Result<bool, AllocError> {
         let mut log = SlotLog::new(self.alloc);
         let part = log.note_changes(&state.changes)?;
         let here = log.shown(part)?;
@@ -310,7 +288,6 @@ impl<'a> Scene<'a, '_, '_, '_, '_, '_, '_> {
         slots: &NotedSlots<'_>,
         made: &mut Vec<LogEntry>,
     ) -> Result<Result<Behind, Refusal>, AllocError>
-        requires given { IsGiven self.now.space self.now.slots.now self.now.lists_stray }
         requires image { slots.now.image.now ≡ self.now.slots.now }
         requires none { made.old.items ≡ [] }
     {

@@ -1,7 +1,5 @@
 //! System calls that the rules refuse.
 
-ghost use Rattle.explaining.specs.Given.{IsGiven};
-
 use crate::call_words::{call_name, check_words, error_name, has_label, label_name, words_wanted};
 use crate::point_words::{push_number, push_range};
 use crate::scenes::Scene;
@@ -79,9 +77,11 @@ impl Scene<'_, '_, '_, '_, '_, '_, '_> {
     }
 
     /// The slot that a call names, and what it holds.
-    fn called_key(&self, state: &State, address: u32) -> Result<Option<(SlotKey, Cap)>, AllocError>
-        requires { IsGiven self.now.space self.now.slots.now self.now.lists_stray }
-    {
+    fn called_key(
+        &self,
+        state: &State,
+        address: u32,
+    ) -> Result<Option<(SlotKey, Cap)>, AllocError> {
         let mut log = SlotLog::new(self.alloc);
         let part = log.note_changes(&state.changes)?;
         let here = log.shown(part)?;
@@ -137,15 +137,13 @@ impl Scene<'_, '_, '_, '_, '_, '_, '_> {
         }
     }
 
-    /// Tells which register of a call has more than one value.
-    pub(crate) fn tell_not_constant(
+    /// Reports which register of a call has more than one value.
+    pub(crate) fn report_not_constant(
         &self,
         to: &mut String,
         point: u32,
         state: &State,
-    ) -> Result<(), AllocError>
-        requires { IsGiven self.now.space self.now.slots.now self.now.lists_stray }
-    {
+    ) -> Result<(), AllocError> {
         self.push_head(to, point)?;
         let varying = self.varying(state);
         if let Some((register, what)) = varying {
@@ -181,17 +179,15 @@ impl Scene<'_, '_, '_, '_, '_, '_, '_> {
         Ok(())
     }
 
-    /// Tells that the slot that a call names is empty, or lacks a right.
-    pub(crate) fn tell_not_there(
+    /// Reports that the slot that a call names is empty, or lacks a right.
+    pub(crate) fn report_not_there(
         &self,
         to: &mut String,
         point: u32,
         state: &State,
-    ) -> Result<(), AllocError>
-        requires { IsGiven self.now.space self.now.slots.now self.now.lists_stray }
-    {
+    ) -> Result<(), AllocError> {
         let (Some(number), Some(address)) = (self.single(state, 17), self.single(state, 10)) else {
-            return self.tell_not_constant(to, point, state);
+            return self.report_not_constant(to, point, state);
         };
         let found = self.called_key(state, address)?;
         self.push_head(to, point)?;
@@ -237,7 +233,7 @@ impl Scene<'_, '_, '_, '_, '_, '_, '_> {
         )
     }
 
-    /// Puts what stands in the slots of the thread's own CNode.
+    /// Puts what is in the slots of the thread's own CNode.
     fn push_slots(&self, to: &mut String, state: &State) -> Result<(), AllocError> {
         let root = self.space.thread.header().cnode;
         let mut is_first = true;
@@ -255,24 +251,22 @@ impl Scene<'_, '_, '_, '_, '_, '_, '_> {
         to.push_str(if is_first { "" } else { "\n" })
     }
 
-    /// Tells which error a call would give, and which check fails.
-    pub(crate) fn tell_refused(
+    /// Reports which error a call would give, and which check fails.
+    pub(crate) fn report_refused(
         &self,
         to: &mut String,
         point: u32,
         state: &State,
         error: KError,
-    ) -> Result<(), AllocError>
-        requires { IsGiven self.now.space self.now.slots.now self.now.lists_stray }
-    {
+    ) -> Result<(), AllocError> {
         let Some(number) = self.single(state, 17) else {
-            return self.tell_not_constant(to, point, state);
+            return self.report_not_constant(to, point, state);
         };
         if call_name(number).is_none() {
-            return self.tell_no_call(to, point, state, number);
+            return self.report_no_call(to, point, state, number);
         }
         let (Some(address), Some(info)) = (self.single(state, 10), self.single(state, 11)) else {
-            return self.tell_not_constant(to, point, state);
+            return self.report_not_constant(to, point, state);
         };
         let found = self.called_key(state, address)?;
         self.push_head(to, point)?;
@@ -283,8 +277,8 @@ impl Scene<'_, '_, '_, '_, '_, '_, '_> {
         self.push_state(to, state)
     }
 
-    /// Tells that there is no system call of a number.
-    fn tell_no_call(
+    /// Reports that there is no system call of a number.
+    fn report_no_call(
         &self,
         to: &mut String,
         point: u32,

@@ -1,6 +1,5 @@
 //! The ways on from a point, and by how much a measure misses on them.
 
-ghost use Rattle.explaining.specs.Given.{IsGiven};
 ghost use Rattle.model.specs.Machine.Instructions.{IsInstr};
 
 use crate::scenes::Scene;
@@ -29,7 +28,7 @@ pub(crate) struct Way {
     pub(crate) before: Bounds,
     pub(crate) behind: Bounds,
     pub(crate) changes: Vec<NotedSlot>,
-    /// Whether instructions are counted anew behind it.
+    /// Whether instructions are counted anew after it.
     pub(crate) is_wait: bool,
     pub(crate) effect: Effect,
 }
@@ -70,7 +69,7 @@ fn missed_fall<S: Step>(from: &Measure, to: &Measure, step: &S, way: &Way) -> Op
     Some(high)
 }
 
-/// The least budget that a measure behind a wait stays within, if there is one.
+/// The least budget that a measure after a wait stays within, if there is one.
 fn least_budget<S: Step>(to: &Measure, step: &S, way: &Way) -> Option<u64> {
     if !stays_below(FAR, to, step, &way.before, &way.behind) {
         return None;
@@ -147,9 +146,7 @@ impl Scene<'_, '_, '_, '_, '_, '_, '_> {
     }
 
     /// The ways on from a point in a state: the taken one first. A system call that is refused has none.
-    pub(crate) fn ways(&self, point: u32, state: &State) -> Result<Vec<Way>, AllocError>
-        requires { IsGiven self.now.space self.now.slots.now self.now.lists_stray }
-    {
+    pub(crate) fn ways(&self, point: u32, state: &State) -> Result<Vec<Way>, AllocError> {
         let mut ways = Vec::new(self.alloc);
         if point >= self.space.thread.word_count() {
             return Ok(ways);
@@ -186,9 +183,7 @@ impl Scene<'_, '_, '_, '_, '_, '_, '_> {
         &self,
         point: u32,
         state: &State,
-    ) -> Result<Option<Refusal>, AllocError>
-        requires { IsGiven self.now.space self.now.slots.now self.now.lists_stray }
-    {
+    ) -> Result<Option<Refusal>, AllocError> {
         match self.called(point, state)? {
             Ok(_) => Ok(None),
             Err(refusal) => Ok(Some(refusal)),

@@ -1,7 +1,7 @@
 //! What is told of a text that gets no certificates, or is refused.
 
 use crate::certification::{NotCertified, Why};
-use explaining::{Certificates, ExplainFault, Text, push_place, tell_refused};
+use explaining::{Certificates, ExplainFault, Text, push_place, report_refused};
 use model::Refusal;
 use std::alloc::{AllocError, Global};
 
@@ -50,7 +50,7 @@ pub(crate) fn told_of(
         NotCertified::Disagreement => return Err(ExplainFault::Disagreement),
         _ => {}
     }
-    let told = tell_refused(alloc, text, certificates)?;
+    let told = report_refused(alloc, text, certificates)?;
     if told.is_empty() {
         told_of_nothing(alloc, text, fault)
     } else {

@@ -84,7 +84,7 @@ text:31: CallRefused: thread main, `ecall`: x17 (a7) is 10: system calls have th
   known here: x5 0, x10 1, x14 0x2000, x17 10; measure 1 + 3*x5; budget 35
 @ 32 # none
 text:31: BadTarget: thread main, `ecall`: a way on leads to where nothing is known
-  the way on leaves the program behind its last word: end it with a jump
+  the way on leaves the program after its last word: end it with a jump
   known here: x5 0, x10 1, x14 0x2000, x17 5; measure 1 + 3*x5; budget 35
 @ 32 jalr x0 0(x14)
 text:32: ComputedJump: thread main, `jalr x0 0(x14)`: a jump to an address in a register: only `jal` and branches may jump
