@@ -40,7 +40,7 @@ pub enum NotCertified {
     Source(SourceFault),
     /// For what is wrong on a line.
     Line { line: u64, why: Why },
-    /// Its image is refused for something that stands on no line of a program.
+    /// Its image is refused for something that is on no line of a program.
     Image(Refusal),
     /// Two parts of the program say different things of the text.
     Disagreement,
@@ -66,7 +66,7 @@ impl From<SourceFault> for NotCertified {
     }
 }
 
-/// Where in a program a refusal is told.
+/// The point of a program that a refusal names.
 fn point_of(refusal: Refusal) -> Option<Point> {
     match refusal {
         Refusal::IllegalInstruction(at)
@@ -84,7 +84,7 @@ fn point_of(refusal: Refusal) -> Option<Point> {
     }
 }
 
-/// A refusal by the line of the text that it is told on.
+/// A refusal by the line of the text that it is reported on.
 pub(crate) fn refused(layout: &Layout<'_>, refusal: Refusal) -> NotCertified {
     match (refusal, point_of(refusal)) {
         (Refusal::OutOfMemory, _) => NotCertified::OutOfMemory,
@@ -165,18 +165,18 @@ fn drafts_of(
 
 /// The line `THREAD budget N` of each thread, with the least budget that is found.
 fn budgets_of(alloc: Global, layout: &Layout<'_>, drafts: &[Draft]) -> Result<String, AllocError> {
-    let mut told = String::new(alloc);
+    let mut lines = String::new(alloc);
     'threads: for (thread, draft) in layout.threads.iter().zip(drafts) {
         let name = thread.name;
         let budget = draft.certificate.budget;
         let line = format!(in alloc; "{name} budget {budget}\n")?;
-        told.push_str(line.as_str())?;
+        lines.push_str(line.as_str())?;
     }
-    Ok(told)
+    Ok(lines)
 }
 
-/// Why a text gets no certificates whose first ones were refused, and all others too: pages that are not mapped are told by the
-/// verifier alone, and what else it refuses was to be found.
+/// Why a text gets no certificates whose first ones were refused, and all others too: pages that are not mapped are reported by
+/// the verifier alone, and what else it refuses was to be found.
 fn searched_in_vain(first: NotCertified) -> NotCertified {
     match first {
         NotCertified::Line {
@@ -232,8 +232,8 @@ fn shortest<P: Progress>(
     })
 }
 
-/// The text with certificates in place of its own, which the verifier accepts. Whoever watches is told when certificates are found,
-/// when the verifier has judged them, and after each record that is tried.
+/// The text with certificates in place of its own, which the verifier accepts. Progress is reported when certificates are found, when
+/// the verifier has judged them, and after each record that is tried.
 pub fn certified<P: Progress>(
     alloc: Global,
     text: &str,
@@ -252,19 +252,33 @@ pub fn certified<P: Progress>(
     shortest(alloc, text, &layout, drafts, progress)
 }
 
-/// The line `THREAD budget N` of each thread of a text for which certificates are found that the verifier accepts. Whoever watches is
-/// told when they are found, and when the verifier has judged them.
-pub fn budgets_found<P: Progress>(
+/// The line `THREAD budget N` of each thread of a text that is left without its certificates as `bare`.
+fn budgets_of_bare<P: Progress>(
+    alloc: Global,
+    text: &str,
+    bare: &str,
+    progress: &mut P,
+) -> Result<String, NotCertified> {
+    let layout = layout_of(alloc, bare)?;
+    let drafts = searched(alloc, text, bare, &layout, progress)?;
+    progress.reach(Stage::Judged);
+    Ok(budgets_of(alloc, &layout, drafts.as_slice())?)
+}
+
+/// The line `THREAD budget N` of each thread of a text for which certificates are found that the verifier accepts. Progress is reported
+/// when they are found, and when the verifier has judged them.
+///
+/// # Errors
+///
+/// Why the text gets no certificates.
+pub(crate) fn budgets_found<P: Progress>(
     alloc: Global,
     text: &str,
     progress: &mut P,
 ) -> Result<String, NotCertified> {
     let bytes = bare_text(alloc, text)?;
-    let Ok(bare) = std::str::from_utf8(bytes.as_slice()) else {
-        return Err(NotCertified::Disagreement);
-    };
-    let layout = layout_of(alloc, bare)?;
-    let drafts = searched(alloc, text, bare, &layout, progress)?;
-    progress.reach(Stage::Judged);
-    Ok(budgets_of(alloc, &layout, drafts.as_slice())?)
+    match std::str::from_utf8(bytes.as_slice()) {
+        Ok(bare) => budgets_of_bare(alloc, text, bare, progress),
+        Err(_) => Err(NotCertified::Disagreement),
+    }
 }

@@ -1,20 +1,21 @@
 //! What the program answers to the words of its command line.
 
 use crate::certification::{CertifiedText, NotCertified, budgets_found, certified};
-use crate::faults::{ToolFault, report, told_name, unexplained};
-use crate::messages::told_of;
+use crate::faults::{ToolFault, report, reported_name, unexplained};
+use crate::messages::report_of;
 use console::{DONE, STANDARD, read_file, read_stream, words, write_file};
 use drawing::{chart, draw};
 use explaining::{Certificates, ExplainFault, Explanation, Text, explain, wants_certificates};
 use progress::Told;
-use sinks::{Sink, put_all};
+use sinks::{Sink, SinkFault, put_all};
+use std::alloc::Global;
 use std::convert::AsStr;
 use std::rt::{Env, Files};
 use std::time::Clock;
 use tool_requests::{ToolRequest, parse_words};
 
-/// Carries out what the words behind the program's name ask for, and answers the exit status. Where that takes more than a second,
-/// lines on standard error tell how far it is.
+/// Carries out what the words after the program's name ask for, and returns the exit status. Where that takes more than a second, lines
+/// on standard error say how far it is.
 pub fn command<R: Files + Input + Clock + AllocGlobal, S: AsStr, W: Sink, E: Sink>(
     rt: &R,
     words: &[S],
@@ -56,29 +57,61 @@ fn answer<'a, R: Files + Input + Clock + AllocGlobal, S: AsStr, W: Sink, E: Sink
     }
 }
 
-/// Explains a text; where certificates are to be found for it, the budgets that are found are told with what is accepted.
+/// What a text turned out to be.
+#[derive(Drop)]
+enum Verdict {
+    /// It is accepted, with these budgets where certificates were found for it.
+    Accepted(String),
+    /// It is refused, and these lines say why.
+    Refused(String),
+}
+
+/// Explains a text with the certificates in it.
+fn explained_as_written<R: Clock + AllocGlobal, E: Sink>(
+    rt: &R,
+    text: &Text<'_, '_>,
+    errors: &mut E,
+) -> Result<Verdict, ExplainFault> {
+    let mut progress = Told::new(rt.alloc(), rt, errors);
+    match explain(rt.alloc(), text, &mut progress)? {
+        Explanation::Accepted => Ok(Verdict::Accepted(String::new(rt.alloc()))),
+        Explanation::Refused(lines) => Ok(Verdict::Refused(lines)),
+    }
+}
+
+/// Explains a text for which certificates are to be found.
+fn explained_as_found<R: Clock + AllocGlobal, E: Sink>(
+    rt: &R,
+    text: &Text<'_, '_>,
+    errors: &mut E,
+) -> Result<Verdict, ExplainFault> {
+    let mut progress = Told::new(rt.alloc(), rt, errors);
+    match budgets_found(rt.alloc(), text.content, &mut progress) {
+        Ok(budgets) => Ok(Verdict::Accepted(budgets)),
+        Err(fault) => Ok(Verdict::Refused(report_of(
+            rt.alloc(),
+            text,
+            Certificates::Written,
+            fault,
+        )?)),
+    }
+}
+
+/// Explains a text, with the certificates that are found for it where it wants some.
 fn explained<R: Clock + AllocGlobal, E: Sink>(
     rt: &R,
     text: &Text<'_, '_>,
     errors: &mut E,
-) -> Result<(Explanation, String), ExplainFault> {
-    let alloc = rt.alloc();
-    let mut progress = Told::new(alloc, rt, errors);
-    if !wants_certificates(alloc, text.content)? {
-        let explanation = explain(alloc, text, &mut progress)?;
-        return Ok((explanation, String::new(alloc)));
-    }
-    match budgets_found(alloc, text.content, &mut progress) {
-        Ok(budgets) => Ok((Explanation::Accepted, budgets)),
-        Err(fault) => {
-            let told = told_of(alloc, text, Certificates::Written, fault)?;
-            Ok((Explanation::Refused(told), String::new(alloc)))
-        }
+) -> Result<Verdict, ExplainFault> {
+    if wants_certificates(rt.alloc(), text.content)? {
+        explained_as_found(rt, text, errors)
+    } else {
+        explained_as_written(rt, text, errors)
     }
 }
 
 /// Puts that a text is accepted, and with which budgets where certificates were found for it.
-fn put_accepted<W: Sink>(output: &mut W, budgets: &str) -> Result<(), sinks::SinkFault> {
+fn put_accepted<W: Sink>(output: &mut W, budgets: &str) -> Result<(), SinkFault> {
     if budgets.is_empty() {
         return put_all(output, b"accepted\n");
     }
@@ -89,23 +122,34 @@ fn put_accepted<W: Sink>(output: &mut W, budgets: &str) -> Result<(), sinks::Sin
     put_all(output, budgets.as_bytes())
 }
 
-/// Says of a text in a file whether it is accepted, or why it is refused.
+/// Says of a text from a file whether it is accepted, or why it is refused.
+fn explain_text<'a, R: Clock + AllocGlobal, W: Sink, E: Sink>(
+    rt: &R,
+    source: &'a str,
+    content: &str,
+    output: &mut W,
+    errors: &mut E,
+) -> Result<(), ToolFault<'a>> {
+    let text = Text {
+        file: reported_name(source),
+        content,
+    };
+    match explained(rt, &text, errors) {
+        Ok(Verdict::Accepted(budgets)) => Ok(put_accepted(output, budgets.as_str())?),
+        Ok(Verdict::Refused(lines)) => Err(ToolFault::Refused(lines)),
+        Err(fault) => Err(unexplained(fault, reported_name(source))),
+    }
+}
+
+/// Says of the text in a file whether it is accepted, or why it is refused.
 fn explain_file<'a, R: Files + Input + Clock + AllocGlobal, W: Sink, E: Sink>(
     rt: &R,
     source: &'a str,
     output: &mut W,
     errors: &mut E,
 ) -> Result<(), ToolFault<'a>> {
-    let read = read_stream(rt, source)?;
-    let text = Text {
-        file: told_name(source),
-        content: read.as_str(),
-    };
-    match explained(rt, &text, errors) {
-        Ok((Explanation::Accepted, budgets)) => Ok(put_accepted(output, budgets.as_str())?),
-        Ok((Explanation::Refused(told), _)) => Err(ToolFault::Refused(told)),
-        Err(fault) => Err(unexplained(fault, told_name(source))),
-    }
+    let content = read_stream(rt, source)?;
+    explain_text(rt, source, content.as_str(), output, errors)
 }
 
 /// Draws the system of a text in a file.
@@ -138,27 +182,62 @@ fn made_of<R: Clock + AllocGlobal, E: Sink>(
     certified(rt.alloc(), text, &mut progress)
 }
 
-/// Puts a text with its certificates where it is wanted, and a line for each thread: on standard error where the text goes to
-/// standard output.
-fn put_made<'a, R: Files + AllocGlobal, W: Sink, E: Sink>(
+/// Puts a text with its certificates on standard output, and a line for each thread on standard error.
+fn put_made<W: Sink, E: Sink>(
+    made: &CertifiedText,
+    output: &mut W,
+    errors: &mut E,
+) -> Result<(), SinkFault> {
+    put_all(output, made.text.as_slice())?;
+    put_all(errors, made.budgets.as_bytes())
+}
+
+/// Writes a text with its certificates to a file, and puts a line for each thread on standard output.
+fn write_made<'a, R: Files + AllocGlobal, W: Sink>(
     rt: &R,
     target: &'a str,
     made: &CertifiedText,
     output: &mut W,
-    errors: &mut E,
 ) -> Result<(), ToolFault<'a>> {
-    if target == STANDARD {
-        put_all(output, made.text.as_slice())?;
-        put_all(errors, made.budgets.as_bytes())?;
-        return Ok(());
-    }
     write_file(rt, target, made.text.as_slice())?;
-    put_all(output, made.budgets.as_bytes())?;
-    Ok(())
+    Ok(put_all(output, made.budgets.as_bytes())?)
 }
 
-/// Writes a text with its certificates to a file, which is not touched before the verifier accepts the whole of it, and puts a
-/// line for each thread.
+/// Why a text from a file gets no certificates.
+fn uncertified<'a>(
+    alloc: Global,
+    source: &'a str,
+    content: &str,
+    fault: NotCertified,
+) -> ToolFault<'a> {
+    let text = Text {
+        file: reported_name(source),
+        content,
+    };
+    match report_of(alloc, &text, Certificates::Found, fault) {
+        Ok(lines) => ToolFault::Refused(lines),
+        Err(fault) => unexplained(fault, reported_name(source)),
+    }
+}
+
+/// Puts a text from a file with its certificates where it is wanted.
+fn certify_text<'a, R: Files + Clock + AllocGlobal, W: Sink, E: Sink>(
+    rt: &R,
+    source: &'a str,
+    target: &'a str,
+    content: &str,
+    output: &mut W,
+    errors: &mut E,
+) -> Result<(), ToolFault<'a>> {
+    match made_of(rt, content, errors) {
+        Ok(made) if target == STANDARD => Ok(put_made(&made, output, errors)?),
+        Ok(made) => write_made(rt, target, &made, output),
+        Err(fault) => Err(uncertified(rt.alloc(), source, content, fault)),
+    }
+}
+
+/// Puts the text in a file with its certificates where it is wanted, which is not touched before the verifier accepts the whole of it,
+/// and a line for each thread.
 fn certify<'a, R: Files + Input + Clock + AllocGlobal, W: Sink, E: Sink>(
     rt: &R,
     source: &'a str,
@@ -166,18 +245,6 @@ fn certify<'a, R: Files + Input + Clock + AllocGlobal, W: Sink, E: Sink>(
     output: &mut W,
     errors: &mut E,
 ) -> Result<(), ToolFault<'a>> {
-    let read = read_stream(rt, source)?;
-    match made_of(rt, read.as_str(), errors) {
-        Ok(made) => put_made(rt, target, &made, output, errors),
-        Err(fault) => {
-            let text = Text {
-                file: told_name(source),
-                content: read.as_str(),
-            };
-            match told_of(rt.alloc(), &text, Certificates::Found, fault) {
-                Ok(told) => Err(ToolFault::Refused(told)),
-                Err(fault) => Err(unexplained(fault, told_name(source))),
-            }
-        }
-    }
+    let content = read_stream(rt, source)?;
+    certify_text(rt, source, target, content.as_str(), output, errors)
 }

@@ -1,4 +1,4 @@
-//! Why a request was not carried out, and how that is told.
+//! Why a request was not carried out, and how that is reported.
 
 use console::{REFUSED, STANDARD, StreamFault, WordsFault, failed, refused, wrong_words};
 use drawing::DrawingFault;
@@ -7,6 +7,7 @@ use sinks::{Sink, SinkFault, put_all};
 use std::alloc::{AllocError, Global};
 
 /// Why a request was not carried out.
+#[derive(Drop)]
 pub(crate) enum ToolFault<'a> {
     /// The words are no request.
     Usage,
@@ -18,7 +19,7 @@ pub(crate) enum ToolFault<'a> {
     Memory,
     /// The text is refused, and these lines say why.
     Refused(String),
-    /// Two parts of the program say different things of a text, whose file this is.
+    /// Two parts of the program disagree on a text, whose file this is.
     Disagreement(&'a str),
     /// This line is none of what is to be drawn.
     Malformed(u64),
@@ -72,8 +73,8 @@ pub(crate) fn unexplained(fault: ExplainFault, file: &str) -> ToolFault<'_> {
     }
 }
 
-/// The name of a file as it is told.
-pub(crate) fn told_name(source: &str) -> &str {
+/// The name of a file as it is reported.
+pub(crate) fn reported_name(source: &str) -> &str {
     if source == STANDARD {
         "<stdin>"
     } else {
@@ -89,25 +90,25 @@ fn stream_line(alloc: Global, fault: StreamFault<'_>) -> Result<String, AllocErr
             format!(in alloc; "file {name}: {words}")
         }
         StreamFault::NotText { name, line } => {
-            let name = told_name(name);
+            let name = reported_name(name);
             format!(in alloc; "{name}:{line}: not UTF-8: only ASCII, also in comments")
         }
         StreamFault::OutOfMemory => Err(AllocError),
     }
 }
 
-/// Puts the line of a file that is not read or not written, and answers the exit status.
-fn tell_stream<E: Sink>(alloc: Global, fault: StreamFault<'_>, errors: &mut E) -> u8 {
+/// Puts the line of a file that is not read or not written, and returns the exit status.
+fn report_stream<E: Sink>(alloc: Global, fault: StreamFault<'_>, errors: &mut E) -> u8 {
     match stream_line(alloc, fault) {
         Ok(line) => failed(errors, line.as_bytes(), b""),
         Err(_) => failed(errors, b"memory", b""),
     }
 }
 
-/// Puts the line of a text on which two parts of the program disagree, and answers the exit status.
-fn tell_disagreement<E: Sink>(alloc: Global, file: &str, errors: &mut E) -> u8 {
+/// Puts the line of a text on which two parts of the program disagree, and returns the exit status.
+fn report_disagreement<E: Sink>(alloc: Global, file: &str, errors: &mut E) -> u8 {
     let line = format!(in alloc;
-        "{file}:1: Disagreement: two parts of the program say different things of this text: please report it, with the text"
+        "{file}:1: Disagreement: two parts of the program disagree on this text: please report it, with the text"
     );
     match line {
         Ok(line) => failed(errors, line.as_bytes(), b""),
@@ -115,7 +116,7 @@ fn tell_disagreement<E: Sink>(alloc: Global, file: &str, errors: &mut E) -> u8 {
     }
 }
 
-/// Says why a request was not carried out, and answers the exit status. What is refused is told on standard error.
+/// Says why a request was not carried out, and returns the exit status. What is refused is reported on standard error.
 pub(crate) fn report<W: Sink, E: Sink>(
     alloc: Global,
     fault: ToolFault<'_>,
@@ -124,14 +125,14 @@ pub(crate) fn report<W: Sink, E: Sink>(
 ) -> u8 {
     match fault {
         ToolFault::Usage => wrong_words(errors),
-        ToolFault::Stream(fault) => tell_stream(alloc, fault, errors),
+        ToolFault::Stream(fault) => report_stream(alloc, fault, errors),
         ToolFault::Output => failed(errors, b"output", b""),
         ToolFault::Memory => failed(errors, b"memory", b""),
-        ToolFault::Refused(told) => {
-            let _ = put_all(errors, told.as_bytes());
+        ToolFault::Refused(lines) => {
+            let _ = put_all(errors, lines.as_bytes());
             REFUSED
         }
-        ToolFault::Disagreement(file) => tell_disagreement(alloc, file, errors),
+        ToolFault::Disagreement(file) => report_disagreement(alloc, file, errors),
         ToolFault::Malformed(line) => refused(
             format!(in alloc; "line {line} Malformed: not read\n"),
             output,

@@ -1,4 +1,4 @@
-//! What is told of a text that gets no certificates, or is refused.
+//! What is reported of a text that gets no certificates, or is refused.
 
 use crate::certification::{NotCertified, Why};
 use explaining::{Certificates, ExplainFault, Text, push_place, report_refused};
@@ -12,19 +12,19 @@ fn not_accepted(
     line: u64,
     refusal: Refusal,
 ) -> Result<String, AllocError> {
-    let mut told = String::new(alloc);
-    push_place(&mut told, text, line)?;
+    let mut report = String::new(alloc);
+    push_place(&mut report, text, line)?;
     let number = refusal.number();
     let name = refusal.name();
     write!(
-        &mut told,
+        &mut report,
         "NotAccepted: the verifier refuses the certificate that is found, by {number} {name}: a fault of certify, please report it with the text\n"
     )?;
-    Ok(told)
+    Ok(report)
 }
 
-/// What is told where nothing is found wrong with a text, though it gets no certificates.
-fn told_of_nothing(
+/// What is reported where nothing is found wrong with a text, though it gets no certificates.
+fn report_of_nothing(
     alloc: Global,
     text: &Text<'_, '_>,
     fault: NotCertified,
@@ -38,22 +38,31 @@ fn told_of_nothing(
     }
 }
 
+/// What is wrong with a text that gets no certificates, as far as that is found.
+fn report_of_text(
+    alloc: Global,
+    text: &Text<'_, '_>,
+    certificates: Certificates,
+    fault: NotCertified,
+) -> Result<String, ExplainFault> {
+    let report = report_refused(alloc, text, certificates)?;
+    if report.is_empty() {
+        report_of_nothing(alloc, text, fault)
+    } else {
+        Ok(report)
+    }
+}
+
 /// Why a text gets no certificates, in lines.
-pub(crate) fn told_of(
+pub(crate) fn report_of(
     alloc: Global,
     text: &Text<'_, '_>,
     certificates: Certificates,
     fault: NotCertified,
 ) -> Result<String, ExplainFault> {
     match fault {
-        NotCertified::OutOfMemory => return Err(ExplainFault::OutOfMemory),
-        NotCertified::Disagreement => return Err(ExplainFault::Disagreement),
-        _ => {}
-    }
-    let told = report_refused(alloc, text, certificates)?;
-    if told.is_empty() {
-        told_of_nothing(alloc, text, fault)
-    } else {
-        Ok(told)
+        NotCertified::OutOfMemory => Err(ExplainFault::OutOfMemory),
+        NotCertified::Disagreement => Err(ExplainFault::Disagreement),
+        fault => report_of_text(alloc, text, certificates, fault),
     }
 }
