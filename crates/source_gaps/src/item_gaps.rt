@@ -178,7 +178,7 @@ fn tell_filled_code(to: &mut String, name: &str, line: u64) -> Result<(), AllocE
 }
 
 impl Items<'_, '_, '_, '_, '_, '_> {
-    /// Puts the head of what is told of a line.
+    /// Puts the head of what is reported of a line.
     pub(crate) fn push_line(&self, to: &mut String, line: u64) -> Result<(), AllocError> {
         push_line(to, &self.text, line, self.rule)
     }

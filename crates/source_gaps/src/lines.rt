@@ -1,4 +1,4 @@
-//! Lines of a text, and where they stand.
+//! Lines of a text, and where they are.
 
 use std::alloc::AllocError;
 
@@ -61,7 +61,7 @@ fn source_place(line: &str) -> Option<&str> {
     }
 }
 
-/// Puts where a line stands, by its number, from 1: the line of C that it comes from, if its comment says so, and then the line
+/// Puts where a line is, by its number, from 1: the line of C that it comes from, if its comment says so, and then the line
 /// itself.
 pub fn push_place(to: &mut String, text: &Text<'_, '_>, number: u64) -> Result<(), AllocError> {
     if let Some(place) = source_place(text.line(number)) {
@@ -71,7 +71,7 @@ pub fn push_place(to: &mut String, text: &Text<'_, '_>, number: u64) -> Result<(
     write!(to, "{file}:{number}: ")
 }
 
-/// Puts the head of what is told of a line: where it stands, which rule is broken, if it is one by name, and what stands there.
+/// Puts the head of what is reported of a line: where it is, the rule that is broken, if it has a name, and what the line says.
 pub(crate) fn push_line(
     to: &mut String,
     text: &Text<'_, '_>,

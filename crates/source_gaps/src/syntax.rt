@@ -218,32 +218,54 @@ impl<'t> Fault<'_, 't> {
         write!(to, "  form: `{keyword}{between}{operands}`; {ranges}\n")
     }
 
-    /// Puts the first word of the line that is not as its form has it, and answers whether there is one.
-    fn push_wrong_word(&self, to: &mut String) -> Result<bool, AllocError> {
-        let Some(form) = form_of(self.keyword()) else {
-            return Ok(false);
-        };
-        let mut place = 0usize;
-        for token in form.operands.split_whitespace() {
-            place = place.saturating_add(1);
-            if wanted_by(token) == Wanted::Rest {
-                return self.push_wrong_rest(to);
-            }
-            let Some(word) = self.word(place) else {
+    /// Puts what is wrong with the word at a place where the form has `token`, and answers whether something is.
+    fn push_wrong_at(
+        &self,
+        to: &mut String,
+        token: &str,
+        place: usize,
+    ) -> Result<bool, AllocError> {
+        match self.word(place) {
+            Some(word) => push_word_fault(to, token, word),
+            None => {
                 write!(to, "{token} is missing\n")?;
-                return Ok(true);
-            };
-            if push_word_fault(to, token, word)? {
-                return Ok(true);
+                Ok(true)
             }
         }
-        match self.word(place.saturating_add(1)) {
+    }
+
+    /// Puts that the form ends before the word at a place, if there is one, and answers whether there is.
+    fn push_extra_at(&self, to: &mut String, place: usize) -> Result<bool, AllocError> {
+        match self.word(place) {
             Some(word) => {
                 write!(to, "`{word}` is one word too many\n")?;
                 Ok(true)
             }
             None => Ok(false),
         }
+    }
+
+    /// Puts the first word of the line that is not as its form has it, and answers whether there is one.
+    fn push_wrong_word(&self, to: &mut String) -> Result<bool, AllocError> {
+        match form_of(self.keyword()) {
+            Some(form) => self.push_wrong_operand(to, form.operands),
+            None => Ok(false),
+        }
+    }
+
+    /// Puts the first word of the line that is not as these operands of its form, and answers whether there is one.
+    fn push_wrong_operand(&self, to: &mut String, operands: &str) -> Result<bool, AllocError> {
+        let mut place = 0usize;
+        for token in operands.split_whitespace() {
+            place = place.saturating_add(1);
+            if wanted_by(token) == Wanted::Rest {
+                return self.push_wrong_rest(to);
+            }
+            if self.push_wrong_at(to, token, place)? {
+                return Ok(true);
+            }
+        }
+        self.push_extra_at(to, place.saturating_add(1))
     }
 
     /// Puts what is wrong with what a form leaves open, and answers whether something is.
@@ -300,7 +322,7 @@ impl<'t> Fault<'_, 't> {
         )
     }
 
-    /// Whether all words are behind the line.
+    /// Whether no line after this one says anything.
     fn is_last(&self) -> bool {
         let mut number = 0u64;
         for line in self.text.content.lines() {
@@ -312,7 +334,7 @@ impl<'t> Fault<'_, 't> {
         true
     }
 
-    /// A line that stands out of its place.
+    /// A line that is out of its place.
     fn push_out_of_place(&self, to: &mut String) -> Result<(), AllocError> {
         let keyword = self.keyword();
         if keyword == "thread" && self.is_last() {

@@ -69,7 +69,7 @@ fn is_number(word: &str) -> bool {
     are_digits(word.strip_prefix("-").unwrap_or(word))
 }
 
-/// Whether a byte may stand in a name.
+/// Whether a byte may be in a name.
 fn is_of_name(byte: u8) -> bool {
     byte.is_ascii_lowercase() || byte.is_ascii_digit() || byte == b'_'
 }
@@ -132,7 +132,7 @@ fn push_register_fault(to: &mut String, word: &str) -> Result<bool, AllocError> 
 
 /// Puts what is wrong with a word where an offset and a register are wanted, and answers whether something is.
 fn push_place_fault(to: &mut String, word: &str) -> Result<bool, AllocError> {
-    let Some((offset, behind)) = word.split_once('(') else {
+    let Some((offset, rest)) = word.split_once('(') else {
         write!(
             to,
             "`{word}` is no OFFSET(xS): the offset is always written, as 0(x5)\n"
@@ -146,7 +146,7 @@ fn push_place_fault(to: &mut String, word: &str) -> Result<bool, AllocError> {
         )?;
         return Ok(true);
     }
-    match behind.strip_suffix(")") {
+    match rest.strip_suffix(")") {
         Some(register) => push_register_fault(to, register),
         None => {
             write!(to, "`{word}` has no bracket at its end\n")?;
