@@ -23,7 +23,11 @@ fn add_bare(bare: &mut Vec<u8>, line: &[u8]) -> Result<(), AllocError> {
     Ok(())
 }
 
-/// The text without its certificates, and with the greatest budget where one is to be found. Each line keeps its number.
+/// The text without its certificates, and with the greatest budget where one is to be found. Each line is where it was.
+///
+/// # Errors
+///
+/// Memory may be refused.
 pub fn bare_text(alloc: Global, text: &str) -> Result<Vec<u8>, AllocError> {
     let mut bare = Vec::new(alloc);
     'lines: for line in text.as_bytes().split_inclusive(|byte| *byte == b'\n') {

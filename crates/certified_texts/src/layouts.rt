@@ -72,6 +72,10 @@ impl<'a> Layout<'a> {
 }
 
 /// What is where in a text that describes an image.
+///
+/// # Errors
+///
+/// Memory may be refused.
 pub fn layout_of<'a>(alloc: Global, text: &'a str) -> Result<Layout<'a>, AllocError> {
     let mut layout = Layout {
         objects: Vec::new(alloc),

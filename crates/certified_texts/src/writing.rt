@@ -15,6 +15,10 @@ pub struct Draft {
 
 impl Draft {
     /// All of a certificate.
+    ///
+    /// # Errors
+    ///
+    /// Memory may be refused.
     pub fn new(alloc: Global, certificate: Certificate) -> Result<Draft, AllocError> {
         let mut kept = Vec::new(alloc);
         'records: for _ in &certificate.records {
@@ -112,6 +116,10 @@ impl Written<'_, '_> {
 }
 
 /// A text with these certificates, those of its threads in their order, in place of its own.
+///
+/// # Errors
+///
+/// Memory may be refused.
 pub fn certified_text(
     alloc: Global,
     text: &str,

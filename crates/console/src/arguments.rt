@@ -5,7 +5,11 @@ use std::alloc::Global;
 use std::rt::Env;
 use std::{env, io};
 
-/// The words behind the program's name. Words that are no text are no request.
+/// The words after the program's name.
+///
+/// # Errors
+///
+/// A word is no text, or memory is refused.
 pub fn words<R: Env + AllocGlobal>(rt: &R) -> Result<Vec<String>, WordsFault> {
     let all = match env::args(rt) {
         Ok(all) => all,

@@ -51,8 +51,11 @@ fn check_program(
     program.check()
 }
 
-/// Whether a well-formed image keeps the rules on programs. An `Err` names the first that it breaks, of its threads in their order, or
-/// says that memory was refused.
+/// Whether a well-formed image keeps the rules on programs.
+///
+/// # Errors
+///
+/// The first rule that it breaks, of its threads in their order, or that memory was refused.
 #[tactic(auto, unfolding(model::specs::Acceptance::PointRules::program_rules))]
 pub fn check_programs(alloc: Global, image: &ImageRef<'_>) -> Result<(), Refusal>
     requires formed { IsWellFormed image.now }

@@ -1,4 +1,4 @@
-//! The program for makers: texts without certificates come back accepted, and what has none is told by its line.
+//! The program for makers: texts without certificates come back accepted, and what has none is reported by its line.
 
 mod answers;
 mod delays;

@@ -1,4 +1,4 @@
-//! Tests on the public calls of both programs and of the layers that they stand on. What no clause says: the printed rows
+//! Tests on the public calls of both programs and of the layers that they are built on. What no clause says: the printed rows
 //! over real files, the reading of words, texts and event lists, verdicts on images, and refusals at the edges of files.
 #![tactic(auto)]
 

@@ -60,13 +60,13 @@ pub fn with_line(alloc: Global, text: &str, number: usize, new: &str) -> Result<
     Ok(changed)
 }
 
-/// Puts a line behind a text.
+/// Puts a line after a text.
 pub fn put_line(text: &mut String, line: &str) -> Result<(), Fail> {
     text.push_str(line)?;
     Ok(text.push('\n')?)
 }
 
-/// A number: hexadecimal behind `0x`, or else decimal.
+/// A number: hexadecimal after `0x`, or else decimal.
 pub fn number(word: &str) -> Result<u32, Fail> {
     match word.strip_prefix("0x") {
         Some(digits) => Ok(u32::from_str_radix(digits, 16)?),

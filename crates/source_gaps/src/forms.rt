@@ -1,6 +1,6 @@
 //! The forms of lines.
 
-/// What stands behind the first word of a line, and how large its numbers may be.
+/// What comes after the first word of a line, and how large its numbers may be.
 #[derive(Clone, Copy, Drop)]
 pub(crate) struct Form {
     pub(crate) operands: &'static str,
@@ -107,7 +107,7 @@ const INSTRUCTIONS: [Kind; 9] = [
     },
 ];
 
-/// Whether a word stands in a list of words.
+/// Whether a word is in a list of words.
 fn is_in(names: &str, word: &str) -> bool {
     for name in names.split_whitespace() {
         if name == word {

@@ -67,7 +67,7 @@ fn power(bits: u32) -> u64 {
     1u64.wrapping_shl(bits)
 }
 
-/// Tells what is wrong with the rights and the badge of a capability to an endpoint or a notification.
+/// Reports what is wrong with the rights and the badge of a capability to an endpoint or a notification.
 fn tell_badge(to: &mut String, rights: u32, badge: u32) -> Result<(), AllocError> {
     if rights & 11 == rights {
         write!(to, "the badge {badge} is 2^28 or more\n")
@@ -79,7 +79,7 @@ fn tell_badge(to: &mut String, rights: u32, badge: u32) -> Result<(), AllocError
     }
 }
 
-/// Tells what is wrong with the rights and the data of a capability to a frame.
+/// Reports what is wrong with the rights and the data of a capability to a frame.
 fn tell_frame_data(to: &mut String, rights: u32) -> Result<(), AllocError> {
     if rights & 3 == rights {
         to.push_str("a frame's capability has no data: write 0\n")
@@ -88,12 +88,12 @@ fn tell_frame_data(to: &mut String, rights: u32) -> Result<(), AllocError> {
     }
 }
 
-/// Tells that a capability to a CNode has a wrong guard word.
+/// Reports that a capability to a CNode has a wrong guard word.
 fn tell_guard(to: &mut String, name: &str, payload: u32) -> Result<(), AllocError> {
     write!(to, "{payload} is no guard word for the CNode `{name}`\n")
 }
 
-/// Tells what is wrong with the rights and the data of a capability to an object of a kind.
+/// Reports what is wrong with the rights and the data of a capability to an object of a kind.
 fn tell_data(
     to: &mut String,
     kind: u32,
@@ -112,7 +112,7 @@ fn tell_data(
     }
 }
 
-/// Tells that untyped memory does not begin at a multiple of its size.
+/// Reports that untyped memory does not begin at a multiple of its size.
 fn tell_unaligned(to: &mut String, start: u64, size: u64) -> Result<(), AllocError> {
     write!(
         to,
@@ -120,7 +120,7 @@ fn tell_unaligned(to: &mut String, start: u64, size: u64) -> Result<(), AllocErr
     )
 }
 
-/// Tells that untyped memory ends behind the machine's memory.
+/// Reports that untyped memory ends after the machine's memory.
 fn tell_end(to: &mut String, end: u64, memory: u64) -> Result<(), AllocError> {
     write!(
         to,
@@ -128,7 +128,7 @@ fn tell_end(to: &mut String, end: u64, memory: u64) -> Result<(), AllocError> {
     )
 }
 
-/// Tells that untyped memory begins inside another one.
+/// Reports that untyped memory begins inside another one.
 fn tell_overlap(to: &mut String, before: &UntypedLine<'_>) -> Result<(), AllocError> {
     let (name, line) = (before.name, before.line);
     let last = u64::from(before.offset).saturating_add(power(before.bits));
@@ -138,7 +138,7 @@ fn tell_overlap(to: &mut String, before: &UntypedLine<'_>) -> Result<(), AllocEr
     )
 }
 
-/// Tells that an object of so many bytes would end there in its untyped memory.
+/// Reports that an object of so many bytes would end there in its untyped memory.
 fn tell_room(
     to: &mut String,
     untyped: &UntypedLine<'_>,
@@ -153,7 +153,7 @@ fn tell_room(
     )
 }
 
-/// Tells that a frame of code is mapped on another line, too.
+/// Reports that a frame of code is mapped on another line, too.
 fn tell_other_mapping(to: &mut String, name: &str, line: u64) -> Result<(), AllocError> {
     write!(
         to,
@@ -161,7 +161,7 @@ fn tell_other_mapping(to: &mut String, name: &str, line: u64) -> Result<(), Allo
     )
 }
 
-/// Tells that a capability names a frame of code.
+/// Reports that a capability names a frame of code.
 fn tell_named_code(to: &mut String, name: &str, line: u64) -> Result<(), AllocError> {
     write!(
         to,
@@ -169,7 +169,7 @@ fn tell_named_code(to: &mut String, name: &str, line: u64) -> Result<(), AllocEr
     )
 }
 
-/// Tells that a frame of code is filled.
+/// Reports that a frame of code is filled.
 fn tell_filled_code(to: &mut String, name: &str, line: u64) -> Result<(), AllocError> {
     write!(
         to,
@@ -183,7 +183,7 @@ impl Items<'_, '_, '_, '_, '_, '_> {
         push_line(to, &self.text, line, self.rule)
     }
 
-    /// Tells that an object is of another kind than is wanted.
+    /// Reports that an object is of another kind than is wanted.
     fn tell_kind(&self, to: &mut String, number: usize, wanted: &str) -> Result<(), AllocError> {
         let name = self.source.object_name(number);
         let kind = kind_name(self.source.kind(number));
@@ -197,7 +197,7 @@ impl Items<'_, '_, '_, '_, '_, '_> {
             .saturating_mul(16)
     }
 
-    /// Tells what is wrong with untyped memory.
+    /// Reports what is wrong with untyped memory.
     fn tell_untyped(&self, to: &mut String, item: u32) -> Result<(), AllocError> {
         let Some(untyped) = self.source.untypeds.get(item as usize) else {
             return Ok(());
@@ -206,7 +206,7 @@ impl Items<'_, '_, '_, '_, '_, '_> {
         self.tell_bytes(to, item, u64::from(untyped.offset), power(untyped.bits))
     }
 
-    /// Tells what is wrong with the bytes of untyped memory, which begins there and has so many.
+    /// Reports what is wrong with the bytes of untyped memory, which begins there and has so many.
     fn tell_bytes(
         &self,
         to: &mut String,
@@ -225,7 +225,7 @@ impl Items<'_, '_, '_, '_, '_, '_> {
         self.tell_start(to, item, start)
     }
 
-    /// Tells what stands where untyped memory begins.
+    /// Reports what is where untyped memory begins.
     fn tell_start(&self, to: &mut String, item: u32, start: u64) -> Result<(), AllocError> {
         let boot = self.boot_end();
         if start < boot {
@@ -251,7 +251,7 @@ impl Items<'_, '_, '_, '_, '_, '_> {
         used
     }
 
-    /// Tells which object does not fit into its untyped memory.
+    /// Reports which object does not fit into its untyped memory.
     fn tell_no_room(&self, to: &mut String, item: u32) -> Result<(), AllocError> {
         let Some(object) = self.source.objects.get(item as usize) else {
             return Ok(());
@@ -298,7 +298,7 @@ impl Items<'_, '_, '_, '_, '_, '_> {
         1
     }
 
-    /// Tells that the boot CNode has too few slots.
+    /// Reports that the boot CNode has too few slots.
     fn tell_boot(&self, to: &mut String) -> Result<(), AllocError> {
         let given = self.image.header().boot_radix;
         let (there, needed) = (power(given), self.boot_slots());
@@ -321,7 +321,7 @@ impl Items<'_, '_, '_, '_, '_, '_> {
         None
     }
 
-    /// Tells what is wrong with a capability, or with an interrupt behind them.
+    /// Reports what is wrong with a capability, or with an interrupt after them.
     fn tell_capability(&self, to: &mut String, item: u32) -> Result<(), AllocError> {
         let count = self.image.header().capabilities;
         if item >= count {
@@ -337,7 +337,7 @@ impl Items<'_, '_, '_, '_, '_, '_> {
         self.tell_slot(to, &capability)
     }
 
-    /// Tells what is wrong with a capability in the slot of a CNode.
+    /// Reports what is wrong with a capability in the slot of a CNode.
     fn tell_slot(&self, to: &mut String, capability: &CapabilityLine) -> Result<(), AllocError> {
         let radix = self.source.size(capability.cnode);
         let (index, last) = (capability.index, power(radix).saturating_sub(1));
@@ -348,7 +348,7 @@ impl Items<'_, '_, '_, '_, '_, '_> {
         self.tell_source(to, capability)
     }
 
-    /// Tells what is wrong with what a capability names.
+    /// Reports what is wrong with what a capability names.
     fn tell_source(&self, to: &mut String, capability: &CapabilityLine) -> Result<(), AllocError> {
         let name = self.source.source_name(capability.source);
         let kind = match capability.source {
@@ -392,7 +392,7 @@ impl Items<'_, '_, '_, '_, '_, '_> {
         None
     }
 
-    /// Tells what is wrong with an interrupt.
+    /// Reports what is wrong with an interrupt.
     fn tell_interrupt(&self, to: &mut String, place: u32) -> Result<(), AllocError> {
         let Some(number) = self.machine_line(place) else {
             return Ok(());
@@ -406,7 +406,7 @@ impl Items<'_, '_, '_, '_, '_, '_> {
         Ok(())
     }
 
-    /// Tells what is wrong with a table.
+    /// Reports what is wrong with a table.
     fn tell_table(&self, to: &mut String, table: &TableLine) -> Result<(), AllocError> {
         self.push_line(to, table.line)?;
         if self.source.kind(table.root) != 8 {
@@ -418,7 +418,7 @@ impl Items<'_, '_, '_, '_, '_, '_> {
         self.tell_table_place(to, table)
     }
 
-    /// Tells what is wrong with the place of a table.
+    /// Reports what is wrong with the place of a table.
     fn tell_table_place(&self, to: &mut String, table: &TableLine) -> Result<(), AllocError> {
         let address = table.address;
         if address >= 0x8000_0000 || address % 0x40_0000 != 0 {
@@ -444,7 +444,7 @@ impl Items<'_, '_, '_, '_, '_, '_> {
         false
     }
 
-    /// Tells what is wrong with a frame's mapping.
+    /// Reports what is wrong with a frame's mapping.
     fn tell_frame(&self, to: &mut String, frame: &FrameLine) -> Result<(), AllocError> {
         self.push_line(to, frame.line)?;
         if self.source.kind(frame.root) != 8 {
@@ -456,7 +456,7 @@ impl Items<'_, '_, '_, '_, '_, '_> {
         self.tell_frame_place(to, frame)
     }
 
-    /// Tells what is wrong with the address and the rights of a frame's mapping.
+    /// Reports what is wrong with the address and the rights of a frame's mapping.
     fn tell_frame_place(&self, to: &mut String, frame: &FrameLine) -> Result<(), AllocError> {
         let (address, rights) = (frame.address, frame.rights);
         if address >= 0x8000_0000 || address % 4096 != 0 {
@@ -471,7 +471,7 @@ impl Items<'_, '_, '_, '_, '_, '_> {
         self.tell_uncovered(to, frame)
     }
 
-    /// Tells that no page table covers a frame's address.
+    /// Reports that no page table covers a frame's address.
     fn tell_uncovered(&self, to: &mut String, frame: &FrameLine) -> Result<(), AllocError> {
         let root = self.source.object_name(frame.root);
         let address = frame.address;
@@ -526,7 +526,7 @@ impl Items<'_, '_, '_, '_, '_, '_> {
         None
     }
 
-    /// Tells what is wrong with a table, a frame's mapping or a content, which are numbered on.
+    /// Reports what is wrong with a table, a frame's mapping or a content, which are numbered on.
     fn tell_mapping(&self, to: &mut String, item: u32) -> Result<(), AllocError> {
         let tables = self.image.header().tables;
         if item < tables {
@@ -538,7 +538,7 @@ impl Items<'_, '_, '_, '_, '_, '_> {
         self.tell_filling(to, item.saturating_sub(tables))
     }
 
-    /// Tells what is wrong with a frame's mapping or a content, which are numbered on.
+    /// Reports what is wrong with a frame's mapping or a content, which are numbered on.
     fn tell_filling(&self, to: &mut String, item: u32) -> Result<(), AllocError> {
         if item < self.image.header().frames {
             return match self.frame_line(item) {
@@ -549,7 +549,7 @@ impl Items<'_, '_, '_, '_, '_, '_> {
         self.tell_content(to)
     }
 
-    /// Tells which content fills what is no frame.
+    /// Reports which content fills what is no frame.
     fn tell_content(&self, to: &mut String) -> Result<(), AllocError> {
         for content in &self.source.contents {
             if self.source.kind(content.frame) != 6 {
@@ -560,7 +560,7 @@ impl Items<'_, '_, '_, '_, '_, '_> {
         Ok(())
     }
 
-    /// Tells which code can be written.
+    /// Reports which code can be written.
     fn tell_writable(&self, to: &mut String, item: u32) -> Result<(), AllocError> {
         let Some(frame) = self.frame_line(item.saturating_sub(self.image.header().tables)) else {
             return Ok(());
@@ -576,7 +576,7 @@ impl Items<'_, '_, '_, '_, '_, '_> {
         self.tell_shared_code(to, &frame, name)
     }
 
-    /// Tells what else a frame of code is used for.
+    /// Reports what else a frame of code is used for.
     fn tell_shared_code(
         &self,
         to: &mut String,
@@ -625,7 +625,7 @@ impl Items<'_, '_, '_, '_, '_, '_> {
         None
     }
 
-    /// Tells what is refused of a thread.
+    /// Reports what is refused of a thread.
     fn tell_of_thread(&self, to: &mut String, refusal: Refusal) -> Result<(), AllocError> {
         match refusal {
             Refusal::SharedCSpace { thread } => self.tell_shared_cnode(to, thread),
@@ -638,7 +638,7 @@ impl Items<'_, '_, '_, '_, '_, '_> {
         }
     }
 
-    /// Tells what is refused before any program is looked at.
+    /// Reports what is refused before any program is looked at.
     fn tell(&self, to: &mut String, refusal: Refusal) -> Result<(), AllocError> {
         match refusal {
             Refusal::UntypedOverlap { untyped } => self.tell_untyped(to, untyped),
@@ -675,7 +675,7 @@ pub fn tell_item(
     items.tell(to, refusal)
 }
 
-/// How much of untyped memory is used behind one more object of so many bits.
+/// How much of untyped memory is used after one more object of so many bits.
 fn behind(used: u64, bits: u32) -> u64 {
     let size = power(bits);
     let last = used.saturating_add(size.saturating_sub(1));

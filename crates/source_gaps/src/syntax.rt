@@ -18,7 +18,7 @@ struct Fault<'f, 't> {
     text: Text<'f, 't>,
     number: u64,
     line: &'t str,
-    /// How many words stand before the one that says what the line is: a label or none.
+    /// How many words are before the one that says what the line is: a label or none.
     before: usize,
 }
 
@@ -82,7 +82,7 @@ fn consider_label<'a>(nearest: &mut Nearest<'a>, name: &str, word: &'a str) {
     }
 }
 
-/// How many words of a line stand before the one that says what it is: a label or none.
+/// How many words of a line are before the one that says what it is: a label or none.
 fn words_before(line: &str) -> usize {
     match word_at(line, 0) {
         Some(word) if is_label(word) => 1,
@@ -90,7 +90,7 @@ fn words_before(line: &str) -> usize {
     }
 }
 
-/// Why a line that begins with a word stands out of its place.
+/// Why a line that begins with a word is out of its place.
 fn place_words(keyword: &str) -> &'static str {
     match keyword {
         "range" | "slot" =>
@@ -150,7 +150,7 @@ impl<'t> Fault<'_, 't> {
         None
     }
 
-    /// The first line on which a label stands, of this thread or of any.
+    /// The first line with a label, of this thread or of any.
     fn label_line(&self, name: &str) -> Option<u64> {
         let mut number = 0u64;
         let mut found = None;
@@ -388,7 +388,7 @@ impl<'t> Fault<'_, 't> {
         Ok(!self.push_wrong_word(&mut ignored)?)
     }
 
-    /// A line that is none of the text form, or stands out of its place.
+    /// A line that is none of the text form, or is out of its place.
     fn push_syntax(&self, to: &mut String) -> Result<(), AllocError> {
         if self.push_foreign(to)? {
             return Ok(());
@@ -501,7 +501,7 @@ impl<'t> Fault<'_, 't> {
         word_at(line, words_before(line)) == self.word(0) && self.has_key_of(line)
     }
 
-    /// Whether a line begins an order in which keys like that of this one may stand again.
+    /// Whether a line begins an order in which keys like that of this one may come again.
     fn is_begun_by(&self, line: &str) -> bool {
         let keyword = word_at(line, 0).unwrap_or("");
         match self.keyword() {

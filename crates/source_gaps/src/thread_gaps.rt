@@ -31,7 +31,7 @@ fn first_in_both(own: &NumberSet, others: &NumberSet) -> Option<u32> {
     None
 }
 
-/// Tells that a thread's guard word is not valid for a CNode.
+/// Reports that a thread's guard word is not valid for a CNode.
 fn tell_thread_guard(to: &mut String, guard: u32, radix: u32) -> Result<(), AllocError> {
     write!(
         to,
@@ -49,14 +49,14 @@ impl Items<'_, '_, '_, '_, '_, '_> {
         }
     }
 
-    /// Puts the head of what is told of a thread.
+    /// Puts the head of what is reported of a thread.
     fn push_thread(&self, to: &mut String, thread: &SourceThread<'_>) -> Result<(), AllocError> {
         self.push_line(to, thread.line)?;
         let name = self.source.object_name(thread.tcb);
         write!(to, "thread {name} ")
     }
 
-    /// Tells which CNode a thread shares with an earlier one.
+    /// Reports which CNode a thread shares with an earlier one.
     pub(crate) fn tell_shared_cnode(&self, to: &mut String, item: u32) -> Result<(), AllocError> {
         let Some(thread) = self.source.threads.get(item as usize) else {
             return Ok(());
@@ -122,7 +122,7 @@ impl Items<'_, '_, '_, '_, '_, '_> {
         None
     }
 
-    /// Tells which root table a thread shares, or holds beside its own.
+    /// Reports which root table a thread shares, or holds beside its own.
     pub(crate) fn tell_shared_root(&self, to: &mut String, item: u32) -> Result<(), AllocError> {
         let Some(thread) = self.source.threads.get(item as usize) else {
             return Ok(());
@@ -144,7 +144,7 @@ impl Items<'_, '_, '_, '_, '_, '_> {
         )
     }
 
-    /// Tells which root table a thread holds beside its own.
+    /// Reports which root table a thread holds beside its own.
     fn tell_held_root(&self, to: &mut String, item: u32, root: usize) -> Result<(), AllocError> {
         if item >= self.image.header().threads {
             return to.push_str("\n");
@@ -213,7 +213,7 @@ impl Items<'_, '_, '_, '_, '_, '_> {
         None
     }
 
-    /// Tells what does not fit of a thread.
+    /// Reports what does not fit of a thread.
     pub(crate) fn tell_thread(&self, to: &mut String, item: u32) -> Result<(), AllocError> {
         let Some(thread) = self.source.threads.get(item as usize) else {
             return Ok(());
@@ -229,7 +229,7 @@ impl Items<'_, '_, '_, '_, '_, '_> {
         self.tell_start_of(to, thread)
     }
 
-    /// Tells what does not fit of a thread whose objects do.
+    /// Reports what does not fit of a thread whose objects do.
     fn tell_start_of(&self, to: &mut String, thread: &SourceThread<'_>) -> Result<(), AllocError> {
         let radix = self.source.size(thread.cnode);
         if capwords::is_guard_word(radix.min(255) as u8, thread.guard) {
@@ -262,7 +262,7 @@ impl Items<'_, '_, '_, '_, '_, '_> {
         None
     }
 
-    /// Tells what does not fit of a thread's program and its entry.
+    /// Reports what does not fit of a thread's program and its entry.
     fn tell_place(&self, to: &mut String, thread: &SourceThread<'_>) -> Result<(), AllocError> {
         let base = thread.base;
         let count = thread.points.len() as u64;
@@ -282,7 +282,7 @@ impl Items<'_, '_, '_, '_, '_, '_> {
         self.tell_pages(to, thread, end)
     }
 
-    /// Tells which page of a thread's program is not mapped, or where the thread starts behind its program.
+    /// Reports which page of a thread's program is not mapped, or where the thread starts after its program.
     fn tell_pages(
         &self,
         to: &mut String,

@@ -29,7 +29,7 @@ pub(crate) enum Wanted {
     Rest,
 }
 
-/// What a word of a line's form stands for.
+/// What a word of a line's form is.
 pub(crate) fn wanted_by(token: &str) -> Wanted {
     match token {
         "xD" | "xS" | "xT" | "xN" => Wanted::Register,

@@ -35,6 +35,10 @@ fn note_listed(
 }
 
 /// The full slots of the CNodes that a well-formed image gives a thread, their keys rising.
+///
+/// # Errors
+///
+/// Memory may be refused.
 pub fn slots_of(
     alloc: Global,
     image: &ImageRef<'_>,

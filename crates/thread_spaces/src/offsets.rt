@@ -52,6 +52,10 @@ fn placed(image: &ImageRef<'_>, number: u32, used: u32) -> Place
 }
 
 /// The offsets of all objects from the start of physical memory, each after the ones before it in its untyped.
+///
+/// # Errors
+///
+/// Memory may be refused.
 pub fn offsets_of(alloc: Global, image: &ImageRef<'_>) -> Result<Vec<u32>, AllocError>
     requires { IsWellFormed image.now }
     ensures { IfOk result (λ offsets. AreOffsets image.now image.now.header.objects offsets.items) }

@@ -124,8 +124,12 @@ impl Round {
     }
 }
 
-/// The CNodes that a thread reaches. A round over the capabilities that may lead on finds more, until there are none. Each CNode's
-/// are looked up once, when it is found.
+/// The CNodes that a thread reaches. A round over the capabilities that may lead on finds more, until there are none. Each
+/// CNode's are looked up once, when it is found.
+///
+/// # Errors
+///
+/// Memory may be refused.
 pub fn reached_of(
     alloc: Global,
     image: &ImageRef<'_>,

@@ -29,6 +29,10 @@ fn window_of(image: &ImageRef<'_>, offsets: &[u32], cnode: u32) -> Window
 }
 
 /// Where the CNodes lie that a thread of a well-formed image reaches, in the order in which they are found.
+///
+/// # Errors
+///
+/// Memory may be refused.
 pub fn windows_of(
     alloc: Global,
     image: &ImageRef<'_>,

@@ -232,8 +232,12 @@ fn shortest<P: Progress>(
     })
 }
 
-/// The text with certificates in place of its own, which the verifier accepts. Progress is reported when certificates are found, when
-/// the verifier has judged them, and after each record that is tried.
+/// The text with certificates in place of its own, which the verifier accepts. Whoever watches hears when certificates are
+/// found, when the verifier has judged them, and after each record that is tried.
+///
+/// # Errors
+///
+/// Why there are none ([`NotCertified`]).
 pub fn certified<P: Progress>(
     alloc: Global,
     text: &str,

@@ -68,7 +68,7 @@ fn is_accepted(
     }
 }
 
-/// Sets whether a record of a thread stands in the text.
+/// Sets whether a record of a thread is in the text.
 fn keep(drafts: &mut Vec<Draft>, thread: usize, record: usize, stands: bool) {
     if let Some(draft) = drafts.get_mut(thread) {
         draft.keep(record, stands);

@@ -71,8 +71,12 @@ impl ThreadSlots<'_, '_, '_> {
         held.behind(at, bounds, call, answers, made)
     }
 
-    /// What the system call at a point leaves, or why it is refused. The slots that it changes are put into the list, which is
-    /// empty. Memory may be refused.
+    /// What the system call at a point leaves, or why it is refused. The slots that it changes are put into the list, which
+    /// is empty.
+    ///
+    /// # Errors
+    ///
+    /// Memory may be refused.
     pub fn after_call(
         &self,
         at: Point,

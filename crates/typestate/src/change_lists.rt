@@ -115,8 +115,12 @@ impl NotedSlots<'_> {
         note_sets(&removed, made)
     }
 
-    /// Appends what a call makes of the slots. What the image lists was derived from none of the thread's slots: of its slots only
-    /// those that the call names change. Memory may be refused.
+    /// Appends what a call makes of the slots. What the image lists was derived from none of the thread's slots: of its slots
+    /// only those that the call names change.
+    ///
+    /// # Errors
+    ///
+    /// Memory may be refused.
     pub fn note_change(
         &self,
         change: &SlotChange,

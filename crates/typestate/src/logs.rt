@@ -139,7 +139,11 @@ impl SlotLog {
         self.append(&both)
     }
 
-    /// Notes changes as a part of their own. Memory may be refused.
+    /// Notes changes as a part of their own.
+    ///
+    /// # Errors
+    ///
+    /// Memory may be refused.
     pub fn note_changes(&mut self, changes: &[NotedSlot]) -> Result<Part, AllocError>
         ensures held { IfOk result (Holds self.new) }
         ensures same { IfOk result (λ part. (slots : List NotedSlot) → Rise slots → replayed slots (part_of self.new part) ≡ changed slots changes.now) }
@@ -150,7 +154,11 @@ impl SlotLog {
         self.append(&made)
     }
 
-    /// Notes the slots of a record: its part leaves what they leave. Memory may be refused.
+    /// Notes the slots of a record: its part leaves what they leave.
+    ///
+    /// # Errors
+    ///
+    /// Memory may be refused.
     pub fn note(&mut self, noted: &RecordRef<'_>) -> Result<Part, AllocError>
         ensures held { IfOk result (Holds self.new) }
         ensures same { IfOk result (λ part. (slots : List NotedSlot) → Rise slots → replayed slots (part_of self.new part) ≡ changed slots (map entry_slot noted.now.slots)) }
@@ -162,7 +170,11 @@ impl SlotLog {
     }
 
     /// Notes entries that follow those of a part: the new part leaves what both leave. Where nothing follows it is that part
-    /// itself, and the last part grows in place. Memory may be refused.
+    /// itself, and the last part grows in place.
+    ///
+    /// # Errors
+    ///
+    /// Memory may be refused.
     pub fn follow(&mut self, part: Part, made: &[LogEntry]) -> Result<Part, AllocError>
         requires { Holds self.old part }
         ensures held { IfOk result (Holds self.new) }
@@ -193,7 +205,11 @@ impl SlotLog {
         Ok(())
     }
 
-    /// Shows a part in place of another one. What it begins with is not gone through again. Memory may be refused.
+    /// Shows a part in place of another one. What it begins with is not gone through again.
+    ///
+    /// # Errors
+    ///
+    /// Memory may be refused.
     pub fn show(&self, shown: &mut ShownPart, part: Part) -> Result<(), AllocError>
         requires old { ShowsSome self.now shown.old }
         requires held { Holds self.now part }
@@ -211,7 +227,11 @@ impl SlotLog {
         self.show_more(shown, part)
     }
 
-    /// A part by its slots. Memory may be refused.
+    /// A part by its slots.
+    ///
+    /// # Errors
+    ///
+    /// Memory may be refused.
     pub fn shown(&self, part: Part) -> Result<ShownPart, AllocError>
         requires { Holds self.now part }
         ensures { IfOk result (Shows self.now part) }

@@ -76,6 +76,10 @@ fn known_words(at: Point, bounds: &Bounds, count: usize) -> Result<[u32; 8], Ref
 
 /// The call that the message in the registers makes on a capability. What of it has to be known is asked in its order: the
 /// info word, the checks that the kernel makes of it, and then the words.
+///
+/// # Errors
+///
+/// What is not known of the message, or the kernel's error, as a refusal of the image at this point.
 pub fn message_call(at: Point, bounds: &Bounds, capability: Cap) -> Result<Invocation, Refusal>
     ensures value { (image : Image) (t : Thread) (slots : List NotedSlot) (measure : Measure) (call : Call) (answers : Bool) → call.capability ≡ capability
         → invocation image t at (known_with bounds.now slots measure) call answers ≡ called_with image t at (known_with bounds.now slots measure) call answers result }

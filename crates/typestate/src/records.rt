@@ -58,7 +58,11 @@ fn noted_slot(entry: &SlotEntry) -> NotedSlot
     }
 }
 
-/// Appends the slots that a record notes, as changes to the image's. Memory may be refused.
+/// Appends the slots that a record notes, as changes to the image's.
+///
+/// # Errors
+///
+/// Memory may be refused.
 pub fn note_record(changes: &mut Vec<NotedSlot>, noted: &RecordRef<'_>) -> Result<(), AllocError>
     ensures { IfOk result (λ _. changes.new.items ≡ changes.old.items ++ map entry_slot noted.now.slots) }
 {

@@ -135,6 +135,10 @@ impl ThreadSlots<'_, '_, '_> {
 
     /// The system call at a point, up to where a call on a capability begins. No slot may hold what leads outside of the
     /// thread's CNodes: such slots are refused before.
+    ///
+    /// # Errors
+    ///
+    /// What is not known of the call, or is not allowed, as a refusal of the image at this point.
     pub fn system_call(&self, at: Point, bounds: &Bounds) -> Result<SystemCall, Refusal>
         ensures value { (measure : Measure) → after_call self.now.space.image.now self.now.space.thread.now at (known_with bounds.now (slots_of self.now.slots) measure) ≡ goes_on self.now.space.image.now self.now.space.thread.now at (known_with bounds.now (slots_of self.now.slots) measure) result }
         ensures held { CalledOf (HoldsFull (own_slots self.now.space.windows.now (slots_of self.now.slots))) result }

@@ -123,7 +123,11 @@ fn key_in(windows: &[Window], slot: u32) -> Option<SlotKey>
 }
 
 impl Windows {
-    /// These CNodes, with their places in order. Memory may be refused.
+    /// These CNodes, with their places in order.
+    ///
+    /// # Errors
+    ///
+    /// Memory may be refused.
     pub fn new(alloc: Global, list: Vec<Window>) -> Result<Self, AllocError>
         requires { AreApart list.items }
         ensures { IfOk result (λ windows. windows ≡ list.items) }

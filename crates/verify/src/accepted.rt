@@ -51,8 +51,11 @@ impl<'a> Accepted<'a> {
     }
 }
 
-/// Whether the image may be started: `Ok` lends the very bytes that were verified, and an `Err` names
-/// the first rule that is broken.
+/// Whether the image may be started: `Ok` lends the very bytes that were verified.
+///
+/// # Errors
+///
+/// The first rule that is broken, or that memory was refused.
 pub fn verify(alloc: Global, bytes: &[u8]) -> Result<Accepted<'_>, Refusal>
     // The image that the bytes spell is accepted: no rule of acceptance is broken.
     ensures accepted { IfOk result (λ image. IsAccepted bytes.now image) }

@@ -4,7 +4,7 @@ use std::io::Read;
 use std::rt::Files;
 use std::{fs, io};
 
-/// The word that stands for standard input or output in place of a file's name.
+/// The word for standard input or output in place of a file's name.
 pub const STANDARD: &str = "-";
 
 /// Why the system does not read or write a file.

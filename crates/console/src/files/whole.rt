@@ -23,6 +23,10 @@ impl<'a> FileFault<'a> {
 }
 
 /// All bytes of a file.
+///
+/// # Errors
+///
+/// The file cannot be read, and why; or memory is refused.
 pub fn read_bytes<'a, R: Files + AllocGlobal>(
     rt: &R,
     name: &'a str,
@@ -34,6 +38,10 @@ pub fn read_bytes<'a, R: Files + AllocGlobal>(
 }
 
 /// The text of a file.
+///
+/// # Errors
+///
+/// The file cannot be read or is not UTF-8, and why; or memory is refused.
 pub fn read_text<'a, R: Files + AllocGlobal>(
     rt: &R,
     name: &'a str,
@@ -45,6 +53,10 @@ pub fn read_text<'a, R: Files + AllocGlobal>(
 }
 
 /// Writes a file anew.
+///
+/// # Errors
+///
+/// The file cannot be written, and why.
 pub fn write_bytes<'a, R: Files + AllocGlobal>(
     rt: &R,
     name: &'a str,

@@ -72,8 +72,12 @@ fn exceeds(measure: &Measure, words: &[u32; 32], budget: u64) -> bool
     value_at(measure, words) > i128::from(budget)
 }
 
-/// Whether a thread may start in the state of its entry. An `Err` names the first rule that it breaks: it starts within the
-/// ranges (`RangeNotKept`), with these slots (`CapNotThere`), and within its budget (`OverBudget`).
+/// Whether a thread may start in the state of its entry.
+///
+/// # Errors
+///
+/// The first rule that it breaks: it starts within the ranges (`RangeNotKept`), with these slots (`CapNotThere`), and within
+/// its budget (`OverBudget`).
 pub fn entered(
     thread: &ThreadRef<'_>,
     at: Point,

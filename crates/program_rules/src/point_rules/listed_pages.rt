@@ -67,7 +67,11 @@ fn with_page(runs: &mut Vec<PageRun>, last: PageRun, page: u32) -> Result<PageRu
     })
 }
 
-/// The pages, run by run in their order, that the image maps under the thread's root table for an access. Memory may be refused.
+/// The pages, run by run in their order, that the image maps under the thread's root table for an access.
+///
+/// # Errors
+///
+/// Memory may be refused.
 pub fn runs_of(
     alloc: Global,
     image: &ImageRef<'_>,

@@ -45,9 +45,12 @@ fn are_within(bounds: &Bounds, others: &Bounds) -> bool
     bounds.is_within(others)
 }
 
-/// Whether a way on keeps the point with a state that it leads to. An `Err` names the first rule that it breaks: the ranges
-/// are kept (`RangeNotKept`), the slots are the same (`CapNotThere`), and the measure falls (`MeasureNotFalling`), or is
-/// within the budget behind a wait (`OverBudget`).
+/// Whether a way on keeps the point with a state that it leads to.
+///
+/// # Errors
+///
+/// The first rule that it breaks: the ranges are kept (`RangeNotKept`), the slots are the same (`CapNotThere`), and the
+/// measure falls (`MeasureNotFalling`), or is within the budget after a wait (`OverBudget`).
 pub fn kept_at<S: Step>(
     budget: u64,
     at: Point,
@@ -76,8 +79,12 @@ pub fn kept_at<S: Step>(
     Ok(())
 }
 
-/// Whether a way on keeps a point of which this is noted. An `Err` names the first rule that it breaks: the point has a state
-/// (`BadTarget`, or `MeasureNotFalling` where it lacks only a measure), and the way keeps that.
+/// Whether a way on keeps a point of which this is noted.
+///
+/// # Errors
+///
+/// The first rule that it breaks: the point has a state (`BadTarget`, or `MeasureNotFalling` where it lacks only a measure),
+/// and the way keeps that.
 pub fn leads_to<S: Step>(
     budget: u64,
     at: Point,

@@ -3,7 +3,7 @@
 use asm_line::parse_line;
 use std::test::Fail;
 
-/// The kind of a line's fault, or 0 where it is read, and the line behind `|`.
+/// The kind of a line's fault, or 0 where it is read, and the line after `|`.
 const ROWS: &str = "
     0|
     0| \t,

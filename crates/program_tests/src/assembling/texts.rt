@@ -74,7 +74,7 @@ fn texts_without_an_image(rt: HostRuntime) -> Result<(), Fail> {
     Ok(())
 }
 
-/// A line's number, the kind of the fault there, and what stands in its place.
+/// A line's number, the kind of the fault there, and what is in its place.
 const AT_FAULT: &str = "
     1 1 | memory 16
     1 1 | memory 16 4 4
@@ -176,7 +176,7 @@ const AT_FAULT: &str = "
     26 1 | addi x5 x0 -0x5
 ";
 
-/// Lines at fault that begin with a label, which is declared nonetheless. It needs a blank behind it: without one there is
+/// Lines at fault that begin with a label, which is declared nonetheless. It needs a blank after it: without one there is
 /// no label, and the thread's line names none.
 const LABELLED: &str = "
     18 4 | start: addi x5 x0 4096

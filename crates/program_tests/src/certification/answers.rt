@@ -9,11 +9,11 @@ use std::test::Fail;
 use std::time::Clock;
 use tool::{MemorySink, command};
 
-/// What stands in the file that is written, before it is.
+/// What is in the file that is written, before it is.
 const BEFORE: &str = "an older text";
 
-/// Asserts that certifying a text is refused, that what is told on standard error begins so behind the name of its file, and that the
-/// target stays as it was.
+/// Asserts that certifying a text is refused, that its report on standard error begins so after the name of its file, and
+/// that the target stays as it was.
 fn is_refused<R: Files + Input + Env + Clock + AllocGlobal + Abort>(
     rt: &R,
     name: &str,
@@ -42,7 +42,7 @@ fn is_refused<R: Files + Input + Env + Clock + AllocGlobal + Abort>(
 
 #[test]
 fn what_stops_a_certificate_is_told_by_its_line(rt: HostRuntime) -> Result<(), Fail> {
-    // The loop begins on line 18, behind 16 lines of declarations and the entry.
+    // The loop begins on line 18, after 16 lines of declarations and the entry.
     let endless = text_with(&rt, "start: lui x8 2\nnext: lbu x5 0(x8)\nbne x5 x0 next\n")?;
     let told = "18: NoMeasure: thread main, `lbu x5 0(x8)`: no wait on this loop (lines 18 to 19)";
     is_refused(&rt, "endless", endless.as_str(), told)?;

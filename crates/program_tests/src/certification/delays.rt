@@ -1,4 +1,4 @@
-//! What is told of a text that takes long, by a clock that goes on by 300 milliseconds at each look.
+//! What is reported of a text that takes long, by a clock that goes on by 300 milliseconds at each look.
 
 use crate::certification::rows::text_with;
 use progress::Told;

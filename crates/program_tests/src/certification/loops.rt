@@ -31,7 +31,7 @@ fn counting_up_until_equal(rt: HostRuntime) -> Result<(), Fail> {
 #[test]
 fn counting_up_by_strides(rt: HostRuntime) -> Result<(), Fail> {
     // 2 + 104: coefficients are whole numbers, so that the measure of a turn is 104 - x5, which leaves the two of the last turn and
-    // the three behind it where x5 is 99, the most that its range has there
+    // the three after it where x5 is 99, the most that its range has there
     let loops = "start: addi x5 x0 0\naddi x6 x0 100\nnext: addi x5 x5 4\nbltu x5 x6 next\n";
     loops_have(&rt, loops, "main budget 106\n")
 }

@@ -12,7 +12,7 @@ const FRONT: &str =
     irq line 3 bell 1\ncap cs 1 bell 2 0\ncap cs 2 line 0 0\ntable vs 0 pt\nmap vs 0x1000 code 4\n\
     map vs 0x2000 data 3\nthread main cs 28 vs 100 auto 0 start 0x1000\n";
 
-/// What stands behind its loops: it waits for its bell for ever.
+/// What is after its loops: it waits for its bell for ever.
 const WAIT: &str = "wait: addi x10 x0 1\naddi x17 x0 5\necall\njal x0 wait\nend\n";
 
 /// Asserts that a text comes back with certificates, and with these budgets.

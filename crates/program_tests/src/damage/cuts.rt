@@ -1,7 +1,7 @@
 //! Each beginning of a sample.
 //!
 //! All fields have 4 bytes, but for the budget of a thread and the constant of a record, which have 8. A cut falls
-//! into one field, and is told at its first byte. Where the wide ones stand follows from the counts of the headers:
+//! into one field, and is reported at its first byte. Where the wide ones are follows from the counts of the headers:
 //!
 //! | image | before its thread | thread's header | registers | program | records from | wide fields |
 //! |---|---|---|---|---|---|---|
@@ -10,7 +10,7 @@
 //! | worker | 356 | 52 | 3 | 29 words | 548, 608, 704 | 376; 564, 624, 720 |
 //! | .. its receiver | 764 | 52 | 1 | 3 words | 836 | 784; 852 |
 //!
-//! The budget stands behind 20 bytes of its thread, and a constant behind 16 of its record.
+//! The budget is after 20 bytes of its thread, and a constant after 16 of its record.
 
 use crate::images::{bell, solo, worker};
 use model::Refusal;

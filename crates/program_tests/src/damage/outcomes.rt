@@ -13,7 +13,7 @@ pub(crate) struct Outcomes {
     refused: [u32; 27],
 }
 
-/// A refusal's number, and how many images it was told of.
+/// A refusal's number, and for how many images it was given.
 pub(crate) type Row = (usize, u32);
 
 impl Outcomes {

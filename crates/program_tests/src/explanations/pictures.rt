@@ -1,4 +1,4 @@
-//! What stands in pictures.
+//! What is in pictures.
 
 use drawing::{DrawingFault, chart, draw};
 use sinks::{MemorySink, Sink};
@@ -14,7 +14,7 @@ const TEXT: &str =
     thread client cs 28 vs 100 auto 0 again 0x1000\nagain: jal x0 again\nend\n\
     thread server cs2 28 vs2 101 6 0 start 0x1000\nstart: jal x0 start\nend\n";
 
-/// Each piece stands in what was put.
+/// Each piece is in what was put.
 fn has_all(rt: &impl Abort, put: &[u8], pieces: &[&str]) {
     let said = std::str::from_utf8(put).unwrap_or("");
     for piece in pieces {

@@ -5,7 +5,7 @@ use crate::running::sessions::{plays, put_file, take_files};
 use crate::texts::SOLO;
 use std::test::Fail;
 
-/// What stands in the file of an image before it is built.
+/// What is in the file of an image before it is built.
 const BEFORE: &[u8] = b"an older image";
 
 #[test]

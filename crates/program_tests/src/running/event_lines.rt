@@ -6,7 +6,7 @@ use std::alloc::Global;
 use std::test::Fail;
 
 /// What a list is read as: its events, `S`, `T` or `I` with the line of an interrupt, or the number of the first line
-/// at fault. Behind `|` stands the list, in which `/` is the end of a line, `~` a carriage return and `^` the byte 0xFF.
+/// at fault. After `|` is the list, in which `/` is the end of a line, `~` a carriage return and `^` the byte 0xFF.
 const ROWS: &str = "
     |
     |///

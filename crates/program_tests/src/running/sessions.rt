@@ -52,7 +52,7 @@ pub fn answer_to<R: Files + Env + AllocGlobal>(rt: &R, words: &str) -> Result<St
     Ok(format!(in rt.alloc(); "{output}status {status}\n{errors}")?)
 }
 
-/// Plays a session, line for line: behind `$ microsys` stand words, and behind those what the program prints for them.
+/// Plays a session, line for line: after `$ microsys` are words, and after those what the program prints for them.
 /// `@` begins the name of a file.
 pub fn plays<R: Files + Env + AllocGlobal + Abort>(rt: &R, session: &str) -> Result<(), Fail> {
     let folder = name_of(rt, "")?;

@@ -80,7 +80,7 @@ fn solo_counts_and_waits(rt: HostRuntime) -> Result<(), Fail> {
     Ok(())
 }
 
-/// Where the thread's control block stands in the memory of solo.
+/// Where the thread's control block is in the memory of solo.
 const SOLO_TCB: u32 = 0xC000;
 
 #[test]

@@ -1,4 +1,4 @@
-//! Texts of a worker that takes a frame from its pool of memory, writes into it, tells a receiver, and gives the memory
+//! Texts of a worker that takes a frame from its pool of memory, writes into it, informs a receiver, and gives the memory
 //! back, for ever. In memory of 2^17 bytes, with 64 KiB of untyped memory at 0x10000, the worker is at 0x16000.
 
 /// The objects of both.
@@ -31,7 +31,7 @@ pub const SPACES: &str = "
     map vs2 0x1000 code2 4
 ";
 
-/// The worker with its certificate. It begins behind its Revoke.
+/// The worker with its certificate. It begins after its Revoke.
 pub const WORKER: &str = "
     thread worker cs 28 vs 100 28 0 start 0x1000
     reg x17 1
@@ -82,7 +82,7 @@ pub const WORKER: &str = "
     end
 ";
 
-/// The worker with its store behind its Revoke, which takes the page away, and without a certificate.
+/// The worker with its store after its Revoke, which takes the page away, and without a certificate.
 pub const LATE_WORKER: &str = "
     thread worker cs 28 vs 100 100 0 start 0x1000
     reg x17 1
@@ -120,7 +120,7 @@ pub const LATE_WORKER: &str = "
     end
 ";
 
-/// The thread that receives what the worker tells.
+/// The thread that receives what the worker sends.
 pub const RECEIVER: &str = "
     thread receiver cs2 28 vs2 100 3 0 again 0x1000
     reg x17 5

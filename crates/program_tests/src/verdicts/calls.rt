@@ -67,7 +67,7 @@ fn put_values(alloc: Global, lines: &mut String, values: &str) -> Result<(), Fai
     Ok(())
 }
 
-/// The lines of a call: what its registers hold, and perhaps behind `?` a register that may hold any badge.
+/// The lines of a call: what its registers hold, and perhaps after `?` a register that may hold any badge.
 fn put_call(alloc: Global, lines: &mut String, call: &str) -> Result<(), Fail> {
     match call.split_once(" ?") {
         Some((values, unknown)) => {
@@ -93,7 +93,7 @@ fn are_said(rt: &(impl Abort + AllocGlobal), rows: &str) -> Result<(), Fail> {
         for call in calls.split(" ; ") {
             put_call(rt.alloc(), &mut lines, call)?;
         }
-        // Each line is an instruction, and one stands before them.
+        // Each line is an instruction, and one is before them.
         let point = format!(in rt.alloc(); "{}", lines.lines().count())?;
         let want = want.replace(rt.alloc(), '@', point.as_str())?;
         let text = format!(in rt.alloc(); "{}{lines}{}", HEAD, TAIL)?;

@@ -1,4 +1,4 @@
-//! Two threads: a worker that takes a frame from its pool of memory, maps it, writes into it, tells a receiver, and gives the
+//! Two threads: a worker that takes a frame from its pool of memory, maps it, writes into it, informs a receiver, and gives the
 //! memory back, again and again; and a client with its server.
 
 use crate::verdicts::texts::are_said;
@@ -74,7 +74,7 @@ jal x0 again
 end
 ";
 
-/// What is said where lines stand another way.
+/// What is said where lines are put another way.
 const WORKER_ROWS: &str = "
     accepted | 1 memory 17 5
     # Delete of slot 1, where Revoke of it stood.
@@ -160,7 +160,7 @@ jal x0 answer
 end
 ";
 
-/// What is said where lines stand another way.
+/// What is said where lines are put another way.
 const SERVER_ROWS: &str = "
     accepted | 1 memory 17 5
     # The client goes from one call to the next in ten instructions, and the server in six.

@@ -5,7 +5,7 @@ use crate::texts::SOLO;
 use crate::verdicts::texts::{are_said, changed, verdict};
 use std::test::Fail;
 
-/// What is said where lines stand another way.
+/// What is said where lines are put another way.
 const ROWS: &str = "
     accepted | 1 memory 16 4
 

@@ -36,7 +36,7 @@ pub fn verdict(alloc: Global, text: &str) -> Result<String, Fail> {
     verdict_on(alloc, bytes.as_slice())
 }
 
-/// A text with some lines put another way: each change is a line's number, counted from 1, and what stands in its place, and
+/// A text with some lines put another way: each change is a line's number, counted from 1, and what is in its place, and
 /// ` ; ` parts them. `/` is the end of a line.
 pub fn changed(alloc: Global, text: &str, changes: &str) -> Result<String, Fail> {
     let mut found = String::new(alloc);
