@@ -56,7 +56,7 @@ end
 const IN_CALLS: &str = "
 @ 41 # none
 text:38: CapNotThere: thread worker, `addi x17 x0 5`: the slots after it are not those that are noted there
-  slot cs 1 holds untyped memory `pool`, 0x1000 bytes used, made from the boot CNode on the way to line 43, `addi x10 x0 5`, where it is noted with untyped memory `pool`, 0x0 bytes used, made from the boot CNode; write `slot cs 1 0x014000d1 0x1000 boot 0` behind line 39
+  slot cs 1 holds untyped memory `pool`, 0x1000 bytes used, made from the boot CNode on the way to line 43, `addi x10 x0 5`, where it is noted with untyped memory `pool`, 0x0 bytes used, made from the boot CNode; write `slot cs 1 0x014000d1 0x1000 boot 0` after line 39
   known here: x10 0, x11 0, x12 3, x13 32, x14 0x3000, x15 3, x17 1, x18 4, x19 1; measure 10; budget 40
 @ 22 addi x12 x0 2
 text:28: CallRefused: thread worker, `ecall`: Retype (label 1), by Call on a0 = 1, slot cs 1, untyped memory `pool`, 0x0 bytes used: error 3, IllegalOperation
