@@ -5,3 +5,4 @@ pub use Rattle.objects.proofs.Following.{not-open, still-open}
 pub use Rattle.objects.proofs.Frames.{objects-then}
 pub use Rattle.objects.proofs.Kept.{put-there}
 pub use Rattle.objects.proofs.StateLaws.{byte-there, follows, follows-frames, follows-kept, stands-frames, stands-kept, stands-still}
+pub use Rattle.objects.proofs.LiveCalls.{beside-then}

@@ -15,6 +15,7 @@ mod Kept
 mod Leaving
 mod Lines
 mod Linked
+mod LiveCalls
 mod Lists
 mod Made
 mod Making

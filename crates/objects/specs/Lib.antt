@@ -2,6 +2,8 @@ pub mod Changes
 pub mod Contents
 pub mod Frames
 pub mod Laid
+pub mod Lives
+pub mod Premises
 pub mod Rights
 pub mod Standing
 pub mod Tables

@@ -7,6 +7,7 @@ mod beginnings;
 mod calls;
 mod held;
 mod line_calls;
+mod lives;
 mod queue_calls;
 mod records;
 mod rights;
@@ -18,6 +19,7 @@ mod thread_records;
 mod threads;
 mod waiting;
 
+pub use lives::Live;
 pub use records::{Kind, WaitingSender};
 pub use state_laws::{
     a_byte_is_in_memory, a_state_follows_its_frames, a_state_follows_its_slots,

@@ -15,7 +15,7 @@ use slots::SlotStore;
 impl Objects {
     /// Whether the interrupts of a line, 0 to 63, wait for an acknowledgement.
     #[tactic(auto, unfolding(crate::specs::Tables::state_of, crate::specs::Contents::told_by))]
-    pub fn is_masked<S: SlotStore>(&self, store: &S, line: u8) -> bool
+    pub(crate) fn is_masked<S: SlotStore>(&self, store: &S, line: u8) -> bool
         requires { line < 64 }
         ensures { result ≡ (state_of self.now (S.slots store.now) (S.memory store.now)).masked line }
     {
@@ -24,7 +24,7 @@ impl Objects {
 
     /// Masks a line, 0 to 63, or takes its mask away.
     #[tactic(auto, unfolding(crate::specs::Tables::state_of, crate::specs::Contents::told_by))]
-    pub fn set_masked<S: SlotStore>(&mut self, store: &mut S, line: u8, bit: bool)
+    pub(crate) fn set_masked<S: SlotStore>(&mut self, store: &mut S, line: u8, bit: bool)
         requires line { line < 64 }
         requires stands { Standing self.old (S.slots store.old) (S.memory store.old) }
         ensures state { state_of self.new (S.slots store.new) (S.memory store.new)
@@ -39,7 +39,7 @@ impl Objects {
 
     /// Whether a line, 0 to 63, was raised while its interrupt could not be delivered.
     #[tactic(auto, unfolding(crate::specs::Tables::state_of, crate::specs::Contents::told_by))]
-    pub fn is_pending<S: SlotStore>(&self, store: &S, line: u8) -> bool
+    pub(crate) fn is_pending<S: SlotStore>(&self, store: &S, line: u8) -> bool
         requires { line < 64 }
         ensures { result ≡ (state_of self.now (S.slots store.now) (S.memory store.now)).pending line }
     {
@@ -48,7 +48,7 @@ impl Objects {
 
     /// An interrupt of a line, 0 to 63, is pending, or none is.
     #[tactic(auto, unfolding(crate::specs::Tables::state_of, crate::specs::Contents::told_by))]
-    pub fn set_pending<S: SlotStore>(&mut self, store: &mut S, line: u8, bit: bool)
+    pub(crate) fn set_pending<S: SlotStore>(&mut self, store: &mut S, line: u8, bit: bool)
         requires line { line < 64 }
         requires stands { Standing self.old (S.slots store.old) (S.memory store.old) }
         ensures state { state_of self.new (S.slots store.new) (S.memory store.new)

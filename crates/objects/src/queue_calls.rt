@@ -7,6 +7,7 @@ ghost use Rattle.model.specs.Kernel.Retype.{NewEndpoint, NewNotification, NewThr
 ghost use Rattle.model.specs.Kernel.Soundness.{waiting_at};
 ghost use Rattle.model.specs.Kernel.State.{endpoint_at, notification_at};
 ghost use Rattle.objects.specs.Frames.{SameObjects};
+ghost use Rattle.objects.specs.Premises.{IsThere, MayServe, MayWait};
 ghost use Rattle.objects.specs.Standing.{Standing};
 ghost use Rattle.objects.specs.Tables.{state_of};
 ghost use Rattle.objects.specs.thread_records.Threads.{sender_of};
@@ -21,7 +22,7 @@ use slots::SlotStore;
 impl Objects {
     /// A thread that waits nowhere waits after the others at an endpoint where nobody receives, to send this.
     #[tactic(auto, unfolding(crate::specs::Tables::state_of, crate::specs::Contents::told_by))]
-    pub fn push_sender<S: SlotStore>(
+    pub(crate) fn push_sender<S: SlotStore>(
         &mut self,
         store: &mut S,
         endpoint: u32,
@@ -29,10 +30,8 @@ impl Objects {
         sending: Sending,
     )
         requires endpoint { kind_at (state_of self.old (S.slots store.old) (S.memory store.old)) endpoint ≡ Some NewEndpoint }
-        requires there { kind_at (state_of self.old (S.slots store.old) (S.memory store.old)) thread ≡ Some NewThread }
-        requires apart { StandsNowhere (state_of self.old (S.slots store.old) (S.memory store.old)).objects thread }
+        requires may_wait { MayWait self.old (S.slots store.old) (S.memory store.old) thread }
         requires alone { (endpoint_at (state_of self.old (S.slots store.old) (S.memory store.old)) endpoint).receivers ≡ [] }
-        requires stands { Standing self.old (S.slots store.old) (S.memory store.old) }
         ensures state { state_of self.new (S.slots store.new) (S.memory store.new)
             ≡ with_sender (state_of self.old (S.slots store.old) (S.memory store.old)) endpoint (sender_of thread sending) }
         ensures slots { S.slots store.new ≡ S.slots store.old }
@@ -45,12 +44,10 @@ impl Objects {
 
     /// A thread that waits nowhere waits after the others at an endpoint where nobody sends, to receive.
     #[tactic(auto, unfolding(crate::specs::Tables::state_of, crate::specs::Contents::told_by))]
-    pub fn push_receiver<S: SlotStore>(&mut self, store: &mut S, endpoint: u32, thread: u32)
+    pub(crate) fn push_receiver<S: SlotStore>(&mut self, store: &mut S, endpoint: u32, thread: u32)
         requires endpoint { kind_at (state_of self.old (S.slots store.old) (S.memory store.old)) endpoint ≡ Some NewEndpoint }
-        requires there { kind_at (state_of self.old (S.slots store.old) (S.memory store.old)) thread ≡ Some NewThread }
-        requires apart { StandsNowhere (state_of self.old (S.slots store.old) (S.memory store.old)).objects thread }
+        requires may_wait { MayWait self.old (S.slots store.old) (S.memory store.old) thread }
         requires alone { (endpoint_at (state_of self.old (S.slots store.old) (S.memory store.old)) endpoint).senders ≡ [] }
-        requires stands { Standing self.old (S.slots store.old) (S.memory store.old) }
         ensures state { state_of self.new (S.slots store.new) (S.memory store.new)
             ≡ with_receiver (state_of self.old (S.slots store.old) (S.memory store.old)) endpoint thread }
         ensures slots { S.slots store.new ≡ S.slots store.old }
@@ -63,11 +60,14 @@ impl Objects {
 
     /// A thread that waits nowhere waits after the others at a notification.
     #[tactic(auto, unfolding(crate::specs::Tables::state_of, crate::specs::Contents::told_by))]
-    pub fn push_waiter<S: SlotStore>(&mut self, store: &mut S, notification: u32, thread: u32)
+    pub(crate) fn push_waiter<S: SlotStore>(
+        &mut self,
+        store: &mut S,
+        notification: u32,
+        thread: u32,
+    )
         requires notification { kind_at (state_of self.old (S.slots store.old) (S.memory store.old)) notification ≡ Some NewNotification }
-        requires there { kind_at (state_of self.old (S.slots store.old) (S.memory store.old)) thread ≡ Some NewThread }
-        requires apart { StandsNowhere (state_of self.old (S.slots store.old) (S.memory store.old)).objects thread }
-        requires stands { Standing self.old (S.slots store.old) (S.memory store.old) }
+        requires may_wait { MayWait self.old (S.slots store.old) (S.memory store.old) thread }
         ensures state { state_of self.new (S.slots store.new) (S.memory store.new)
             ≡ with_waiter (state_of self.old (S.slots store.old) (S.memory store.old)) notification thread }
         ensures slots { S.slots store.new ≡ S.slots store.old }
@@ -80,14 +80,12 @@ impl Objects {
 
     /// Takes the first thread that waits at an endpoint to send, with what it sends.
     #[tactic(auto, unfolding(crate::specs::Tables::state_of, crate::specs::Contents::told_by))]
-    pub fn take_sender<S: SlotStore>(
+    pub(crate) fn take_sender<S: SlotStore>(
         &mut self,
         store: &mut S,
         endpoint: u32,
     ) -> Option<WaitingSender>
-        requires endpoint { kind_at (state_of self.old (S.slots store.old) (S.memory store.old)) endpoint ≡ Some NewEndpoint }
-        requires one_sided { IsOneSided (endpoint_at (state_of self.old (S.slots store.old) (S.memory store.old)) endpoint) }
-        requires stands { Standing self.old (S.slots store.old) (S.memory store.old) }
+        requires { MayServe self.old (S.slots store.old) (S.memory store.old) endpoint }
         ensures state { SenderTaken (state_of self.old (S.slots store.old) (S.memory store.old)) endpoint result (state_of self.new (S.slots store.new) (S.memory store.new)) }
         ensures slots { S.slots store.new ≡ S.slots store.old }
         ensures bytes { SameObjects (state_of self.old (S.slots store.old) (S.memory store.old)) (state_of self.new (S.slots store.new) (S.memory store.new)) (S.memory store.old) (S.memory store.new) }
@@ -106,10 +104,12 @@ impl Objects {
 
     /// Takes the first thread that waits at an endpoint to receive.
     #[tactic(auto, unfolding(crate::specs::Tables::state_of, crate::specs::Contents::told_by))]
-    pub fn take_receiver<S: SlotStore>(&mut self, store: &mut S, endpoint: u32) -> Option<u32>
-        requires endpoint { kind_at (state_of self.old (S.slots store.old) (S.memory store.old)) endpoint ≡ Some NewEndpoint }
-        requires one_sided { IsOneSided (endpoint_at (state_of self.old (S.slots store.old) (S.memory store.old)) endpoint) }
-        requires stands { Standing self.old (S.slots store.old) (S.memory store.old) }
+    pub(crate) fn take_receiver<S: SlotStore>(
+        &mut self,
+        store: &mut S,
+        endpoint: u32,
+    ) -> Option<u32>
+        requires { MayServe self.old (S.slots store.old) (S.memory store.old) endpoint }
         ensures state { ReceiverTaken (state_of self.old (S.slots store.old) (S.memory store.old)) endpoint result (state_of self.new (S.slots store.new) (S.memory store.new)) }
         ensures slots { S.slots store.new ≡ S.slots store.old }
         ensures bytes { SameObjects (state_of self.old (S.slots store.old) (S.memory store.old)) (state_of self.new (S.slots store.new) (S.memory store.new)) (S.memory store.old) (S.memory store.new) }
@@ -128,9 +128,12 @@ impl Objects {
 
     /// Takes the first thread that waits at a notification.
     #[tactic(auto, unfolding(crate::specs::Tables::state_of, crate::specs::Contents::told_by))]
-    pub fn take_waiter<S: SlotStore>(&mut self, store: &mut S, notification: u32) -> Option<u32>
-        requires there { kind_at (state_of self.old (S.slots store.old) (S.memory store.old)) notification ≡ Some NewNotification }
-        requires stands { Standing self.old (S.slots store.old) (S.memory store.old) }
+    pub(crate) fn take_waiter<S: SlotStore>(
+        &mut self,
+        store: &mut S,
+        notification: u32,
+    ) -> Option<u32>
+        requires { IsThere self.old (S.slots store.old) (S.memory store.old) NewNotification notification }
         ensures state { WaiterTaken (state_of self.old (S.slots store.old) (S.memory store.old)) notification result (state_of self.new (S.slots store.new) (S.memory store.new)) }
         ensures slots { S.slots store.new ≡ S.slots store.old }
         ensures bytes { SameObjects (state_of self.old (S.slots store.old) (S.memory store.old)) (state_of self.new (S.slots store.new) (S.memory store.new)) (S.memory store.old) (S.memory store.new) }
@@ -155,7 +158,7 @@ impl Objects {
 
     /// The word of a notification, or 0 where none is.
     #[tactic(auto, unfolding(crate::specs::Tables::state_of, crate::specs::Contents::told_by))]
-    pub fn word<S: SlotStore>(&self, store: &S, notification: u32) -> u32
+    pub(crate) fn word<S: SlotStore>(&self, store: &S, notification: u32) -> u32
         requires { Standing self.now (S.slots store.now) (S.memory store.now) }
         ensures { result ≡ (notification_at (state_of self.now (S.slots store.now) (S.memory store.now)) notification).word }
     {
@@ -167,9 +170,8 @@ impl Objects {
 
     /// Sets the word of a notification.
     #[tactic(auto, unfolding(crate::specs::Tables::state_of, crate::specs::Contents::told_by))]
-    pub fn set_word<S: SlotStore>(&mut self, store: &mut S, notification: u32, word: u32)
-        requires there { kind_at (state_of self.old (S.slots store.old) (S.memory store.old)) notification ≡ Some NewNotification }
-        requires stands { Standing self.old (S.slots store.old) (S.memory store.old) }
+    pub(crate) fn set_word<S: SlotStore>(&mut self, store: &mut S, notification: u32, word: u32)
+        requires { IsThere self.old (S.slots store.old) (S.memory store.old) NewNotification notification }
         ensures state { state_of self.new (S.slots store.new) (S.memory store.new)
             ≡ with_word (state_of self.old (S.slots store.old) (S.memory store.old)) notification word }
         ensures slots { S.slots store.new ≡ S.slots store.old }

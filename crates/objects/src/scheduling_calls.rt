@@ -8,6 +8,7 @@ ghost use Rattle.model.specs.Kernel.Scheduling.{current, leaves, to_tail};
 ghost use Rattle.model.specs.Kernel.State.{thread_at, with_thread};
 ghost use Rattle.model.specs.Kernel.ThreadCalls.{with_priority};
 ghost use Rattle.objects.specs.Frames.{SameObjects};
+ghost use Rattle.objects.specs.Premises.{IsThere};
 ghost use Rattle.objects.specs.Standing.{Standing};
 ghost use Rattle.objects.specs.Tables.{state_of};
 
@@ -25,7 +26,7 @@ impl Objects {
     }
 
     /// How many ticks a thread runs on before it goes to the tail of its priority.
-    pub fn slice<S: SlotStore>(&self, store: &S, thread: u32) -> u8
+    pub(crate) fn slice<S: SlotStore>(&self, store: &S, thread: u32) -> u8
         requires { Standing self.now (S.slots store.now) (S.memory store.now) }
         ensures { result ≡ (thread_at (state_of self.now (S.slots store.now) (S.memory store.now)) thread).slice }
     {
@@ -38,9 +39,8 @@ impl Objects {
 
     /// Sets how many ticks a thread runs on.
     #[tactic(auto, unfolding(crate::specs::Tables::state_of, crate::specs::Contents::told_by))]
-    pub fn set_slice<S: SlotStore>(&mut self, store: &mut S, thread: u32, slice: u8)
-        requires there { kind_at (state_of self.old (S.slots store.old) (S.memory store.old)) thread ≡ Some NewThread }
-        requires stands { Standing self.old (S.slots store.old) (S.memory store.old) }
+    pub(crate) fn set_slice<S: SlotStore>(&mut self, store: &mut S, thread: u32, slice: u8)
+        requires { IsThere self.old (S.slots store.old) (S.memory store.old) NewThread thread }
         ensures state { state_of self.new (S.slots store.new) (S.memory store.new)
             ≡ with_thread (state_of self.old (S.slots store.old) (S.memory store.old)) thread (record (thread_at (state_of self.old (S.slots store.old) (S.memory store.old)) thread) { slice = slice }) }
         ensures slots { S.slots store.new ≡ S.slots store.old }
@@ -54,8 +54,7 @@ impl Objects {
     /// A thread goes to the tail of its priority.
     #[tactic(auto, unfolding(crate::specs::Tables::state_of, crate::specs::Contents::told_by))]
     pub fn to_tail<S: SlotStore>(&mut self, store: &mut S, thread: u32)
-        requires there { kind_at (state_of self.old (S.slots store.old) (S.memory store.old)) thread ≡ Some NewThread }
-        requires stands { Standing self.old (S.slots store.old) (S.memory store.old) }
+        requires { IsThere self.old (S.slots store.old) (S.memory store.old) NewThread thread }
         ensures state { state_of self.new (S.slots store.new) (S.memory store.new)
             ≡ to_tail (state_of self.old (S.slots store.old) (S.memory store.old)) thread }
         ensures slots { S.slots store.new ≡ S.slots store.old }
@@ -67,9 +66,8 @@ impl Objects {
     }
 
     /// Sets the priority of a thread: one that runs goes to its tail, with the slice that it has.
-    pub fn set_priority<S: SlotStore>(&mut self, store: &mut S, thread: u32, priority: u8)
-        requires there { kind_at (state_of self.old (S.slots store.old) (S.memory store.old)) thread ≡ Some NewThread }
-        requires stands { Standing self.old (S.slots store.old) (S.memory store.old) }
+    pub(crate) fn set_priority<S: SlotStore>(&mut self, store: &mut S, thread: u32, priority: u8)
+        requires { IsThere self.old (S.slots store.old) (S.memory store.old) NewThread thread }
         ensures state { state_of self.new (S.slots store.new) (S.memory store.new)
             ≡ with_priority (state_of self.old (S.slots store.old) (S.memory store.old)) thread priority }
         ensures slots { S.slots store.new ≡ S.slots store.old }
@@ -86,9 +84,8 @@ impl Objects {
 
     /// A thread leaves every queue and the ready list, and nobody has the right to reply to it any more.
     #[tactic(auto, unfolding(crate::specs::Tables::state_of, crate::specs::Contents::told_by))]
-    pub fn leave<S: SlotStore>(&mut self, store: &mut S, thread: u32)
-        requires there { kind_at (state_of self.old (S.slots store.old) (S.memory store.old)) thread ≡ Some NewThread }
-        requires stands { Standing self.old (S.slots store.old) (S.memory store.old) }
+    pub(crate) fn leave<S: SlotStore>(&mut self, store: &mut S, thread: u32)
+        requires { IsThere self.old (S.slots store.old) (S.memory store.old) NewThread thread }
         ensures state { state_of self.new (S.slots store.new) (S.memory store.new)
             ≡ leaves (state_of self.old (S.slots store.old) (S.memory store.old)) thread }
         ensures slots { S.slots store.new ≡ S.slots store.old }

@@ -13,6 +13,7 @@ ghost use Rattle.model.specs.Shared.Lists.{times_in};
 ghost use Rattle.objects.specs.Changes.{vacated};
 ghost use Rattle.objects.specs.Contents.{is_frame, is_thread_kind, object_in};
 ghost use Rattle.objects.specs.Frames.{SameBesideRecords};
+ghost use Rattle.objects.specs.Premises.{HasLeft, IsThere};
 ghost use Rattle.objects.specs.Rights.{has_right};
 ghost use Rattle.objects.specs.Standing.{Standing};
 ghost use Rattle.objects.specs.Tables.{contents_of, kind_in, ready_at, state_of, thread_in, waiting_of};
@@ -205,9 +206,7 @@ impl Objects {
 
     /// Nothing is at an offset any more. No thread that is there waits or is ready, and nobody may reply to it.
     pub(crate) fn vacate<S: SlotStore>(&mut self, store: &mut S, offset: u32)
-        requires waits_not { (queue : ℕ) → times_in (waiting_of self.old (S.memory store.old) queue) offset ≡ 0 }
-        requires ready_not { (priority : ℕ) → times_in (ready_at self.old (S.memory store.old) priority) offset ≡ 0 }
-        requires rights_not { (holder : ℕ) → has_right (thread_in self.old (S.memory store.old) holder) offset ≡ false }
+        requires gone { HasLeft self.old (S.memory store.old) offset }
         requires stands { Standing self.old (S.slots store.old) (S.memory store.old) }
         ensures state { state_of self.new (S.slots store.new) (S.memory store.new)
             ≡ vacated (state_of self.old (S.slots store.old) (S.memory store.old)) offset }
@@ -222,8 +221,7 @@ impl Objects {
 
     /// Makes a thread runnable that does not run: it goes to the tail of its priority, with a full slice.
     pub(crate) fn wake_at<S: SlotStore>(&mut self, store: &mut S, offset: u32)
-        requires there { kind_at (state_of self.old (S.slots store.old) (S.memory store.old)) offset ≡ Some NewThread }
-        requires stands { Standing self.old (S.slots store.old) (S.memory store.old) }
+        requires { IsThere self.old (S.slots store.old) (S.memory store.old) NewThread offset }
         ensures state { state_of self.new (S.slots store.new) (S.memory store.new)
             ≡ wake (state_of self.old (S.slots store.old) (S.memory store.old)) offset }
         ensures slots { S.slots store.new ≡ S.slots store.old }

@@ -7,6 +7,7 @@ ghost use Rattle.model.specs.Kernel.Retype.{NewThread};
 ghost use Rattle.model.specs.Kernel.Scheduling.{block, wake};
 ghost use Rattle.model.specs.Kernel.State.{thread_at, with_thread};
 ghost use Rattle.objects.specs.Frames.{SameObjects};
+ghost use Rattle.objects.specs.Premises.{IsThere};
 ghost use Rattle.objects.specs.Standing.{Standing};
 ghost use Rattle.objects.specs.Tables.{state_of};
 ghost use Rattle.objects.specs.thread_records.Threads.{status_of};
@@ -20,7 +21,7 @@ use slots::SlotStore;
 
 impl Objects {
     /// The registers of a thread: those of a new one, where none is.
-    pub fn registers<S: SlotStore>(&self, store: &S, thread: u32) -> Regs
+    pub(crate) fn registers<S: SlotStore>(&self, store: &S, thread: u32) -> Regs
         requires { Standing self.now (S.slots store.now) (S.memory store.now) }
         ensures { result ≡ (thread_at (state_of self.now (S.slots store.now) (S.memory store.now)) thread).registers }
     {
@@ -32,7 +33,7 @@ impl Objects {
     }
 
     /// The program counter of a thread: that of a new one, where none is.
-    pub fn pc<S: SlotStore>(&self, store: &S, thread: u32) -> u32
+    pub(crate) fn pc<S: SlotStore>(&self, store: &S, thread: u32) -> u32
         requires { Standing self.now (S.slots store.now) (S.memory store.now) }
         ensures { result ≡ (thread_at (state_of self.now (S.slots store.now) (S.memory store.now)) thread).registers.pc }
     {
@@ -44,7 +45,7 @@ impl Objects {
     }
 
     /// Whether a thread runs, and else what it waits for.
-    pub fn status<S: SlotStore>(&self, store: &S, thread: u32) -> Status
+    pub(crate) fn status<S: SlotStore>(&self, store: &S, thread: u32) -> Status
         requires { Standing self.now (S.slots store.now) (S.memory store.now) }
         ensures { status_of result ≡ (thread_at (state_of self.now (S.slots store.now) (S.memory store.now)) thread).status }
     {
@@ -56,7 +57,7 @@ impl Objects {
     }
 
     /// The thread that a thread has the right to reply to.
-    pub fn caller<S: SlotStore>(&self, store: &S, thread: u32) -> Option<u32>
+    pub(crate) fn caller<S: SlotStore>(&self, store: &S, thread: u32) -> Option<u32>
         requires { Standing self.now (S.slots store.now) (S.memory store.now) }
         ensures { result ≡ (thread_at (state_of self.now (S.slots store.now) (S.memory store.now)) thread).caller }
     {
@@ -68,7 +69,7 @@ impl Objects {
     }
 
     /// The priority of a thread.
-    pub fn priority<S: SlotStore>(&self, store: &S, thread: u32) -> u8
+    pub(crate) fn priority<S: SlotStore>(&self, store: &S, thread: u32) -> u8
         requires { Standing self.now (S.slots store.now) (S.memory store.now) }
         ensures { result ≡ (thread_at (state_of self.now (S.slots store.now) (S.memory store.now)) thread).priority }
     {
@@ -80,7 +81,7 @@ impl Objects {
     }
 
     /// The capability address of the endpoint that takes a thread's faults, or 0.
-    pub fn fault_address<S: SlotStore>(&self, store: &S, thread: u32) -> u32
+    pub(crate) fn fault_address<S: SlotStore>(&self, store: &S, thread: u32) -> u32
         requires { Standing self.now (S.slots store.now) (S.memory store.now) }
         ensures { result ≡ (thread_at (state_of self.now (S.slots store.now) (S.memory store.now)) thread).fault_address }
     {
@@ -93,9 +94,13 @@ impl Objects {
 
     /// Sets the registers of a thread.
     #[tactic(auto, unfolding(crate::specs::Tables::state_of, crate::specs::Contents::told_by))]
-    pub fn set_registers<S: SlotStore>(&mut self, store: &mut S, thread: u32, registers: Regs)
-        requires there { kind_at (state_of self.old (S.slots store.old) (S.memory store.old)) thread ≡ Some NewThread }
-        requires stands { Standing self.old (S.slots store.old) (S.memory store.old) }
+    pub(crate) fn set_registers<S: SlotStore>(
+        &mut self,
+        store: &mut S,
+        thread: u32,
+        registers: Regs,
+    )
+        requires { IsThere self.old (S.slots store.old) (S.memory store.old) NewThread thread }
         ensures state { state_of self.new (S.slots store.new) (S.memory store.new)
             ≡ with_registers (state_of self.old (S.slots store.old) (S.memory store.old)) thread registers }
         ensures slots { S.slots store.new ≡ S.slots store.old }
@@ -108,10 +113,14 @@ impl Objects {
 
     /// A thread has the right to reply to this one, which is there, or no such right.
     #[tactic(auto, unfolding(crate::specs::Tables::state_of, crate::specs::Contents::told_by))]
-    pub fn set_caller<S: SlotStore>(&mut self, store: &mut S, thread: u32, caller: Option<u32>)
-        requires there { kind_at (state_of self.old (S.slots store.old) (S.memory store.old)) thread ≡ Some NewThread }
+    pub(crate) fn set_caller<S: SlotStore>(
+        &mut self,
+        store: &mut S,
+        thread: u32,
+        caller: Option<u32>,
+    )
+        requires holder { IsThere self.old (S.slots store.old) (S.memory store.old) NewThread thread }
         requires caller { (named : ℕ) → caller ≡ Some named → kind_at (state_of self.old (S.slots store.old) (S.memory store.old)) named ≡ Some NewThread }
-        requires stands { Standing self.old (S.slots store.old) (S.memory store.old) }
         ensures state { state_of self.new (S.slots store.new) (S.memory store.new)
             ≡ with_caller (state_of self.old (S.slots store.old) (S.memory store.old)) thread caller }
         ensures slots { S.slots store.new ≡ S.slots store.old }
@@ -125,9 +134,13 @@ impl Objects {
 
     /// Sets the capability address of the endpoint that takes a thread's faults; 0 is none.
     #[tactic(auto, unfolding(crate::specs::Tables::state_of, crate::specs::Contents::told_by))]
-    pub fn set_fault_address<S: SlotStore>(&mut self, store: &mut S, thread: u32, address: u32)
-        requires there { kind_at (state_of self.old (S.slots store.old) (S.memory store.old)) thread ≡ Some NewThread }
-        requires stands { Standing self.old (S.slots store.old) (S.memory store.old) }
+    pub(crate) fn set_fault_address<S: SlotStore>(
+        &mut self,
+        store: &mut S,
+        thread: u32,
+        address: u32,
+    )
+        requires { IsThere self.old (S.slots store.old) (S.memory store.old) NewThread thread }
         ensures state { state_of self.new (S.slots store.new) (S.memory store.new)
             ≡ with_thread (state_of self.old (S.slots store.old) (S.memory store.old)) thread (record (thread_at (state_of self.old (S.slots store.old) (S.memory store.old)) thread) { fault_address = address }) }
         ensures slots { S.slots store.new ≡ S.slots store.old }
@@ -140,9 +153,8 @@ impl Objects {
 
     /// A thread stops running, for this reason.
     #[tactic(auto, unfolding(crate::specs::Tables::state_of, crate::specs::Contents::told_by))]
-    pub fn block<S: SlotStore>(&mut self, store: &mut S, thread: u32, status: Status)
-        requires there { kind_at (state_of self.old (S.slots store.old) (S.memory store.old)) thread ≡ Some NewThread }
-        requires stands { Standing self.old (S.slots store.old) (S.memory store.old) }
+    pub(crate) fn block<S: SlotStore>(&mut self, store: &mut S, thread: u32, status: Status)
+        requires { IsThere self.old (S.slots store.old) (S.memory store.old) NewThread thread }
         ensures state { state_of self.new (S.slots store.new) (S.memory store.new)
             ≡ block (state_of self.old (S.slots store.old) (S.memory store.old)) thread (status_of status) }
         ensures slots { S.slots store.new ≡ S.slots store.old }
@@ -156,9 +168,8 @@ impl Objects {
 
     /// Makes a thread runnable that does not run: it goes to the tail of its priority, with a full slice.
     #[tactic(auto, unfolding(crate::specs::Tables::state_of, crate::specs::Contents::told_by))]
-    pub fn wake<S: SlotStore>(&mut self, store: &mut S, thread: u32)
-        requires there { kind_at (state_of self.old (S.slots store.old) (S.memory store.old)) thread ≡ Some NewThread }
-        requires stands { Standing self.old (S.slots store.old) (S.memory store.old) }
+    pub(crate) fn wake<S: SlotStore>(&mut self, store: &mut S, thread: u32)
+        requires { IsThere self.old (S.slots store.old) (S.memory store.old) NewThread thread }
         ensures state { state_of self.new (S.slots store.new) (S.memory store.new)
             ≡ wake (state_of self.old (S.slots store.old) (S.memory store.old)) thread }
         ensures slots { S.slots store.new ≡ S.slots store.old }

@@ -6,6 +6,7 @@ ghost use Rattle.model.specs.Kernel.Retype.{NewThread};
 ghost use Rattle.model.specs.Kernel.Scheduling.{is_runnable, to_tail, unready};
 ghost use Rattle.model.specs.Kernel.State.{thread_at, with_thread};
 ghost use Rattle.objects.specs.Frames.{SameBesideRecords};
+ghost use Rattle.objects.specs.Premises.{IsThere};
 ghost use Rattle.objects.specs.Standing.{Standing};
 ghost use Rattle.objects.specs.Tables.{state_of};
 ghost use Rattle.objects.specs.thread_records.Threads.{status_of};
@@ -18,8 +19,7 @@ use slots::SlotStore;
 impl Objects {
     /// Sets whether a thread runs, and else what it waits for.
     pub(crate) fn set_status_at<S: SlotStore>(&mut self, store: &mut S, offset: u32, status: Status)
-        requires there { kind_at (state_of self.old (S.slots store.old) (S.memory store.old)) offset ≡ Some NewThread }
-        requires stands { Standing self.old (S.slots store.old) (S.memory store.old) }
+        requires { IsThere self.old (S.slots store.old) (S.memory store.old) NewThread offset }
         ensures state { state_of self.new (S.slots store.new) (S.memory store.new)
             ≡ with_thread (state_of self.old (S.slots store.old) (S.memory store.old)) offset (record (thread_at (state_of self.old (S.slots store.old) (S.memory store.old)) offset) { status = status_of status }) }
         ensures slots { S.slots store.new ≡ S.slots store.old }
@@ -32,8 +32,7 @@ impl Objects {
 
     /// Sets how many ticks a thread runs on.
     pub(crate) fn set_slice_at<S: SlotStore>(&mut self, store: &mut S, offset: u32, slice: u8)
-        requires there { kind_at (state_of self.old (S.slots store.old) (S.memory store.old)) offset ≡ Some NewThread }
-        requires stands { Standing self.old (S.slots store.old) (S.memory store.old) }
+        requires { IsThere self.old (S.slots store.old) (S.memory store.old) NewThread offset }
         ensures state { state_of self.new (S.slots store.new) (S.memory store.new)
             ≡ with_thread (state_of self.old (S.slots store.old) (S.memory store.old)) offset (record (thread_at (state_of self.old (S.slots store.old) (S.memory store.old)) offset) { slice = slice }) }
         ensures slots { S.slots store.new ≡ S.slots store.old }
@@ -46,8 +45,7 @@ impl Objects {
 
     /// Sets the priority of a thread, which may be in the ready list at another one.
     pub(crate) fn set_priority_at<S: SlotStore>(&mut self, store: &mut S, offset: u32, priority: u8)
-        requires there { kind_at (state_of self.old (S.slots store.old) (S.memory store.old)) offset ≡ Some NewThread }
-        requires stands { Standing self.old (S.slots store.old) (S.memory store.old) }
+        requires { IsThere self.old (S.slots store.old) (S.memory store.old) NewThread offset }
         ensures state { state_of self.new (S.slots store.new) (S.memory store.new)
             ≡ with_thread (state_of self.old (S.slots store.old) (S.memory store.old)) offset (record (thread_at (state_of self.old (S.slots store.old) (S.memory store.old)) offset) { priority = priority }) }
         ensures slots { S.slots store.new ≡ S.slots store.old }
@@ -60,8 +58,7 @@ impl Objects {
 
     /// Whether a thread runs.
     pub(crate) fn runs<S: SlotStore>(&self, store: &S, offset: u32) -> bool
-        requires there { kind_at (state_of self.now (S.slots store.now) (S.memory store.now)) offset ≡ Some NewThread }
-        requires stands { Standing self.now (S.slots store.now) (S.memory store.now) }
+        requires { IsThere self.now (S.slots store.now) (S.memory store.now) NewThread offset }
         ensures { result ≡ is_runnable (thread_at (state_of self.now (S.slots store.now) (S.memory store.now)) offset).status }
     {
         is_running(thread_records::status(store, offset))
@@ -81,8 +78,7 @@ impl Objects {
 
     /// A thread goes to the tail of its priority.
     pub(crate) fn to_tail_at<S: SlotStore>(&mut self, store: &mut S, offset: u32)
-        requires there { kind_at (state_of self.old (S.slots store.old) (S.memory store.old)) offset ≡ Some NewThread }
-        requires stands { Standing self.old (S.slots store.old) (S.memory store.old) }
+        requires { IsThere self.old (S.slots store.old) (S.memory store.old) NewThread offset }
         ensures state { state_of self.new (S.slots store.new) (S.memory store.new) ≡ to_tail (state_of self.old (S.slots store.old) (S.memory store.old)) offset }
         ensures slots { S.slots store.new ≡ S.slots store.old }
         ensures bytes { SameBesideRecords (state_of self.old (S.slots store.old) (S.memory store.old)) (S.memory store.old) (S.memory store.new) }

@@ -5,6 +5,7 @@ ghost use Rattle.model.specs.Kernel.Kinds.{kind_at};
 ghost use Rattle.model.specs.Kernel.Retype.{NewThread};
 ghost use Rattle.model.specs.Kernel.Scheduling.{head_of};
 ghost use Rattle.objects.specs.Frames.{SameBesideRecords};
+ghost use Rattle.objects.specs.Premises.{MayWait};
 ghost use Rattle.objects.specs.Standing.{Standing};
 ghost use Rattle.objects.specs.Tables.{sending_in, state_of, waiting_of};
 ghost use Rattle.objects.specs.Waiting.{StandsNowhere, changed_at, has_waiting, joined, served};
@@ -24,10 +25,8 @@ impl Objects {
         thread: u32,
         sending: Option<Sending>,
     )
-        requires apart { StandsNowhere (state_of self.old (S.slots store.old) (S.memory store.old)).objects thread }
-        requires there { kind_at (state_of self.old (S.slots store.old) (S.memory store.old)) thread ≡ Some NewThread }
+        requires may_wait { MayWait self.old (S.slots store.old) (S.memory store.old) thread }
         requires queue { has_waiting (kind_at (state_of self.old (S.slots store.old) (S.memory store.old)) queue) ≡ true }
-        requires stands { Standing self.old (S.slots store.old) (S.memory store.old) }
         ensures state { state_of self.new (S.slots store.new) (S.memory store.new)
             ≡ changed_at (state_of self.old (S.slots store.old) (S.memory store.old)) queue (joined thread sending) }
         ensures slots { S.slots store.new ≡ S.slots store.old }
@@ -41,9 +40,7 @@ impl Objects {
 
     /// A thread that is in no queue is to send this, or to receive.
     fn set_sending_at<S: SlotStore>(&self, store: &mut S, thread: u32, sending: Option<Sending>)
-        requires apart { StandsNowhere (state_of self.now (S.slots store.old) (S.memory store.old)).objects thread }
-        requires there { kind_at (state_of self.now (S.slots store.old) (S.memory store.old)) thread ≡ Some NewThread }
-        requires stands { Standing self.now (S.slots store.old) (S.memory store.old) }
+        requires { MayWait self.now (S.slots store.old) (S.memory store.old) thread }
         ensures state { state_of self.now (S.slots store.new) (S.memory store.new) ≡ state_of self.now (S.slots store.old) (S.memory store.old) }
         ensures sending { sending_in self.now (S.memory store.new) thread ≡ sending }
         ensures slots { S.slots store.new ≡ S.slots store.old }

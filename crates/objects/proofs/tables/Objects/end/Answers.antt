@@ -7,6 +7,13 @@ use Rattle.objects.specs.Changes.{vacated}
 use Rattle.objects.specs.Tables.{state_of}
 use Rattle.removal_laws.specs.Steps.{ends_thread}
 
+pub vacate-requires-clause-gone : goal.vacate-requires-clause-gone
+vacate-requires-clause-gone g c = record {
+  waits_not = c.forget_at.ensures.waits_not;
+  ready_not = c.forget_at.ensures.ready_not;
+  rights_not = c.forget_at.ensures.rights_not;
+}
+
 pub returns-clause-state : goal.returns-clause-state
 returns-clause-state g c = c.vacate.ensures.state ∙ ap (λ (s : State). vacated s c.args.offset) c.forget_at.ensures.state
 

@@ -29,13 +29,13 @@ pub push-requires-clause-apart : goal.push-requires-clause-apart
 push-requires-clause-apart g c =
     let stands = rw (← c.self.view_is) at c.set_sending_at.ensures.stands in
     let still = rw (← c.self.view_is) at c.set_sending_at.ensures.state in
-    let apart = subst (λ (s : State). StandsNowhere s.objects c.args.thread) (sym still) (rw (← c.self.view_is) at c.requires.apart) in
+    let apart = subst (λ (s : State). StandsNowhere s.objects c.args.thread) (sym still) (rw (← c.self.view_is) at c.requires.may_wait.apart) in
     nowhere-here (the_view c.self.inside) (g.S.SlotMap.slots c.set_sending_at.new.store) (g.S.SlotStore.memory c.set_sending_at.new.store) stands c.args.thread apart
 
 pub push-requires-clause-there : goal.push-requires-clause-there
 push-requires-clause-there g c =
     let still = rw (← c.self.view_is) at c.set_sending_at.ensures.state in
-    let there = ap (λ (s : State). kind_at s c.args.thread) still ∙ (rw (← c.self.view_is) at c.requires.there) in
+    let there = ap (λ (s : State). kind_at s c.args.thread) still ∙ (rw (← c.self.view_is) at c.requires.may_wait.there) in
     ap is_thread_kind (of-state (the_view c.self.inside) (g.S.SlotMap.slots c.set_sending_at.new.store) (g.S.SlotStore.memory c.set_sending_at.new.store) c.args.thread there)
 
 pub push-requires-clause-waited : goal.push-requires-clause-waited
@@ -48,8 +48,8 @@ pub returns-clause-state : goal.returns-clause-state
 returns-clause-state g c =
     let stands = rw (← c.self.view_is) at c.set_sending_at.ensures.stands in
     let still = rw (← c.self.view_is) at c.set_sending_at.ensures.state in
-    let apart = subst (λ (s : State). StandsNowhere s.objects c.args.thread) (sym still) (rw (← c.self.view_is) at c.requires.apart) in
-    let there = ap (λ (s : State). kind_at s c.args.thread) still ∙ (rw (← c.self.view_is) at c.requires.there) in
+    let apart = subst (λ (s : State). StandsNowhere s.objects c.args.thread) (sym still) (rw (← c.self.view_is) at c.requires.may_wait.apart) in
+    let there = ap (λ (s : State). kind_at s c.args.thread) still ∙ (rw (← c.self.view_is) at c.requires.may_wait.there) in
     let queue = ap (λ (s : State). has_waiting (kind_at s c.args.queue)) still ∙ (rw (← c.self.view_is) at c.requires.queue) in
     let sends = rw (← c.self.view_is) at c.set_sending_at.ensures.sending in
     let is = of-state (the_view c.self.inside) (g.S.SlotMap.slots c.set_sending_at.new.store) (g.S.SlotStore.memory c.set_sending_at.new.store) c.args.thread there in
@@ -59,8 +59,8 @@ pub returns-clause-stands : goal.returns-clause-stands
 returns-clause-stands g c =
     let stands = rw (← c.self.view_is) at c.set_sending_at.ensures.stands in
     let still = rw (← c.self.view_is) at c.set_sending_at.ensures.state in
-    let apart = subst (λ (s : State). StandsNowhere s.objects c.args.thread) (sym still) (rw (← c.self.view_is) at c.requires.apart) in
-    let there = ap (λ (s : State). kind_at s c.args.thread) still ∙ (rw (← c.self.view_is) at c.requires.there) in
+    let apart = subst (λ (s : State). StandsNowhere s.objects c.args.thread) (sym still) (rw (← c.self.view_is) at c.requires.may_wait.apart) in
+    let there = ap (λ (s : State). kind_at s c.args.thread) still ∙ (rw (← c.self.view_is) at c.requires.may_wait.there) in
     let queue = ap (λ (s : State). has_waiting (kind_at s c.args.queue)) still ∙ (rw (← c.self.view_is) at c.requires.queue) in
     let sends = rw (← c.self.view_is) at c.set_sending_at.ensures.sending in
     let is = of-state (the_view c.self.inside) (g.S.SlotMap.slots c.set_sending_at.new.store) (g.S.SlotStore.memory c.set_sending_at.new.store) c.args.thread there in
@@ -70,8 +70,8 @@ pub returns-clause-bytes : goal.returns-clause-bytes
 returns-clause-bytes g c =
     let stands = rw (← c.self.view_is) at c.set_sending_at.ensures.stands in
     let still = rw (← c.self.view_is) at c.set_sending_at.ensures.state in
-    let apart = subst (λ (s : State). StandsNowhere s.objects c.args.thread) (sym still) (rw (← c.self.view_is) at c.requires.apart) in
-    let there = ap (λ (s : State). kind_at s c.args.thread) still ∙ (rw (← c.self.view_is) at c.requires.there) in
+    let apart = subst (λ (s : State). StandsNowhere s.objects c.args.thread) (sym still) (rw (← c.self.view_is) at c.requires.may_wait.apart) in
+    let there = ap (λ (s : State). kind_at s c.args.thread) still ∙ (rw (← c.self.view_is) at c.requires.may_wait.there) in
     let queue = ap (λ (s : State). has_waiting (kind_at s c.args.queue)) still ∙ (rw (← c.self.view_is) at c.requires.queue) in
     let sends = rw (← c.self.view_is) at c.set_sending_at.ensures.sending in
     let is = of-state (the_view c.self.inside) (g.S.SlotMap.slots c.set_sending_at.new.store) (g.S.SlotStore.memory c.set_sending_at.new.store) c.args.thread there in

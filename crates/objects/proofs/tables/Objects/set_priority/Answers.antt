@@ -7,8 +7,11 @@ use Rattle.objects.proofs.Replacing.{keep-priority, replaced-there, tail-priorit
 use Rattle.objects.specs.Tables.{state_of}
 use Rattle.objects.proofs.tables.Objects.set_priority.Goals as goal
 
-pub to_tail_at-requires-clause-there : goal.to_tail_at-requires-clause-there
-to_tail_at-requires-clause-there g c = replaced-there (state_of c.args.self.now (g.S.SlotMap.slots c.args.store.now) (g.S.SlotStore.memory c.args.store.now)) (state_of c.set_priority_at.new.self (g.S.SlotMap.slots c.set_priority_at.new.store) (g.S.SlotStore.memory c.set_priority_at.new.store)) c.args.thread _ c.set_priority_at.ensures.state
+pub to_tail_at-requires : goal.to_tail_at-requires
+to_tail_at-requires g c = record {
+  there = replaced-there (state_of c.args.self.now (g.S.SlotMap.slots c.args.store.now) (g.S.SlotStore.memory c.args.store.now)) (state_of c.set_priority_at.new.self (g.S.SlotMap.slots c.set_priority_at.new.store) (g.S.SlotStore.memory c.set_priority_at.new.store)) c.args.thread _ c.set_priority_at.ensures.state;
+  stands = c.set_priority_at.ensures.stands;
+}
 
 pub returns-then-runs-clause-state : goal.returns-then-runs-clause-state
 returns-then-runs-clause-state g c = (c.to_tail_at.ensures.state ∙ ap (λ (s : State). to_tail s c.args.thread) c.set_priority_at.ensures.state) ∙ tail-priority (state_of c.args.self.now (g.S.SlotMap.slots c.args.store.now) (g.S.SlotStore.memory c.args.store.now)) c.args.thread c.args.priority c.runs-runs.result c.runs-runs.ensures c.if-runs.true
