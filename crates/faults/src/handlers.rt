@@ -7,12 +7,11 @@ ghost use Rattle.model.specs.Capabilities.Rights.{may_grant_reply, may_write};
 ghost use Rattle.model.specs.Capabilities.Slots.{capability_at};
 ghost use Rattle.model.specs.Kernel.Faults.{handler, handler_in, handler_of};
 ghost use Rattle.model.specs.Kernel.State.{State, cspace_slot};
-ghost use Rattle.objects.specs.Standing.{Standing};
-ghost use Rattle.objects.specs.Tables.{state_of};
+ghost use Rattle.objects.specs.Lives.{state};
 
 use cspace::called_slot;
 use model::{Cap, Rights, Slot};
-use objects::Objects;
+use objects::Live;
 use slots::SlotStore;
 
 /// An endpoint that takes faults, and the badge with which they come.
@@ -65,20 +64,14 @@ fn handler_at<S: SlotStore>(store: &S, thread: u32, address: u32) -> Option<Hand
 }
 
 /// The handler that a thread's fault address names; address 0 names none.
-#[tactic(auto, unfolding(objects::specs::Tables::state_of))]
-pub(crate) fn find_handler<S: SlotStore>(
-    store: &S,
-    objects: &Objects,
-    thread: u32,
-) -> Option<Handler>
+pub(crate) fn find_handler<S: SlotStore>(live: &Live<S>, thread: u32) -> Option<Handler>
     requires small { thread < 2 ^ 24 }
-    requires stands { Standing objects.now (S.slots store.now) (S.memory store.now) }
     ensures { option_map handler_told result
-        ≡ handler (state_of objects.now (S.slots store.now) (S.memory store.now)) thread }
+        ≡ handler (state S.SlotStore live.now) thread }
 {
-    let address = objects.fault_address(store, thread);
+    let address = live.fault_address(thread);
     if address == 0 {
         return None;
     }
-    handler_at(store, thread, address)
+    handler_at(live.store(), thread, address)
 }

@@ -7,125 +7,88 @@ ghost use Rattle.model.specs.Kernel.Messages.{message_of, replied, reply, reply_
 ghost use Rattle.model.specs.Kernel.Retype.{NewThread};
 ghost use Rattle.model.specs.Kernel.Soundness.{IsSound};
 ghost use Rattle.model.specs.Kernel.State.{thread_at};
-ghost use Rattle.objects.specs.Frames.{SameObjects};
-ghost use Rattle.objects.specs.Standing.{Standing};
-ghost use Rattle.objects.specs.Tables.{state_of};
+ghost use Rattle.objects.specs.Lives.{Beside, state};
 ghost use Rattle.objects.specs.thread_records.Threads.{status_of};
 
 use crate::deliveries::deliver;
 use crate::registers::Message;
-use objects::{Objects, Status};
+use objects::{Live, Status};
 use slots::SlotStore;
 
 /// A caller gets the reply as a message with badge 0, and runs again.
-fn reply_to_call<S: SlotStore>(store: &mut S, objects: &mut Objects, caller: u32, message: &Message)
-    requires there { kind_at (state_of objects.old (S.slots store.old) (S.memory store.old)) caller ≡ Some NewThread }
-    requires stands { Standing objects.old (S.slots store.old) (S.memory store.old) }
-    ensures state { state_of objects.new (S.slots store.new) (S.memory store.new)
-        ≡ reply_to_call (state_of objects.old (S.slots store.old) (S.memory store.old)) caller message.now }
-    ensures slots { S.slots store.new ≡ S.slots store.old }
-    ensures bytes { SameObjects (state_of objects.old (S.slots store.old) (S.memory store.old)) (state_of objects.new (S.slots store.new) (S.memory store.new)) (S.memory store.old) (S.memory store.new) }
-    ensures order { S.order store.new ≡ S.order store.old }
-    ensures stands { Standing objects.new (S.slots store.new) (S.memory store.new) }
+fn reply_to_call<S: SlotStore>(live: &mut Live<S>, caller: u32, message: &Message)
+    requires there { kind_at (state S.SlotStore live.old) caller ≡ Some NewThread }
+    ensures state { state S.SlotStore live.new
+        ≡ reply_to_call (state S.SlotStore live.old) caller message.now }
+    ensures beside { Beside S.SlotStore live.old live.new }
 {
-    deliver(store, objects, caller, 0, message);
-    objects.wake(store, caller);
+    deliver(live, caller, 0, message);
+    live.wake(caller);
 }
 
 /// A thread that faulted goes on where its handler says, and runs again.
-fn resume<S: SlotStore>(store: &mut S, objects: &mut Objects, thread: u32, message: &Message)
-    requires there { kind_at (state_of objects.old (S.slots store.old) (S.memory store.old)) thread ≡ Some NewThread }
-    requires stands { Standing objects.old (S.slots store.old) (S.memory store.old) }
-    ensures state { state_of objects.new (S.slots store.new) (S.memory store.new)
-        ≡ resumed (state_of objects.old (S.slots store.old) (S.memory store.old)) thread message.now }
-    ensures slots { S.slots store.new ≡ S.slots store.old }
-    ensures bytes { SameObjects (state_of objects.old (S.slots store.old) (S.memory store.old)) (state_of objects.new (S.slots store.new) (S.memory store.new)) (S.memory store.old) (S.memory store.new) }
-    ensures order { S.order store.new ≡ S.order store.old }
-    ensures stands { Standing objects.new (S.slots store.new) (S.memory store.new) }
+fn resume<S: SlotStore>(live: &mut Live<S>, thread: u32, message: &Message)
+    requires there { kind_at (state S.SlotStore live.old) thread ≡ Some NewThread }
+    ensures state { state S.SlotStore live.new
+        ≡ resumed (state S.SlotStore live.old) thread message.now }
+    ensures beside { Beside S.SlotStore live.old live.new }
 {
-    let registers = objects.registers(store, thread);
-    objects.set_registers(store, thread, message.resumed(registers));
-    objects.wake(store, thread);
+    let registers = live.registers(thread);
+    live.set_registers(thread, message.resumed(registers));
+    live.wake(thread);
 }
 
 /// A reply with label 0 resumes a thread that faulted, and any other stops it.
-fn reply_to_fault<S: SlotStore>(
-    store: &mut S,
-    objects: &mut Objects,
-    thread: u32,
-    message: &Message,
-)
-    requires there { kind_at (state_of objects.old (S.slots store.old) (S.memory store.old)) thread ≡ Some NewThread }
-    requires stands { Standing objects.old (S.slots store.old) (S.memory store.old) }
-    ensures state { state_of objects.new (S.slots store.new) (S.memory store.new)
-        ≡ reply_to_fault (state_of objects.old (S.slots store.old) (S.memory store.old)) thread message.now }
-    ensures slots { S.slots store.new ≡ S.slots store.old }
-    ensures bytes { SameObjects (state_of objects.old (S.slots store.old) (S.memory store.old)) (state_of objects.new (S.slots store.new) (S.memory store.new)) (S.memory store.old) (S.memory store.new) }
-    ensures order { S.order store.new ≡ S.order store.old }
-    ensures stands { Standing objects.new (S.slots store.new) (S.memory store.new) }
+fn reply_to_fault<S: SlotStore>(live: &mut Live<S>, thread: u32, message: &Message)
+    requires there { kind_at (state S.SlotStore live.old) thread ≡ Some NewThread }
+    ensures state { state S.SlotStore live.new
+        ≡ reply_to_fault (state S.SlotStore live.old) thread message.now }
+    ensures beside { Beside S.SlotStore live.old live.new }
 {
     if message.resumes() {
-        resume(store, objects, thread, message);
+        resume(live, thread, message);
     } else {
-        objects.block(store, thread, Status::Inactive);
+        live.block(thread, Status::Inactive);
     }
 }
 
 /// The caller gets the answer that it waits for.
-fn answer<S: SlotStore>(
-    store: &mut S,
-    objects: &mut Objects,
-    caller: u32,
-    status: Status,
-    message: &Message,
-)
-    requires there { kind_at (state_of objects.old (S.slots store.old) (S.memory store.old)) caller ≡ Some NewThread }
-    requires stands { Standing objects.old (S.slots store.old) (S.memory store.old) }
-    ensures state { state_of objects.new (S.slots store.new) (S.memory store.new)
-        ≡ replied (state_of objects.old (S.slots store.old) (S.memory store.old)) caller (status_of status) message.now }
-    ensures slots { S.slots store.new ≡ S.slots store.old }
-    ensures bytes { SameObjects (state_of objects.old (S.slots store.old) (S.memory store.old)) (state_of objects.new (S.slots store.new) (S.memory store.new)) (S.memory store.old) (S.memory store.new) }
-    ensures order { S.order store.new ≡ S.order store.old }
-    ensures stands { Standing objects.new (S.slots store.new) (S.memory store.new) }
+fn answer<S: SlotStore>(live: &mut Live<S>, caller: u32, status: Status, message: &Message)
+    requires there { kind_at (state S.SlotStore live.old) caller ≡ Some NewThread }
+    ensures state { state S.SlotStore live.new
+        ≡ replied (state S.SlotStore live.old) caller (status_of status) message.now }
+    ensures beside { Beside S.SlotStore live.old live.new }
 {
     match status {
-        Status::AwaitsReply => reply_to_call(store, objects, caller, message),
-        Status::AwaitsHandler => reply_to_fault(store, objects, caller, message),
+        Status::AwaitsReply => reply_to_call(live, caller, message),
+        Status::AwaitsHandler => reply_to_fault(live, caller, message),
         Status::Inactive | Status::Runnable | Status::Blocked { .. } => {}
     }
 }
 
 /// A thread answers its caller, and gives the right away.
-fn reply_to<S: SlotStore>(store: &mut S, objects: &mut Objects, thread: u32, caller: u32)
-    requires there { kind_at (state_of objects.old (S.slots store.old) (S.memory store.old)) thread ≡ Some NewThread }
-    requires caller { kind_at (state_of objects.old (S.slots store.old) (S.memory store.old)) caller ≡ Some NewThread }
-    requires stands { Standing objects.old (S.slots store.old) (S.memory store.old) }
-    ensures state { state_of objects.new (S.slots store.new) (S.memory store.new)
-        ≡ replied (with_caller (state_of objects.old (S.slots store.old) (S.memory store.old)) thread None) caller (thread_at (state_of objects.old (S.slots store.old) (S.memory store.old)) caller).status (message_of (thread_at (state_of objects.old (S.slots store.old) (S.memory store.old)) thread)) }
-    ensures slots { S.slots store.new ≡ S.slots store.old }
-    ensures bytes { SameObjects (state_of objects.old (S.slots store.old) (S.memory store.old)) (state_of objects.new (S.slots store.new) (S.memory store.new)) (S.memory store.old) (S.memory store.new) }
-    ensures order { S.order store.new ≡ S.order store.old }
-    ensures stands { Standing objects.new (S.slots store.new) (S.memory store.new) }
+fn reply_to<S: SlotStore>(live: &mut Live<S>, thread: u32, caller: u32)
+    requires there { kind_at (state S.SlotStore live.old) thread ≡ Some NewThread }
+    requires caller { kind_at (state S.SlotStore live.old) caller ≡ Some NewThread }
+    ensures state { state S.SlotStore live.new
+        ≡ replied (with_caller (state S.SlotStore live.old) thread None) caller (thread_at (state S.SlotStore live.old) caller).status (message_of (thread_at (state S.SlotStore live.old) thread)) }
+    ensures beside { Beside S.SlotStore live.old live.new }
 {
-    let message = Message::of(&objects.registers(store, thread));
-    let status = objects.status(store, caller);
-    objects.set_caller(store, thread, None);
-    answer(store, objects, caller, status, &message);
+    let message = Message::of(&live.registers(thread));
+    let status = live.status(caller);
+    live.set_caller(thread, None);
+    answer(live, caller, status, &message);
 }
 
 /// A thread answers its caller, if it has one, and gives the right away.
-pub fn reply<S: SlotStore>(store: &mut S, objects: &mut Objects, thread: u32)
-    requires sound { IsSound (state_of objects.old (S.slots store.old) (S.memory store.old)) }
-    requires there { kind_at (state_of objects.old (S.slots store.old) (S.memory store.old)) thread ≡ Some NewThread }
-    requires stands { Standing objects.old (S.slots store.old) (S.memory store.old) }
-    ensures state { state_of objects.new (S.slots store.new) (S.memory store.new)
-        ≡ reply (state_of objects.old (S.slots store.old) (S.memory store.old)) thread }
-    ensures slots { S.slots store.new ≡ S.slots store.old }
-    ensures bytes { SameObjects (state_of objects.old (S.slots store.old) (S.memory store.old)) (state_of objects.new (S.slots store.new) (S.memory store.new)) (S.memory store.old) (S.memory store.new) }
-    ensures order { S.order store.new ≡ S.order store.old }
-    ensures stands { Standing objects.new (S.slots store.new) (S.memory store.new) }
+pub fn reply<S: SlotStore>(live: &mut Live<S>, thread: u32)
+    requires sound { IsSound (state S.SlotStore live.old) }
+    requires there { kind_at (state S.SlotStore live.old) thread ≡ Some NewThread }
+    ensures state { state S.SlotStore live.new
+        ≡ reply (state S.SlotStore live.old) thread }
+    ensures beside { Beside S.SlotStore live.old live.new }
 {
-    if let Some(caller) = objects.caller(store, thread) {
-        reply_to(store, objects, thread, caller);
+    if let Some(caller) = live.caller(thread) {
+        reply_to(live, thread, caller);
     }
 }

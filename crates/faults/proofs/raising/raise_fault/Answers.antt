@@ -5,14 +5,14 @@ use Rattle.faults.proofs.ThreadsInside.{thread-inside}
 use Rattle.faults.proofs.raising.raise_fault.Goals as goal
 use Rattle.faults.specs.Handlers.{handler_told}
 use Rattle.ipc.proofs.Laws.{runs-there}
-use Rattle.objects.specs.Tables.{state_of}
+use Rattle.objects.specs.Lives.{state_in}
 
-pub find_handler-requires-clause-small : goal.find_handler-requires-clause-small
-find_handler-requires-clause-small g c =
-    let before = state_of c.args.objects.now (g.S.SlotMap.slots c.args.store.now) (g.S.SlotStore.memory c.args.store.now) in
-    thread-inside before c.args.thread c.requires.sound (runs-there before c.args.thread c.requires.runs)
+pub find_handler-requires : goal.find_handler-requires
+find_handler-requires g c =
+    let before = state_in g.S.SlotMap.slots g.S.SlotStore.memory c.args.live.now in
+    record { small = thread-inside before c.args.thread c.requires.sound (runs-there before c.args.thread c.requires.runs) }
 
 pub tell-requires-clause-endpoint : goal.tell-requires-clause-endpoint
 tell-requires-clause-endpoint g c =
-    let before = state_of c.args.objects.now (g.S.SlotMap.slots c.args.store.now) (g.S.SlotStore.memory c.args.store.now) in
+    let before = state_in g.S.SlotMap.slots g.S.SlotStore.memory c.args.live.now in
     handler-there before c.requires.sound (handler_told c.in-Some.to) c.args.thread (sym c.find_handler.ensures ∙ ap (option_map handler_told) c.in-Some.is)

@@ -1,6 +1,6 @@
 -- What two calls leave of bytes, one after the other.
 use Rattle.ipc.proofs.receipts.await_answer.Goals as goal
-use Rattle.objects.proofs.Laws.{objects-then}
+use Rattle.objects.proofs.Laws.{beside-then}
 
-pub returns-clause-bytes : goal.returns-clause-bytes
-returns-clause-bytes g c = objects-then _ _ _ _ _ _ c.block.ensures.bytes c.set_caller.ensures.bytes
+pub returns-clause-beside : goal.returns-clause-beside
+returns-clause-beside g c = beside-then c.block.ensures.beside c.set_caller.ensures.beside

@@ -1,19 +1,19 @@
 -- The first sender is served.
-use Rattle.ipc.proofs.Taken.{calls-then, received-from}
+use Rattle.ipc.proofs.Taken.{received-from}
+use Rattle.objects.proofs.Laws.{beside-then}
 use Rattle.ipc.proofs.receives.receive_or_pass.Goals as goal
-use Rattle.objects.proofs.Laws.{objects-then}
 use Rattle.model.specs.Kernel.Messages.{deliver_word}
-use Rattle.objects.specs.Tables.{state_of}
+use Rattle.objects.specs.Lives.{state_in}
 use Rattle.objects.specs.thread_records.Threads.{sender_of}
 
 pub returns-in-Some-clause-state : goal.returns-in-Some-clause-state
 returns-in-Some-clause-state g c =
-    let before = state_of c.args.objects.now (g.S.SlotMap.slots c.args.store.now) (g.S.SlotStore.memory c.args.store.now) in
+    let before = state_in g.S.SlotMap.slots g.S.SlotStore.memory c.args.live.now in
     received-from before _ _ (deliver_word before c.args.thread 0) c.args.endpoint c.args.thread (sender_of c.in-Some.sender.thread c.in-Some.sender.sending)
     c.in-Some.ensures.state c.receive_from.ensures.state
 
-pub returns-in-Some-clause-bytes : goal.returns-in-Some-clause-bytes
-returns-in-Some-clause-bytes g c = calls-then _ _ _ _ _ _ c.take_sender.ensures.bytes c.receive_from.ensures.bytes
+pub returns-in-Some-clause-beside : goal.returns-in-Some-clause-beside
+returns-in-Some-clause-beside g c = beside-then c.take_sender.ensures.beside c.receive_from.ensures.beside
 
-pub returns-in-None-clause-bytes : goal.returns-in-None-clause-bytes
-returns-in-None-clause-bytes g c = objects-then _ _ _ _ _ _ c.take_sender.ensures.bytes c.deliver_word.ensures.bytes
+pub returns-in-None-clause-beside : goal.returns-in-None-clause-beside
+returns-in-None-clause-beside g c = beside-then c.take_sender.ensures.beside c.deliver_word.ensures.beside

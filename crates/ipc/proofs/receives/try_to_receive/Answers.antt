@@ -1,23 +1,23 @@
 -- Who runs is there, waits nowhere, and still does without its right to reply.
 use Rattle.std.proofs.Common.{None, subst, sym}
 use Rattle.ipc.proofs.Premises.{caller-endpoint, one-sided, runs-there}
-use Rattle.ipc.proofs.Taken.{calls-then}
+use Rattle.objects.proofs.Laws.{beside-then}
 use Rattle.ipc.proofs.receives.try_to_receive.Goals as goal
 use Rattle.model.specs.Kernel.State.{EndpointState, State, endpoint_at}
-use Rattle.objects.specs.Tables.{state_of}
+use Rattle.objects.specs.Lives.{state_in}
 use Rattle.objects.specs.Waiting.{IsOneSided}
 
 pub set_caller-requires-clause-there : goal.set_caller-requires-clause-there
 set_caller-requires-clause-there g c =
-    runs-there (state_of c.args.objects.now (g.S.SlotMap.slots c.args.store.now) (g.S.SlotStore.memory c.args.store.now)) c.args.thread c.requires.runs
+    runs-there (state_in g.S.SlotMap.slots g.S.SlotStore.memory c.args.live.now) c.args.thread c.requires.runs
 
 pub receive_or_pass-requires-clause-one_sided : goal.receive_or_pass-requires-clause-one_sided
 receive_or_pass-requires-clause-one_sided g c =
-    let before = state_of c.args.objects.now (g.S.SlotMap.slots c.args.store.now) (g.S.SlotStore.memory c.args.store.now) in
+    let before = state_in g.S.SlotMap.slots g.S.SlotStore.memory c.args.live.now in
     let there = runs-there before c.args.thread c.requires.runs in
     subst (λ (s : State). IsOneSided (endpoint_at s c.args.endpoint)) (sym c.set_caller.ensures.state)
     (subst (λ (e : EndpointState). IsOneSided e) (sym (caller-endpoint before c.args.thread None there c.args.endpoint c.requires.endpoint))
     (one-sided before c.args.endpoint c.requires.sound c.requires.endpoint))
 
-pub returns-clause-bytes : goal.returns-clause-bytes
-returns-clause-bytes g c = calls-then _ _ _ _ _ _ c.set_caller.ensures.bytes c.receive_or_pass.ensures.bytes
+pub returns-clause-beside : goal.returns-clause-beside
+returns-clause-beside g c = beside-then c.set_caller.ensures.beside c.receive_or_pass.ensures.beside

@@ -1,44 +1,44 @@
 -- The first receiver gets the message, or the sender waits.
 use Rattle.std.proofs.Common.{◌∙◌, ap}
 use Rattle.ipc.proofs.Premises.{nowhere-still, one-sided, runs-nowhere, runs-there}
-use Rattle.ipc.proofs.Taken.{calls-then, sent-to}
+use Rattle.ipc.proofs.Taken.{sent-to}
+use Rattle.objects.proofs.Laws.{beside-then}
 use Rattle.ipc.proofs.sends.send.Goals as goal
-use Rattle.objects.proofs.Laws.{objects-then}
 use Rattle.model.specs.Kernel.State.{State, endpoint_at}
-use Rattle.objects.specs.Tables.{state_of}
+use Rattle.objects.specs.Lives.{state_in}
 use Rattle.objects.specs.thread_records.Threads.{sender_of}
 
 pub returns-in-Some-clause-state : goal.returns-in-Some-clause-state
 returns-in-Some-clause-state g c =
-    sent-to (state_of c.args.objects.now (g.S.SlotMap.slots c.args.store.now) (g.S.SlotStore.memory c.args.store.now)) _ _ c.args.endpoint (sender_of c.args.thread c.args.sending)
+    sent-to (state_in g.S.SlotMap.slots g.S.SlotStore.memory c.args.live.now) _ _ c.args.endpoint (sender_of c.args.thread c.args.sending)
     c.in-Some.receiver c.in-Some.ensures.state c.send_to.ensures.state
 
-pub returns-in-Some-clause-bytes : goal.returns-in-Some-clause-bytes
-returns-in-Some-clause-bytes g c = calls-then _ _ _ _ _ _ c.take_receiver.ensures.bytes c.send_to.ensures.bytes
+pub returns-in-Some-clause-beside : goal.returns-in-Some-clause-beside
+returns-in-Some-clause-beside g c = beside-then c.take_receiver.ensures.beside c.send_to.ensures.beside
 
 pub take_receiver-requires-clause-one_sided : goal.take_receiver-requires-clause-one_sided
 take_receiver-requires-clause-one_sided g c =
-    one-sided (state_of c.args.objects.now (g.S.SlotMap.slots c.args.store.now) (g.S.SlotStore.memory c.args.store.now)) c.args.endpoint
+    one-sided (state_in g.S.SlotMap.slots g.S.SlotStore.memory c.args.live.now) c.args.endpoint
     c.requires.sound c.requires.endpoint
 
 pub send_to-requires-clause-sender : goal.send_to-requires-clause-sender
 send_to-requires-clause-sender g c =
-    c.take_receiver.ensures.bytes.kinds c.args.thread
-    ∙ runs-there (state_of c.args.objects.now (g.S.SlotMap.slots c.args.store.now) (g.S.SlotStore.memory c.args.store.now)) c.args.thread c.requires.runs
+    c.take_receiver.ensures.beside.bytes.kinds c.args.thread
+    ∙ runs-there (state_in g.S.SlotMap.slots g.S.SlotStore.memory c.args.live.now) c.args.thread c.requires.runs
 
 pub wait_to_send-requires-clause-there : goal.wait_to_send-requires-clause-there
 wait_to_send-requires-clause-there g c =
-    c.take_receiver.ensures.bytes.kinds c.args.thread
-    ∙ runs-there (state_of c.args.objects.now (g.S.SlotMap.slots c.args.store.now) (g.S.SlotStore.memory c.args.store.now)) c.args.thread c.requires.runs
+    c.take_receiver.ensures.beside.bytes.kinds c.args.thread
+    ∙ runs-there (state_in g.S.SlotMap.slots g.S.SlotStore.memory c.args.live.now) c.args.thread c.requires.runs
 
 pub wait_to_send-requires-clause-apart : goal.wait_to_send-requires-clause-apart
 wait_to_send-requires-clause-apart g c =
-    let before = state_of c.args.objects.now (g.S.SlotMap.slots c.args.store.now) (g.S.SlotStore.memory c.args.store.now) in
+    let before = state_in g.S.SlotMap.slots g.S.SlotStore.memory c.args.live.now in
     nowhere-still before _ c.args.thread c.in-None.ensures.state.state (runs-nowhere before c.args.thread c.requires.sound c.requires.runs)
 
 pub wait_to_send-requires-clause-alone : goal.wait_to_send-requires-clause-alone
 wait_to_send-requires-clause-alone g c =
     ap (λ (s : State). (endpoint_at s c.args.endpoint).receivers) c.in-None.ensures.state.state ∙ c.in-None.ensures.state.none
 
-pub returns-in-None-clause-bytes : goal.returns-in-None-clause-bytes
-returns-in-None-clause-bytes g c = objects-then _ _ _ _ _ _ c.take_receiver.ensures.bytes c.wait_to_send.ensures.bytes
+pub returns-in-None-clause-beside : goal.returns-in-None-clause-beside
+returns-in-None-clause-beside g c = beside-then c.take_receiver.ensures.beside c.wait_to_send.ensures.beside

@@ -3,5 +3,5 @@ use Rattle.std.proofs.Common.{◌∙◌, sym}
 use Rattle.sched.proofs.Current.{current-there}
 use Rattle.sched.proofs.turns.tick.Goals as goal
 
-pub ticked-requires-clause-there : goal.ticked-requires-clause-there
-ticked-requires-clause-there g c = current-there _ c.in-Some.thread c.requires.sound (sym c.current.ensures ∙ c.in-Some.is)
+pub ticked-requires : goal.ticked-requires
+ticked-requires g c = record { there = current-there _ c.in-Some.thread c.requires.sound (sym c.current.ensures ∙ c.in-Some.is) }

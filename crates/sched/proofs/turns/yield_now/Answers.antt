@@ -1,6 +1,6 @@
 -- What two calls leave of bytes, one after the other.
 use Rattle.sched.proofs.turns.yield_now.Goals as goal
-use Rattle.objects.proofs.Laws.{objects-then}
+use Rattle.objects.proofs.Laws.{beside-then}
 
-pub returns-clause-bytes : goal.returns-clause-bytes
-returns-clause-bytes g c = objects-then _ _ _ _ _ _ c.set_slice.ensures.bytes c.to_tail.ensures.bytes
+pub returns-clause-beside : goal.returns-clause-beside
+returns-clause-beside g c = beside-then c.set_slice.ensures.beside c.to_tail.ensures.beside
