@@ -2,4 +2,4 @@
 pub use Rattle.cnode_ops.proofs.FullSlots.{AreBehind, before-first, behind-first, behind-next, fewer-behind, found-member, last-found, none-passes, passes-full}
 pub use Rattle.cnode_ops.proofs.OpenNodes.{boot-open, sound-nodes}
 pub use Rattle.cnode_ops.proofs.SomeSlot.{some-none, store-some}
-pub use Rattle.cnode_ops.proofs.object_lifetimes.Laws.{kept, of-some, state_before}
+pub use Rattle.cnode_ops.proofs.object_lifetimes.Laws.{consistent-of, kept, of-some, whole-of}

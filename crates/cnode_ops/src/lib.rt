@@ -30,6 +30,6 @@ pub use endings::Ends;
 pub use moves::move_cap;
 pub use mutations::mutate;
 pub use named::NodeCall;
-pub use object_lifetimes::{Kernel, KernelObjects};
+pub use object_lifetimes::Kernel;
 pub use removal::{remove_below, remove_slot};
 pub use retypes::{may_have_child, retype};

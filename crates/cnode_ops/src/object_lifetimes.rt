@@ -6,5 +6,4 @@ mod kernel_objects;
 mod kernels;
 mod making;
 
-pub use kernel_objects::KernelObjects;
 pub use kernels::Kernel;

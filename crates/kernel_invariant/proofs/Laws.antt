@@ -13,4 +13,4 @@ pub use Rattle.kernel_invariant.proofs.OneMore.{none-yet, one-more, some-one}
 pub use Rattle.kernel_invariant.proofs.Puts.{copy-agrees, is-open, move-agrees, moved-closes, put-agrees, put-closes, put-named}
 pub use Rattle.kernel_invariant.proofs.RoomsMade.{alone, room-of-page, slots-alone, slots-opened}
 pub use Rattle.kernel_invariant.proofs.Steps.{ended-agrees, no-slot, root-ended, tables-beside, unmapped-agrees, unmapped-stands, unmapped-state, woken-agrees}
-pub use Rattle.kernel_invariant.proofs.Whole.{whole-kept}
+pub use Rattle.kernel_invariant.proofs.Whole.{agrees-kept, whole-kept}

@@ -13,7 +13,6 @@ ghost use Rattle.objects.specs.Standing.{Standing};
 ghost use Rattle.objects.specs.Tables.{state_of};
 ghost use Rattle.objects.specs.Threads.{new_object};
 
-use crate::object_lifetimes::KernelObjects;
 use crate::object_lifetimes::making::{PAGE_SIZE, make_one, node_slots};
 use crate::{Begins, NewRange, NewType, Placing};
 use model::{Cap, Slot};
@@ -88,14 +87,14 @@ fn make_all<S: SlotStore>(objects: &mut Objects, store: &mut S, new: NewRange, a
     }
 }
 
-impl Begins for KernelObjects {
+impl Begins for Objects {
     ghost state = { state_of };
 
     ghost Agree = { Agreed };
 
     fn begin<S: SlotStore>(&mut self, store: &mut S, new: NewRange, at: Placing) {
         use_memory(store, at.parent, at.watermark);
-        make_all(&mut self.objects, store, new, at);
+        make_all(self, store, new, at);
     }
 
     ghost of_slots = { of_slots-law };

@@ -1,4 +1,5 @@
-//! The objects of a kernel, with page tables in the machine's bytes.
+//! How the objects of a kernel end, with page tables in the machine's bytes: their slots are the store's, and so are the
+//! page tables and the bytes of frames.
 
 ghost use Rattle.std.specs.Prelude.{ℕ, ◌≡◌, List};
 ghost use Rattle.kernel_invariant.proofs.Laws.{agree_bytes-law, agree_closed-law, agree_unused-law, agree_without-law, follows-law, of_memory-law, of_slots-law};
@@ -9,27 +10,9 @@ use crate::Ends;
 use model::{Cap, Slot};
 use objects::Objects;
 use slots::SlotStore;
-use std::marker::Model;
 use vspace::{end_tables, unmap_cap};
 
-/// The objects of a kernel, as Retype and removals change them: their slots are the store's, and so are
-/// the page tables and the bytes of frames.
-#[derive(Drop)]
-pub struct KernelObjects {
-    pub objects: Objects,
-}
-
-impl Model for KernelObjects {
-    ghost use Rattle.objects.specs.Tables.{Tables};
-
-    ghost Value = { Tables };
-
-    ghost view = { λ kernel. kernel.objects };
-
-    ghost inverse = { λ objects. record { objects = objects } };
-}
-
-impl Ends for KernelObjects {
+impl Ends for Objects {
     ghost state = { state_of };
 
     ghost Agree = { Agreed };
@@ -42,14 +25,14 @@ impl Ends for KernelObjects {
         match removed {
             Cap::RootTable { offset } => {
                 end_tables(store, offset);
-                self.objects.end(store, offset);
+                self.end(store, offset);
             }
             Cap::Endpoint { offset, .. }
             | Cap::Notification { offset, .. }
             | Cap::CNode { offset, .. }
             | Cap::Frame { offset, .. }
             | Cap::PageTable { offset, .. }
-            | Cap::Tcb { offset } => self.objects.end(store, offset),
+            | Cap::Tcb { offset } => self.end(store, offset),
             Cap::Empty
             | Cap::Untyped { .. }
             | Cap::InterruptControl
@@ -58,19 +41,19 @@ impl Ends for KernelObjects {
     }
 
     fn binding(&self, line: u8) -> Slot {
-        self.objects.binding(line)
+        self.binding(line)
     }
 
     fn slots_of<S: SlotStore>(&self, store: &S, offset: u32) -> u32 {
-        self.objects.slots_of(store, offset)
+        self.slots_of(store, offset)
     }
 
     fn is_waited_at<S: SlotStore>(&self, store: &S, offset: u32) -> bool {
-        self.objects.is_waited_at(store, offset)
+        self.is_waited_at(store, offset)
     }
 
     fn wake<S: SlotStore>(&mut self, store: &mut S) {
-        self.objects.wake_stranded(store);
+        self.wake_stranded(store);
     }
 
     ghost of_slots = { of_slots-law };

@@ -1,13 +1,11 @@
 -- The watermark is set, and then all objects are made.
-use Rattle.std.proofs.Common.{◌∙◌, ap, sym, subst}
+use Rattle.std.proofs.Common.{◌∙◌, ap}
 use Rattle.cnode_ops.specs.Placed.{new_objects}
 use Rattle.cnode_ops.proofs.object_lifetimes.Marked.{are-laid, marked-stands, may-use, none-made, placed-state, window-near}
-use Rattle.cnode_ops.proofs.object_lifetimes.beginning.KernelObjectsBegins.begin.Goals as goal
-use Rattle.cnode_ops.specs.object_lifetimes.Beginnings.{AreMade}
+use Rattle.cnode_ops.proofs.object_lifetimes.beginning.ObjectsBegins.begin.Goals as goal
 use Rattle.model.specs.Kernel.Retype.{with_new}
 use Rattle.model.specs.Kernel.State.{State}
-use Rattle.objects.specs.Standing.{Standing}
-use Rattle.objects.specs.Tables.{Tables, state_of}
+use Rattle.objects.specs.Tables.{state_of}
 
 pub use_memory-requires : goal.use_memory-requires
 unfolding state_of
@@ -23,9 +21,8 @@ pub make_all-requires-clause-none_yet : goal.make_all-requires-clause-none_yet
 make_all-requires-clause-none_yet g c =
     let slots = g.S.SlotMap.slots c.use_memory.new.store in
     let memory = g.S.SlotStore.memory c.use_memory.new.store in
-    subst (λ (o : Tables). AreMade (state_of o slots memory) (state_of o slots memory) memory (new_objects c.args.new) c.args.at.window c.args.at.parent 0) (sym c.self.view_is)
-    (none-made c.args.self.now (g.S.SlotMap.slots c.args.store.now) slots (g.S.SlotStore.memory c.args.store.now) memory (new_objects c.args.new) c.args.at c.requires.agree c.requires.sound
-    c.requires.placed c.use_memory.ensures.slots c.use_memory.ensures.bytes c.requires.window c.requires.room)
+    none-made c.args.self.now (g.S.SlotMap.slots c.args.store.now) slots (g.S.SlotStore.memory c.args.store.now) memory (new_objects c.args.new) c.args.at c.requires.agree c.requires.sound
+    c.requires.placed c.use_memory.ensures.slots c.use_memory.ensures.bytes c.requires.window c.requires.room
 
 pub make_all-requires-clause-near : goal.make_all-requires-clause-near
 unfolding state_of
@@ -38,7 +35,6 @@ returns-clause-state g c =
     let slots = g.S.SlotMap.slots c.use_memory.new.store in
     let memory = g.S.SlotStore.memory c.use_memory.new.store in
     c.make_all.ensures.state
-    ∙ ap (λ (o : Tables). with_new (state_of o slots memory) (new_objects c.args.new) c.args.at.window c.args.at.parent) c.self.view_is
     ∙ ap (λ (t : State). with_new t (new_objects c.args.new) c.args.at.window c.args.at.parent)
     (placed-state c.args.self.now (g.S.SlotMap.slots c.args.store.now) slots (g.S.SlotStore.memory c.args.store.now) memory (new_objects c.args.new) c.args.at c.requires.agree c.requires.sound
     c.requires.placed c.use_memory.ensures.slots c.use_memory.ensures.bytes)
@@ -47,6 +43,5 @@ pub make_all-requires-clause-stands : goal.make_all-requires-clause-stands
 make_all-requires-clause-stands g c =
     let slots = g.S.SlotMap.slots c.use_memory.new.store in
     let memory = g.S.SlotStore.memory c.use_memory.new.store in
-    subst (λ (o : Tables). Standing o slots memory) (sym c.self.view_is)
-    (marked-stands c.args.self.now (g.S.SlotMap.slots c.args.store.now) slots (g.S.SlotStore.memory c.args.store.now) memory (new_objects c.args.new) c.args.at c.requires.agree c.requires.sound
-    c.requires.placed c.use_memory.ensures.slots c.use_memory.ensures.bytes)
+    marked-stands c.args.self.now (g.S.SlotMap.slots c.args.store.now) slots (g.S.SlotStore.memory c.args.store.now) memory (new_objects c.args.new) c.args.at c.requires.agree c.requires.sound
+    c.requires.placed c.use_memory.ensures.slots c.use_memory.ensures.bytes

@@ -1,7 +1,7 @@
 -- The mapping went from slots and tables.
 use Rattle.std.proofs.Common.{sym, subst}
 use Rattle.kernel_invariant.proofs.Laws.{Lessened, less-unmapped, own-tables, unmapped-agrees, unmapped-state}
-use Rattle.cnode_ops.proofs.object_lifetimes.kernel_objects.KernelObjectsEnds.unmap.Goals as goal
+use Rattle.cnode_ops.proofs.object_lifetimes.kernel_objects.ObjectsEnds.unmap.Goals as goal
 use Rattle.model.specs.Capabilities.Slots.{Slots}
 
 pub unmap_cap-requires : goal.unmap_cap-requires
