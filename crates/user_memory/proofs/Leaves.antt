@@ -12,7 +12,7 @@ use Rattle.model.specs.Machine.Sv32.{◌>>=◌, entry_at, is_leaf, is_valid, lea
 use Rattle.model.specs.Shared.Bytes.{word_at}
 use Rattle.model.specs.declared.capabilities.Cap.{Cap}
 use Rattle.model.specs.declared.capabilities.Cap.TheVariants.{Frame, RootTable}
-use Rattle.cnode_ops.specs.object_lifetimes.Kernels.{Parts, state_in}
+use Rattle.objects.specs.Lives.{Parts, state_in}
 use Rattle.objects.specs.Tables.{state_of}
 use Rattle.user_memory.specs.Views.{IsUsable}
 use Rattle.vspace.specs.Tables.{Holds, MapsFrame, MapsTable, TablesAgree}

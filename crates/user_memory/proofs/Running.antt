@@ -15,7 +15,7 @@ use Rattle.model.specs.Kernel.State.{State, vspace_slot}
 use Rattle.model.specs.Machine.ProgramMemory.{Content, RegisterFile}
 use Rattle.model.specs.declared.capabilities.Cap.{Cap}
 use Rattle.model.specs.declared.capabilities.Cap.TheVariants.{Empty, Untyped, Endpoint, Notification, CNode, Frame, PageTable, Tcb, RootTable, InterruptControl, InterruptHandler}
-use Rattle.cnode_ops.specs.object_lifetimes.Kernels.{Parts, state_in}
+use Rattle.objects.specs.Lives.{Parts, state_in}
 use Rattle.objects.specs.Frames.{SameBesideFrames, SameObjects}
 use Rattle.objects.specs.Standing.{Standing}
 use Rattle.objects.specs.Tables.{Tables, state_of}

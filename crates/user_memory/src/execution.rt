@@ -11,7 +11,7 @@ ghost use Rattle.model.specs.Machine.Instructions.{IsInstr};
 ghost use Rattle.model.specs.Machine.ProgramMemory.{loaded};
 ghost use Rattle.model.specs.declared.instructions.Access.TheVariants.{Fetch};
 ghost use Rattle.model.specs.declared.instructions.AccessSize.TheVariants.{Word};
-ghost use Rattle.cnode_ops.specs.object_lifetimes.Kernels.{state_in};
+ghost use Rattle.objects.specs.Lives.{state_in};
 
 use crate::keeping::{keep_page, keep_reached};
 use crate::spaces::Space;
@@ -71,8 +71,9 @@ fn kept_word<S: WalkStore>(
     let Some(table) = root else {
         return None;
     };
-    match kernel.store.kept_place(table, address, Access::Fetch) {
-        Some(place) => Some(kernel.store.mem().read32(place)),
+    let live = &kernel.live;
+    match live.store.kept_place(table, address, Access::Fetch) {
+        Some(place) => Some(live.store.mem().read32(place)),
         None => None,
     }
 }
@@ -88,7 +89,8 @@ fn walked_word<S: WalkStore>(
     ensures value { result ≡ loaded (content_of (state_in S.slots S.memory kernel.old) thread) Fetch Word address }
     ensures unchanged { kernel.new ≡ kernel.old }
 {
-    keep_page(&mut kernel.store, root, address);
+    let live = &mut kernel.live;
+    keep_page(&mut live.store, root, address);
     let space = Space { kernel, root };
     if address % 4 == 0 {
         space.aligned_word(address, Access::Fetch)
@@ -113,7 +115,8 @@ fn run<S: WalkStore>(
         ≡ with_content (state_in S.slots S.memory kernel.old)
         (effect registers.old (content_of (state_in S.slots S.memory kernel.old) thread) instruction).content }
 {
-    keep_reached(&mut kernel.store, root, registers, instruction);
+    let live = &mut kernel.live;
+    keep_reached(&mut live.store, root, registers, instruction);
     let mut memory = UserMemory { kernel, root };
     exec(registers, instruction, &mut memory)
 }
@@ -136,11 +139,8 @@ pub fn execute<S: WalkStore>(
         state_in S.slots S.memory kernel.new ≡ with_content (with_registers s thread after.registers) after.content }
     ensures unchanged { result ≢ Exec.Next → state_in S.slots S.memory kernel.new ≡ state_in S.slots S.memory kernel.old }
 {
-    let mut registers = kernel.objects.objects.registers(&kernel.store, thread);
+    let mut registers = kernel.live.registers(thread);
     let outcome = run(kernel, thread, root, &mut registers, instruction);
-    kernel
-        .objects
-        .objects
-        .set_registers(&mut kernel.store, thread, registers);
+    kernel.live.set_registers(thread, registers);
     outcome
 }

@@ -4,7 +4,7 @@ ghost use Rattle.std.specs.Prelude.{◌≡◌, ◌+◌, ◌^◌, ◌≤◌, ◌&
 ghost use Rattle.model.specs.Capabilities.Slots.{OutsideSlots};
 ghost use Rattle.model.specs.Kernel.AddressSpaces.{page_size};
 ghost use Rattle.model.specs.Kernel.Setup.{fill, is_frame_object};
-ghost use Rattle.cnode_ops.specs.object_lifetimes.Kernels.{state_in};
+ghost use Rattle.objects.specs.Lives.{state_in};
 ghost use Rattle.user_memory.specs.Fills.{AreWritten};
 
 use cnode_ops::Kernel;
@@ -32,7 +32,7 @@ fn may_fill<S: SlotStore>(kernel: &Kernel<S>, offset: u32, bytes: &[u8]) -> bool
     ensures { result ≡ (is_frame_object ((state_in S.slots S.memory kernel.now).objects offset)
         && nat_le (length bytes.now) page_size) }
 {
-    kernel.objects.objects.is_frame(&kernel.store, offset) && bytes.len() <= PAGE_SIZE
+    kernel.live.is_frame(offset) && bytes.len() <= PAGE_SIZE
 }
 
 /// Writes at most a page of bytes from the beginning of a frame on. Where no frame starts at the offset, or
@@ -46,6 +46,7 @@ pub fn fill<S: SlotStore>(kernel: &mut Kernel<S>, offset: u32, bytes: &[u8]) -> 
     if !may_fill(kernel, offset, bytes) {
         return false;
     }
-    write_bytes(&mut kernel.store, offset, bytes);
+    let live = &mut kernel.live;
+    write_bytes(&mut live.store, offset, bytes);
     true
 }

@@ -5,7 +5,7 @@ ghost use Rattle.model.specs.Capabilities.CapabilityKinds.{root_of};
 ghost use Rattle.model.specs.Capabilities.Slots.{capability_at};
 ghost use Rattle.model.specs.Kernel.AddressSpaces.{vspace_of};
 ghost use Rattle.model.specs.Kernel.State.{vspace_slot};
-ghost use Rattle.cnode_ops.specs.object_lifetimes.Kernels.{state_in};
+ghost use Rattle.objects.specs.Lives.{state_in};
 
 use cnode_ops::Kernel;
 use model::Slot;
@@ -29,5 +29,6 @@ fn root_behind<S: RootStore>(store: &S, thread: u32) -> Option<u32>
 pub fn root_of<S: RootStore>(kernel: &Kernel<S>, thread: u32) -> Option<u32>
     ensures { result ≡ vspace_of (state_in S.slots S.memory kernel.now) thread }
 {
-    root_behind(&kernel.store, thread)
+    let live = &kernel.live;
+    root_behind(&live.store, thread)
 }

@@ -3,7 +3,7 @@
 ghost use Rattle.std.specs.Prelude.{ℕ, ◌≡◌, ◌%◌, Some, Ok};
 ghost use Rattle.model.specs.declared.instructions.AccessSize.TheVariants.{Word};
 ghost use Rattle.model.specs.Machine.ProgramMemory.{IsNamed, loaded, place_at};
-ghost use Rattle.cnode_ops.specs.object_lifetimes.Kernels.{state_in};
+ghost use Rattle.objects.specs.Lives.{state_in};
 ghost use Rattle.user_memory.specs.Views.{IsUsable, content_under};
 
 use cnode_ops::Kernel;
@@ -28,7 +28,8 @@ impl<S: WalkStore> Space<'_, S> {
         match self.root {
             Some(root) => {
                 let kernel = self.kernel;
-                kernel.store.kept_place(root, address, access)
+                let live = &kernel.live;
+                live.store.kept_place(root, address, access)
             }
             None => None,
         }
@@ -42,7 +43,8 @@ impl<S: WalkStore> Space<'_, S> {
             return Err(MemoryFault { address, access });
         };
         let kernel = self.kernel;
-        match kernel.store.walk(root, address, access) {
+        let live = &kernel.live;
+        match live.store.walk(root, address, access) {
             Ok(place) => Ok(place),
             Err(_) => Err(MemoryFault { address, access }),
         }
@@ -64,7 +66,8 @@ impl<S: WalkStore> Space<'_, S> {
         ensures { result ≡ (content_under (state_in S.slots S.memory self.now.kernel.now) self.now.root).byte place }
     {
         let kernel = self.kernel;
-        kernel.store.mem().read8(place)
+        let live = &kernel.live;
+        live.store.mem().read8(place)
     }
 
     /// The word at a multiple of 4, by a walk.
@@ -73,8 +76,9 @@ impl<S: WalkStore> Space<'_, S> {
         ensures { result ≡ loaded (content_under (state_in S.slots S.memory self.now.kernel.now) self.now.root) access Word address }
     {
         let kernel = self.kernel;
+        let live = &kernel.live;
         match self.walked_place(address, access) {
-            Ok(place) => Ok(kernel.store.mem().read32(place)),
+            Ok(place) => Ok(live.store.mem().read32(place)),
             Err(fault) => Err(fault),
         }
     }
@@ -85,8 +89,9 @@ impl<S: WalkStore> Space<'_, S> {
         ensures { result ≡ loaded (content_under (state_in S.slots S.memory self.now.kernel.now) self.now.root) access Word address }
     {
         let kernel = self.kernel;
+        let live = &kernel.live;
         match self.kept_place(address, access) {
-            Some(place) => Ok(kernel.store.mem().read32(place)),
+            Some(place) => Ok(live.store.mem().read32(place)),
             None => self.walked_word(address, access),
         }
     }

@@ -4,7 +4,7 @@ ghost use Rattle.std.specs.Prelude.{◌≡◌, ◌%◌, ◌<◌, ◌^◌, Ok};
 ghost use Rattle.model.specs.Machine.ProgramMemory.{place_at, stored};
 ghost use Rattle.model.specs.declared.instructions.Access.TheVariants.{Store};
 ghost use Rattle.model.specs.declared.instructions.AccessSize.TheVariants.{Word};
-ghost use Rattle.cnode_ops.specs.object_lifetimes.Kernels.{state_in};
+ghost use Rattle.objects.specs.Lives.{state_in};
 ghost use Rattle.user_memory.specs.Views.{Beside, IsUsable, beside_of, content_under};
 
 use crate::spaces::Space;
@@ -80,7 +80,8 @@ impl<S: WalkStore> View for UserMemory<'_, S> {
 
     fn set_byte(&mut self, place: u32, value: u8) {
         let kernel = &mut *self.kernel;
-        kernel.store.write8(place, value);
+        let live = &mut kernel.live;
+        live.store.write8(place, value);
     }
 
     fn store(&mut self, address: u32, size: AccessSize, value: u32) -> Result<(), MemoryFault> {

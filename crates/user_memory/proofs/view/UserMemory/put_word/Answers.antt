@@ -3,7 +3,7 @@ use Rattle.std.proofs.Common.{◌∙◌, ◌+◌, Ok, refl, sym, ap, arith, subs
 use Rattle.std.specs.Prelude.{slice_index}
 use Rattle.model.specs.Machine.ProgramMemory.{Content, IsNamed, put_byte}
 use Rattle.model.specs.declared.instructions.Access.TheVariants.{Store}
-use Rattle.cnode_ops.specs.object_lifetimes.Kernels.{state_in}
+use Rattle.objects.specs.Lives.{state_in}
 use Rattle.user_memory.proofs.WordStores.{word-stored}
 use Rattle.user_memory.proofs.Words.{behind}
 use Rattle.user_memory.specs.Views.{content_under}

@@ -2,7 +2,7 @@
 use Rattle.std.proofs.Common.{◌∙◌, ap}
 use Rattle.model.specs.Machine.ProgramMemory.{stored}
 use Rattle.model.specs.declared.instructions.AccessSize.{AccessSize}
-use Rattle.cnode_ops.specs.object_lifetimes.Kernels.{state_in}
+use Rattle.objects.specs.Lives.{state_in}
 use Rattle.user_memory.specs.Views.{content_under}
 use Rattle.user_memory.proofs.view.UserMemoryView.store.Goals as goal
 
