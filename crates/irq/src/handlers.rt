@@ -11,7 +11,7 @@ ghost use Rattle.model.specs.Kernel.Removal.{delete};
 ghost use Rattle.model.specs.Kernel.Soundness.{IsSound};
 ghost use Rattle.model.specs.Kernel.State.{binding_slot};
 ghost use Rattle.model.specs.declared.capabilities.Cap.TheVariants.{InterruptControl};
-ghost use Rattle.cnode_ops.specs.object_lifetimes.Kernels.{state_in};
+ghost use Rattle.objects.specs.Lives.{state_in};
 ghost use Rattle.soundness.specs.Calls.{IsRoot};
 
 use cnode_ops::{Ends, Kernel, may_have_child, remove_slot};
@@ -65,9 +65,10 @@ pub fn get_handler<S: SlotStore>(
         (state_in S.slots S.memory kernel.new) }
     ensures unchanged { OnErr result (kernel.new ≡ kernel.old) }
 {
-    let place = handler_place(&kernel.store, root, slot, line, destination)?;
+    let live = &mut kernel.live;
+    let place = handler_place(&live.store, root, slot, line, destination)?;
     let handler = Cap::InterruptHandler { line: line as u8 };
-    kernel.store.insert(place, handler, Some(slot));
+    live.store.insert(place, handler, Some(slot));
     Ok(())
 }
 
@@ -115,11 +116,12 @@ pub fn bind<S: SlotStore>(
         (state_in S.slots S.memory kernel.new) }
     ensures unchanged { OnErr result (kernel.new ≡ kernel.old) }
 {
-    let source = bound_source(&kernel.store, root, notification)?;
-    let capability = kernel.store.capability(source);
-    let binding = kernel.objects.binding(line);
-    remove_slot(&mut kernel.store, &mut kernel.objects, binding)?;
-    kernel.store.insert(binding, capability, Some(source));
+    let live = &mut kernel.live;
+    let source = bound_source(&live.store, root, notification)?;
+    let capability = live.store.capability(source);
+    let binding = live.objects.binding(line);
+    remove_slot(&mut live.store, &mut live.objects, binding)?;
+    live.store.insert(binding, capability, Some(source));
     Ok(())
 }
 
@@ -133,6 +135,7 @@ pub fn clear<S: SlotStore>(kernel: &mut Kernel<S>, line: u8) -> Result<(), KErro
         (state_in S.slots S.memory kernel.new) }
     ensures unchanged { OnErr result (kernel.new ≡ kernel.old) }
 {
-    let binding = kernel.objects.binding(line);
-    remove_slot(&mut kernel.store, &mut kernel.objects, binding)
+    let live = &mut kernel.live;
+    let binding = live.objects.binding(line);
+    remove_slot(&mut live.store, &mut live.objects, binding)
 }

@@ -4,13 +4,13 @@ ghost use Rattle.std.specs.Prelude.{ℕ, ◌≡◌, ◌<◌, option_map};
 ghost use Rattle.irq.specs.Signals.{as_signal};
 ghost use Rattle.model.specs.Kernel.Interrupts.{acknowledge, binding, raise, signal_of};
 ghost use Rattle.model.specs.Kernel.Soundness.{IsSound};
-ghost use Rattle.cnode_ops.specs.object_lifetimes.Kernels.{SameBeside, state_in};
+ghost use Rattle.objects.specs.Lives.{SameBeside, state_in};
 ghost use Rattle.objects.specs.Tables.{state_of};
 
 use cnode_ops::Kernel;
 use model::Cap;
 use notify::signal;
-use objects::Objects;
+use objects::Live;
 use slots::SlotStore;
 
 /// What a line signals: a notification, by its offset in bytes, and with which badge.
@@ -34,11 +34,12 @@ fn signal_of(capability: Cap) -> Option<Signal>
 }
 
 /// What a line, 0 to 63, is bound to, if it is bound.
-fn binding<S: SlotStore>(store: &S, objects: &Objects, line: u8) -> Option<Signal>
+fn binding<S: SlotStore>(live: &Live<S>, line: u8) -> Option<Signal>
     requires { line < 64 }
-    ensures { option_map as_signal result ≡ binding (state_of objects.now (S.slots store.now) (S.memory store.now)) line }
+    ensures { option_map as_signal result ≡ binding (state_in S.slots S.memory live.now) line }
 {
-    signal_of(store.capability(objects.binding(line)))
+    let slot = live.binding(line);
+    signal_of(live.store().capability(slot))
 }
 
 /// An interrupt comes on a line. It is delivered where the line is bound and not masked, and masks the line
@@ -52,30 +53,16 @@ pub fn raise<S: SlotStore>(kernel: &mut Kernel<S>, line: u8)
     if line > 63 {
         return;
     }
-    if kernel.objects.objects.is_masked(&kernel.store, line) {
-        kernel
-            .objects
-            .objects
-            .set_pending(&mut kernel.store, line, true);
+    if kernel.live.is_masked(line) {
+        kernel.live.set_pending(line, true);
         return;
     }
-    match binding(&kernel.store, &kernel.objects.objects, line) {
+    match binding(&kernel.live, line) {
         Some(bound) => {
-            signal(
-                &mut kernel.store,
-                &mut kernel.objects.objects,
-                bound.notification,
-                bound.badge,
-            );
-            kernel
-                .objects
-                .objects
-                .set_masked(&mut kernel.store, line, true);
+            signal(&mut kernel.live, bound.notification, bound.badge);
+            kernel.live.set_masked(line, true);
         }
-        None => kernel
-            .objects
-            .objects
-            .set_pending(&mut kernel.store, line, true),
+        None => kernel.live.set_pending(line, true),
     }
 }
 
@@ -88,28 +75,14 @@ pub fn ack<S: SlotStore>(kernel: &mut Kernel<S>, line: u8)
     ensures state { state_in S.slots S.memory kernel.new ≡ acknowledge (state_in S.slots S.memory kernel.old) line }
     ensures beside { SameBeside S.slots S.memory S.order kernel.old kernel.new }
 {
-    let pending = kernel.objects.objects.is_pending(&kernel.store, line);
-    kernel
-        .objects
-        .objects
-        .set_masked(&mut kernel.store, line, false);
+    let pending = kernel.live.is_pending(line);
+    kernel.live.set_masked(line, false);
     if !pending {
         return;
     }
-    if let Some(bound) = binding(&kernel.store, &kernel.objects.objects, line) {
-        kernel
-            .objects
-            .objects
-            .set_pending(&mut kernel.store, line, false);
-        signal(
-            &mut kernel.store,
-            &mut kernel.objects.objects,
-            bound.notification,
-            bound.badge,
-        );
-        kernel
-            .objects
-            .objects
-            .set_masked(&mut kernel.store, line, true);
+    if let Some(bound) = binding(&kernel.live, line) {
+        kernel.live.set_pending(line, false);
+        signal(&mut kernel.live, bound.notification, bound.badge);
+        kernel.live.set_masked(line, true);
     }
 }

@@ -1,22 +1,21 @@
 -- A thread whose capability some slot holds is there, and its slots lie in memory.
 use Rattle.std.proofs.Common.{ℕ, ◌≡◌, ◌+◌, ◌/◌, ◌^◌, ◌<◌, ◌≤◌, List, Some, ap, arith, subst, sym}
 use Rattle.std.proofs.Math.Pow.{pow_mono}
-use Rattle.kernel_invariant.specs.Wholeness.{IsWhole}
 use Rattle.model.specs.Capabilities.Slots.{Slots, capability_at}
 use Rattle.model.specs.Kernel.Kinds.{kind_at, object_named, piece_of_object}
 use Rattle.model.specs.Kernel.Retype.{NewThread}
 use Rattle.model.specs.Kernel.Soundness.{IsSound}
 use Rattle.model.specs.Kernel.State.{State}
 use Rattle.model.specs.declared.capabilities.Cap.TheVariants.{Tcb}
-use Rattle.cnode_ops.specs.object_lifetimes.Kernels.{Parts}
+use Rattle.objects.specs.Lives.{Parts}
 use Rattle.objects.specs.Tables.{Tables, state_of}
 use Rattle.soundness.proofs.Laws.{named-piece}
 use Rattle.vspace.specs.Tables.{Holds}
 
-pub thread-there : (o : Tables) (slots : Slots) (memory : List ℕ) (thread : ℕ) → IsWhole o slots memory → Holds slots (Tcb thread)
+pub thread-there : (o : Tables) (slots : Slots) (memory : List ℕ) (thread : ℕ) → IsSound (state_of o slots memory) → Holds slots (Tcb thread)
     → kind_at (state_of o slots memory) thread ≡ Some NewThread
 unfolding state_of
-thread-there o slots memory thread whole held = whole.sound.memory.named held.0 NewThread thread (ap object_named held.1)
+thread-there o slots memory thread sound held = sound.memory.named held.0 NewThread thread (ap object_named held.1)
 
 -- what the kernel's slots hold, its parts' hold
 pub held-inside : {S : Type 0} (slots : S → Slots) (thread : ℕ) {parts kernel : Parts S} → parts ≡ kernel → Holds (slots kernel.store) (Tcb thread)

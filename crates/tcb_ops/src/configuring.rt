@@ -6,7 +6,7 @@ ghost use Rattle.model.specs.Capabilities.CapabilityWords.{IsCapability};
 ghost use Rattle.model.specs.Capabilities.Slots.{SameOutside};
 ghost use Rattle.model.specs.Kernel.Soundness.{IsSound};
 ghost use Rattle.model.specs.Kernel.ThreadCalls.{configure};
-ghost use Rattle.cnode_ops.specs.object_lifetimes.Kernels.{state_in};
+ghost use Rattle.objects.specs.Lives.{state_in};
 ghost use Rattle.tcb_ops.specs.Configuring.{MayConfigure, spaces_put};
 ghost use Rattle.vspace.specs.Tables.{Holds};
 
@@ -53,11 +53,9 @@ pub fn configure<S: SlotStore>(
         result (state_in S.slots S.memory kernel.new) }
     ensures unchanged { OnErr result (kernel.new ≡ kernel.old) }
 {
-    let from = named_sources(&kernel.store, root, thread, spaces)?;
-    put_spaces(&mut kernel.store, thread, spaces.guard, from);
-    kernel
-        .objects
-        .objects
-        .set_fault_address(&mut kernel.store, thread, spaces.fault_address);
+    let live = &mut kernel.live;
+    let from = named_sources(&live.store, root, thread, spaces)?;
+    put_spaces(&mut live.store, thread, spaces.guard, from);
+    live.set_fault_address(thread, spaces.fault_address);
     Ok(())
 }

@@ -5,7 +5,7 @@ ghost use Rattle.model.specs.Kernel.Outcomes.{GivesState};
 ghost use Rattle.model.specs.Kernel.Messages.{register};
 ghost use Rattle.model.specs.Kernel.ThreadCalls.{resume, set_priority, set_register, suspend};
 ghost use Rattle.model.specs.Machine.ProgramMemory.{write};
-ghost use Rattle.cnode_ops.specs.object_lifetimes.Kernels.{SameBeside, state_in};
+ghost use Rattle.objects.specs.Lives.{SameBeside, state_in};
 ghost use Rattle.vspace.specs.Tables.{Holds};
 
 use cnode_ops::Kernel;
@@ -31,10 +31,7 @@ pub fn set_priority<S: SlotStore>(
     if priority > 255 {
         return Err(KError::RangeError);
     }
-    kernel
-        .objects
-        .objects
-        .set_priority(&mut kernel.store, thread, priority as u8);
+    kernel.live.set_priority(thread, priority as u8);
     Ok(())
 }
 
@@ -78,12 +75,10 @@ pub fn set_register<S: SlotStore>(
     if index == 0 && value % 4 != 0 {
         return Err(KError::AlignmentError);
     }
-    let registers = kernel.objects.objects.registers(&kernel.store, thread);
-    kernel.objects.objects.set_registers(
-        &mut kernel.store,
-        thread,
-        with_register(registers, index, value),
-    );
+    let registers = kernel.live.registers(thread);
+    kernel
+        .live
+        .set_registers(thread, with_register(registers, index, value));
     Ok(())
 }
 
@@ -96,11 +91,11 @@ pub fn resume<S: SlotStore>(kernel: &mut Kernel<S>, thread: u32)
         ≡ resume (state_in S.slots S.memory kernel.old) thread }
     ensures beside { SameBeside S.slots S.memory S.order kernel.old kernel.new }
 {
-    match kernel.objects.objects.status(&kernel.store, thread) {
+    match kernel.live.status(thread) {
         Status::Runnable => {}
         Status::Inactive | Status::Blocked { .. } | Status::AwaitsReply | Status::AwaitsHandler => {
-            kernel.objects.objects.leave(&mut kernel.store, thread);
-            kernel.objects.objects.wake(&mut kernel.store, thread);
+            kernel.live.leave(thread);
+            kernel.live.wake(thread);
         }
     }
 }
@@ -114,9 +109,6 @@ pub fn suspend<S: SlotStore>(kernel: &mut Kernel<S>, thread: u32)
         ≡ suspend (state_in S.slots S.memory kernel.old) thread }
     ensures beside { SameBeside S.slots S.memory S.order kernel.old kernel.new }
 {
-    kernel.objects.objects.leave(&mut kernel.store, thread);
-    kernel
-        .objects
-        .objects
-        .block(&mut kernel.store, thread, Status::Inactive);
+    kernel.live.leave(thread);
+    kernel.live.block(thread, Status::Inactive);
 }

@@ -3,81 +3,124 @@ use Rattle.std.proofs.Common.{◌≡◌, ◌∙◌, ◌<◌, inl, Err, Ok, Some,
 use Rattle.std.proofs.lemmas.Result.{err_from_is_err_and}
 use Rattle.irq.proofs.Binding.{bind-kept, bind-left, bind-refused, bind-whole, slot-empty, source-full, source-kin, source-room}
 use Rattle.irq.proofs.handlers.bind.Goals as goal
-use Rattle.cnode_ops.proofs.Laws.{of-some}
+use Rattle.cnode_ops.proofs.Laws.{consistent-of, of-some, whole-of}
 use Rattle.model.specs.Capabilities.Slots.{IsFull, depth_of, inserted}
 use Rattle.model.specs.Kernel.InterruptCalls.{bind}
 use Rattle.model.specs.Kernel.Soundness.{IsSound}
 use Rattle.model.specs.declared.capabilities.Cap.{Cap}
-use Rattle.cnode_ops.specs.object_lifetimes.Kernels.{state_in}
+use Rattle.objects.specs.Lives.{state_in}
 use Rattle.objects.specs.Tables.{state_of}
 use Rattle.soundness.specs.Calls.{IsRoot}
 
 pub returns-in_err-source-clause-outcome : goal.returns-in_err-source-clause-outcome
-returns-in_err-source-clause-outcome g c = λ call at.
+returns-in_err-source-clause-outcome g c =
+    let of_kernel = c.live.view_is ∙ c.kernel.view_is in
+    λ call at.
     let p = err_from_is_err_and c.from_residual.result c.from_residual.ensures.1 in
-    rw (p.1, p.2) (subst (λ k. bind (state_in g.S.SlotMap.slots g.S.SlotStore.memory k) call c.args.line c.args.notification ≡ Err c.in_err-source.field-0.0) c.kernel.view_is
-    (bind-refused c.kernel.inside.objects (g.S.SlotMap.slots c.kernel.inside.store) (g.S.SlotStore.memory c.kernel.inside.store) c.args.root c.args.line c.args.notification
+    rw (p.1, p.2) (subst (λ k. bind (state_in g.S.SlotMap.slots g.S.SlotStore.memory k) call c.args.line c.args.notification ≡ Err c.in_err-source.field-0.0) of_kernel
+    (bind-refused c.live.inside.objects (g.S.SlotMap.slots c.live.inside.store) (g.S.SlotStore.memory c.live.inside.store) c.args.root c.args.line c.args.notification
     c.in_err-source.field-0.0 c.in_err-source.ensures call at))
 
 pub returns-in_err-remove_slot-clause-outcome : goal.returns-in_err-remove_slot-clause-outcome
-returns-in_err-remove_slot-clause-outcome g c = λ call at.
+returns-in_err-remove_slot-clause-outcome g c =
+    let of_kernel = c.live.view_is ∙ c.kernel.view_is in
+    λ call at.
     let p = err_from_is_err_and c.from_residual-in_err-remove_slot.result c.from_residual-in_err-remove_slot.ensures.1 in
-    rw (p.1, p.2) (subst (λ k. bind (state_in g.S.SlotMap.slots g.S.SlotStore.memory k) call c.args.line c.args.notification ≡ Err c.in_err-remove_slot.field-0.0) c.kernel.view_is
-    (bind-kept c.kernel.inside.objects (g.S.SlotMap.slots c.kernel.inside.store) (g.S.SlotStore.memory c.kernel.inside.store) c.args.root c.args.line c.args.notification
+    rw (p.1, p.2) (subst (λ k. bind (state_in g.S.SlotMap.slots g.S.SlotStore.memory k) call c.args.line c.args.notification ≡ Err c.in_err-remove_slot.field-0.0) of_kernel
+    (bind-kept c.live.inside.objects (g.S.SlotMap.slots c.live.inside.store) (g.S.SlotStore.memory c.live.inside.store) c.args.root c.args.line c.args.notification
     c.in_ok-source.source c.binding-binding.result c.in_err-remove_slot.field-0.0 c.in_ok-source.ensures (c.binding-binding.ensures _ _) c.in_err-remove_slot.ensures.outcome call at))
 
 pub insert-requires-clause-empty : goal.insert-requires-clause-empty
 insert-requires-clause-empty g c =
-    let root = subst (λ k. IsRoot (state_in g.S.SlotMap.slots g.S.SlotStore.memory k) c.args.root) (sym c.kernel.view_is) c.requires.root in
-    let line = c.requires.line (subst (λ k. IsSound (state_in g.S.SlotMap.slots g.S.SlotStore.memory k)) c.kernel.view_is c.kernel.invariant.sound) in
-    slot-empty c.kernel.inside.objects (g.S.SlotMap.slots c.kernel.inside.store) (g.S.SlotStore.memory c.kernel.inside.store) c.args.root c.args.line c.args.notification
+    let whole = whole-of g.S.SlotMap.slots g.S.SlotStore.memory c.live.inside.objects c.live.inside.store c.kernel.invariant c.live.view_is c.live.invariant in
+    let of_kernel = c.live.view_is ∙ c.kernel.view_is in
+    let root = subst (λ k. IsRoot (state_in g.S.SlotMap.slots g.S.SlotStore.memory k) c.args.root) (sym of_kernel) c.requires.root in
+    let line = c.requires.line (subst (λ k. IsSound (state_in g.S.SlotMap.slots g.S.SlotStore.memory k)) of_kernel whole.sound) in
+    slot-empty c.live.inside.objects (g.S.SlotMap.slots c.live.inside.store) (g.S.SlotStore.memory c.live.inside.store) c.args.root c.args.line c.args.notification
     c.remove_slot.new.ends (g.S.SlotMap.slots c.remove_slot.new.store) (g.S.SlotStore.memory c.remove_slot.new.store) c.in_ok-source.source c.binding-binding.result
-    c.kernel.invariant root line c.in_ok-source.ensures (c.binding-binding.ensures _ _) c.in_ok-remove_slot.ensures.outcome
+    whole root line c.in_ok-source.ensures (c.binding-binding.ensures _ _) c.in_ok-remove_slot.ensures.outcome
 
 pub insert-requires-clause-full : goal.insert-requires-clause-full
-insert-requires-clause-full g c = λ x is.
-    let root = subst (λ k. IsRoot (state_in g.S.SlotMap.slots g.S.SlotStore.memory k) c.args.root) (sym c.kernel.view_is) c.requires.root in
-    let line = c.requires.line (subst (λ k. IsSound (state_in g.S.SlotMap.slots g.S.SlotStore.memory k)) c.kernel.view_is c.kernel.invariant.sound) in
+insert-requires-clause-full g c =
+    let whole = whole-of g.S.SlotMap.slots g.S.SlotStore.memory c.live.inside.objects c.live.inside.store c.kernel.invariant c.live.view_is c.live.invariant in
+    let of_kernel = c.live.view_is ∙ c.kernel.view_is in
+    λ x is.
+    let root = subst (λ k. IsRoot (state_in g.S.SlotMap.slots g.S.SlotStore.memory k) c.args.root) (sym of_kernel) c.requires.root in
+    let line = c.requires.line (subst (λ k. IsSound (state_in g.S.SlotMap.slots g.S.SlotStore.memory k)) of_kernel whole.sound) in
     of-some (IsFull (g.S.SlotMap.slots c.remove_slot.new.store)) c.in_ok-source.source x
-    (source-full c.kernel.inside.objects (g.S.SlotMap.slots c.kernel.inside.store) (g.S.SlotStore.memory c.kernel.inside.store) c.args.root c.args.line c.args.notification
+    (source-full c.live.inside.objects (g.S.SlotMap.slots c.live.inside.store) (g.S.SlotStore.memory c.live.inside.store) c.args.root c.args.line c.args.notification
     c.remove_slot.new.ends (g.S.SlotMap.slots c.remove_slot.new.store) (g.S.SlotStore.memory c.remove_slot.new.store) c.in_ok-source.source c.binding-binding.result
-    c.kernel.invariant root line c.in_ok-source.ensures (c.binding-binding.ensures _ _) c.in_ok-remove_slot.ensures.outcome) is
+    whole root line c.in_ok-source.ensures (c.binding-binding.ensures _ _) c.in_ok-remove_slot.ensures.outcome) is
 
 pub insert-requires-clause-kin : goal.insert-requires-clause-kin
 insert-requires-clause-kin g c =
-    let root = subst (λ k. IsRoot (state_in g.S.SlotMap.slots g.S.SlotStore.memory k) c.args.root) (sym c.kernel.view_is) c.requires.root in
-    let line = c.requires.line (subst (λ k. IsSound (state_in g.S.SlotMap.slots g.S.SlotStore.memory k)) c.kernel.view_is c.kernel.invariant.sound) in
-    inl (source-kin c.kernel.inside.objects (g.S.SlotMap.slots c.kernel.inside.store) (g.S.SlotStore.memory c.kernel.inside.store) c.args.root c.args.line c.args.notification
+    let whole = whole-of g.S.SlotMap.slots g.S.SlotStore.memory c.live.inside.objects c.live.inside.store c.kernel.invariant c.live.view_is c.live.invariant in
+    let of_kernel = c.live.view_is ∙ c.kernel.view_is in
+    let root = subst (λ k. IsRoot (state_in g.S.SlotMap.slots g.S.SlotStore.memory k) c.args.root) (sym of_kernel) c.requires.root in
+    let line = c.requires.line (subst (λ k. IsSound (state_in g.S.SlotMap.slots g.S.SlotStore.memory k)) of_kernel whole.sound) in
+    inl (source-kin c.live.inside.objects (g.S.SlotMap.slots c.live.inside.store) (g.S.SlotStore.memory c.live.inside.store) c.args.root c.args.line c.args.notification
     c.remove_slot.new.ends (g.S.SlotMap.slots c.remove_slot.new.store) (g.S.SlotStore.memory c.remove_slot.new.store) c.in_ok-source.source c.binding-binding.result
-    c.kernel.invariant root line c.in_ok-source.ensures (c.binding-binding.ensures _ _) c.in_ok-remove_slot.ensures.outcome c.capability-capability.result c.capability-capability.ensures.value)
+    whole root line c.in_ok-source.ensures (c.binding-binding.ensures _ _) c.in_ok-remove_slot.ensures.outcome c.capability-capability.result c.capability-capability.ensures.value)
 
 pub insert-requires-clause-room : goal.insert-requires-clause-room
-insert-requires-clause-room g c = λ x is.
-    let root = subst (λ k. IsRoot (state_in g.S.SlotMap.slots g.S.SlotStore.memory k) c.args.root) (sym c.kernel.view_is) c.requires.root in
-    let line = c.requires.line (subst (λ k. IsSound (state_in g.S.SlotMap.slots g.S.SlotStore.memory k)) c.kernel.view_is c.kernel.invariant.sound) in
+insert-requires-clause-room g c =
+    let whole = whole-of g.S.SlotMap.slots g.S.SlotStore.memory c.live.inside.objects c.live.inside.store c.kernel.invariant c.live.view_is c.live.invariant in
+    let of_kernel = c.live.view_is ∙ c.kernel.view_is in
+    λ x is.
+    let root = subst (λ k. IsRoot (state_in g.S.SlotMap.slots g.S.SlotStore.memory k) c.args.root) (sym of_kernel) c.requires.root in
+    let line = c.requires.line (subst (λ k. IsSound (state_in g.S.SlotMap.slots g.S.SlotStore.memory k)) of_kernel whole.sound) in
     of-some (λ y. depth_of (g.S.SlotMap.slots c.remove_slot.new.store) y < 255) c.in_ok-source.source x
-    (source-room c.kernel.inside.objects (g.S.SlotMap.slots c.kernel.inside.store) (g.S.SlotStore.memory c.kernel.inside.store) c.args.root c.args.line c.args.notification
+    (source-room c.live.inside.objects (g.S.SlotMap.slots c.live.inside.store) (g.S.SlotStore.memory c.live.inside.store) c.args.root c.args.line c.args.notification
     c.remove_slot.new.ends (g.S.SlotMap.slots c.remove_slot.new.store) (g.S.SlotStore.memory c.remove_slot.new.store) c.in_ok-source.source c.binding-binding.result
-    c.kernel.invariant root line c.in_ok-source.ensures (c.binding-binding.ensures _ _) c.in_ok-remove_slot.ensures.outcome) is
+    whole root line c.in_ok-source.ensures (c.binding-binding.ensures _ _) c.in_ok-remove_slot.ensures.outcome) is
 
 pub returns-clause-outcome : goal.returns-clause-outcome
-returns-clause-outcome g c = λ call at.
-    let root = subst (λ k. IsRoot (state_in g.S.SlotMap.slots g.S.SlotStore.memory k) c.args.root) (sym c.kernel.view_is) c.requires.root in
-    let line = c.requires.line (subst (λ k. IsSound (state_in g.S.SlotMap.slots g.S.SlotStore.memory k)) c.kernel.view_is c.kernel.invariant.sound) in
+returns-clause-outcome g c =
+    let whole = whole-of g.S.SlotMap.slots g.S.SlotStore.memory c.live.inside.objects c.live.inside.store c.kernel.invariant c.live.view_is c.live.invariant in
+    let of_kernel = c.live.view_is ∙ c.kernel.view_is in
+    λ call at.
+    let root = subst (λ k. IsRoot (state_in g.S.SlotMap.slots g.S.SlotStore.memory k) c.args.root) (sym of_kernel) c.requires.root in
+    let line = c.requires.line (subst (λ k. IsSound (state_in g.S.SlotMap.slots g.S.SlotStore.memory k)) of_kernel whole.sound) in
     let t = state_of c.remove_slot.new.ends (g.S.SlotMap.slots c.insert.new.self) (g.S.SlotStore.memory c.insert.new.self) in
     let put = c.insert.ensures.slots ∙ ap (λ (k : Cap). inserted (g.S.SlotMap.slots c.remove_slot.new.store) c.binding-binding.result k (Some c.in_ok-source.source)) c.capability-capability.ensures.value in
-    subst (λ k. bind (state_in g.S.SlotMap.slots g.S.SlotStore.memory k) call c.args.line c.args.notification ≡ Ok t) c.kernel.view_is
-    (bind-left c.kernel.inside.objects (g.S.SlotMap.slots c.kernel.inside.store) (g.S.SlotStore.memory c.kernel.inside.store) c.args.root c.args.line c.args.notification
+    subst (λ k. bind (state_in g.S.SlotMap.slots g.S.SlotStore.memory k) call c.args.line c.args.notification ≡ Ok t) of_kernel
+    (bind-left c.live.inside.objects (g.S.SlotMap.slots c.live.inside.store) (g.S.SlotStore.memory c.live.inside.store) c.args.root c.args.line c.args.notification
     c.remove_slot.new.ends (g.S.SlotMap.slots c.remove_slot.new.store) (g.S.SlotStore.memory c.remove_slot.new.store) c.in_ok-source.source c.binding-binding.result
-    c.kernel.invariant root line c.in_ok-source.ensures (c.binding-binding.ensures _ _) c.in_ok-remove_slot.ensures.outcome
+    whole root line c.in_ok-source.ensures (c.binding-binding.ensures _ _) c.in_ok-remove_slot.ensures.outcome
     (g.S.SlotMap.slots c.insert.new.self) (g.S.SlotStore.memory c.insert.new.self) c.remove_slot.ensures.agree c.insert.ensures.bytes put call at)
+
+pub invariant_of-live-2 : goal.invariant_of-live-2
+invariant_of-live-2 g c =
+    let whole = whole-of g.S.SlotMap.slots g.S.SlotStore.memory c.live.inside.objects c.live.inside.store c.kernel.invariant c.live.view_is c.live.invariant in
+    let of_kernel = c.live.view_is ∙ c.kernel.view_is in
+    (
+    let root = subst (λ k. IsRoot (state_in g.S.SlotMap.slots g.S.SlotStore.memory k) c.args.root) (sym of_kernel) c.requires.root in
+    let line = c.requires.line (subst (λ k. IsSound (state_in g.S.SlotMap.slots g.S.SlotStore.memory k)) of_kernel whole.sound) in
+    let put = c.insert.ensures.slots ∙ ap (λ (k : Cap). inserted (g.S.SlotMap.slots c.remove_slot.new.store) c.binding-binding.result k (Some c.in_ok-source.source)) c.capability-capability.ensures.value in
+    bind-whole c.live.inside.objects (g.S.SlotMap.slots c.live.inside.store) (g.S.SlotStore.memory c.live.inside.store) c.args.root c.args.line c.args.notification
+    c.remove_slot.new.ends (g.S.SlotMap.slots c.remove_slot.new.store) (g.S.SlotStore.memory c.remove_slot.new.store) c.in_ok-source.source c.binding-binding.result
+    whole root line c.in_ok-source.ensures (c.binding-binding.ensures _ _) c.in_ok-remove_slot.ensures.outcome
+    (g.S.SlotMap.slots c.insert.new.self) (g.S.SlotStore.memory c.insert.new.self) c.remove_slot.ensures.agree c.insert.ensures.bytes put).stands
 
 pub invariant_of-kernel-2 : goal.invariant_of-kernel-2
 invariant_of-kernel-2 g c =
-    let root = subst (λ k. IsRoot (state_in g.S.SlotMap.slots g.S.SlotStore.memory k) c.args.root) (sym c.kernel.view_is) c.requires.root in
-    let line = c.requires.line (subst (λ k. IsSound (state_in g.S.SlotMap.slots g.S.SlotStore.memory k)) c.kernel.view_is c.kernel.invariant.sound) in
+    let whole = whole-of g.S.SlotMap.slots g.S.SlotStore.memory c.live.inside.objects c.live.inside.store c.kernel.invariant c.live.view_is c.live.invariant in
+    let of_kernel = c.live.view_is ∙ c.kernel.view_is in
+    consistent-of (
+    let root = subst (λ k. IsRoot (state_in g.S.SlotMap.slots g.S.SlotStore.memory k) c.args.root) (sym of_kernel) c.requires.root in
+    let line = c.requires.line (subst (λ k. IsSound (state_in g.S.SlotMap.slots g.S.SlotStore.memory k)) of_kernel whole.sound) in
     let put = c.insert.ensures.slots ∙ ap (λ (k : Cap). inserted (g.S.SlotMap.slots c.remove_slot.new.store) c.binding-binding.result k (Some c.in_ok-source.source)) c.capability-capability.ensures.value in
-    bind-whole c.kernel.inside.objects (g.S.SlotMap.slots c.kernel.inside.store) (g.S.SlotStore.memory c.kernel.inside.store) c.args.root c.args.line c.args.notification
+    bind-whole c.live.inside.objects (g.S.SlotMap.slots c.live.inside.store) (g.S.SlotStore.memory c.live.inside.store) c.args.root c.args.line c.args.notification
     c.remove_slot.new.ends (g.S.SlotMap.slots c.remove_slot.new.store) (g.S.SlotStore.memory c.remove_slot.new.store) c.in_ok-source.source c.binding-binding.result
-    c.kernel.invariant root line c.in_ok-source.ensures (c.binding-binding.ensures _ _) c.in_ok-remove_slot.ensures.outcome
-    (g.S.SlotMap.slots c.insert.new.self) (g.S.SlotStore.memory c.insert.new.self) c.remove_slot.ensures.agree c.insert.ensures.bytes put
+    whole root line c.in_ok-source.ensures (c.binding-binding.ensures _ _) c.in_ok-remove_slot.ensures.outcome
+    (g.S.SlotMap.slots c.insert.new.self) (g.S.SlotStore.memory c.insert.new.self) c.remove_slot.ensures.agree c.insert.ensures.bytes put)
+
+pub remove_slot-requires-clause-agree : goal.remove_slot-requires-clause-agree
+remove_slot-requires-clause-agree g c =
+    let whole = whole-of g.S.SlotMap.slots g.S.SlotStore.memory c.live.inside.objects c.live.inside.store c.kernel.invariant c.live.view_is c.live.invariant in
+    (whole.agrees, whole.stands)
+
+pub remove_slot-requires-clause-sound : goal.remove_slot-requires-clause-sound
+remove_slot-requires-clause-sound g c =
+    let whole = whole-of g.S.SlotMap.slots g.S.SlotStore.memory c.live.inside.objects c.live.inside.store c.kernel.invariant c.live.view_is c.live.invariant in
+    whole.sound

@@ -1,10 +1,12 @@
 -- The slots are the state's.
-use Rattle.std.proofs.Common.{◌∙◌}
+use Rattle.std.proofs.Common.{◌∙◌, ap}
 use Rattle.irq.proofs.Bound.{bound-by}
 use Rattle.irq.proofs.lines.binding.Goals as goal
+use Rattle.model.specs.Capabilities.Slots.{capability_at}
 
 pub returns : goal.returns
 returns g c =
+    let live = c.args.live.now in
     c.signal_of.ensures
-    ∙ bound-by c.args.objects.now (g.S.SlotMap.slots c.args.store.now) (g.S.SlotStore.memory c.args.store.now) c.args.line c.binding.result c.capability.result c.capability.ensures.value
-    (c.binding.ensures (g.S.SlotMap.slots c.args.store.now) (g.S.SlotStore.memory c.args.store.now))
+    ∙ bound-by live.tables (g.S.SlotMap.slots live.store) (g.S.SlotStore.memory live.store) c.args.line c.binding-slot.result c.capability.result
+    (c.capability.ensures.value ∙ ap (λ store. capability_at (g.S.SlotMap.slots store) c.binding-slot.result) c.store.ensures) c.binding-slot.ensures

@@ -1,47 +1,32 @@
--- The thread is there, and what is left is whole.
-use Rattle.std.proofs.Common.{◌∙◌, rules, subst, sym}
-use Rattle.kernel_invariant.specs.Wholeness.{IsWhole}
-use Rattle.model.specs.declared.capabilities.Cap.TheVariants.{Tcb}
+-- The thread is there, and what is left is consistent.
+use Rattle.std.proofs.Common.{◌∙◌, rules, subst}
 use Rattle.cnode_ops.proofs.Laws.{kept}
-use Rattle.vspace.specs.Tables.{Holds}
-use Rattle.cnode_ops.specs.object_lifetimes.Kernels.{state_in}
-use Rattle.objects.proofs.Laws.{objects-then}
-use Rattle.objects.specs.Frames.{SameObjects}
-use Rattle.objects.specs.Tables.{state_of}
+use Rattle.objects.proofs.Laws.{beside-then}
+use Rattle.objects.specs.Lives.{Parts, SameBeside}
 use Rattle.soundness.proofs.Laws.{resume-machine, resume-whole}
 use Rattle.tcb_ops.proofs.ThreadsNear.{held-inside, thread-there}
 use Rattle.tcb_ops.proofs.threads.resume.Goals as goal
 
 pub leave-requires : goal.leave-requires
-leave-requires g c =
-    let whole = subst (λ k. IsWhole k.objects (g.S.SlotMap.slots k.store) (g.S.SlotStore.memory k.store)) (sym c.kernel-inside.view_is) c.kernel.invariant in
-    let held = subst (λ k. Holds (g.S.SlotMap.slots k.store) (Tcb c.args.thread)) (sym c.kernel-inside.view_is)
-    (held-inside g.S.SlotMap.slots c.args.thread c.kernel.view_is c.requires.held) in
-    let there = thread-there _ _ _ c.args.thread whole held in
-    record { there = there; stands = whole.stands }
+leave-requires g c = record {
+  there = thread-there _ _ _ c.args.thread c.kernel.invariant.sound (held-inside g.S.SlotMap.slots c.args.thread c.kernel.view_is c.requires.held);
+}
 
 pub wake-requires : goal.wake-requires
-wake-requires g c =
-    let whole = subst (λ k. IsWhole k.objects (g.S.SlotMap.slots k.store) (g.S.SlotStore.memory k.store)) (sym c.kernel-inside.view_is) c.kernel.invariant in
-    let held = subst (λ k. Holds (g.S.SlotMap.slots k.store) (Tcb c.args.thread)) (sym c.kernel-inside.view_is)
-    (held-inside g.S.SlotMap.slots c.args.thread c.kernel.view_is c.requires.held) in
-    let there = thread-there _ _ _ c.args.thread whole held in
-    record { there = c.leave.ensures.bytes.kinds c.args.thread ∙ there; stands = c.leave.ensures.stands }
+wake-requires g c = record {
+  there = c.leave.ensures.beside.bytes.kinds c.args.thread
+      ∙ thread-there _ _ _ c.args.thread c.kernel.invariant.sound (held-inside g.S.SlotMap.slots c.args.thread c.kernel.view_is c.requires.held);
+}
 
 pub invariant_of-kernel : goal.invariant_of-kernel
 invariant_of-kernel g c =
-    let whole = subst (λ k. IsWhole k.objects (g.S.SlotMap.slots k.store) (g.S.SlotStore.memory k.store)) (sym c.kernel-inside.view_is) c.kernel.invariant in
-    let held = subst (λ k. Holds (g.S.SlotMap.slots k.store) (Tcb c.args.thread)) (sym c.kernel-inside.view_is)
-    (held-inside g.S.SlotMap.slots c.args.thread c.kernel.view_is c.requires.held) in
-    let there = thread-there _ _ _ c.args.thread whole held in
-    kept _ _ _ _ _ _ _ whole (search rules) (resume-whole _ whole.sound c.args.thread there) (resume-machine _ c.args.thread)
-    (objects-then _ _ _ _ _ _ c.leave.ensures.bytes c.wake.ensures.bytes) c.wake.ensures.stands
+    let there = thread-there _ _ _ c.args.thread c.kernel.invariant.sound (held-inside g.S.SlotMap.slots c.args.thread c.kernel.view_is c.requires.held) in
+    kept _ c.kernel.invariant (beside-then c.leave.ensures.beside c.wake.ensures.beside) (search rules) (resume-whole _ c.kernel.invariant.sound c.args.thread there)
+    (resume-machine _ c.args.thread)
 
 pub returns-in-Inactive : goal.returns-in-Inactive
-returns-in-Inactive g c =
-    let t = c.wake.new in
-    let now = state_of t.self (g.S.SlotMap.slots t.store) (g.S.SlotStore.memory t.store) in
-    let bytes = subst (λ k. SameObjects (state_in g.S.SlotMap.slots g.S.SlotStore.memory k) now (g.S.SlotStore.memory k.store) (g.S.SlotStore.memory t.store)) c.kernel.view_is
-    (subst (λ k. SameObjects (state_of k.objects (g.S.SlotMap.slots k.store) (g.S.SlotStore.memory k.store)) now (g.S.SlotStore.memory k.store) (g.S.SlotStore.memory t.store))
-    c.kernel-inside.view_is (objects-then _ _ _ _ _ _ c.leave.ensures.bytes c.wake.ensures.bytes)) in
-    record { state = search rules; beside = record { order = search rules; bytes = bytes } }
+returns-in-Inactive g c = record {
+  state = search rules;
+  beside = subst (λ (k : Parts _). SameBeside g.S.SlotMap.slots g.S.SlotStore.memory g.S.SlotStore.order k c.wake.new.self) c.kernel.view_is
+      (beside-then c.leave.ensures.beside c.wake.ensures.beside);
+}
