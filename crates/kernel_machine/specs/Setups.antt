@@ -3,7 +3,7 @@
 use Rattle.std.specs.Prelude.{ℕ, ◌≡◌, ◌+◌, ◌*◌, ◌%◌, ◌^◌, ◌==◌, ◌<◌, ◌&&◌, nat_le, nat_lt, Bool, true, false, if◌then◌else◌, Option, Some, None, option_map, slice_index}
 use Rattle.cnode_ops.specs.Refusals.{some_slot}
 use Rattle.kernel_machine.specs.Stores.{Store, bytes_of, slots_of}
-use Rattle.cnode_ops.specs.object_lifetimes.Kernels as kernels
+use Rattle.objects.specs.Lives as lives
 use Rattle.model.specs.Capabilities.Slots.{Slots, capability_at}
 use Rattle.model.specs.Kernel.Removal.{slot_count}
 use Rattle.model.specs.Kernel.Setup.{end_of}
@@ -13,11 +13,11 @@ use Rattle.model.specs.declared.slot_entries.Entry.{Entry}
 
 -- the store, and the tables of objects
 abbrev pub Parts : Type 0
-Parts = kernels.Parts Store
+Parts = lives.Parts Store
 
 -- the state that they represent
 abbrev pub state_in : Parts → State
-state_in parts = kernels.state_in slots_of bytes_of parts
+state_in parts = lives.state_in slots_of bytes_of parts
 
 -- what an operation answers and leaves: nothing changes where its definition gives nothing
 abbrev pub GivesIf : Option State → Bool → Parts → Parts → Type 0

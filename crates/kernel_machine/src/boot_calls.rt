@@ -7,7 +7,7 @@ ghost use Rattle.model.specs.Capabilities.CapabilityWords.{IsCapability};
 ghost use Rattle.model.specs.Capabilities.Slots.{Slots};
 ghost use Rattle.model.specs.Images.Boot.{boot_call, boot_root, made, performed};
 ghost use Rattle.model.specs.Images.BootCalls.{loader_call};
-ghost use Rattle.cnode_ops.specs.object_lifetimes.Kernels.{state_in};
+ghost use Rattle.objects.specs.Lives.{state_in};
 ghost use Rattle.soundness.specs.Calls.{IsCall};
 
 use crate::perform_calls::{KernelCall, configure_with_guard, invoke};
@@ -26,7 +26,7 @@ fn boot_root<S: SlotStore>(kernel: &Kernel<S>) -> Cap
     ensures value { result ≡ boot_root (state_in S.slots S.memory kernel.now).boot_radix }
     ensures valid { IsCapability result }
 {
-    let radix = kernel.objects.objects.boot_radix();
+    let radix = kernel.live.boot_radix();
     Cap::CNode {
         offset: 0,
         radix: radix as u8,
@@ -51,12 +51,13 @@ fn called<S: SlotStore>(kernel: &Kernel<S>, address: u32) -> Result<KernelCall, 
             capability: root,
         });
     }
-    match called_slot(&kernel.store, root, address) {
+    let live = &kernel.live;
+    match called_slot(&live.store, root, address) {
         Ok(slot) => Ok(KernelCall {
             root,
             caller: None,
             slot,
-            capability: kernel.store.capability(slot),
+            capability: live.store.capability(slot),
         }),
         Err(_) => Err(KError::FailedLookup),
     }

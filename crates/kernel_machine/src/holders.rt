@@ -3,7 +3,7 @@
 ghost use Rattle.std.specs.Prelude.{ℕ, ◌≡◌, ◌+◌, ◌^◌, ◌<◌, ◌≤◌, IfSome, option_map};
 ghost use Rattle.kernel_machine.specs.Setups.{IsPlace, entry_of, number_of, seen_entry, slot_in, slots_of_holder};
 ghost use Rattle.model.specs.Kernel.Soundness.{HasSlot, IsSound};
-ghost use Rattle.cnode_ops.specs.object_lifetimes.Kernels.{state_in};
+ghost use Rattle.objects.specs.Lives.{state_in};
 
 use cnode_ops::Kernel;
 use model::{Cap, Slot};
@@ -18,7 +18,7 @@ pub(crate) fn boot_slots<S: SlotStore>(kernel: &Kernel<S>) -> u32
     ensures value { result ≡ 2 ^ (state_in S.slots S.memory kernel.now).boot_radix }
     ensures most { result ≤ 2 ^ 14 }
 {
-    1 << kernel.objects.objects.boot_radix()
+    1 << kernel.live.boot_radix()
 }
 
 /// How many slots a holder has: none, if there is no such holder.
@@ -31,7 +31,7 @@ fn count_slots<S: SlotStore>(kernel: &Kernel<S>, holder: u32) -> u32
     } else if holder == 16 * count {
         LINES
     } else {
-        kernel.objects.objects.slots_of(&kernel.store, holder)
+        kernel.live.slots_of(holder)
     }
 }
 
@@ -79,7 +79,8 @@ pub(crate) fn look_at<S: SlotStore>(
     if index >= count_slots(kernel, holder) {
         return None;
     }
-    let Some((capability, parent)) = entry_behind(&kernel.store, holder / 16, index) else {
+    let live = &kernel.live;
+    let Some((capability, parent)) = entry_behind(&live.store, holder / 16, index) else {
         return None;
     };
     match parent {

@@ -2,7 +2,7 @@
 
 ghost use Rattle.std.specs.Prelude.{ℕ, ◌≡◌, ◌^◌, ◌≤◌, None, option_and_then};
 ghost use Rattle.kernel_machine.specs.Setups.{register_in};
-ghost use Rattle.cnode_ops.specs.object_lifetimes.Kernels.{state_in};
+ghost use Rattle.objects.specs.Lives.{state_in};
 ghost use Rattle.model.specs.Kernel.State.{ThreadState, as_thread};
 
 use cnode_ops::Kernel;
@@ -27,7 +27,7 @@ fn register_in(registers: &Regs, index: u8) -> Option<u32>
 pub(crate) fn register_of<S: SlotStore>(kernel: &Kernel<S>, thread: u32, index: u8) -> Option<u32>
     ensures { result ≡ option_and_then (λ t. register_in t index) (as_thread ((state_in S.slots S.memory kernel.now).objects thread)) }
 {
-    if !kernel.objects.objects.is_thread(&kernel.store, thread) {
+    if !kernel.live.is_thread(thread) {
         return None;
     }
     register_in(&kernel.registers(thread), index)
@@ -37,7 +37,7 @@ pub(crate) fn register_of<S: SlotStore>(kernel: &Kernel<S>, thread: u32, index: 
 pub(crate) fn byte_at<S: SlotStore>(kernel: &Kernel<S>, offset: u32) -> Option<u8>
     ensures { result ≡ (state_in S.slots S.memory kernel.now).bytes offset }
 {
-    kernel.objects.objects.byte(&kernel.store, offset)
+    kernel.live.byte(offset)
 }
 
 /// How many bytes of memory there are. No object lies beyond them.
@@ -45,5 +45,6 @@ pub(crate) fn memory_size<S: SlotStore>(kernel: &Kernel<S>) -> u32
     ensures value { result ≡ 2 ^ (state_in S.slots S.memory kernel.now).memory_bits }
     ensures inside { (place : ℕ) → result ≤ place → (state_in S.slots S.memory kernel.now).objects place ≡ None }
 {
-    kernel.store.mem().len()
+    let live = &kernel.live;
+    live.store.mem().len()
 }

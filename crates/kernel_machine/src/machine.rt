@@ -13,9 +13,9 @@ use crate::holders::{LINES, look_at};
 use crate::looks::{byte_at, memory_size, register_of};
 use crate::puts::{put_control, put_untyped};
 use crate::stores::{Store, empty_store};
-use cnode_ops::{Kernel, KernelObjects};
+use cnode_ops::Kernel;
 use model::{Cap, KError, Slot};
-use objects::Objects;
+use objects::{Live, Objects};
 use slots::SlotStore;
 use std::alloc::{AllocError, Global};
 use std::marker::Model;
@@ -51,10 +51,8 @@ impl Machine {
         let mut store = empty_store(alloc, bits)?;
         let objects = Objects::new(alloc, bits, radix)?;
         store.open_range(Slot::new(0), (1 << radix) + LINES);
-        let kernel = Kernel {
-            store,
-            objects: KernelObjects { objects },
-        };
+        let live = Live { store, objects };
+        let kernel = Kernel { live };
         Ok(Machine { kernel })
     }
 

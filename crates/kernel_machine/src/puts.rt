@@ -1,7 +1,7 @@
 //! What is put into boot slots apart from calls.
 
 ghost use Rattle.std.specs.Prelude.{◌≡◌, None, Some, false, if◌then◌else◌};
-ghost use Rattle.cnode_ops.specs.object_lifetimes.Kernels.{state_in};
+ghost use Rattle.objects.specs.Lives.{state_in};
 ghost use Rattle.model.specs.Capabilities.CapabilityKinds.{object_of};
 ghost use Rattle.model.specs.Capabilities.CapabilityWords.{IsCapability};
 ghost use Rattle.model.specs.Capabilities.Slots.{is_empty};
@@ -29,11 +29,13 @@ fn put<S: SlotStore>(kernel: &mut Kernel<S>, index: u32, capability: Cap) -> boo
     ensures unchanged { result ≡ false → kernel.new ≡ kernel.old }
 {
     let count = boot_slots(kernel);
-    let free = is_free(&kernel.store, count, index);
-    if free {
-        kernel.store.insert(Slot::new(index), capability, None);
+    let live = &mut kernel.live;
+    let free = is_free(&live.store, count, index);
+    if !free {
+        return false;
     }
-    free
+    live.store.insert(Slot::new(index), capability, None);
+    true
 }
 
 /// Puts untyped memory into an empty boot slot, after all that is there. Nothing changes where it may not lie there.
@@ -53,7 +55,8 @@ pub(crate) fn put_untyped<S: SlotStore>(
         watermark: 0,
     };
     let first = 16 * (boot_slots(kernel) + LINES);
-    let fits = may_be_untyped(&kernel.store, first, offset, bits);
+    let live = &kernel.live;
+    let fits = may_be_untyped(&live.store, first, offset, bits);
     fits && put(kernel, index, untyped)
 }
 

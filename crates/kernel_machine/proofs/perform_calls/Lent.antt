@@ -1,7 +1,7 @@
 -- A kernel and its parts: what is asked of the one is known of the other, and what the other gives is given.
 use Rattle.std.proofs.Common.{◌≡◌, ℕ, List, Result, sym, subst}
 use Rattle.model.specs.Kernel.Outcomes.{GivesState}
-use Rattle.cnode_ops.specs.object_lifetimes.Kernels.{Parts, state_in}
+use Rattle.objects.specs.Lives.{Parts, state_in}
 use Rattle.model.specs.Capabilities.Slots.{Slots}
 use Rattle.model.specs.Kernel.Arguments.{Call}
 use Rattle.model.specs.Kernel.State.{State}

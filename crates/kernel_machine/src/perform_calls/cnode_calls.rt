@@ -5,7 +5,7 @@ ghost use Rattle.model.specs.Kernel.Outcomes.{GivesState};
 ghost use Rattle.kernel_machine.specs.perform_calls.Calls.{call_of};
 ghost use Rattle.model.specs.Kernel.Invocations.{perform};
 ghost use Rattle.model.specs.declared.invocations.Invocation.TheVariants.{OnCNode};
-ghost use Rattle.cnode_ops.specs.object_lifetimes.Kernels.{state_in};
+ghost use Rattle.objects.specs.Lives.{state_in};
 ghost use Rattle.soundness.specs.Calls.{IsCall};
 
 use crate::perform_calls::KernelCall;
@@ -35,23 +35,41 @@ pub(crate) fn on_cnode<S: SlotStore>(
             destination,
             source,
             rights,
-        } => copy(&mut kernel.store, on, destination, source, rights),
+        } => {
+            let live = &mut kernel.live;
+            copy(&mut live.store, on, destination, source, rights)
+        }
         CNodeCall::Mint {
             destination,
             source,
             rights,
             payload,
-        } => mint(&mut kernel.store, on, destination, source, rights, payload),
+        } => {
+            let live = &mut kernel.live;
+            mint(&mut live.store, on, destination, source, rights, payload)
+        }
         CNodeCall::Move {
             destination,
             source,
-        } => move_cap(&mut kernel.store, on, destination, source),
+        } => {
+            let live = &mut kernel.live;
+            move_cap(&mut live.store, on, destination, source)
+        }
         CNodeCall::Mutate {
             destination,
             source,
             payload,
-        } => mutate(&mut kernel.store, on, destination, source, payload),
-        CNodeCall::Delete { slot } => delete(&mut kernel.store, &mut kernel.objects, on, slot),
-        CNodeCall::Revoke { slot } => revoke(&mut kernel.store, &mut kernel.objects, on, slot),
+        } => {
+            let live = &mut kernel.live;
+            mutate(&mut live.store, on, destination, source, payload)
+        }
+        CNodeCall::Delete { slot } => {
+            let live = &mut kernel.live;
+            delete(&mut live.store, &mut live.objects, on, slot)
+        }
+        CNodeCall::Revoke { slot } => {
+            let live = &mut kernel.live;
+            revoke(&mut live.store, &mut live.objects, on, slot)
+        }
     }
 }

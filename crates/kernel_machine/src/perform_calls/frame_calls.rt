@@ -6,7 +6,7 @@ ghost use Rattle.kernel_machine.specs.perform_calls.Calls.{AppliesTo, call_of};
 ghost use Rattle.model.specs.Kernel.Invocations.{perform};
 ghost use Rattle.model.specs.declared.capabilities.FrameMapping.{FrameMapping};
 ghost use Rattle.model.specs.declared.invocations.Invocation.TheVariants.{OnFrame};
-ghost use Rattle.cnode_ops.specs.object_lifetimes.Kernels.{state_in};
+ghost use Rattle.objects.specs.Lives.{state_in};
 ghost use Rattle.soundness.specs.Calls.{IsCall};
 
 use crate::perform_calls::KernelCall;
@@ -61,10 +61,12 @@ pub(crate) fn on_frame<S: SlotStore>(
         } => {
             let cspace = call.root;
             let frame = frame_of(call, held);
-            map_frame(&mut kernel.store, cspace, frame, root, address, rights)
+            let live = &mut kernel.live;
+            map_frame(&mut live.store, cspace, frame, root, address, rights)
         }
         FrameCall::UnmapFrame => {
-            kernel.objects.unmap(&mut kernel.store, call.slot);
+            let live = &mut kernel.live;
+            live.objects.unmap(&mut live.store, call.slot);
             Ok(())
         }
     }

@@ -5,7 +5,7 @@ ghost use Rattle.model.specs.Kernel.Outcomes.{GivesState};
 ghost use Rattle.kernel_machine.specs.perform_calls.Calls.{AppliesTo, call_of};
 ghost use Rattle.model.specs.Kernel.Invocations.{perform};
 ghost use Rattle.model.specs.declared.invocations.Invocation.TheVariants.{OnControl, OnHandler};
-ghost use Rattle.cnode_ops.specs.object_lifetimes.Kernels.{state_in};
+ghost use Rattle.objects.specs.Lives.{state_in};
 ghost use Rattle.soundness.specs.Calls.{IsCall};
 
 use crate::perform_calls::KernelCall;

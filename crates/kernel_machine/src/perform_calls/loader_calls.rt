@@ -6,7 +6,7 @@ ghost use Rattle.kernel_machine.specs.perform_calls.Calls.{call_of};
 ghost use Rattle.model.specs.Capabilities.CapabilityKinds.{thread_of};
 ghost use Rattle.model.specs.Kernel.CallForms.{slot_name, word};
 ghost use Rattle.model.specs.Kernel.Invocations.{configure_with_guard};
-ghost use Rattle.cnode_ops.specs.object_lifetimes.Kernels.{state_in};
+ghost use Rattle.objects.specs.Lives.{state_in};
 ghost use Rattle.soundness.specs.Calls.{IsCall};
 
 use crate::perform_calls::KernelCall;

@@ -6,7 +6,7 @@ ghost use Rattle.kernel_machine.specs.perform_calls.Calls.{AppliesTo, call_of};
 ghost use Rattle.model.specs.Kernel.Invocations.{perform};
 ghost use Rattle.model.specs.declared.capabilities.TableMapping.{TableMapping};
 ghost use Rattle.model.specs.declared.invocations.Invocation.TheVariants.{OnTable};
-ghost use Rattle.cnode_ops.specs.object_lifetimes.Kernels.{state_in};
+ghost use Rattle.objects.specs.Lives.{state_in};
 ghost use Rattle.soundness.specs.Calls.{IsCall};
 
 use crate::perform_calls::KernelCall;
@@ -49,10 +49,12 @@ pub(crate) fn on_table<S: SlotStore>(
         TableCall::MapTable { root, address } => {
             let cspace = call.root;
             let table = table_of(call);
-            map_table(&mut kernel.store, cspace, table, root, address)
+            let live = &mut kernel.live;
+            map_table(&mut live.store, cspace, table, root, address)
         }
         TableCall::UnmapTable => {
-            kernel.objects.unmap(&mut kernel.store, call.slot);
+            let live = &mut kernel.live;
+            live.objects.unmap(&mut live.store, call.slot);
             Ok(())
         }
     }

@@ -5,7 +5,7 @@ ghost use Rattle.model.specs.Kernel.Outcomes.{GivesState};
 ghost use Rattle.kernel_machine.specs.perform_calls.Calls.{AppliesTo, call_of};
 ghost use Rattle.model.specs.Kernel.Invocations.{perform};
 ghost use Rattle.model.specs.declared.invocations.Invocation.TheVariants.{OnUntyped};
-ghost use Rattle.cnode_ops.specs.object_lifetimes.Kernels.{state_in};
+ghost use Rattle.objects.specs.Lives.{state_in};
 ghost use Rattle.soundness.specs.Calls.{IsCall};
 
 use crate::perform_calls::KernelCall;
@@ -28,9 +28,10 @@ pub(crate) fn on_untyped<S: SlotStore>(
         (state_in S.slots S.memory kernel.new) }
     ensures unchanged { OnErr result (kernel.new ≡ kernel.old) }
 {
+    let live = &mut kernel.live;
     retype(
-        &mut kernel.store,
-        &mut kernel.objects,
+        &mut live.store,
+        &mut live.objects,
         call.root,
         call.slot,
         memory,

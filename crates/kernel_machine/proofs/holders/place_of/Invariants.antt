@@ -2,7 +2,7 @@
 use Rattle.std.proofs.Common.{ℕ, ◌*◌, ◌-◌, ◌<◌, ◌≤◌}
 use Rattle.kernel_machine.proofs.holders.place_of.Given as goal
 use Rattle.kernel_machine.specs.Setups.{slots_of_holder}
-use Rattle.cnode_ops.specs.object_lifetimes.Kernels.{state_in}
+use Rattle.objects.specs.Lives.{state_in}
 
 abbrev pub invariant-slots : goal.invariant-slots
 invariant-slots g l =

@@ -4,7 +4,7 @@ use Rattle.model.specs.Kernel.InterruptCalls.{on_handler}
 use Rattle.model.specs.Kernel.Outcomes.{GivesState}
 use Rattle.model.specs.Kernel.State.{State}
 use Rattle.model.specs.declared.invocations.HandlerCall.{HandlerCall}
-use Rattle.cnode_ops.specs.object_lifetimes.Kernels.{state_in}
+use Rattle.objects.specs.Lives.{state_in}
 use Rattle.kernel_machine.proofs.perform_calls.Roots.{line-small}
 use Rattle.kernel_machine.proofs.perform_calls.interrupt_calls.on_handler.Goals as goal
 use Rattle.kernel_machine.specs.perform_calls.Calls.{call_of}

@@ -8,7 +8,7 @@ use Rattle.kernel_machine.proofs.perform_calls.loader_calls.configure_with_guard
 use Rattle.kernel_machine.specs.perform_calls.Calls.{call_of}
 use Rattle.model.specs.Kernel.State.{State}
 use Rattle.model.specs.declared.errors.KError.{KError}
-use Rattle.cnode_ops.specs.object_lifetimes.Kernels.{state_in}
+use Rattle.objects.specs.Lives.{state_in}
 
 pub returns-in_default-clause-outcome : goal.returns-in_default-clause-outcome
 returns-in_default-clause-outcome g c = guarded-none (state_in g.S.SlotMap.slots g.S.SlotStore.memory c.args.kernel.now) (call_of c.args.call) c.args.words.now c.thread_of.result c.thread_of.ensures c.in_default.is

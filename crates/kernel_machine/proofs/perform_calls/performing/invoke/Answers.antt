@@ -9,7 +9,7 @@ use Rattle.model.specs.Kernel.Invocations.{perform}
 use Rattle.model.specs.Kernel.State.{State}
 use Rattle.model.specs.declared.errors.KError.{KError}
 use Rattle.model.specs.declared.invocations.Invocation.{Invocation}
-use Rattle.cnode_ops.specs.object_lifetimes.Kernels.{state_in}
+use Rattle.objects.specs.Lives.{state_in}
 
 pub perform-requires-clause-applies : goal.perform-requires-clause-applies
 perform-requires-clause-applies g c =

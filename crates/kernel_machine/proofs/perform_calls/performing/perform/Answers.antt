@@ -5,7 +5,7 @@ use Rattle.kernel_machine.proofs.perform_calls.performing.perform.Goals as goal
 use Rattle.kernel_machine.specs.perform_calls.Calls.{AppliesTo, call_of}
 use Rattle.model.specs.Kernel.Invocations.{perform}
 use Rattle.model.specs.declared.invocations.Invocation.{Invocation}
-use Rattle.cnode_ops.specs.object_lifetimes.Kernels.{state_in}
+use Rattle.objects.specs.Lives.{state_in}
 
 pub on_untyped-requires-clause-applies : goal.on_untyped-requires-clause-applies
 on_untyped-requires-clause-applies g c = subst (AppliesTo c.args.call.capability) c.in-OnUntyped.is c.requires.applies

@@ -4,7 +4,7 @@ use Rattle.model.specs.Kernel.Outcomes.{GivesState}
 use Rattle.model.specs.Kernel.State.{State}
 use Rattle.model.specs.Kernel.ThreadCalls.{on_thread}
 use Rattle.model.specs.declared.invocations.ThreadCall.{ThreadCall}
-use Rattle.cnode_ops.specs.object_lifetimes.Kernels.{state_in}
+use Rattle.objects.specs.Lives.{state_in}
 use Rattle.objects.specs.Tables.{state_of}
 use Rattle.kernel_machine.proofs.perform_calls.Roots.{root-valid, thread-held}
 use Rattle.kernel_machine.proofs.perform_calls.thread_calls.on_thread.Goals as goal
