@@ -3,7 +3,7 @@
 ghost use Rattle.std.specs.Prelude.{ℕ, ◌≡◌};
 ghost use Rattle.model.specs.Kernel.Scheduling.{tick};
 ghost use Rattle.model.specs.Kernel.Steps.{ran, step};
-ghost use Rattle.cnode_ops.specs.object_lifetimes.Kernels.{state_in};
+ghost use Rattle.objects.specs.Lives.{state_in};
 ghost use Rattle.soundness.specs.Running.{IsRunning};
 
 use crate::instructions::run;
@@ -24,7 +24,7 @@ fn run_thread<S: WalkStore>(kernel: &mut Kernel<S>, thread: u32) -> Label
         ≡ (ran (state_in S.slots S.memory kernel.old) thread).0 }
     ensures label { result ≡ (ran (state_in S.slots S.memory kernel.old) thread).1 }
 {
-    let pc = kernel.objects.objects.pc(&kernel.store, thread);
+    let pc = kernel.live.pc(thread);
     let outcome = run(kernel, thread);
     Label::Ran {
         thread: MEMORY_BASE + thread,
@@ -40,7 +40,7 @@ fn run_current<S: WalkStore>(kernel: &mut Kernel<S>) -> Label
         ≡ (step (state_in S.slots S.memory kernel.old) Event.Step).0 }
     ensures label { result ≡ (step (state_in S.slots S.memory kernel.old) Event.Step).1 }
 {
-    match choose(&kernel.store, &kernel.objects.objects) {
+    match choose(&kernel.live) {
         Some(thread) => run_thread(kernel, thread),
         None => Label::Idle,
     }
@@ -51,7 +51,7 @@ fn pass_tick<S: SlotStore>(kernel: &mut Kernel<S>)
     ensures state { state_in S.slots S.memory kernel.new
         ≡ tick (state_in S.slots S.memory kernel.old) }
 {
-    tick(&mut kernel.store, &mut kernel.objects.objects);
+    tick(&mut kernel.live);
 }
 
 /// What an event does: the current thread goes on by an instruction, a tick passes, or an interrupt is raised.

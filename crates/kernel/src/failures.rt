@@ -6,7 +6,7 @@ ghost use Rattle.model.specs.Kernel.Faults.{instruction_fault, memory_fault};
 ghost use Rattle.model.specs.Kernel.Soundness.{SentIsSound};
 ghost use Rattle.model.specs.Kernel.State.{ByFault};
 ghost use Rattle.model.specs.Kernel.Steps.{faults, registers_of};
-ghost use Rattle.cnode_ops.specs.object_lifetimes.Kernels.{state_in};
+ghost use Rattle.objects.specs.Lives.{state_in};
 ghost use Rattle.objects.specs.thread_records.Threads.{message_of};
 ghost use Rattle.soundness.specs.Running.{IsRunning};
 
@@ -36,12 +36,7 @@ fn fail<S: SlotStore>(kernel: &mut Kernel<S>, thread: u32, fault: Fault) -> Outc
         ≡ (faults (state_in S.slots S.memory kernel.old) thread (message_of fault)).0 }
     ensures outcome { result ≡ (faults (state_in S.slots S.memory kernel.old) thread (message_of fault)).1 }
 {
-    raise_fault(
-        &mut kernel.store,
-        &mut kernel.objects.objects,
-        thread,
-        fault,
-    );
+    raise_fault(&mut kernel.live, thread, fault);
     Outcome::Faulted(kind_of(fault))
 }
 

@@ -5,7 +5,7 @@ ghost use Rattle.model.specs.Kernel.AddressSpaces.{vspace_of};
 ghost use Rattle.model.specs.Kernel.Steps.{executes, runs, runs_decoded};
 ghost use Rattle.model.specs.Machine.Decoding.{decoded};
 ghost use Rattle.model.specs.Machine.Instructions.{IsInstr};
-ghost use Rattle.cnode_ops.specs.object_lifetimes.Kernels.{state_in};
+ghost use Rattle.objects.specs.Lives.{state_in};
 ghost use Rattle.soundness.specs.Running.{IsRunning};
 
 use crate::failures::{miss, trap};

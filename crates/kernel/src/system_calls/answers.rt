@@ -6,7 +6,7 @@ ghost use Rattle.model.specs.Kernel.Kinds.{kind_at};
 ghost use Rattle.model.specs.Kernel.Messages.{passes};
 ghost use Rattle.model.specs.Kernel.Retype.{NewThread};
 ghost use Rattle.model.specs.Kernel.Steps.{answered, calls_known, completed, lacks_capability, refused};
-ghost use Rattle.cnode_ops.specs.object_lifetimes.Kernels.{state_in};
+ghost use Rattle.objects.specs.Lives.{state_in};
 ghost use Rattle.soundness.specs.Running.{IsRunning};
 
 use cnode_ops::Kernel;
@@ -22,7 +22,7 @@ pub(crate) fn pass<S: SlotStore>(kernel: &mut Kernel<S>, thread: u32)
     ensures state { state_in S.slots S.memory kernel.new
         ≡ passes (state_in S.slots S.memory kernel.old) thread }
 {
-    ipc::pass(&mut kernel.store, &mut kernel.objects.objects, thread);
+    ipc::pass(&mut kernel.live, thread);
 }
 
 /// The call of a thread names no capability, or one that is not fit for it; whether it was a receive.
@@ -45,12 +45,7 @@ pub(crate) fn lacks_capability<S: SlotStore>(
         in_receive,
         failure,
     };
-    raise_fault(
-        &mut kernel.store,
-        &mut kernel.objects.objects,
-        thread,
-        fault,
-    );
+    raise_fault(&mut kernel.live, thread, fault);
     Outcome::Faulted(FaultKind::Capability)
 }
 
@@ -66,12 +61,7 @@ pub(crate) fn unknown_call<S: SlotStore>(
     ensures outcome { result ≡ (calls_known (state_in S.slots S.memory kernel.old) thread number None).1 }
 {
     let pc = kernel.pc(thread);
-    raise_fault(
-        &mut kernel.store,
-        &mut kernel.objects.objects,
-        thread,
-        Fault::UnknownCall { pc, number },
-    );
+    raise_fault(&mut kernel.live, thread, Fault::UnknownCall { pc, number });
     Outcome::Faulted(FaultKind::UnknownCall)
 }
 
@@ -87,12 +77,7 @@ pub(crate) fn answer<S: SlotStore>(kernel: &mut Kernel<S>, thread: u32, kind: Se
             let mut registers = kernel.registers(thread);
             registers.write(Register::A0, 0);
             registers.write(Register::A1, 0x1000 * number);
-            pass_with(
-                &mut kernel.store,
-                &mut kernel.objects.objects,
-                thread,
-                registers,
-            );
+            pass_with(&mut kernel.live, thread, registers);
         }
         SendCall::Sending | SendCall::Trying => pass(kernel, thread),
     }
@@ -120,10 +105,10 @@ pub(crate) fn complete<S: SlotStore>(kernel: &mut Kernel<S>, thread: u32, kind: 
     ensures state { state_in S.slots S.memory kernel.new
         ≡ completed (state_in S.slots S.memory kernel.old) thread kind }
 {
-    if !kernel.objects.objects.is_thread(&kernel.store, thread) {
+    if !kernel.live.is_thread(thread) {
         return;
     }
-    match kernel.objects.objects.status(&kernel.store, thread) {
+    match kernel.live.status(thread) {
         Status::Runnable => answer(kernel, thread, kind, 0),
         Status::Inactive | Status::Blocked { .. } | Status::AwaitsReply | Status::AwaitsHandler =>
             pass(kernel, thread),

@@ -2,7 +2,7 @@
 
 ghost use Rattle.std.specs.Prelude.{ℕ, ◌≡◌};
 ghost use Rattle.model.specs.Kernel.Steps.{calls, system_call};
-ghost use Rattle.cnode_ops.specs.object_lifetimes.Kernels.{state_in};
+ghost use Rattle.objects.specs.Lives.{state_in};
 ghost use Rattle.soundness.specs.Running.{IsRunning};
 
 use crate::system_calls::answers::{pass, unknown_call};

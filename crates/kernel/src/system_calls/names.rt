@@ -8,7 +8,7 @@ ghost use Rattle.model.specs.Kernel.Kinds.{kind_at};
 ghost use Rattle.model.specs.Kernel.Retype.{NewThread};
 ghost use Rattle.model.specs.Kernel.State.{cspace_slot};
 ghost use Rattle.model.specs.Kernel.Steps.{cspace_of, named_slot};
-ghost use Rattle.cnode_ops.specs.object_lifetimes.Kernels.{state_in};
+ghost use Rattle.objects.specs.Lives.{state_in};
 
 use cnode_ops::Kernel;
 use cspace::called_slot;
@@ -22,7 +22,8 @@ pub(crate) fn cspace_of<S: SlotStore>(kernel: &Kernel<S>, thread: u32) -> Cap
     ensures value { result ≡ cspace_of (state_in S.slots S.memory kernel.now) thread }
     ensures valid { IsCapability result }
 {
-    kernel.store.capability(Slot::new(thread / 16))
+    let live = &kernel.live;
+    live.store.capability(Slot::new(thread / 16))
 }
 
 /// The slot that a thread's a0 names, which holds a capability.
@@ -38,7 +39,7 @@ pub(crate) fn named_slot<S: SlotStore>(
 {
     let root = cspace_of(kernel, thread);
     called_slot(
-        &kernel.store,
+        kernel.live.store(),
         root,
         kernel.registers(thread).read(Register::A0),
     )

@@ -5,7 +5,7 @@ ghost use Rattle.model.specs.Capabilities.Slots.{capability_at};
 ghost use Rattle.model.specs.Kernel.Kinds.{kind_at};
 ghost use Rattle.model.specs.Kernel.Retype.{NewEndpoint, NewNotification};
 ghost use Rattle.model.specs.Kernel.Steps.{receive_by, receive_call, receive_on_endpoint, receive_on_notification};
-ghost use Rattle.cnode_ops.specs.object_lifetimes.Kernels.{state_in};
+ghost use Rattle.objects.specs.Lives.{state_in};
 ghost use Rattle.soundness.specs.Running.{IsRunning};
 
 use crate::system_calls::answers::lacks_capability;
@@ -31,21 +31,11 @@ fn receive_message<S: SlotStore>(
 {
     match kind {
         ReceiveCall::Receiving => {
-            receive(
-                &mut kernel.store,
-                &mut kernel.objects.objects,
-                endpoint,
-                thread,
-            );
+            receive(&mut kernel.live, endpoint, thread);
             Outcome::Waited
         }
         ReceiveCall::Polling => {
-            try_to_receive(
-                &mut kernel.store,
-                &mut kernel.objects.objects,
-                endpoint,
-                thread,
-            );
+            try_to_receive(&mut kernel.live, endpoint, thread);
             Outcome::Plain
         }
     }
@@ -66,21 +56,11 @@ fn receive_signal<S: SlotStore>(
 {
     match kind {
         ReceiveCall::Receiving => {
-            wait(
-                &mut kernel.store,
-                &mut kernel.objects.objects,
-                notification,
-                thread,
-            );
+            wait(&mut kernel.live, notification, thread);
             Outcome::Waited
         }
         ReceiveCall::Polling => {
-            poll(
-                &mut kernel.store,
-                &mut kernel.objects.objects,
-                notification,
-                thread,
-            );
+            poll(&mut kernel.live, notification, thread);
             Outcome::Plain
         }
     }
@@ -98,7 +78,8 @@ fn receive_by<S: SlotStore>(
         ≡ (receive_by (state_in S.slots S.memory kernel.old) thread kind (capability_at (S.slots kernel.old.store) slot)).0 }
     ensures outcome { result ≡ (receive_by (state_in S.slots S.memory kernel.old) thread kind (capability_at (S.slots kernel.old.store) slot)).1 }
 {
-    match kernel.store.capability(slot) {
+    let live = &kernel.live;
+    match live.store.capability(slot) {
         Cap::Endpoint { offset, rights, .. } if rights.may_read() => {
             receive_message(kernel, thread, kind, offset)
         }

@@ -3,7 +3,7 @@
 ghost use Rattle.std.specs.Prelude.{ℕ, ◌≡◌};
 ghost use Rattle.model.specs.Kernel.Messages.{passes, reply};
 ghost use Rattle.model.specs.Kernel.Scheduling.{yielded};
-ghost use Rattle.cnode_ops.specs.object_lifetimes.Kernels.{state_in};
+ghost use Rattle.objects.specs.Lives.{state_in};
 ghost use Rattle.soundness.specs.Running.{IsRunning};
 
 use cnode_ops::Kernel;
@@ -17,7 +17,7 @@ pub(crate) fn reply<S: SlotStore>(kernel: &mut Kernel<S>, thread: u32)
         ≡ reply (state_in S.slots S.memory kernel.old) thread }
     ensures runs { IsRunning (state_in S.slots S.memory kernel.new) thread }
 {
-    ipc::reply(&mut kernel.store, &mut kernel.objects.objects, thread);
+    ipc::reply(&mut kernel.live, thread);
 }
 
 /// A thread goes on after its call, at the tail of its priority.
@@ -26,6 +26,6 @@ pub(crate) fn give_way<S: SlotStore>(kernel: &mut Kernel<S>, thread: u32)
     ensures state { state_in S.slots S.memory kernel.new
         ≡ yielded (passes (state_in S.slots S.memory kernel.old) thread) thread }
 {
-    ipc::pass(&mut kernel.store, &mut kernel.objects.objects, thread);
-    yield_now(&mut kernel.store, &mut kernel.objects.objects, thread);
+    ipc::pass(&mut kernel.live, thread);
+    yield_now(&mut kernel.live, thread);
 }

@@ -3,7 +3,7 @@
 ghost use Rattle.std.specs.Prelude.{ℕ, ◌≡◌};
 ghost use Rattle.model.specs.Capabilities.Slots.{IsFull, capability_at};
 ghost use Rattle.model.specs.Kernel.Steps.{send_by, send_call};
-ghost use Rattle.cnode_ops.specs.object_lifetimes.Kernels.{state_in};
+ghost use Rattle.objects.specs.Lives.{state_in};
 ghost use Rattle.soundness.specs.Running.{IsRunning};
 
 use crate::system_calls::answers::refuse;
@@ -22,7 +22,8 @@ fn send_by<S: SlotStore>(kernel: &mut Kernel<S>, thread: u32, kind: SendCall, sl
         ≡ (send_by (state_in S.slots S.memory kernel.old) thread kind slot (capability_at (S.slots kernel.old.store) slot)).0 }
     ensures outcome { result ≡ (send_by (state_in S.slots S.memory kernel.old) thread kind slot (capability_at (S.slots kernel.old.store) slot)).1 }
 {
-    let capability = kernel.store.capability(slot);
+    let live = &kernel.live;
+    let capability = live.store.capability(slot);
     match capability {
         Cap::Endpoint {
             offset,

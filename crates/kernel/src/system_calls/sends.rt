@@ -6,7 +6,7 @@ ghost use Rattle.model.specs.Kernel.Kinds.{kind_at};
 ghost use Rattle.model.specs.Kernel.Messages.{signal};
 ghost use Rattle.model.specs.Kernel.Retype.{NewEndpoint, NewNotification};
 ghost use Rattle.model.specs.Kernel.Steps.{send_on, sends_nothing, signal_on};
-ghost use Rattle.cnode_ops.specs.object_lifetimes.Kernels.{state_in};
+ghost use Rattle.objects.specs.Lives.{state_in};
 ghost use Rattle.soundness.specs.Running.{IsRunning};
 
 use crate::system_calls::answers::{answer, lacks_capability, pass};
@@ -47,8 +47,7 @@ pub(crate) fn send_on<S: SlotStore>(
     match kind {
         SendCall::Calling => {
             send(
-                &mut kernel.store,
-                &mut kernel.objects.objects,
+                &mut kernel.live,
                 endpoint,
                 thread,
                 sending(Sent::Call, badge, grant_reply),
@@ -57,8 +56,7 @@ pub(crate) fn send_on<S: SlotStore>(
         }
         SendCall::Sending => {
             send(
-                &mut kernel.store,
-                &mut kernel.objects.objects,
+                &mut kernel.live,
                 endpoint,
                 thread,
                 sending(Sent::Send, badge, grant_reply),
@@ -67,8 +65,7 @@ pub(crate) fn send_on<S: SlotStore>(
         }
         SendCall::Trying => {
             try_to_send(
-                &mut kernel.store,
-                &mut kernel.objects.objects,
+                &mut kernel.live,
                 endpoint,
                 thread,
                 sending(Sent::Send, badge, grant_reply),
@@ -87,12 +84,7 @@ fn give_signal<S: SlotStore>(kernel: &mut Kernel<S>, thread: u32, notification: 
         ≡ signal (state_in S.slots S.memory kernel.old) notification badge }
     ensures runs { IsRunning (state_in S.slots S.memory kernel.new) thread }
 {
-    signal(
-        &mut kernel.store,
-        &mut kernel.objects.objects,
-        notification,
-        badge,
-    );
+    signal(&mut kernel.live, notification, badge);
 }
 
 /// A thread signals a notification, by a capability with this badge.

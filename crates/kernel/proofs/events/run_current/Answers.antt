@@ -1,5 +1,5 @@
 -- The current thread runs.
-use Rattle.cnode_ops.specs.object_lifetimes.Kernels.{state_in}
+use Rattle.objects.specs.Lives.{state_in}
 use Rattle.model.specs.Kernel.Soundness.{IsSound}
 use Rattle.soundness.proofs.Laws.{current-runs}
 use Rattle.std.proofs.Common.{rules, subst}

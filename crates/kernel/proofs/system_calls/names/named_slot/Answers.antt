@@ -3,7 +3,7 @@ use Rattle.model.specs.Capabilities.LookupNumbers.{bits_left_of}
 use Rattle.model.specs.Kernel.State.{State}
 use Rattle.model.specs.Kernel.Steps.{named_slot}
 use Rattle.model.specs.declared.lookup_failures.LookupFailure.{LookupFailure}
-use Rattle.cnode_ops.specs.object_lifetimes.Kernels.{state_in}
+use Rattle.objects.specs.Lives.{state_in}
 use Rattle.objects.specs.Tables.{state_of}
 use Rattle.soundness.proofs.Laws.{named-left}
 use Rattle.std.proofs.Common.{ℕ, ◌≡◌, ◌≤◌, Result, Ok, Err, rules, sym}
