@@ -11,13 +11,13 @@ use derivation::{copy_of, insert_child, minted_copy_of};
 use model::{KError, SlotName};
 use slots::SlotStore;
 
-/// Copies a capability: a child of the source, with those of its rights that the rights word has too,
-/// and without a mapping.
+/// Copies a capability: a child of the source, with those of its rights that the rights word has too, and without a mapping.
 ///
-/// The first check that fails gives the error. Destination: its name is wrong (`RangeError`,
-/// `FailedLookup`), it is full (`DeleteFirst`). Source: its name is wrong (`RangeError`,
-/// `FailedLookup`), it is empty (`FailedLookup`), it may not be copied, or is of depth 255
-/// (`IllegalOperation`). Nothing changes then.
+/// # Errors
+///
+/// The first check that fails gives the error. Destination: its name is wrong (`RangeError`, `FailedLookup`), it is full
+/// (`DeleteFirst`). Source: its name is wrong (`RangeError`, `FailedLookup`), it is empty (`FailedLookup`), it may not be
+/// copied, or is of depth 255 (`IllegalOperation`). Nothing changes then.
 pub fn copy<S: SlotStore>(
     store: &mut S,
     call: NodeCall,
@@ -42,9 +42,11 @@ pub fn copy<S: SlotStore>(
 
 /// Copies a capability, as [`copy`] does, with a badge or a guard word.
 ///
-/// Between the errors of [`copy`] on what may be copied and on the depth, the first of these gives the
-/// error: the source has a badge already (`IllegalOperation`), the badge has more than 28 bits
-/// (`RangeError`), the word is no guard word of the CNode (`IllegalOperation`). Nothing changes then.
+/// # Errors
+///
+/// Between the errors of [`copy`] on what may be copied and on the depth, the first of these gives the error: the source has
+/// a badge already (`IllegalOperation`), the badge has more than 28 bits (`RangeError`), the word is no guard word of the
+/// CNode (`IllegalOperation`). Nothing changes then.
 pub fn mint<S: SlotStore>(
     store: &mut S,
     call: NodeCall,

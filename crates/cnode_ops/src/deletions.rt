@@ -15,11 +15,14 @@ use cspace::argument_slot;
 use model::{KError, SlotName};
 use slots::SlotStore;
 
-/// Empties the slot of a name under a CNode: an empty one stays as it is. The depth of the name is out of
-/// its range (`RangeError`), the lookup fails or leaves bits over (`FailedLookup`), or a CNode or a thread
-/// would end that still holds another capability (`RevokeFirst`); then nothing changes.
+/// Empties the slot of a name under a CNode: an empty one stays as it is.
 ///
 /// seL4 Reference Manual, seL4_CNode_Delete.
+///
+/// # Errors
+///
+/// The depth of the name is out of its range (`RangeError`), the lookup fails or leaves bits over (`FailedLookup`), or a
+/// CNode or a thread would end that still holds another capability (`RevokeFirst`). Nothing changes then.
 pub fn delete<S: SlotStore, E: Ends>(
     store: &mut S,
     ends: &mut E,
@@ -42,10 +45,13 @@ pub fn delete<S: SlotStore, E: Ends>(
     }
 }
 
-/// Takes all capabilities away that are derived from the one in the slot of a name under a CNode; that
-/// one stays. Errors are those of [`delete`].
+/// Takes all capabilities away that are derived from the one in the slot of a name under a CNode; that one stays.
 ///
 /// seL4 Reference Manual, seL4_CNode_Revoke.
+///
+/// # Errors
+///
+/// Those of [`delete`]. Nothing changes then.
 pub fn revoke<S: SlotStore, E: Ends>(
     store: &mut S,
     ends: &mut E,

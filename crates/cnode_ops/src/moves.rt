@@ -11,8 +11,11 @@ use derivation::relocate;
 use model::{KError, SlotName};
 use slots::SlotStore;
 
-/// Moves a capability to another slot, with its parent, its children and its mapping. Errors of names
-/// and slots are as [`copy`](crate::copy) has them. Nothing changes then.
+/// Moves a capability to another slot, with its parent, its children and its mapping.
+///
+/// # Errors
+///
+/// Those of names and slots that [`copy`](crate::copy) has. Nothing changes then.
 pub fn move_cap<S: SlotStore>(
     store: &mut S,
     call: NodeCall,

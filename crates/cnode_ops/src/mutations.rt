@@ -11,11 +11,12 @@ use derivation::{mutation_of, relocate};
 use model::{KError, SlotName};
 use slots::SlotStore;
 
-/// Moves a capability, as [`move_cap`](crate::move_cap) does, and gives a CNode's capability another
-/// guard word.
+/// Moves a capability, as [`move_cap`](crate::move_cap) does, and gives a CNode's capability another guard word.
 ///
-/// Behind the errors of names and slots: the source is an endpoint's or a notification's capability, or
-/// the word is no guard word of the CNode (`IllegalOperation`). Nothing changes then.
+/// # Errors
+///
+/// After those of names and slots: the source is an endpoint's or a notification's capability, or the word is no guard word
+/// of the CNode (`IllegalOperation`). Nothing changes then.
 pub fn mutate<S: SlotStore>(
     store: &mut S,
     call: NodeCall,

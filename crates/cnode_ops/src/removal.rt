@@ -132,9 +132,13 @@ fn remove<S: SlotStore, E: Ends>(store: &mut S, ends: &mut E, set: Removed) -> R
     Ok(())
 }
 
-/// Empties a slot alone: an empty one stays as it is. Errors are those of [`revoke`].
+/// Empties a slot alone: an empty one stays as it is.
 ///
 /// seL4 Reference Manual, "Deletion, Revocation, and Recycling".
+///
+/// # Errors
+///
+/// A CNode or a thread would end that still holds another capability (`RevokeFirst`). Nothing changes then.
 pub fn remove_slot<S: SlotStore, E: Ends>(
     store: &mut S,
     ends: &mut E,
@@ -154,11 +158,13 @@ pub fn remove_slot<S: SlotStore, E: Ends>(
     remove(store, ends, Removed::One(slot))
 }
 
-/// Takes all capabilities away that are derived from the one in a slot, which stays. It is refused where
-/// a CNode or a thread would end that still holds another capability (`RevokeFirst`); then nothing
-/// changes.
+/// Takes all capabilities away that are derived from the one in a slot, which stays.
 ///
 /// seL4 Reference Manual, "Deletion, Revocation, and Recycling".
+///
+/// # Errors
+///
+/// A CNode or a thread would end that still holds another capability (`RevokeFirst`). Nothing changes then.
 pub fn remove_below<S: SlotStore, E: Ends>(
     store: &mut S,
     ends: &mut E,

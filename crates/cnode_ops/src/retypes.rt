@@ -19,7 +19,11 @@ use model::{Cap, KError, RetypeCall, Slot, UntypedMemory};
 use slots::SlotStore;
 use untyped::place;
 
-/// A child may hang below a slot, if that is not of depth 255 (`IllegalOperation`).
+/// Whether a child may hang below a slot.
+///
+/// # Errors
+///
+/// The slot is of depth 255 (`IllegalOperation`).
 pub fn may_have_child<S: SlotStore>(store: &S, slot: Slot) -> Result<(), KError>
     requires { IsOpen (S.slots store.now) slot }
     ensures { result ≡ may_have_child (S.slots store.now) slot }
@@ -44,16 +48,17 @@ fn places(memory: UntypedMemory, new: NewType, count: u32) -> Result<(u32, u32),
     }
 }
 
-/// Makes objects in the unused part of untyped memory, which is in `slot`, with their first
-/// capabilities in a window of a CNode.
-///
-/// The first check that fails gives the error: there is no such type or its size is too small
-/// (`InvalidArgument`) or too great (`RangeError`); the CNode's name is wrong (`RangeError`,
-/// `FailedLookup`); the objects are none or too many, or the window leaves the CNode (`RangeError`); a slot
-/// of the window is full (`DeleteFirst`); the untyped memory's slot is of depth 255 (`IllegalOperation`);
-/// it has no room (`NotEnoughMemory`). Nothing changes then.
+/// Makes objects in the unused part of untyped memory, which is in `slot`, with their first capabilities in a window of a
+/// CNode.
 ///
 /// seL4 Reference Manual, seL4_Untyped_Retype.
+///
+/// # Errors
+///
+/// The first check that fails gives the error: there is no such type or its size is too small (`InvalidArgument`) or too
+/// great (`RangeError`); the CNode's name is wrong (`RangeError`, `FailedLookup`); the objects are none or too many, or the
+/// window leaves the CNode (`RangeError`); a slot of the window is full (`DeleteFirst`); the untyped memory's slot is of
+/// depth 255 (`IllegalOperation`); it has no room (`NotEnoughMemory`). Nothing changes then.
 pub fn retype<S: SlotStore, B: Begins>(
     store: &mut S,
     begins: &mut B,

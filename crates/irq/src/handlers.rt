@@ -46,11 +46,13 @@ fn handler_place<S: SlotStore>(
 
 /// Makes the one handler of a line: a child of interrupt control, which is in `slot`.
 ///
-/// The first check that fails gives the error: the line is above 63 (`RangeError`); it has a handler
-/// (`RevokeFirst`); the destination's name is wrong (`RangeError`, `FailedLookup`), or it is full
-/// (`DeleteFirst`); interrupt control is of depth 255 (`IllegalOperation`). Nothing changes then.
-///
 /// seL4 Reference Manual, seL4_IRQControl_Get.
+///
+/// # Errors
+///
+/// The first check that fails gives the error: the line is above 63 (`RangeError`); it has a handler (`RevokeFirst`); the
+/// destination's name is wrong (`RangeError`, `FailedLookup`), or it is full (`DeleteFirst`); interrupt control is of depth
+/// 255 (`IllegalOperation`). Nothing changes then.
 pub fn get_handler<S: SlotStore>(
     kernel: &mut Kernel<S>,
     root: Cap,
@@ -95,14 +97,16 @@ fn bound_source<S: SlotStore>(store: &S, root: Cap, name: SlotName) -> Result<Sl
     Ok(source)
 }
 
-/// Binds a line, 0 to 63, to a notification: its slot gets a copy of the notification's capability, in place
-/// of what it holds.
-///
-/// The first check that fails gives the error: the name is wrong (`RangeError`, `FailedLookup`) or its slot
-/// empty (`FailedLookup`); the capability is no notification's, or may not be signalled
-/// (`InvalidCapability`); it is of depth 255 (`IllegalOperation`). Nothing changes then.
+/// Binds a line, 0 to 63, to a notification: its slot gets a copy of the notification's capability, in place of what it
+/// holds.
 ///
 /// seL4 Reference Manual, seL4_IRQHandler_SetNotification.
+///
+/// # Errors
+///
+/// The first check that fails gives the error: the name is wrong (`RangeError`, `FailedLookup`) or its slot empty
+/// (`FailedLookup`); the capability is no notification's, or may not be signalled (`InvalidCapability`); it is of depth 255
+/// (`IllegalOperation`). Nothing changes then.
 pub fn bind<S: SlotStore>(
     kernel: &mut Kernel<S>,
     root: Cap,
@@ -125,10 +129,13 @@ pub fn bind<S: SlotStore>(
     Ok(())
 }
 
-/// Takes away what a line, 0 to 63, is bound to, if it is bound. The error is that of
-/// [`remove_slot`]; nothing changes then.
+/// Takes away what a line, 0 to 63, is bound to, if it is bound.
 ///
 /// seL4 Reference Manual, seL4_IRQHandler_Clear.
+///
+/// # Errors
+///
+/// That of [`remove_slot`]. Nothing changes then.
 pub fn clear<S: SlotStore>(kernel: &mut Kernel<S>, line: u8) -> Result<(), KError>
     requires line { IsSound (state_in S.slots S.memory kernel.old) → line < 64 }
     ensures outcome { GivesState (delete (state_in S.slots S.memory kernel.old) (binding_slot (state_in S.slots S.memory kernel.old) line)) result

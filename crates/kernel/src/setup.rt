@@ -29,8 +29,12 @@ impl Model for Setup {
 }
 
 impl Setup {
-    /// The empty machine: 2^`bits` bytes of memory, with a boot CNode of 2^`radix` slots and the
-    /// interrupt table, all of them empty.
+    /// The empty machine: 2^`bits` bytes of memory, with a boot CNode of 2^`radix` slots and the interrupt table, all of them
+    /// empty.
+    ///
+    /// # Errors
+    ///
+    /// Memory may be refused.
     pub fn new(alloc: Global, bits: u32, radix: u32) -> Result<Self, AllocError>
         requires least_bits { 16 ≤ bits }
         requires most_bits { bits ≤ 24 }
@@ -68,10 +72,14 @@ impl Setup {
     }
 
     /// Makes a call as a thread would whose capability space is the boot CNode: `cap` is a boot slot by its number, or
-    /// 0xFFFFFFFF for the boot CNode itself, `label` and `words` say which call. A slot that holds nothing is a
-    /// `FailedLookup`; an error changes nothing. Configure has a sixth word, the guard word of the thread's CNode.
+    /// 0xFFFFFFFF for the boot CNode itself, `label` and `words` say which call. Configure has a sixth word, the guard word
+    /// of the thread's CNode.
     ///
     /// seL4 Reference Manual, "seL4 API Reference"; labels and words are this project's own.
+    ///
+    /// # Errors
+    ///
+    /// The slot holds nothing (`FailedLookup`), or the error of the call. Nothing changes then.
     pub fn call(&mut self, cap: u32, label: u32, words: &[u32]) -> Result<(), KError>
         ensures outcome { GivesState (made (state_in self.old) (loader_call cap label words.now)) result (state_in self.new) }
         ensures unchanged { OnErr result (self.new ≡ self.old) }

@@ -38,8 +38,12 @@ impl Model for Machine {
 }
 
 impl Machine {
-    /// The empty machine: 2^`bits` bytes of memory, with a boot CNode of 2^`radix` slots and the
-    /// interrupt table, all of them empty.
+    /// The empty machine: 2^`bits` bytes of memory, with a boot CNode of 2^`radix` slots and the interrupt table, all of them
+    /// empty.
+    ///
+    /// # Errors
+    ///
+    /// Memory may be refused.
     pub fn new(alloc: Global, bits: u32, radix: u32) -> Result<Self, AllocError>
         requires least_bits { 16 ≤ bits }
         requires most_bits { bits ≤ 24 }
@@ -90,6 +94,10 @@ impl Machine {
     }
 
     /// Makes a call on what an address among the boot slots names.
+    ///
+    /// # Errors
+    ///
+    /// The slot holds nothing (`FailedLookup`), or the error of the call. Nothing changes then.
     pub fn call(&mut self, address: u32, label: u32, words: &[u32]) -> Result<(), KError>
         ensures outcome { GivesState (made (state_in self.old) (loader_call address label words.now)) result (state_in self.new) }
         ensures unchanged { OnErr result (self.new ≡ self.old) }

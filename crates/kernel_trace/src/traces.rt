@@ -21,7 +21,9 @@ const LONGEST_LINE: usize = 33;
 
 /// Puts the line of each event that the kernel goes on by, as many at once as a piece holds.
 ///
-/// An `Err` is a piece of which the sink took nothing; what it took before is a beginning of the lines.
+/// # Errors
+///
+/// A piece of which the sink took nothing; what it took before is a beginning of the lines.
 pub fn put_trace<S: Sink>(
     system: &mut System,
     events: &[Event],

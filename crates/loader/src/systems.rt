@@ -17,10 +17,13 @@ use soundness::{objects_stand_inside_their_untypeds, well_formed_images_boot};
 use std::alloc::{AllocError, Global};
 use verify::Accepted;
 
-/// Loads an image into a new machine by kernel calls alone, and lets its threads run. Nothing is left of a machine that could not be
-/// loaded.
+/// Loads an image into a new machine by kernel calls alone, and lets its threads run.
 ///
 /// seL4 Reference Manual, "System Bootstrapping"; the calls and their order are this project's own.
+///
+/// # Errors
+///
+/// What kept the image from being loaded ([`BootFault`]). Nothing is left of the machine then.
 pub fn boot_unverified(alloc: Global, image: &ImageRef<'_>) -> Result<System, BootFault>
     ensures booted { IfOk result (λ system. booted image.now ≡ Ok (state_in system)) }
     ensures fault { IfErr result (λ fault. (fault ≡ OutOfMemory) ⊎ (booted image.now ≡ Err fault)) }
@@ -33,9 +36,13 @@ pub fn boot_unverified(alloc: Global, image: &ImageRef<'_>) -> Result<System, Bo
     }
 }
 
-/// Boots an accepted image into the state that it describes. Only memory can be wanting: no call fails, and nothing lies outside.
+/// Boots an accepted image into the state that it describes: no call fails, and nothing lies outside.
 ///
 /// seL4 Reference Manual, "System Bootstrapping".
+///
+/// # Errors
+///
+/// Memory is refused, and nothing else.
 pub fn boot(alloc: Global, accepted: &Accepted<'_>) -> Result<System, AllocError>
     // It comes to the state that the image describes,
     ensures state { IfOk result (λ system. state_in system ≡ described accepted.now) }

@@ -76,8 +76,11 @@ impl Model for Objects {
 }
 
 impl Objects {
-    /// No objects yet in memory of 2^`bits` bytes, with room for all that may come; the boot CNode has
-    /// 2^`radix` slots.
+    /// No objects yet in memory of 2^`bits` bytes, with room for all that may come; the boot CNode has 2^`radix` slots.
+    ///
+    /// # Errors
+    ///
+    /// Memory may be refused.
     #[tactic(auto, unfolding(crate::specs::Tables::state_of, crate::specs::Contents::told_by, model::specs::Kernel::Setup::boot_area))]
     pub fn new(alloc: Global, bits: u32, radix: u32) -> Result<Self, AllocError>
         requires least { 16 ≤ bits }

@@ -80,7 +80,9 @@ impl From<BootFault> for RunFault {
 
 /// Verifies the image, boots it, and puts one line for each event.
 ///
-/// Where the answer is no `Output`, it is known before the first line.
+/// # Errors
+///
+/// Why the image does not run, or that an `Output` takes no more. Where it is no `Output`, it is known before the first line.
 pub fn run<S: Sink>(
     alloc: Global,
     bytes: &[u8],

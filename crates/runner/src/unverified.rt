@@ -17,8 +17,12 @@ use std::alloc::Global;
 
 /// Reads an image, boots it without verifying it, and puts one line for each event.
 ///
-/// Nothing is promised of the lines but that they are the kernel's: threads may fault, be refused, and run
-/// as long as they like. Where the answer is no `Output`, it is known before the first line.
+/// Nothing is promised of the lines but that they are the kernel's: threads may fault, be refused, and run as long as they
+/// like.
+///
+/// # Errors
+///
+/// Why the image does not run, or that an `Output` takes no more. Where it is no `Output`, it is known before the first line.
 pub fn run_unverified<S: Sink>(
     alloc: Global,
     bytes: &[u8],

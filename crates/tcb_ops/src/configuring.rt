@@ -30,16 +30,17 @@ fn put_spaces<S: SlotStore>(store: &mut S, thread: u32, guard: Option<u32>, from
     store.insert(Slot::new(own + 1), table, Some(from.vspace));
 }
 
-/// Copies of a CNode's and a root table's capability come into a thread's slots, the CNode's with another
-/// guard word if one is given, and the thread gets a fault address.
-///
-/// The first check that fails gives the error. CNode, and then root table: the name is wrong
-/// (`RangeError`, `FailedLookup`), the slot is empty (`FailedLookup`), it holds another capability
-/// (`InvalidCapability`). Then: a slot of the thread is full (`DeleteFirst`), the guard word is none of
-/// the CNode (`IllegalOperation`), the slot of the CNode or of the root table is of depth 255
-/// (`IllegalOperation`). Nothing changes then.
+/// Copies of a CNode's and a root table's capability come into a thread's slots, the CNode's with another guard word if one
+/// is given, and the thread gets a fault address.
 ///
 /// seL4 Reference Manual, seL4_TCB_Configure.
+///
+/// # Errors
+///
+/// The first check that fails gives the error. CNode, and then root table: the name is wrong (`RangeError`, `FailedLookup`),
+/// the slot is empty (`FailedLookup`), it holds another capability (`InvalidCapability`). Then: a slot of the thread is full
+/// (`DeleteFirst`), the guard word is none of the CNode (`IllegalOperation`), the slot of the CNode or of the root table is
+/// of depth 255 (`IllegalOperation`). Nothing changes then.
 pub fn configure<S: SlotStore>(
     kernel: &mut Kernel<S>,
     root: Cap,

@@ -14,10 +14,13 @@ use objects::Status;
 use rv32_exec::Regs;
 use slots::SlotStore;
 
-/// Sets the priority of a thread: one that runs goes to the tail of its new priority, with the slice that it
-/// has. A priority above 255 is refused with `RangeError`, and nothing changes.
+/// Sets the priority of a thread: one that runs goes to the tail of its new priority, with the slice that it has.
 ///
 /// seL4 Reference Manual, seL4_TCB_SetPriority.
+///
+/// # Errors
+///
+/// The priority is above 255 (`RangeError`). Nothing changes then.
 pub fn set_priority<S: SlotStore>(
     kernel: &mut Kernel<S>,
     thread: u32,
@@ -49,11 +52,14 @@ fn with_register(registers: Regs, index: u32, value: u32) -> Regs
     now
 }
 
-/// Sets register 1 to 31 of a thread, or its pc by the number 0. Nothing changes where it is refused: with
-/// `IllegalOperation`, where a thread sets a register of its own; with `RangeError`, where there is no such
-/// register; with `AlignmentError`, where the pc would be no multiple of 4.
+/// Sets register 1 to 31 of a thread, or its pc by the number 0.
 ///
 /// seL4 Reference Manual, seL4_TCB_WriteRegisters.
+///
+/// # Errors
+///
+/// A thread sets a register of its own (`IllegalOperation`), there is no such register (`RangeError`), or the pc would be no
+/// multiple of 4 (`AlignmentError`). Nothing changes then.
 pub fn set_register<S: SlotStore>(
     kernel: &mut Kernel<S>,
     caller: Option<u32>,

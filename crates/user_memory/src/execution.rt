@@ -21,8 +21,12 @@ use model::{Access, Exec, Instr, MemoryFault};
 use packed_slots::WalkStore;
 use rv32_exec::{Regs, exec};
 
-/// The word that a thread runs next, at its program counter; the first byte of it that the thread may not
-/// run is a fault. The leaf of its page is kept, which changes nothing else. Asks for the thread's root table.
+/// The word that a thread runs next, at its program counter. The leaf of its page is kept, which changes nothing else. Asks
+/// for the thread's root table.
+///
+/// # Errors
+///
+/// The fault at the first byte of it that the thread may not run.
 pub fn fetch<S: WalkStore>(
     kernel: &mut Kernel<S>,
     thread: u32,

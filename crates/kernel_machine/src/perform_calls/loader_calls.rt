@@ -52,11 +52,14 @@ fn spaces_of(words: &[u32]) -> Spaces
     }
 }
 
-/// Configures a thread as the loader does, with a guard word for the copy of its CNode's capability as the
-/// sixth word. First the capability has to be a thread's (`IllegalOperation`), and no word may be missing
-/// (`TruncatedMessage`). Where a check fails nothing changes.
+/// Configures a thread as the loader does, with a guard word for the copy of its CNode's capability as the sixth word.
 ///
 /// seL4 Reference Manual, "System Bootstrapping".
+///
+/// # Errors
+///
+/// First the capability has to be a thread's (`IllegalOperation`), and no word may be missing (`TruncatedMessage`); then the
+/// errors are those of Configure. Nothing changes then.
 pub fn configure_with_guard<S: SlotStore>(
     kernel: &mut Kernel<S>,
     call: KernelCall,

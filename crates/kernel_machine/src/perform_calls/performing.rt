@@ -19,8 +19,11 @@ use invoke::decode_call;
 use model::{Invocation, KError};
 use slots::SlotStore;
 
-/// Performs a call on a capability that has it. Where a check of the call fails its error is given, and
-/// nothing changes.
+/// Performs a call on a capability that has it.
+///
+/// # Errors
+///
+/// That of the first check of the call that fails. Nothing changes then.
 pub fn perform<S: SlotStore>(
     kernel: &mut Kernel<S>,
     call: KernelCall,
@@ -51,11 +54,14 @@ pub fn perform<S: SlotStore>(
     }
 }
 
-/// Decodes a message on a capability, and performs the call that it makes: `label` names the call, `extra`
-/// capabilities come along, and `words` are those within the message's length. The errors of decoding come
-/// first. Where a check fails nothing changes.
+/// Decodes a message on a capability, and performs the call that it makes: `label` names the call, `extra` capabilities come
+/// along, and `words` are those within the message's length.
 ///
 /// seL4 Reference Manual, "System Calls".
+///
+/// # Errors
+///
+/// Those of decoding, and then those of the call. Nothing changes then.
 pub fn invoke<S: SlotStore>(
     kernel: &mut Kernel<S>,
     call: KernelCall,

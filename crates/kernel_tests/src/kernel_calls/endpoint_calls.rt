@@ -4,7 +4,7 @@
 use crate::kernel_calls::systems::{OBJECTS, plays};
 use std::test::Fail;
 
-// The partner (thread 0) and the caller (thread 1) begin at 0x1000 and have one priority. The lengths 3 and 2 stand
+// The partner (thread 0) and the caller (thread 1) begin at 0x1000 and have one priority. The lengths 3 and 2 are
 // beside bits that no message has.
 const BOTH: &str = "
     code ecall stay
@@ -19,7 +19,7 @@ const BOTH: &str = "
 // The partner's system call is the first one; its badge is 5. FAULTS stops by a fault that nobody handles, and HANDLED
 // has the endpoint for its fault address.
 //
-// Behind its name and what comes of its call stands what comes of the caller's, for each of Call, ReplyRecv, Send,
+// After its name and what comes of its call is what comes of the caller's, for each of Call, ReplyRecv, Send,
 // NBSend, Recv, Reply, Yield, NBRecv and PutChar.
 const ROWS: &str = "
     FAULTS   fault blocks blocks      blocks passes blocks      passes passes finds_nothing prints
@@ -30,14 +30,14 @@ const ROWS: &str = "
     RECEIVES wait  calls_receiver blocks to_receiver polled_to_receiver blocks passes passes finds_nothing prints
 ";
 
-// What the names of the rows stand for: of a partner its setting up; of what comes of a call the label, the caller and
-// the partner behind it, and who runs next and five ticks later. Who is ready jumps to where it is.
+// What the names of the rows mean: of a partner its setting up; of what comes of a call the label, the caller and
+// the partner after it, and who runs next and five ticks later. Who is ready jumps to where it is.
 //
 // `blocks`: the caller joins the list of the endpoint. `passes`: nothing else happens. `prints`: the low byte of a0.
 // `finds_nothing`: with nothing there a0 becomes 0. `from_sender`: by badge 5, with the label 7 and three words, and the
-// sender passes behind the caller. `from_caller`: who called waits for the reply, or stops. `from_fault`: by badge 5, with
+// sender passes after the caller. `from_caller`: who called waits for the reply, or stops. `from_fault`: by badge 5, with
 // the label 2 and two words, where the thread was and the number in its a7; it waits for its handler's reply.
-// `to_receiver`: by badge 6, with the label 5 and two words, and the receiver passes behind the caller. `calls_receiver`:
+// `to_receiver`: by badge 6, with the label 5 and two words, and the receiver passes after the caller. `calls_receiver`:
 // the caller waits for the reply. `polls_..` and `polled_..` are the same by a call that does not wait.
 const PARTS: &str = "
 FAULTS

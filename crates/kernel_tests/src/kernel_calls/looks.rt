@@ -12,7 +12,7 @@ const THREAD: &str = "
     call tcb0 resume
 ";
 
-// The frame has the bytes of ECALL, those of a jump, and zeros; the root table stands behind it.
+// The frame has the bytes of ECALL, those of a jump, and zeros; the root table is after it.
 #[test]
 fn only_frames_have_bytes(rt: HostRuntime) -> Result<(), Fail> {
     let bytes = "

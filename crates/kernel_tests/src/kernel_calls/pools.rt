@@ -33,7 +33,7 @@ const THREADS: &str = "
     call tcb2 resume
 ";
 
-// Who waited stands at its call again, and the thread at the lower address runs first: it receives again, and finds no
+// Who waited is at its call again, and the thread at the lower address runs first: it receives again, and finds no
 // capability in its slot.
 #[test]
 fn waiters_of_a_revoked_pool_run_again(rt: HostRuntime) -> Result<(), Fail> {

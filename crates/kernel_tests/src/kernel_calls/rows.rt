@@ -51,7 +51,7 @@ fn a_full_window_is_refused(rt: HostRuntime) -> Result<(), Fail> {
     builds(&rt, &[calls])
 }
 
-// A (slot 2) has the child B (3), B has the child C (4), and D (5) stands beside A.
+// A (slot 2) has the child B (3), B has the child C (4), and D (5) is beside A.
 const TREE: &str = "
     call memory retype Endpoint 0 0 0 2 1
     call boot copy 3 32 2 32 all

@@ -1,6 +1,6 @@
 //! Systems as texts: a line a call, a look or an event, with what it answers. `words` has the names of numbers.
 //!
-//! Before the threads run a line is one of these. Behind ` = ` stands what it answers, if that is not `ok`: `no`, or an
+//! Before the threads run a line is one of these. After ` = ` is what it answers, if that is not `ok`: `no`, or an
 //! error.
 //!
 //!     untyped SLOT OFFSET BITS

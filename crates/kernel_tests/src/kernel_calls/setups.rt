@@ -4,7 +4,7 @@
 use crate::kernel_calls::systems::{builds, builds_small};
 use std::test::Fail;
 
-// Untyped memory is aligned, behind the boot area and all that stands, and its slot is free.
+// Untyped memory is aligned, after the boot area and all objects, and its slot is free.
 #[test]
 fn untyped_memory_finds_its_place(rt: HostRuntime) -> Result<(), Fail> {
     let calls = "
@@ -22,7 +22,7 @@ fn untyped_memory_finds_its_place(rt: HostRuntime) -> Result<(), Fail> {
     builds_small(&rt, calls)
 }
 
-// A frame at 0x10000 is left when the untyped memory around it goes. New untyped memory is put behind the frame,
+// A frame at 0x10000 is left when the untyped memory around it goes. New untyped memory is put after the frame,
 // and not over it.
 #[test]
 fn untyped_memory_is_put_behind_a_frame(rt: HostRuntime) -> Result<(), Fail> {
@@ -52,7 +52,7 @@ fn a_slot_is_emptied(rt: HostRuntime) -> Result<(), Fail> {
     builds_small(&rt, calls)
 }
 
-// The boot CNode has 16 slots, and the interrupt table behind it 64.
+// The boot CNode has 16 slots, and the interrupt table after it 64.
 #[test]
 fn each_holder_has_its_slots(rt: HostRuntime) -> Result<(), Fail> {
     let looks = "

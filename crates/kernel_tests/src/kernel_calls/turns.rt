@@ -37,7 +37,7 @@ const FIRST: &str = "
     tick
 ";
 
-// Each has five ticks. The second has had two of them when the interrupt comes, and three are left behind it.
+// Each has five ticks. The second has had two of them when the interrupt comes, and three are left after it.
 #[test]
 fn a_turn_is_five_ticks_long(rt: HostRuntime) -> Result<(), Fail> {
     let waits = "80013400 00001000 wait";

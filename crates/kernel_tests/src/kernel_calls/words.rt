@@ -1,4 +1,4 @@
-//! Words that stand for numbers.
+//! Words for numbers.
 
 use std::alloc::Global;
 use std::test::Fail;

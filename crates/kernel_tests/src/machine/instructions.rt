@@ -7,7 +7,7 @@ use rv32_exec::{Access, AccessSize, Cause, Exec, MemoryFault, Register, Regs, Vi
 use rv32_isa::{decode, encode};
 use std::test::Fail;
 
-/// What stands beside the memory.
+/// What there is beside the memory.
 const BESIDE: u32 = 7;
 
 #[test]
@@ -75,7 +75,7 @@ fn results_of_another_machine(rt: HostRuntime) -> Result<(), Fail> {
     Ok(())
 }
 
-/// x7, the pc and the two words of memory behind one word of the table.
+/// x7, the pc and the two words of memory after one word of the table.
 fn behind(word: u32, pc: u32, a: u32, b: u32) -> Option<[u32; 4]> {
     let mut memory = Flat::new(BESIDE);
     memory.store(Flat::BASE, AccessSize::Word, LOW).ok()?;

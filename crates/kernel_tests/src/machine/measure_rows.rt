@@ -13,7 +13,7 @@ const LEAST: &str = "\
 30 5 -2 | 10
 7 0 -1 | 7";
 
-/// A word; the ends of x5; a measure before the word, and one behind it; whether the measure falls.
+/// A word; the ends of x5; a measure before the word, and one after it; whether the measure falls.
 const FALLS: &str = "\
 0xFFF28293 1 10 3 5 2 4 5 2 1 | addi x5, x5, -1: 3 + 2 x5 becomes 4 + 2 (x5 - 1)
 0xFFF28293 1 10 3 5 2 5 5 2 0 | addi x5, x5, -1

@@ -8,6 +8,6 @@ fn frames_stand_behind_the_watermark(rt: HostRuntime) {
     assert_eq!(rt; place(16, 0x10, 12, 2), Ok((0x1000, 0x3000)));
     assert_eq!(rt; place(16, 0x10, 12, 15), Ok((0x1000, 0x1_0000)));
     assert_eq!(rt; place(16, 0x10, 12, 16), Err(NotEnoughMemory));
-    // Behind Revoke it is free from its start.
+    // After Revoke it is free from its start.
     assert_eq!(rt; place(16, 0, 12, 16), Ok((0, 0x1_0000)));
 }

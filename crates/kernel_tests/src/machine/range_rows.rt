@@ -1,4 +1,4 @@
-//! Ranges behind instructions and on the ways of branches, worked out by hand from the rules.
+//! Ranges after instructions and on the ways of branches, worked out by hand from the rules.
 
 use crate::machine::rows::row;
 use model::Register;

@@ -1,4 +1,4 @@
-//! Rows of text: numbers, and behind them ` | ` and a text, which names the row or says what is expected.
+//! Rows of text: numbers, and after them ` | ` and a text, which names the row or says what is expected.
 
 use std::test::Fail;
 
@@ -16,7 +16,7 @@ pub fn row<const N: usize>(line: &str) -> Result<([u32; N], &str), Fail> {
     }
 }
 
-/// A number of 32 bits: hexadecimal behind `0x`, or else decimal, perhaps below 0.
+/// A number of 32 bits: hexadecimal after `0x`, or else decimal, perhaps below 0.
 fn number(word: &str) -> Result<u32, Fail> {
     match word.strip_prefix("0x") {
         Some(digits) => Ok(u32::from_str_radix(digits, 16)?),

@@ -1,4 +1,4 @@
-//! Walks through tables in a memory of 2^17 bytes. The root table stands at 0x9000, another table at
+//! Walks through tables in a memory of 2^17 bytes. The root table is at 0x9000, another table at
 //! 0xA000, and a page at 0x11000.
 
 use crate::machine::rows::row;

@@ -30,7 +30,7 @@ fn number_of(found: Option<Slot>) -> u32 {
     }
 }
 
-/// A slot behind which another is asked for, if this number is one.
+/// A slot after which another is asked for, if this number is one.
 fn behind(number: u32) -> Option<Slot> {
     if number < 0x10_0000 {
         Some(Slot::new(number))
@@ -39,7 +39,7 @@ fn behind(number: u32) -> Option<Slot> {
     }
 }
 
-/// A capability by which slots are told apart where they hold another.
+/// A capability by which slots are distinguished where they hold another.
 pub(crate) fn handler(line: u32) -> Cap {
     Cap::InterruptHandler {
         line: (line % 64) as u8,
@@ -64,7 +64,7 @@ pub(crate) fn depth<S: SlotStore>(store: &S, at: Slot) -> u32 {
     }
 }
 
-/// The full slot behind another, or the first one.
+/// The full slot after another, or the first one.
 pub(crate) fn next<S: SlotStore>(store: &S, last: Option<Slot>) -> Option<Slot> {
     match last {
         None => store.next_full(None),
@@ -80,7 +80,7 @@ pub(crate) fn descends<S: SlotStore>(store: &S, root: Slot, at: Slot) -> bool
     store.is_open(at) && store.descends(root, at)
 }
 
-/// The descendant of a root behind another, or the first one.
+/// The descendant of a root after another, or the first one.
 pub(crate) fn below<S: SlotStore>(store: &S, root: Slot, last: Option<Slot>) -> Option<Slot> {
     match last {
         None => next_descendant(store, root, None),
@@ -137,7 +137,7 @@ fn settle<S: SlotStore>(
     }
 }
 
-/// Each of so many slots behind the first one gets a child of the slot before it.
+/// Each of so many slots after the first one gets a child of the slot before it.
 fn line_of_children<S: SlotStore>(
     rt: &impl Abort,
     store: &mut S,

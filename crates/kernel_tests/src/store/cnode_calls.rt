@@ -66,7 +66,7 @@ pub(crate) fn call<S: SlotStore>(
     Ok(1)
 }
 
-/// Each of so many slots behind the first one gets a copy of the slot before it.
+/// Each of so many slots after the first one gets a copy of the slot before it.
 pub(crate) fn line_of_copies<S: SlotStore>(
     rt: &impl Abort,
     store: &mut S,
@@ -85,7 +85,7 @@ pub(crate) fn line_of_copies<S: SlotStore>(
 }
 
 /// A CNode of 512 slots holds itself in its slot 0, which is slot 0x400. Its guard has 23 bits, all 0, so that a name of
-/// 32 (0x20) bits is the number of a slot in it. Behind it stands a capability of each kind.
+/// 32 (0x20) bits is the number of a slot in it. After it is a capability of each kind.
 const FRONT: &str = "open 400 200 = 1
 put 400 = cnode 4000 9 17
 put 401 = endpoint 20 b 0

@@ -1,5 +1,5 @@
 //! From the words of a message to a call: which labels each kind of capability has, how many words each
-//! of them lists, and where these stand in the call.
+//! of them lists, and where these are in the call.
 
 use crate::store::rows::{capability, words};
 use invoke::decode_call;
@@ -11,8 +11,8 @@ use std::process::Abort;
 /// The words of each message.
 const WORDS: [u32; 8] = [0xa0, 0xa1, 0xa2, 0xa3, 0xa4, 0xa5, 0xa6, 0xa7];
 
-/// `of` names the capability of the rows behind it, and `only` the first and the last of its labels. A `label` lists so
-/// many words, which stand in the call in this order; `says` has what the capability says in its calls.
+/// `of` names the capability of the rows after it, and `only` the first and the last of its labels. A `label` lists so
+/// many words, which are in the call in this order; `says` has what the capability says in its calls.
 const ROWS: &str = "of = untyped 20000 10 40
 label 1 6 = retype a0 a1 a2 a3 a4 a5
 only 1 1 = labels
@@ -60,7 +60,7 @@ only 18 18 = labels
 of = empty
 only 18 18 = labels";
 
-/// The name of a call, and its words in their order, with zeros behind them.
+/// The name of a call, and its words in their order, with zeros after them.
 type Listed = (&'static str, [u32; 6]);
 
 fn of_thread(call: ThreadCall) -> Listed {
@@ -88,7 +88,7 @@ fn of_thread(call: ThreadCall) -> Listed {
     }
 }
 
-/// The names of two slots, and two words behind them.
+/// The names of two slots, and two words after them.
 fn slots_named(first: SlotName, second: SlotName, third: u32, fourth: u32) -> [u32; 6] {
     [
         first.address,

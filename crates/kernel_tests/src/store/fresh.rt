@@ -40,7 +40,7 @@ fn has_no_slot<S: SlotStore>(store: &S, table: u32) -> bool
     true
 }
 
-/// Whether a table stands here, where no slot is open, and has no entry.
+/// Whether a table is here, where no slot is open, and has no entry.
 fn is_blank<S: SlotStore>(store: &S, table: u32) -> bool
     ensures { IsTrue result → IsBlank (S.slots store.now) (S.memory store.now) table }
 {

@@ -17,7 +17,7 @@ use vspace::{
     unmap_table,
 };
 
-/// A CNode of 16 slots holds itself in its slot 0, which is slot 0x400, and behind it a root table, a page table and two
+/// A CNode of 16 slots holds itself in its slot 0, which is slot 0x400, and after it a root table, a page table and two
 /// frames. Its guard has 28 bits, all 0, so that a name of 32 bits is the number of a slot in it.
 const FRONT: &str = "open 400 10 = 1
 put 400 = cnode 4000 4 1c

@@ -9,7 +9,7 @@ use std::alloc::Global;
 use std::process::Abort;
 use std::test::Fail;
 
-/// The number in front of a text, or 0 where none is left, and what is behind it.
+/// The number in front of a text, or 0 where none is left, and what is after it.
 fn number<'a>(rt: &impl Abort, text: &'a str) -> (u32, &'a str) {
     if text.is_empty() {
         return (0, text);
@@ -20,7 +20,7 @@ fn number<'a>(rt: &impl Abort, text: &'a str) -> (u32, &'a str) {
     (number.unwrap_or(0), behind)
 }
 
-/// The first word of a text, and the numbers behind it.
+/// The first word of a text, and the numbers after it.
 pub(crate) fn words<'a>(rt: &impl Abort, text: &'a str) -> (&'a str, [u32; 6]) {
     let (word, behind) = text.split_once(' ').unwrap_or((text, ""));
     let (first, behind) = number(rt, behind);

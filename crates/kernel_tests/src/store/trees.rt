@@ -41,7 +41,7 @@ next 10f = none",
 held 100 = empty
 held fffff = empty",
     // Descendants are children and theirs. In this table and the next ones 100 has the child 101, whose child is 102,
-    // and 103 stands beside 100.
+    // and 103 is beside 100.
     "open 100 200 = 1
 root 100 0 = 1
 root 103 0 = 1
