@@ -8,7 +8,6 @@ ghost use Rattle.model.specs.Machine.Effects.{effect};
 ghost use Rattle.model.specs.Machine.ProgramMemory.{Content, RegisterFile};
 ghost use Rattle.model.specs.Machine.Instructions.{IsInstr};
 ghost use Rattle.model.specs.Acceptance.RangeRules.{ranges_after};
-ghost use Rattle.model.specs.Acceptance.Ranges.{is_ranged};
 ghost use Rattle.ranges.specs.Edges.{way_of, ways_of};
 ghost use Rattle.ranges.specs.Standing.{AreWords, TakesWay, is_computed_jump};
 
@@ -32,19 +31,6 @@ pub struct Edges {
     pub fall_through: Option<Edge>,
     /// To the target of a jump or a branch.
     pub taken: Option<Edge>,
-}
-
-/// Whether it is ADDI or JAL.
-pub fn is_ranged(instr: &Instr) -> bool
-    ensures { result ≡ is_ranged instr.now }
-{
-    matches!(
-        instr,
-        Instr::Immediate {
-            op: ImmediateOp::Addi,
-            ..
-        } | Instr::Jal { .. }
-    )
 }
 
 /// What the instruction at `pc` makes of the ranges, on each way on. A computed jump leads nowhere that is known, and

@@ -1,9 +1,6 @@
 -- The ranges that a certificate keeps registers in.
-use Rattle.std.specs.Prelude.{ℕ, Bool, true, false, ◌+◌, ◌-◌, ◌^◌, ◌<◌, ◌≤◌, ◌==◌, ◌&&◌, nat_le, nat_lt, if◌then◌else◌, List, slice_index_or, slice_set, ℤ, pos, negsuc}
+use Rattle.std.specs.Prelude.{ℕ, ◌+◌, ◌-◌, ◌^◌, ◌<◌, ◌≤◌, ◌==◌, ◌&&◌, nat_le, nat_lt, if◌then◌else◌, List, slice_index_or, slice_set, ℤ, pos, negsuc}
 use Rattle.model.specs.declared.instructions.Register.{Register}
-use Rattle.model.specs.declared.instructions.ImmediateOp.TheVariants.{Addi, Slti, Sltiu, Xori, Ori, Andi}
-use Rattle.model.specs.declared.instructions.Instr.{Instr}
-use Rattle.model.specs.declared.instructions.Instr.TheVariants.{Upper, Jal, Jalr, Branch, Load, Store, Immediate, Shift, Registers, Fence, Ecall, Ebreak}
 use Rattle.model.specs.declared.ranges.Range.{Range}
 
 -- every value of a register
@@ -41,23 +38,3 @@ moved r (negsuc n) = moved_down r (n + 1)
 -- the ranges of each register lie within the others
 abbrev pub AreWithin : List Range → List Range → Type 0
 AreWithin ranges others = (k : ℕ) → k < 31 → IsWithin (slice_index_or ranges k full) (slice_index_or others k full)
-
--- the instructions whose ranges this release knows: ADDI and JAL
-abbrev pub is_ranged : Instr → Bool
-is_ranged (Immediate Addi rd rs1 immediate) = true
-is_ranged (Immediate Slti rd rs1 immediate) = false
-is_ranged (Immediate Sltiu rd rs1 immediate) = false
-is_ranged (Immediate Xori rd rs1 immediate) = false
-is_ranged (Immediate Ori rd rs1 immediate) = false
-is_ranged (Immediate Andi rd rs1 immediate) = false
-is_ranged (Upper op rd immediate) = false
-is_ranged (Jal rd offset) = true
-is_ranged (Jalr rd rs1 offset) = false
-is_ranged (Branch op rs1 rs2 offset) = false
-is_ranged (Load op rd rs1 offset) = false
-is_ranged (Store op rs1 rs2 offset) = false
-is_ranged (Shift op rd rs1 amount) = false
-is_ranged (Registers op rd rs1 rs2) = false
-is_ranged Fence = false
-is_ranged Ecall = false
-is_ranged Ebreak = false

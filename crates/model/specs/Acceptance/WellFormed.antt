@@ -65,10 +65,6 @@ abbrev pub is_notification_type : Option NewObject → Bool
 is_notification_type (Some NewNotification) = true
 is_notification_type _ = false
 
-abbrev pub is_endpoint_type : Option NewObject → Bool
-is_endpoint_type (Some NewEndpoint) = true
-is_endpoint_type _ = false
-
 -- the radix of a CNode
 abbrev pub radix_of : Option NewObject → Option ℕ
 radix_of (Some (NewCNode radix)) = Some radix

@@ -354,9 +354,6 @@ image_with slots =
     named image_of (λ i. (sections_of i, i.threads))
     (both sections_format (λ (header, _). many header.threads (thread_format (slots header.objects) header.objects)))
 
-abbrev pub image_format : SlotFormat → Format Image
-image_format slots = image_with (λ _. slots)
-
 -- what all image files are: one image has one spelling
 abbrev pub whole_image : Format Image
 whole_image = image_with slots_format
