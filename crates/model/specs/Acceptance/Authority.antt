@@ -14,17 +14,17 @@ use Rattle.model.specs.declared.rights.Rights.{Rights}
 use Rattle.model.specs.Acceptance.NotedKernel.{stands_in}
 use Rattle.model.specs.Acceptance.ThreadRules.{reached}
 use Rattle.model.specs.Capabilities.CapabilityKinds.{frame_mapping, table_mapping, unmapped}
-use Rattle.model.specs.Capabilities.Rights.{mapping_rights, rights}
-use Rattle.model.specs.Capabilities.Slots.{capability_at}
+use Rattle.model.specs.Capabilities.Rights.{mapping_rights, may_grant_reply, may_read, may_write, rights}
+use Rattle.model.specs.Capabilities.Slots.{capability_at, parent_at}
 use Rattle.model.specs.Images.Image.{Image, Thread}
 use Rattle.model.specs.Images.Places.{offset_of}
 use Rattle.model.specs.Kernel.AddressSpaces.{content_of}
-use Rattle.model.specs.Kernel.Deliveries.{Reason, ReceivesFrom, woken}
+use Rattle.model.specs.Kernel.Deliveries.{Reason, ReceivesFrom, SendsTo, Signals, woken}
 use Rattle.model.specs.Kernel.Interrupts.{binding}
 use Rattle.model.specs.Shared.Lists.{times_in, without}
 use Rattle.model.specs.Kernel.Kinds.{Names, frame_around, kind_at}
 use Rattle.model.specs.Kernel.Messages.{a0}
-use Rattle.model.specs.Kernel.Retype.{NewObject, NewEndpoint, NewNotification, NewFrame, object, object_bits}
+use Rattle.model.specs.Kernel.Retype.{NewObject, NewFrame, object, object_bits}
 use Rattle.model.specs.Kernel.Scheduling.{current, head_of, is_runnable}
 use Rattle.model.specs.Kernel.State.{State, Runnable, ThreadObject, EndpointObject, NotificationObject, EndpointState, NotificationState, Sender, Sent, BySend, ByCall, ByFault, ThreadState, endpoint_at, notification_at}
 use Rattle.model.specs.Kernel.Steps.{named_slot}
@@ -82,13 +82,6 @@ pub record IsUntypedAround (first size : ℕ) (capability : Cap) : Type 0 where
   pub begins : offset ≤ first
   pub ends : first + size ≤ offset + 2 ^ bits
 
--- a handler of a line that is bound to this notification
-pub record HandlesBinding (s : State) (notification : ℕ) (capability : Cap) : Type 0 where
-  pub number : ℕ
-  pub badge : ℕ
-  pub is : capability ≡ InterruptHandler number
-  pub bound : binding s number ≡ Some (record { notification = notification; badge = badge })
-
 -- ---- new capabilities
 
 -- a capability to an object of the same type, with these rights among its own, and with this badge or none
@@ -131,14 +124,65 @@ gives_right sender BySend = false
 gives_right sender ByCall = sender.grant_reply
 gives_right sender (ByFault fault) = true
 
--- What becomes of the thread's own right to reply: it stays, it goes, or the thread's call receives from the first sender of an
+-- What becomes of the thread's own right to reply: it stays, and who waits for the answer waits on; it goes, or the thread's call receives from the first sender of an
 -- endpoint, and gets the right to reply to that one.
-pub data RightChange (image : Image) (t : Thread) (s : State) (before after : Option ℕ) : Type 0 where
-  kept : after ≡ before → RightChange image t s before after
-  dropped : after ≡ None → RightChange image t s before after
+pub data RightChange (image : Image) (t : Thread) (s behind : State) (before after : Option ℕ) : Type 0 where
+  kept : after ≡ before → ((caller : ℕ) → before ≡ Some caller → behind.objects caller ≡ s.objects caller) → RightChange image t s behind before after
+  dropped : after ≡ None → RightChange image t s behind before after
   of_sender : (endpoint : ℕ) (first : Sender) → CallNames image t s (ReceivesFrom endpoint)
       → head_of (endpoint_at s endpoint).senders ≡ Some first → gives_right first first.sent ≡ true → after ≡ Some first.thread
-      → RightChange image t s before after
+      → RightChange image t s behind before after
+
+-- ---- queues
+
+-- how a thread that waits at an endpoint asked: with the badge of the capability that its call names, and a right to get a reply that
+-- this one gives
+pub record AsksAs (image : Image) (t : Thread) (s : State) (endpoint : ℕ) (x : Sender) : Type 0 where
+  pub allowed : Rights
+  pub named : CallNames image t s (λ capability. capability ≡ Endpoint endpoint allowed x.badge)
+  pub writes : IsTrue (may_write allowed)
+  pub thread : x.thread ≡ self_of image t
+  pub replies : x.grant_reply ≡ may_grant_reply allowed
+
+-- who waits at an endpoint changes by the call alone: the thread joins at the tail, or the first of those that wait goes
+pub data EndpointChange (image : Image) (t : Thread) (s : State) (endpoint : ℕ) (old new : EndpointState) : Type 0 where
+  waits_to_send : (x : Sender) → AsksAs image t s endpoint x → new ≡ record old { senders = old.senders ++ x ∷ [] }
+      → EndpointChange image t s endpoint old new
+  waits_to_receive : CallNames image t s (ReceivesFrom endpoint) → new ≡ record old { receivers = old.receivers ++ self_of image t ∷ [] }
+      → EndpointChange image t s endpoint old new
+  takes_sender : (first : Sender) → CallNames image t s (ReceivesFrom endpoint) → old.senders ≡ first ∷ new.senders → new.receivers ≡ old.receivers
+      → EndpointChange image t s endpoint old new
+  takes_receiver : (badge first : ℕ) → CallNames image t s (SendsTo endpoint badge) → old.receivers ≡ first ∷ new.receivers
+      → new.senders ≡ old.senders → EndpointChange image t s endpoint old new
+
+-- a capability by which a thread waits for a notification
+pub record WaitsFor (notification : ℕ) (capability : Cap) : Type 0 where
+  pub allowed : Rights
+  pub badge : ℕ
+  pub is : capability ≡ Notification notification allowed badge
+  pub reads : IsTrue (may_read allowed)
+
+-- a notification's word, and who waits for it, change by the call alone
+pub data NotificationChange (image : Image) (t : Thread) (s : State) (notification : ℕ) (old new : NotificationState) : Type 0 where
+  joins : (badge : ℕ) → CallNames image t s (Signals s notification badge) → old.waiters ≡ [] → new ≡ record old { word = bit_or old.word badge }
+      → NotificationChange image t s notification old new
+  passes_on : (badge first : ℕ) → CallNames image t s (Signals s notification badge) → old.waiters ≡ first ∷ new.waiters → new.word ≡ old.word
+      → NotificationChange image t s notification old new
+  taken : CallNames image t s (WaitsFor notification) → new ≡ record old { word = 0 } → NotificationChange image t s notification old new
+  waits : CallNames image t s (WaitsFor notification) → new ≡ record old { waiters = old.waiters ++ self_of image t ∷ [] }
+      → NotificationChange image t s notification old new
+
+-- ---- parents and watermarks
+
+-- a parent that is new above a slot of the thread's: a slot of its own, or what was the parent of one
+pub data NewParent (image : Image) (t : Thread) (s : State) (parent : ℕ) : Type 0 where
+  own : IsOwnSlot image t parent → NewParent image t s parent
+  of_own : (slot : ℕ) → IsOwnSlot image t slot → parent_at s.slots slot ≡ Some parent → NewParent image t s parent
+
+-- what was used of untyped memory: more, where the call names it, or nothing, where nothing hangs below it
+pub data UsedChange (image : Image) (t : Thread) (s after : State) (slot old new : ℕ) : Type 0 where
+  uses : named_slot s (self_of image t) ≡ Ok slot → old < new → UsedChange image t s after slot old new
+  freed : new ≡ 0 → ((child : ℕ) → parent_at after.slots child ≢ Some slot) → UsedChange image t s after slot old new
 
 -- ---- objects and bytes
 
@@ -203,21 +247,29 @@ pub record WithinAuthority (image : Image) (t : Thread) (s after : State) : Type
   -- a capability that is new in a slot was granted
   pub capabilities : (slot : ℕ) → without_use (capability_at s.slots slot) ≢ without_use (capability_at after.slots slot)
       → capability_at after.slots slot ≢ Empty → Granted image t s after (capability_at after.slots slot)
-  -- endpoints and notifications change only where it holds them, or the handler of a line that is bound to them
+  -- endpoints and notifications change only by the capability that the call names, or of a line that a named handler acknowledges
   pub endpoints : (offset : ℕ) (old new : EndpointState) → s.objects offset ≡ Some (EndpointObject old)
-      → after.objects offset ≡ Some (EndpointObject new) → old ≢ new → Holds image t s (Names NewEndpoint offset)
+      → after.objects offset ≡ Some (EndpointObject new) → old ≢ new → EndpointChange image t s offset old new
   pub notifications : (offset : ℕ) (old new : NotificationState) → s.objects offset ≡ Some (NotificationObject old)
       → after.objects offset ≡ Some (NotificationObject new) → old ≢ new
-      → Holds image t s (Names NewNotification offset) ⊎ Holds image t s (HandlesBinding s offset)
+      → NotificationChange image t s offset old new
+  pub parents : (slot parent : ℕ) → parent_at after.slots slot ≡ Some parent → parent_at s.slots slot ≢ Some parent → NewParent image t s parent
+  pub used : (slot offset bits old new : ℕ) → capability_at s.slots slot ≡ Untyped offset bits old
+      → capability_at after.slots slot ≡ Untyped offset bits new → old ≢ new → UsedChange image t s after slot old new
+  -- its own priority, and who takes its faults, stay
+  pub priority : (old new : ThreadState) → s.objects (self_of image t) ≡ Some (ThreadObject old)
+      → after.objects (self_of image t) ≡ Some (ThreadObject new) → new.priority ≡ old.priority
+  pub fault_address : (old new : ThreadState) → s.objects (self_of image t) ≡ Some (ThreadObject old)
+      → after.objects (self_of image t) ≡ Some (ThreadObject new) → new.fault_address ≡ old.fault_address
   -- what becomes of its own right to reply
   pub right : (old new : ThreadState) → s.objects (self_of image t) ≡ Some (ThreadObject old)
-      → after.objects (self_of image t) ≡ Some (ThreadObject new) → RightChange image t s old.caller new.caller
+      → after.objects (self_of image t) ≡ Some (ThreadObject new) → RightChange image t s after old.caller new.caller
   -- another thread changes only for one of the reasons, by the capability that the call names
   pub threads : (other : ℕ) (old new : ThreadState) → other ≢ self_of image t → s.objects other ≡ Some (ThreadObject old)
       → after.objects other ≡ Some (ThreadObject new) → old ≢ new → Reason s after (self_of image t) (CallNames image t s) other old new
-  -- lines change only where it holds the handler
+  -- lines change only where the call names the handler
   pub lines : (number : ℕ) → (s.masked number ≢ after.masked number) ⊎ (s.pending number ≢ after.pending number)
-      → Holds image t s (λ capability. capability ≡ InterruptHandler number)
+      → CallNames image t s (λ capability. capability ≡ InterruptHandler number)
   pub ready : (priority : ℕ) → ReadyChange s after (self_of image t) priority
 
 -- ---- ticks
