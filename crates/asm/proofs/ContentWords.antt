@@ -1,6 +1,7 @@
 -- The words of a `data` line, read one after another.
 use Rattle.std.specs.Prelude.{map}
-use Rattle.std.proofs.Common.{◌≡◌, ℕ, ◌+◌, ◌<◌, ◌≤◌, List, [], ◌∷◌, ◌++◌, length, Some, None, Ok, Err, ℤ, refl, sym, ap, ◌∙◌, arith, length-append, append_assoc}
+use Rattle.std.proofs.Common.{◌≡◌, ℕ, ◌+◌, ◌<◌, ◌≤◌, List, [], ◌∷◌, ◌++◌, length, Some, None, Ok, Err, ℤ, refl, sym, ap, ◌∙◌, arith, length-append}
+use Rattle.std.proofs.Common.{append_assoc}
 use Rattle.std.specs.Prelude.{Result}
 use Rattle.std.specs.Result.{result_ok}
 use Rattle.std.proofs.lemmas.List.{length-map}
@@ -12,7 +13,8 @@ use Rattle.asm.specs.Sections.{value_of, number_or_zero}
 
 -- a word is a number of 32 bits, or at fault
 pub data WordSays (w : Text) : Type 0 where
-  number : (n : ℕ) → ((ws : List Text) → word_first (w ∷ ws) ≡ Ok (n, ws)) → ((ws : List Text) → all_words (w ∷ ws) ≡ all_words ws) → value_of w ≡ n → WordSays w
+  number : (n : ℕ) → ((ws : List Text) → word_first (w ∷ ws) ≡ Ok (n, ws)) → ((ws : List Text) → all_words (w ∷ ws) ≡ all_words ws) → value_of w ≡ n →
+      WordSays w
   fault : (e : ℕ) → ((ws : List Text) → word_first (w ∷ ws) ≡ Err e) → ((ws : List Text) → all_words (w ∷ ws) ≡ Err e) → WordSays w
 
 ranged : (w : Text) (z : ℤ) → number_of w ≡ Ok z → (r : Result ℕ ℕ) → word z ≡ r → WordSays w
@@ -44,7 +46,13 @@ split-word : (w : Text) (ws : List Text) (n : ℕ) (rest : List Text) → WordSa
 split-word w ws n rest (number m first all value) e =
     let same : Some (n, rest) ≡ Some (m, ws) = e ∙ ap result_ok (first ws) in
     let pair = same_Some (n, rest) (m, ws) same in
-    record { text = w; is = ap (λ (p : ℕ × List Text). w ∷ p.1) (sym pair); value = value ∙ ap (λ (p : ℕ × List Text). p.0) (sym pair); others = all ws ∙ ap (λ (p : ℕ × List Text). all_words p.1) (sym pair) }
+    record {
+      text = w;
+      is = ap (λ (p : ℕ × List Text). w ∷ p.1) (sym pair);
+      value = value ∙ ap (λ (p : ℕ × List Text). p.0) (sym pair);
+      others = all ws
+          ∙ ap (λ (p : ℕ × List Text). all_words p.1) (sym pair);
+    }
 split-word w ws n rest (fault f first all) e = absurd (let no : Some (n, rest) ≡ None = e ∙ ap result_ok (first ws) in cc)
 
 pub first-word : (words : List Text) (n : ℕ) (rest : List Text) → Some (n, rest) ≡ result_ok (word_first words) → FirstWord words n rest
@@ -65,7 +73,8 @@ pub record WordsLeft (read : List ℕ) (rest all : List Text) : Type 0 where
   pub said : all_words rest ≡ Ok tt
   pub so_far : read ++ map value_of rest ≡ map value_of all
 
-pub one-word-more : (read : List ℕ) (words all : List Text) (n : ℕ) (rest : List Text) → WordsLeft read words all → FirstWord words n rest → WordsLeft (read ++ n ∷ []) rest all
+pub one-word-more : (read : List ℕ) (words all : List Text) (n : ℕ) (rest : List Text) → WordsLeft read words all → FirstWord words n rest →
+    WordsLeft (read ++ n ∷ []) rest all
 one-word-more read words all n rest now first = record {
   said = sym first.others ∙ now.said;
   so_far = append_assoc read (n ∷ []) (map value_of rest) ∙ ap (λ m. read ++ m ∷ map value_of rest) (sym first.value)

@@ -11,7 +11,8 @@ use Rattle.model.specs.declared.entries.ObjectEntry.{ObjectEntry}
 use Rattle.model.specs.declared.entries.TableEntry.{TableEntry}
 use Rattle.model.specs.declared.entries.UntypedEntry.{UntypedEntry}
 use Rattle.model.specs.Images.Format.{field, many_fit}
-use Rattle.model.specs.Images.Image.{Image, ImageContent, anything, below, between, capability_format, content_format, frame_format, interrupt_format, object_format, pair_key, size_fits, table_format, untyped_format}
+use Rattle.model.specs.Images.Image.{Image, ImageContent, anything, below, between, capability_format, content_format, frame_format, interrupt_format}
+use Rattle.model.specs.Images.Image.{object_format, pair_key, size_fits, table_format, untyped_format}
 use Rattle.model.specs.Images.Listing.{untyped_line, object_line, interrupt_line, capability_line, table_line, frame_line, content_line}
 use Rattle.asm_line.specs.Listed.{Lists, untyped, object, interrupt, capability, table, frame, content, IsWord}
 use Rattle.format_laws.proofs.Laws.{field-between, field-parts, many-length}
@@ -60,7 +61,8 @@ interrupt-lists objects least k i few small is =
     interrupt k i small (line-fits i.line p.1) (omega (arith, few, inside)) p.3
 
 pub capability-parts : (objects interrupts least : ℕ) (c : CapabilityEntry) → (capability_format objects interrupts least).fits c ≡ true
-    → (least ≤ pair_key c.cnode c.index) × (c.cnode < objects) × (c.index < 2 ^ 32) × (c.source < objects + interrupts) × (c.rights < 2 ^ 32) × (c.payload < 2 ^ 32)
+    → (least ≤ pair_key c.cnode c.index) × (c.cnode < objects) × (c.index < 2 ^ 32) × (c.source < objects + interrupts) × (c.rights < 2 ^ 32)
+    × (c.payload < 2 ^ 32)
 unfolding capability_format
 capability-parts objects interrupts least c is =
     let a = and_parts _ _ is in
@@ -164,7 +166,8 @@ content-parts objects least c is =
       words = words-fit 0 c.header.words c.words b.1;
     }
 
-pub content-lists : (objects least : ℕ) (c : ImageContent) → objects ≤ 2 ^ 32 → (content_format objects least).fits c ≡ true → Lists (content_said c) (content_line c)
+pub content-lists : (objects least : ℕ) (c : ImageContent) → objects ≤ 2 ^ 32 → (content_format objects least).fits c ≡ true →
+    Lists (content_said c) (content_line c)
 content-lists objects least c few is =
     let p = content-parts objects least c is in
     let inside = p.frame in

@@ -32,37 +32,45 @@ found-on-line image fits j inside =
     let xs = image.interrupts in
     position_or_len_is (on_line (line_of_interrupt image j)) xs j no_interrupt (omega arith)
     (λ k less.
-    let below = fits.lines_rise k j (slice_index_or xs k no_interrupt) (slice_index_or xs j no_interrupt) less (slice_get-get_or xs k no_interrupt (omega arith)) (slice_get-get_or xs j no_interrupt inside) in
+    let below = fits.lines_rise k j (slice_index_or xs k no_interrupt) (slice_index_or xs j no_interrupt) less
+    (slice_get-get_or xs k no_interrupt (omega arith)) (slice_get-get_or xs j no_interrupt inside) in
     ne_eqb _ _ (λ e. omega (arith, e, below)))
     (λ _. eq-eqb _ _ refl)
 
 abbrev pub IsTold : Image → ℕ → Source → Type 0
 IsTold image source said = HasNumber (declared_of image) said × (number_of_source (declared_of image) said ≡ source)
 
-pub source-told : (image : Image) → IsFitting image → (source : ℕ) → source < image.header.objects + image.header.interrupts → IsTold image source (source_said image source)
+pub source-told : (image : Image) → IsFitting image → (source : ℕ) → source < image.header.objects + image.header.interrupts →
+    IsTold image source (source_said image source)
 source-told image fits source small = by (is_handler image source) refl
   where
-    by : (b : Bool) → is_handler image source ≡ b → IsTold image source (if b then Handler (line_of_interrupt image (interrupt_of image source)) else Object source)
+    by : (b : Bool) → is_handler image source ≡ b →
+        IsTold image source (if b then Handler (line_of_interrupt image (interrupt_of image source)) else Object source)
     by true q =
         let low : image.header.objects ≤ source = leb-true _ _ q in
         let j = source - image.header.objects in
         let inside : j < length image.interrupts = omega (arith, fits.interrupts, low, small) in
-        let found = found-on-line image fits j inside in
-        ((omega (arith, found, inside), omega (arith, fits.objects, fits.interrupts, fits.header)), ap (λ n. length image.objects + n) found ∙ omega (arith, fits.objects, low))
+        let found = found-on-line image fits j inside in (
+          (omega (arith, found, inside), omega (arith, fits.objects, fits.interrupts, fits.header)),
+          ap (λ n. length image.objects + n) found
+              ∙ omega (arith, fits.objects, low),
+        )
     by false q = (tt, refl)
 
 map-back : {A B : Type 0} (f : A → B) (g : B → A) (xs : List A) → ((k : ℕ) (x : A) → slice_get xs k ≡ Some x → g (f x) ≡ x) → map g (map f xs) ≡ xs
 map-back f g [] h = refl
 map-back f g (x ∷ xs) h = (λ i. h 0 x refl i ∷ map-back f g xs (λ k y at. h (suc k) y at) i)
 
-pub capabilities-again : (image : Image) → IsFitting image → map (entry_of (declared_of image)) (map (capability_of image) image.capabilities) ≡ image.capabilities
+pub capabilities-again : (image : Image) → IsFitting image →
+    map (entry_of (declared_of image)) (map (capability_of image) image.capabilities) ≡ image.capabilities
 capabilities-again image fits = map-back (capability_of image) (entry_of (declared_of image)) image.capabilities
     (λ k c at. ap (λ n. record c { source = n }) (source-told image fits c.source (fits.capability k c at).source).1)
 
 -- ---- the whole
 
 same-header : (image : Image) → IsFitting image → SectionsFit image
-    → counted_header (record { bits = image.header.memory_bits; boot_radix = image.header.boot_radix }) (declared_of image) image.capabilities image.threads ≡ image.header
+    → counted_header (record { bits = image.header.memory_bits; boot_radix = image.header.boot_radix }) (declared_of image) image.capabilities image.threads
+    ≡ image.header
 same-header image limits fits =
     let contents = many-length (content_format image.header.objects) (λ c. c.header.frame + 1) 0 image.header.contents image.contents fits.contents in
     λ i. record {

@@ -58,10 +58,12 @@ module _ {E : Type 0} (labels : List FoundLabels) (line_of : ℕ → E → Line)
       let one = step (next_number number) front e rest same in
       let said : line_of place e ≡ line_of (length front) e = ap (λ k. line_of k e) long in
       let longer = length-append front (e ∷ []) in
-      one-more labels number (draft front) (draft (front ++ e ∷ [])) (draft whole) (line_of place e) (map (λ x. line_of x.0 x.1) (enumerate_from (place + 1) rest))
+      one-more labels number (draft front) (draft (front ++ e ∷ [])) (draft whole) (line_of place e)
+      (map (λ x. line_of x.0 x.1) (enumerate_from (place + 1) rest))
       (subst (λ l. IsInPlace labels (next_number number) (draft front) l) (sym said) one.placed)
       (ap (with_line labels (draft front)) said ∙ one.reads)
-      (section-from (next_number number) (place + 1) (front ++ e ∷ []) rest (let back : length (front ++ e ∷ []) ≡ length front + 1 = longer in omega (arith, long, back)) (same ∙ sym (append_assoc front (e ∷ []) rest)))
+      (section-from (next_number number) (place + 1) (front ++ e ∷ []) rest
+      (let back : length (front ++ e ∷ []) ≡ length front + 1 = longer in omega (arith, long, back)) (same ∙ sym (append_assoc front (e ∷ []) rest)))
 
   pub section : (number : ℕ) → Goes labels number (draft []) (map (λ x. line_of x.0 x.1) (enumerate_from 0 whole)) (draft whole)
   section number = section-from number 0 [] whole refl refl
@@ -73,7 +75,8 @@ module _ {E : Type 0} (line_of : E → Line) where
 
 -- the same where a line does not say the entry's number
 pub plain-section : {E : Type 0} (labels : List FoundLabels) (line_of : E → Line) (draft : List E → Draft) (whole : List E)
-    → ((number : ℕ) (front : List E) (e : E) (rest : List E) → whole ≡ front ++ e ∷ rest → Adds labels number (draft front) (line_of e) (draft (front ++ e ∷ [])))
+    → ((number : ℕ) (front : List E) (e : E) (rest : List E) → whole ≡ front ++ e ∷ rest →
+    Adds labels number (draft front) (line_of e) (draft (front ++ e ∷ [])))
     → (number : ℕ) → Goes labels number (draft []) (map line_of whole) (draft whole)
 plain-section labels line_of draft whole step number =
     subst (λ ls. Goes labels number (draft []) ls (draft whole)) (plain-lines line_of 0 whole) (section labels (λ _ e. line_of e) draft whole step number)

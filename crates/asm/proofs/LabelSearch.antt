@@ -1,5 +1,6 @@
 -- The labels that the first way over a listing finds: each thread has its entry's.
-use Rattle.std.proofs.Common.{ℕ, ◌≡◌, ◌+◌, ◌-◌, ◌^◌, ◌<◌, ◌≤◌, zero, suc, List, [], ◌∷◌, ◌++◌, Option, Some, None, min, refl, ap, sym, ◌∙◌, arith, append_assoc, ne_eqb, eq-eqb}
+use Rattle.std.proofs.Common.{ℕ, ◌≡◌, ◌+◌, ◌-◌, ◌^◌, ◌<◌, ◌≤◌, zero, suc, List, [], ◌∷◌, ◌++◌, Option, Some, None, min, refl, ap, sym, ◌∙◌, arith, append_assoc}
+use Rattle.std.proofs.Common.{ne_eqb, eq-eqb}
 use Rattle.std.specs.Prelude.{map, flat_map, codes, slice_index, if◌then◌else◌}
 use Rattle.std.specs.List.{range_with_len}
 use Rattle.std.specs.Option.{option_map_or}
@@ -12,14 +13,17 @@ use Rattle.asm.specs.Labels.{FoundLabels, Searched, next_number, no_labels, sear
 use Rattle.asm.proofs.Said.{point_said, record_said, slot_said, thread_line_said, thread_said}
 use Rattle.asm.proofs.Joins.{number_behind}
 
-pub searched-append : (number : ℕ) (s : Searched) (xs ys : List Line) → searched_from number s (xs ++ ys) ≡ searched_from (number_behind number xs) (searched_from number s xs) ys
+pub searched-append : (number : ℕ) (s : Searched) (xs ys : List Line) →
+    searched_from number s (xs ++ ys) ≡ searched_from (number_behind number xs) (searched_from number s xs) ys
 searched-append number s [] ys = refl
 searched-append number s (x ∷ xs) ys = searched-append (next_number number) (searched_line s (next_number number) x) xs ys
 
 -- lines that say nothing of labels
-pub silent : {E : Type 0} (say : E → Line) (s : Searched) → ((number : ℕ) (e : E) → searched_line s number (say e) ≡ s) → (number : ℕ) (xs : List E) → searched_from number s (map say xs) ≡ s
+pub silent : {E : Type 0} (say : E → Line) (s : Searched) → ((number : ℕ) (e : E) → searched_line s number (say e) ≡ s) → (number : ℕ) (xs : List E) →
+    searched_from number s (map say xs) ≡ s
 silent say s quiet number [] = refl
-silent say s quiet number (x ∷ xs) = ap (λ z. searched_from (next_number number) z (map say xs)) (quiet (next_number number) x) ∙ silent say s quiet (next_number number) xs
+silent say s quiet number (x ∷ xs) = ap (λ z. searched_from (next_number number) z (map say xs)) (quiet (next_number number) x)
+    ∙ silent say s quiet (next_number number) xs
 
 -- ---- the points of a thread
 
@@ -28,10 +32,12 @@ abbrev pub body_said : Thread → ℕ → List Line
 body_said t point = option_map_or record_said (record_of t point) [] ++ line.Code None (code.Word (slice_index t.words point)) ∷ []
 
 pub point-plain : (t : Thread) (point : ℕ) → (t.header.entry ≡ point → ⊥) → point_said t point ≡ body_said t point
-point-plain t point other = ap (λ b. (if b then line.Label (codes "l") ∷ [] else []) ++ option_map_or record_said (record_of t point) [] ++ line.Code None (code.Word (slice_index t.words point)) ∷ []) (ne_eqb t.header.entry point other)
+point-plain t point other = ap (λ b. (if b then line.Label (codes "l") ∷ [] else []) ++ option_map_or record_said (record_of t point) []
+    ++ line.Code None (code.Word (slice_index t.words point)) ∷ []) (ne_eqb t.header.entry point other)
 
 pub point-entry : (t : Thread) → point_said t t.header.entry ≡ line.Label (codes "l") ∷ body_said t t.header.entry
-point-entry t = ap (λ b. (if b then line.Label (codes "l") ∷ [] else []) ++ option_map_or record_said (record_of t t.header.entry) [] ++ line.Code None (code.Word (slice_index t.words t.header.entry)) ∷ []) (eq-eqb t.header.entry t.header.entry refl)
+point-entry t = ap (λ b. (if b then line.Label (codes "l") ∷ [] else []) ++ option_map_or record_said (record_of t t.header.entry) []
+    ++ line.Code None (code.Word (slice_index t.words t.header.entry)) ∷ []) (eq-eqb t.header.entry t.header.entry refl)
 
 pub range-append : (a m n : ℕ) → range_with_len a (m + n) ≡ range_with_len a m ++ range_with_len (a + m) n
 range-append a zero n =
@@ -47,11 +53,13 @@ module _ (t : Thread) (others : List FoundLabels) where
   abbrev within : FoundLabels → Searched
   within labels = record { threads = others; open_labels = Some labels }
 
-  record-silent : (labels : FoundLabels) (number : ℕ) (r : Option StateRecord) → searched_from number (within labels) (option_map_or record_said r []) ≡ within labels
+  record-silent : (labels : FoundLabels) (number : ℕ) (r : Option StateRecord) →
+      searched_from number (within labels) (option_map_or record_said r []) ≡ within labels
   record-silent labels number None = refl
   record-silent labels number (Some r) =
       searched-append (next_number number) (within labels) (map line.Range r.ranges) (map slot_said r.slots)
-      ∙ (ap (λ s. searched_from (number_behind (next_number number) (map line.Range r.ranges)) s (map slot_said r.slots)) (silent line.Range (within labels) (λ n e. refl) (next_number number) r.ranges)
+      ∙ (ap (λ s. searched_from (number_behind (next_number number) (map line.Range r.ranges)) s (map slot_said r.slots))
+      (silent line.Range (within labels) (λ n e. refl) (next_number number) r.ranges)
       ∙ silent slot_said (within labels) (λ n e. refl) (number_behind (next_number number) (map line.Range r.ranges)) r.slots)
 
   counted : (n : ℕ) → n < 65536 → min (n + 1) (2 ^ 32 - 1) ≡ n + 1
@@ -62,21 +70,25 @@ module _ (t : Thread) (others : List FoundLabels) where
   body-found labels number point small =
       let said = option_map_or record_said (record_of t point) [] in
       searched-append number (within labels) said (line.Code None (code.Word (slice_index t.words point)) ∷ [])
-      ∙ (ap (λ s. searched_from (number_behind number said) s (line.Code None (code.Word (slice_index t.words point)) ∷ [])) (record-silent labels number (record_of t point))
+      ∙ (ap (λ s. searched_from (number_behind number said) s (line.Code None (code.Word (slice_index t.words point)) ∷ []))
+      (record-silent labels number (record_of t point))
       ∙ ap (λ n. within (record labels { points = n })) (counted labels.points small))
 
   -- points that are not the entry
   plain-found : (labels : FoundLabels) (number a n : ℕ) → labels.points ≡ a → a + n ≤ 65536 → ((k : ℕ) → a ≤ k → k < a + n → t.header.entry ≡ k → ⊥)
       → searched_from number (within labels) (flat_map (point_said t) (range_with_len a n)) ≡ within (record labels { points = a + n })
-  plain-found labels number a zero here small other = let same : labels.points ≡ a + 0 = omega (arith, here) in ap (λ k. within (record labels { points = k })) same
+  plain-found labels number a zero here small other = let same : labels.points ≡ a + 0 = omega (arith, here) in
+      ap (λ k. within (record labels { points = k })) same
   plain-found labels number a (suc n) here small other =
       let plain = point-plain t a (other a (omega arith) (omega arith)) in
       let rest = flat_map (point_said t) (range_with_len (a + 1) n) in
       let more : labels.points + 1 ≡ a + 1 = omega (arith, here) in
       let all : a + 1 + n ≡ a + suc n = omega arith in
       searched-append number (within labels) (point_said t a) rest
-      ∙ (ap (λ s. searched_from (number_behind number (point_said t a)) s rest) (ap (searched_from number (within labels)) plain ∙ body-found labels number a (omega (arith, here, small)))
-      ∙ (plain-found (record labels { points = labels.points + 1 }) (number_behind number (point_said t a)) (a + 1) n more (omega (arith, small)) (λ k low high. other k (omega (arith, low)) (omega (arith, high)))
+      ∙ (ap (λ s. searched_from (number_behind number (point_said t a)) s rest)
+      (ap (searched_from number (within labels)) plain ∙ body-found labels number a (omega (arith, here, small)))
+      ∙ (plain-found (record labels { points = labels.points + 1 }) (number_behind number (point_said t a)) (a + 1) n more (omega (arith, small))
+      (λ k low high. other k (omega (arith, low)) (omega (arith, high)))
       ∙ ap (λ k. within (record labels { points = k })) all))
 
 -- ---- threads
@@ -161,5 +173,7 @@ thread-found t number found inside few =
     ∙ (searched-append (next_number n1) (record { threads = found; open_labels = Some with_entry }) (body_said t e) (last_said t)
     ∙ (ap (λ s. searched_from n2 s (last_said t)) (body-found t found with_entry (next_number n1) e (omega (arith, inside, few)))
     ∙ (searched-append n2 (record { threads = found; open_labels = Some (record with_entry { points = e + 1 }) }) two (line.End ∷ [])
-    ∙ (ap (λ s. searched_from (number_behind n2 two) s (line.End ∷ [])) (plain-found t found (record with_entry { points = e + 1 }) n2 (e + 1) rest refl (omega (arith, count, few)) (λ k low high same. omega (arith, low, same)))
+    ∙ (ap (λ s. searched_from (number_behind n2 two) s (line.End ∷ []))
+    (plain-found t found (record with_entry { points = e + 1 }) n2 (e + 1) rest refl (omega (arith, count, few))
+    (λ k low high same. omega (arith, low, same)))
     ∙ ap (λ k. between_threads (found ++ (record with_entry { points = k }) ∷ [])) count))))))

@@ -20,9 +20,12 @@ use Rattle.asm.specs.declared.declarations.Capability.{Capability}
 use Rattle.asm.specs.Drafts.{Draft, draft_of, nothing_read}
 use Rattle.asm.specs.Keys.{has_room, must, sorted_with}
 use Rattle.asm.specs.Labels.{FoundLabels, Searched, closed, in_open, labels_in, next_number, nothing_searched, searched_from, searched_line, with_label}
-use Rattle.asm.specs.Meaning.{add_line, all_read, and_then, declared_with, ended, finished, first_line, fitting, full_line, image_of, in_thread, inside, is_end, is_nil, is_thread, label_at_fault, labels_of, leaves_open, may_end, memory_known, on_line, other_line, outside, placed_with, read_line, searched_text, searched_texts, text_means, text_read, thread_begins, thread_opened, words_said}
+use Rattle.asm.specs.Meaning.{add_line, all_read, and_then, declared_with, ended, finished, first_line, fitting, full_line, image_of, in_thread, inside, is_end}
+use Rattle.asm.specs.Meaning.{is_nil, is_thread, label_at_fault, labels_of, leaves_open, may_end, memory_known, on_line, other_line, outside, placed_with}
+use Rattle.asm.specs.Meaning.{read_line, searched_text, searched_texts, text_means, text_read, thread_begins, thread_opened, words_said}
 use Rattle.asm.specs.Names.{free, number_known, number_of, source_known}
-use Rattle.asm.specs.Reading.{AreInPlace, IsDeclaration, IsFirst, IsInPlace, IsThreadLine, labels_at, thread_behind, with_declaration, with_first, with_line, with_lines, with_thread_line}
+use Rattle.asm.specs.Reading.{AreInPlace, IsDeclaration, IsFirst, IsInPlace, IsThreadLine, labels_at, thread_behind, with_declaration, with_first, with_line}
+use Rattle.asm.specs.Reading.{with_lines, with_thread_line}
 use Rattle.asm.specs.Sections.{Declared, capability_said, content_said, frame_entry, interrupt_entry, is_in_order, table_entry}
 use Rattle.asm.specs.Threads.{OpenDraft}
 use Rattle.asm.proofs.Finished.{is-listed}
@@ -121,8 +124,10 @@ first-goes d line.End h = absurd h
 
 data LastOrNot (labels : FoundLabels) (number : ℕ) (d : Draft) (o : OpenDraft) (said : Line) : Type 0 where
   last : said ≡ line.End → LastOrNot labels number d o said
-  more : (said ≡ line.End → ⊥) → in_thread labels number d o said ≡ (inside labels number d.declared.names o said >>= λ (more : OpenDraft). Ok (record d { open_thread = Some more }))
-      → with_thread_line (record d { open_thread = None }) o said ≡ record d { open_thread = Some (thread_behind d.declared.names o said) } → is_end said ≡ false → LastOrNot labels number d o said
+  more : (said ≡ line.End → ⊥) → in_thread labels number d o said
+      ≡ (inside labels number d.declared.names o said >>= λ (more : OpenDraft). Ok (record d { open_thread = Some more }))
+      → with_thread_line (record d { open_thread = None }) o said ≡ record d { open_thread = Some (thread_behind d.declared.names o said) } →
+      is_end said ≡ false → LastOrNot labels number d o said
 
 abbrev is-it-end : Line → Bool
 is-it-end said = is_end said
@@ -134,7 +139,8 @@ last-or-not labels number d o (line.Memory bits radix) = more (λ e. let no : tr
 last-or-not labels number d o (line.Untyped name entry) = more (λ e. let no : true ≡ false = sym (ap is-it-end e) in cc) refl refl refl
 last-or-not labels number d o (line.Object name untyped kind size) = more (λ e. let no : true ≡ false = sym (ap is-it-end e) in cc) refl refl refl
 last-or-not labels number d o (line.Interrupt name number2 notification badge) = more (λ e. let no : true ≡ false = sym (ap is-it-end e) in cc) refl refl refl
-last-or-not labels number d o (line.Capability cnode index source rights payload) = more (λ e. let no : true ≡ false = sym (ap is-it-end e) in cc) refl refl refl
+last-or-not labels number d o (line.Capability cnode index source rights payload) =
+    more (λ e. let no : true ≡ false = sym (ap is-it-end e) in cc) refl refl refl
 last-or-not labels number d o (line.Table root address table) = more (λ e. let no : true ≡ false = sym (ap is-it-end e) in cc) refl refl refl
 last-or-not labels number d o (line.Frame root address frame rights) = more (λ e. let no : true ≡ false = sym (ap is-it-end e) in cc) refl refl refl
 last-or-not labels number d o (line.Content frame words) = more (λ e. let no : true ≡ false = sym (ap is-it-end e) in cc) refl refl refl
@@ -169,7 +175,8 @@ module _ (labels : List FoundLabels) (number : ℕ) (declared : Declared) (threa
   by-memory None thread h = first-goes (draft None thread) said h
   by-memory (Some m) None h = outside-goes labels (draft (Some m) None) said h
   by-memory (Some m) (Some o) h =
-      thread-by (labels_at labels (length threads)) number (draft (Some m) (Some o)) o said (last-or-not (labels_at labels (length threads)) number (draft (Some m) (Some o)) o said) h.1
+      thread-by (labels_at labels (length threads)) number (draft (Some m) (Some o)) o said
+      (last-or-not (labels_at labels (length threads)) number (draft (Some m) (Some o)) o said) h.1
 
 blank-by : (labels : List FoundLabels) (number : ℕ) (d : Draft) (memory : Option Memory) (thread : Option OpenDraft)
     → MatchOption memory (IsFirst line.Blank) (λ _. MatchOption thread (IsDeclaration labels d line.Blank)
@@ -178,23 +185,29 @@ blank-by labels number d None thread h = h
 blank-by labels number d (Some m) None h = h
 blank-by labels number d (Some m) (Some o) h = h.1
 
-pub line-goes : (labels : List FoundLabels) (number : ℕ) (d : Draft) (said : Line) → IsInPlace labels number d said → read_line labels number d said ≡ Ok (with_line labels d said)
+pub line-goes : (labels : List FoundLabels) (number : ℕ) (d : Draft) (said : Line) → IsInPlace labels number d said →
+    read_line labels number d said ≡ Ok (with_line labels d said)
 unfolding read_line
 line-goes labels number d line.Blank h = absurd (blank-by labels number d d.memory d.open_thread h)
 line-goes labels number d (line.Memory bits radix) h = by-memory labels number d.declared d.threads (line.Memory bits radix) d.memory d.open_thread h
 line-goes labels number d (line.Untyped name entry) h = by-memory labels number d.declared d.threads (line.Untyped name entry) d.memory d.open_thread h
-line-goes labels number d (line.Object name untyped kind size) h = by-memory labels number d.declared d.threads (line.Object name untyped kind size) d.memory d.open_thread h
-line-goes labels number d (line.Interrupt name interrupt notification badge) h = by-memory labels number d.declared d.threads (line.Interrupt name interrupt notification badge) d.memory d.open_thread h
+line-goes labels number d (line.Object name untyped kind size) h =
+    by-memory labels number d.declared d.threads (line.Object name untyped kind size) d.memory d.open_thread h
+line-goes labels number d (line.Interrupt name interrupt notification badge) h =
+    by-memory labels number d.declared d.threads (line.Interrupt name interrupt notification badge) d.memory d.open_thread h
 line-goes labels number d (line.Capability cnode index source rights payload) h =
     by-memory labels number d.declared d.threads (line.Capability cnode index source rights payload) d.memory d.open_thread h
-line-goes labels number d (line.Table root address table) h = by-memory labels number d.declared d.threads (line.Table root address table) d.memory d.open_thread h
-line-goes labels number d (line.Frame root address frame rights) h = by-memory labels number d.declared d.threads (line.Frame root address frame rights) d.memory d.open_thread h
+line-goes labels number d (line.Table root address table) h =
+    by-memory labels number d.declared d.threads (line.Table root address table) d.memory d.open_thread h
+line-goes labels number d (line.Frame root address frame rights) h =
+    by-memory labels number d.declared d.threads (line.Frame root address frame rights) d.memory d.open_thread h
 line-goes labels number d (line.Content frame words) h = by-memory labels number d.declared d.threads (line.Content frame words) d.memory d.open_thread h
 line-goes labels number d (line.Thread begun) h = by-memory labels number d.declared d.threads (line.Thread begun) d.memory d.open_thread h
 line-goes labels number d (line.Register entry) h = by-memory labels number d.declared d.threads (line.Register entry) d.memory d.open_thread h
 line-goes labels number d (line.Measure constant terms) h = by-memory labels number d.declared d.threads (line.Measure constant terms) d.memory d.open_thread h
 line-goes labels number d (line.Range entry) h = by-memory labels number d.declared d.threads (line.Range entry) d.memory d.open_thread h
-line-goes labels number d (line.Slot cnode index word0 word1 from) h = by-memory labels number d.declared d.threads (line.Slot cnode index word0 word1 from) d.memory d.open_thread h
+line-goes labels number d (line.Slot cnode index word0 word1 from) h =
+    by-memory labels number d.declared d.threads (line.Slot cnode index word0 word1 from) d.memory d.open_thread h
 line-goes labels number d (line.Label name) h = by-memory labels number d.declared d.threads (line.Label name) d.memory d.open_thread h
 line-goes labels number d (line.Code label said) h = by-memory labels number d.declared d.threads (line.Code label said) d.memory d.open_thread h
 line-goes labels number d line.End h = by-memory labels number d.declared d.threads line.End d.memory d.open_thread h
@@ -205,7 +218,8 @@ module _ (labels : List FoundLabels) (number : ℕ) (declared : Declared) (threa
   abbrev drafted : Option Memory → Option OpenDraft → Draft
   drafted memory thread = record { memory = memory; declared = declared; threads = threads; open_thread = thread }
 
-  first-closes : (memory : Option Memory) (thread : Option OpenDraft) (said : Line) → IsFirst said → thread ≡ None → leaves_open (drafted memory thread) said ≡ false
+  first-closes : (memory : Option Memory) (thread : Option OpenDraft) (said : Line) → IsFirst said → thread ≡ None →
+      leaves_open (drafted memory thread) said ≡ false
   first-closes memory thread (line.Memory bits radix) h e = ap (λ (o : Option OpenDraft). if is_some o then true else false) e
   first-closes memory thread line.Blank h e = absurd h
   first-closes memory thread (line.Untyped name entry) h e = absurd h
@@ -275,7 +289,8 @@ module _ (labels : List FoundLabels) (number : ℕ) (declared : Declared) (threa
   closes-by (Some m) (Some o) said h e =
       thread-closes (drafted (Some m) (Some o)) o said (last-or-not (labels_at labels (length threads)) number (drafted (Some m) (Some o)) o said) e
 
-closes : (labels : List FoundLabels) (number : ℕ) (d : Draft) (said : Line) → IsInPlace labels number d said → (with_line labels d said).open_thread ≡ None → leaves_open d said ≡ false
+closes : (labels : List FoundLabels) (number : ℕ) (d : Draft) (said : Line) → IsInPlace labels number d said → (with_line labels d said).open_thread ≡ None →
+    leaves_open d said ≡ false
 closes labels number d said h e = closes-by labels number d.declared d.threads d.memory d.open_thread said h e
 
 -- ---- all lines
@@ -291,14 +306,19 @@ record IsRead (labels : List FoundLabels) (number : ℕ) (d : Draft) (texts : Li
   end_number : ℕ
   reads : all_read labels number d texts ≡ Ok (end_number, end)
 
-texts-go : (labels : List FoundLabels) (number : ℕ) (d : Draft) (said : List Line) (texts : List Text) → AllZip Lists said texts → AreInPlace labels number d said
+texts-go : (labels : List FoundLabels) (number : ℕ) (d : Draft) (said : List Line) (texts : List Text) → AllZip Lists said texts →
+    AreInPlace labels number d said
     → (with_lines labels d said).open_thread ≡ None → IsRead labels number d texts (with_lines labels d said)
 texts-go labels number d [] [] zip placed end = record { end_number = number; reads = refl }
 texts-go labels number d [] (text ∷ texts) zip placed end = absurd zip
 texts-go labels number d (said ∷ others) [] zip placed end = absurd zip
 texts-go labels number d (said ∷ []) (text ∷ []) zip placed end =
     let one = text-goes labels (next_number number) true d said text zip.0 placed.0 (closes labels (next_number number) d said placed.0 end) in
-    record { end_number = next_number number; reads = ap (λ (r : Result Draft ℕ). and_then (on_line (next_number number) r) (λ more. all_read labels (next_number number) more [])) one }
+    record {
+      end_number = next_number number;
+      reads =
+          ap (λ (r : Result Draft ℕ). and_then (on_line (next_number number) r) (λ more. all_read labels (next_number number) more [])) one;
+    }
 texts-go labels number d (said ∷ []) (text ∷ next ∷ texts) zip placed end = absurd zip.1
 texts-go labels number d (said ∷ again ∷ others) (text ∷ []) zip placed end = absurd zip.1
 texts-go labels number d (said ∷ again ∷ others) (text ∷ next ∷ texts) zip placed end =
@@ -306,7 +326,8 @@ texts-go labels number d (said ∷ again ∷ others) (text ∷ next ∷ texts) z
     let rest = texts-go labels (next_number number) (with_line labels d said) (again ∷ others) (next ∷ texts) zip.1 placed.1 end in
     record {
       end_number = rest.end_number;
-      reads = ap (λ (r : Result Draft ℕ). and_then (on_line (next_number number) r) (λ behind. all_read labels (next_number number) behind (next ∷ texts))) one ∙ rest.reads;
+      reads = ap (λ (r : Result Draft ℕ). and_then (on_line (next_number number) r) (λ behind. all_read labels (next_number number) behind (next ∷ texts))) one
+          ∙ rest.reads;
     }
 
 -- ---- labels
@@ -318,12 +339,14 @@ search-says s number said text lists = ap (λ (r : Result Line ℕ). elim r [
   | Err fault ↦ option_map_or (λ name. in_open (λ labels. with_label labels name number) s) (label_at_fault text) s
 ]) (listed-said said text lists)
 
-searches : (number : ℕ) (s : Searched) (said : List Line) (texts : List Text) → AllZip Lists said texts → searched_texts number s texts ≡ searched_from number s said
+searches : (number : ℕ) (s : Searched) (said : List Line) (texts : List Text) → AllZip Lists said texts →
+    searched_texts number s texts ≡ searched_from number s said
 searches number s [] [] zip = refl
 searches number s [] (text ∷ texts) zip = absurd zip
 searches number s (said ∷ others) [] zip = absurd zip
 searches number s (said ∷ others) (text ∷ texts) zip =
-    ap (λ s. searched_texts (next_number number) s texts) (search-says s (next_number number) said text zip.0) ∙ searches (next_number number) (searched_line s (next_number number) said) others texts zip.1
+    ap (λ s. searched_texts (next_number number) s texts) (search-says s (next_number number) said text zip.0)
+    ∙ searches (next_number number) (searched_line s (next_number number) said) others texts zip.1
 
 -- ---- the whole
 
@@ -334,7 +357,8 @@ ends-so image is =
     let whole = is-listed image is (draft_of image) refl memory refl _ refl in
     ap fitting whole ∙ ap (λ (b : Bool). if b then Ok image else Err 4) is
 
-pub listing-means : (image : Image) → whole_image.fits image ≡ true → All (λ (t : Thread). t.header.entry < t.header.words) image.threads → text_means (listing image) ≡ Ok image
+pub listing-means : (image : Image) → whole_image.fits image ≡ true → All (λ (t : Thread). t.header.entry < t.header.words) image.threads →
+    text_means (listing image) ≡ Ok image
 unfolding text_means
 listing-means image is entered =
     let back = read-back image is entered in
@@ -342,5 +366,6 @@ listing-means image is entered =
     let labels : labels_of texts ≡ labels_in back.said = ap (λ (s : Searched). (closed s).threads) (searches 0 nothing_searched back.said texts back.listed) in
     let read = texts-go (labels_in back.said) 0 nothing_read back.said texts back.listed back.placed (ap (λ (d : Draft). d.open_thread) back.reads) in
     ap (λ (ls : List FoundLabels). and_then (all_read ls 0 nothing_read texts) (λ (r : ℕ × Draft). on_line (max r.0 1) (finished r.1))) labels
-    ∙ (ap (λ (r : Result (ℕ × Draft) (ℕ × ℕ)). and_then r (λ (r : ℕ × Draft). on_line (max r.0 1) (finished r.1))) (read.reads ∙ ap (λ (d : Draft). Ok (read.end_number, d)) back.reads)
+    ∙ (ap (λ (r : Result (ℕ × Draft) (ℕ × ℕ)). and_then r (λ (r : ℕ × Draft). on_line (max r.0 1) (finished r.1)))
+    (read.reads ∙ ap (λ (d : Draft). Ok (read.end_number, d)) back.reads)
     ∙ ap (on_line (max read.end_number 1)) (ends-so image is))

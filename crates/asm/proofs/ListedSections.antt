@@ -6,7 +6,8 @@ use Rattle.std.specs.Option.{option_map_or}
 use Rattle.std.proofs.lemmas.Bool.{and_parts}
 use Rattle.model.specs.Acceptance.NotedStates.{record_of}
 use Rattle.model.specs.Images.Format.{Format, field, many_fit}
-use Rattle.model.specs.Images.Image.{StateRecord, Thread, anything, pair_key, range_format, record_format, register_format, slot_format, slots_format, thread_format}
+use Rattle.model.specs.Images.Image.{StateRecord, Thread, anything, pair_key, range_format, record_format, register_format, slot_format, slots_format}
+use Rattle.model.specs.Images.Image.{thread_format}
 use Rattle.model.specs.Images.Listing.{Text, label_lines, line, point_lines, range_line, record_lines, register_line, slot_line, thread_line, thread_lines}
 use Rattle.asm_line.specs.declared.lines.Line.{Line}
 use Rattle.asm_line.specs.declared.lines.Line.TheVariants as said
@@ -62,8 +63,10 @@ record-listed : (objects words least : ℕ) (r : StateRecord) → objects ≤ 2 
 record-listed objects words least r few fits = (
   measure r fits.constant (terms-fit 1 r.header.terms r.terms (omega arith) fits.terms),
   listed-append (map said.Range r.ranges) (map range_line r.ranges) (map slot_said r.slots) (map slot_line r.slots)
-      (entries-listed 1 range_format (λ e. e.register + 1) said.Range range_line (λ e. omega arith) (λ l e low is. (range-parts l e low is).1) 1 r.header.ranges r.ranges (omega arith) fits.ranges)
-      (entries-listed 0 (slot_format objects) (λ e. pair_key e.cnode e.index + 1) slot_said slot_line (λ e. omega arith) (λ l e low is. (slot-parts objects l e few is).lists) 0 r.header.slots r.slots (omega arith) fits.slots),
+      (entries-listed 1 range_format (λ e. e.register + 1) said.Range range_line (λ e. omega arith) (λ l e low is. (range-parts l e low is).1) 1 r.header.ranges
+      r.ranges (omega arith) fits.ranges)
+      (entries-listed 0 (slot_format objects) (λ e. pair_key e.cnode e.index + 1) slot_said slot_line (λ e. omega arith)
+      (λ l e low is. (slot-parts objects l e few is).lists) 0 r.header.slots r.slots (omega arith) fits.slots),
 )
 
 records-listed : (objects words least count : ℕ) (rs : List StateRecord) → objects ≤ 2 ^ 32
@@ -73,7 +76,8 @@ records-listed objects words least zero [] few is = tt
 records-listed objects words least zero (r ∷ rs) few is = absurd (let clash : false ≡ true = is in cc)
 records-listed objects words least (suc n) [] few is = tt
 records-listed objects words least (suc n) (r ∷ rs) few is =
-    let both = and_parts ((record_format (slots_format objects) words least).fits r) (many_fit (record_format (slots_format objects) words) (λ r. r.header.point + 1) (r.header.point + 1) n rs) is in
+    let both = and_parts ((record_format (slots_format objects) words least).fits r)
+    (many_fit (record_format (slots_format objects) words) (λ r. r.header.point + 1) (r.header.point + 1) n rs) is in
     (record-listed objects words least r few (record-parts objects words least r both.0), records-listed objects words (r.header.point + 1) n rs few both.1)
 
 found-listed : (p : StateRecord → Bool) (rs : List StateRecord) → AllByRecursion IsListedRecord rs
@@ -116,7 +120,8 @@ points-listed : (t : Thread) (from count : ℕ) → AllByRecursion IsWord t.word
     → AreListed (flat_map (point_said t) (range_with_len from count)) (flat_map (point_lines t) (range_with_len from count))
 points-listed t from zero words records inside = tt
 points-listed t from (suc n) words records inside =
-    listed-append (point_said t from) (point_lines t from) (flat_map (point_said t) (range_with_len (from + 1) n)) (flat_map (point_lines t) (range_with_len (from + 1) n))
+    listed-append (point_said t from) (point_lines t from) (flat_map (point_said t) (range_with_len (from + 1) n))
+    (flat_map (point_lines t) (range_with_len (from + 1) n))
     (point-listed t from words records (omega (arith, inside))) (points-listed t (from + 1) n words records (omega (arith, inside)))
 
 -- ---- threads
@@ -130,22 +135,26 @@ thread-listed objects t few fits =
     let long = many-length (λ _. field anything) (λ _. 0) 0 t.header.words t.words fits.words in
     let first : Lists (said.Thread (thread_line_said t)) (thread_line t) =
     thread t (omega (arith, few, tcb)) (omega (arith, few, cnode)) h.guard (omega (arith, few, root)) h.priority h.budget h.fault h.base in
-    let registers = entries-listed 1 register_format (λ e. e.register + 1) said.Register register_line (λ e. omega arith) (λ l e low is. (register-parts l e low is).1) 1 t.header.registers t.registers (omega arith) fits.registers in
+    let registers = entries-listed 1 register_format (λ e. e.register + 1) said.Register register_line (λ e. omega arith)
+    (λ l e low is. (register-parts l e low is).1) 1 t.header.registers t.registers (omega arith) fits.registers in
     listed-append ((said.Thread (thread_line_said t) ∷ map said.Register t.registers) ++ flat_map (point_said t) (range_with_len 0 t.header.words))
     ((thread_line t ∷ map register_line t.registers) ++ flat_map (point_lines t) (range_with_len 0 t.header.words)) (said.End ∷ []) (codes "end" ∷ [])
     (listed-append (said.Thread (thread_line_said t) ∷ map said.Register t.registers) (thread_line t ∷ map register_line t.registers)
     (flat_map (point_said t) (range_with_len 0 t.header.words)) (flat_map (point_lines t) (range_with_len 0 t.header.words))
     (first, registers)
-    (points-listed t 0 t.header.words (words-fit 0 t.header.words t.words fits.words) (records-listed objects t.header.words 0 t.header.records t.records few fits.records) (omega (arith, long))))
+    (points-listed t 0 t.header.words (words-fit 0 t.header.words t.words fits.words)
+    (records-listed objects t.header.words 0 t.header.records t.records few fits.records) (omega (arith, long))))
     (end, tt)
 
 pub threads-listed : (objects least count : ℕ) (ts : List Thread) → objects ≤ 2 ^ 32
-    → many_fit (λ _. thread_format (slots_format objects) objects) (λ _. 0) least count ts ≡ true → AreListed (flat_map thread_said ts) (flat_map thread_lines ts)
+    → many_fit (λ _. thread_format (slots_format objects) objects) (λ _. 0) least count ts ≡ true →
+    AreListed (flat_map thread_said ts) (flat_map thread_lines ts)
 unfolding many_fit
 threads-listed objects least zero [] few is = tt
 threads-listed objects least zero (t ∷ ts) few is = absurd (let clash : false ≡ true = is in cc)
 threads-listed objects least (suc n) [] few is = tt
 threads-listed objects least (suc n) (t ∷ ts) few is =
-    let both = and_parts ((thread_format (slots_format objects) objects).fits t) (many_fit (λ _. thread_format (slots_format objects) objects) (λ _. 0) 0 n ts) is in
+    let both = and_parts ((thread_format (slots_format objects) objects).fits t) (many_fit (λ _. thread_format (slots_format objects) objects) (λ _. 0) 0 n ts)
+    is in
     listed-append (thread_said t) (thread_lines t) (flat_map thread_said ts) (flat_map thread_lines ts)
     (thread-listed objects t few (thread-parts objects t both.0)) (threads-listed objects 0 n ts few both.1)

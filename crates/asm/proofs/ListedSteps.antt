@@ -1,6 +1,7 @@
 -- Lines as listings have them: what each of them means is one entry, one word or one thread more.
 use Rattle.std.specs.Prelude.{◌==◌, MatchOption, map, not, is_some, nat_le, nat_lt, slice_get, Result, if◌then◌else◌}
-use Rattle.std.proofs.Common.{◌≡◌, ℕ, ◌+◌, ◌-◌, ◌<◌, ◌≤◌, zero, suc, Bool, true, false, List, [], ◌∷◌, ◌++◌, length, take, drop, Option, Some, None, Ok, Err, ℤ, refl, sym, ap, subst, ◌∙◌, arith, append_assoc, length-append, lt-ltb}
+use Rattle.std.proofs.Common.{◌≡◌, ℕ, ◌+◌, ◌-◌, ◌<◌, ◌≤◌, zero, suc, Bool, true, false, List, [], ◌∷◌, ◌++◌, length, take, drop, Option, Some, None, Ok, Err, ℤ}
+use Rattle.std.proofs.Common.{refl, sym, ap, subst, ◌∙◌, arith, append_assoc, length-append, lt-ltb}
 use Rattle.std.specs.List.{insert}
 use Rattle.std.specs.Option.{option_map_or}
 use Rattle.std.proofs.lemmas.Bool.{le-leb}
@@ -25,11 +26,14 @@ use Rattle.asm.specs.declared.names.Source.{Source}
 use Rattle.asm.specs.declared.names.Source.TheVariants.{Object, Handler}
 use Rattle.asm.specs.Keys.{has_key, has_room, is_before, is_behind, must, place_among, place_of, sorted_with}
 use Rattle.asm.specs.Labels.{FoundLabels, place_named, point_of}
-use Rattle.asm.specs.Meaning.{coded_with, inside, may_end, measured_with, noting, parent_known, point_known, ranges_with, record_said, slots_with, sorted_terms, terms_said, thread_begins, values_of, with_registers, word_added, word_at, words_said}
+use Rattle.asm.specs.Meaning.{coded_with, inside, may_end, measured_with, noting, parent_known, point_known, ranges_with, record_said, slots_with, sorted_terms}
+use Rattle.asm.specs.Meaning.{terms_said, thread_begins, values_of, with_registers, word_added, word_at, words_said}
 use Rattle.asm.specs.Names.{HasSource, IsNamed, KnownNames, free, is_taken, line_of_name, number_at, number_known, number_of, source_known, source_of}
 use Rattle.asm.specs.Reading.{IsThreadLine, thread_behind}
 use Rattle.asm.specs.Sections.{number_or_zero, value_of}
-use Rattle.asm.specs.Threads.{AreBehind, HasParent, HasRoomForRange, HasRoomForSlot, IsPlain, MayAddCode, MayAddMeasure, MayAddRange, MayAddRegister, MayAddSlot, MayBegin, MayEnd, OpenDraft, parent_numbers, plain_word, slot_entry, term_key, term_or_zero, terms_of, thread_begun, with_measure, with_range, with_register, with_slot, with_word}
+use Rattle.asm.specs.Threads.{AreBehind, HasParent, HasRoomForRange, HasRoomForSlot, IsPlain, MayAddCode, MayAddMeasure, MayAddRange, MayAddRegister}
+use Rattle.asm.specs.Threads.{MayAddSlot, MayBegin, MayEnd, OpenDraft, parent_numbers, plain_word, slot_entry, term_key, term_or_zero, terms_of, thread_begun}
+use Rattle.asm.specs.Threads.{with_measure, with_range, with_register, with_slot, with_word}
 
 -- ---- a step of a chain
 
@@ -81,7 +85,8 @@ pub unused : (names : KnownNames) (name : Text) → is_taken names name ≡ fals
 unused names name e = passes-not (is_taken names name) 3 e
 
 source-by : (names : KnownNames) (name : Text) (o : Option ℕ) → MatchOption o (IsNamed names.objects name) (λ _. Unit {0})
-    → ◌≡◌ {A = Result Source ℕ} (elim o [ Some line ↦ Ok (Handler line) | None ↦ number_known names.objects name >>= λ number. Ok (Object number) ]) (Ok (option_map_or (λ line. Handler line) o (Object (number_of names.objects name))))
+    → ◌≡◌ {A = Result Source ℕ} (elim o [ Some line ↦ Ok (Handler line) | None ↦ number_known names.objects name >>= λ number. Ok (Object number) ])
+    (Ok (option_map_or (λ line. Handler line) o (Object (number_of names.objects name))))
 source-by names name (Some line) h = refl
 source-by names name None h = ap (λ r. r >>= λ number. Ok (Object number)) (known names.objects name h)
 
@@ -89,7 +94,8 @@ pub sourced : (names : KnownNames) (name : Text) → HasSource names name → so
 unfolding source_known
 sourced names name h = source-by names name (line_of_name names name) h
 
-point-by : (o : Option Place) → is_some o ≡ true → ◌≡◌ {A = Result ℕ ℕ} (elim o [ Some place ↦ Ok place.point | None ↦ Err 2 ]) (Ok (option_map_or (λ place. place.point) o 0))
+point-by : (o : Option Place) → is_some o ≡ true → ◌≡◌ {A = Result ℕ ℕ} (elim o [ Some place ↦ Ok place.point | None ↦ Err 2 ])
+    (Ok (option_map_or (λ place. place.point) o 0))
 point-by (Some place) h = refl
 point-by None h = absurd (let no : false ≡ true = h in cc)
 
@@ -104,7 +110,8 @@ value-by : (r : Result ℕ ℕ) (ws : List Text) → (r >>= λ _. all_words ws) 
 value-by (Ok value) ws h rest = ap (λ xs. value ∷ xs) (rest h)
 value-by (Err e) ws h rest = absurd (let no : Err e ≡ Ok tt = h in cc)
 
-number-by : (r : Result ℤ ℕ) (ws : List Text) → (r >>= λ number. word number >>= λ _. all_words ws) ≡ Ok tt → (all_words ws ≡ Ok tt → values_of ws ≡ map value_of ws)
+number-by : (r : Result ℤ ℕ) (ws : List Text) → (r >>= λ number. word number >>= λ _. all_words ws) ≡ Ok tt →
+    (all_words ws ≡ Ok tt → values_of ws ≡ map value_of ws)
     → elim (r >>= λ number. word number) [ Ok value ↦ value ∷ values_of ws | Err e ↦ [] ] ≡ number_or_zero (r >>= λ number. word number) ∷ map value_of ws
 number-by (Ok z) ws h rest = value-by (word z) ws h rest
 number-by (Err e) ws h rest = absurd (let no : Err e ≡ Ok tt = h in cc)
@@ -117,12 +124,14 @@ pub words-all : (words : List Text) → all_words words ≡ Ok tt → length wor
 unfolding words_said
 words-all words said short =
     let same = values-all words said in
-    let few : length (values_of words) ≤ 1024 = let count : length (values_of words) ≡ length (map value_of words) = ap length same in omega (arith, count, length-map words value_of, short) in
+    let few : length (values_of words) ≤ 1024 = let count : length (values_of words) ≡ length (map value_of words) = ap length same in
+    omega (arith, count, length-map words value_of, short) in
     goes (must (nat_le (length (values_of words)) 1024) 4) _ tt _ (passes _ 4 (le-leb _ _ few)) (ap (λ (xs : List ℕ). Ok xs) same)
 
 -- ---- the first line of a thread
 
-pub begins : (labels : FoundLabels) (names : KnownNames) (said : ThreadLine) → MayBegin names labels said → thread_begins labels names said ≡ Ok (thread_begun names labels said)
+pub begins : (labels : FoundLabels) (names : KnownNames) (said : ThreadLine) → MayBegin names labels said →
+    thread_begins labels names said ≡ Ok (thread_begun names labels said)
 unfolding thread_begins
 begins labels names said may =
     goes (number_known names.objects said.tcb) _ _ _ (known names.objects said.tcb may.tcb)
@@ -135,9 +144,11 @@ begins labels names said may =
 registered : (o : OpenDraft) (entry : RegisterEntry) → MayAddRegister o entry → with_registers o entry ≡ Ok (with_register o entry)
 unfolding with_registers
 registered o entry may =
-    goes (sorted_with (λ (e : RegisterEntry). e.register) 31 entry o.thread.registers) _ _ _ (sorted-behind (λ (e : RegisterEntry). e.register) 31 entry o.thread.registers may.behind may.room) refl
+    goes (sorted_with (λ (e : RegisterEntry). e.register) 31 entry o.thread.registers) _ _ _
+    (sorted-behind (λ (e : RegisterEntry). e.register) 31 entry o.thread.registers may.behind may.room) refl
 
-term-by : (read : List TermEntry) (ws : List Text) (r : Result TermEntry ℕ) → (r >>= λ _. all_terms ws) ≡ Ok tt → AreBehind term_key read (term_or_zero r ∷ terms_of ws)
+term-by : (read : List TermEntry) (ws : List Text) (r : Result TermEntry ℕ) → (r >>= λ _. all_terms ws) ≡ Ok tt →
+    AreBehind term_key read (term_or_zero r ∷ terms_of ws)
     → length read + length (term_or_zero r ∷ terms_of ws) ≤ 4
     → ((grown : List TermEntry) → all_terms ws ≡ Ok tt → AreBehind term_key grown (terms_of ws) → length grown + length (terms_of ws) ≤ 4
     → sorted_terms grown (terms_said ws) ≡ Ok (grown ++ terms_of ws))
@@ -145,10 +156,12 @@ term-by : (read : List TermEntry) (ws : List Text) (r : Result TermEntry ℕ) �
 term-by read ws (Err e) said behind few others = absurd (let no : Err e ≡ Ok tt = said in cc)
 term-by read ws (Ok t) said behind few others =
     let long : length (read ++ t ∷ []) ≡ length read + 1 = length-append read (t ∷ []) in
-    goes (sorted_with term_key 4 t read) (λ more. sorted_terms more (terms_said ws)) (read ++ t ∷ []) _ (sorted-behind term_key 4 t read behind.0 (omega (arith, few)))
+    goes (sorted_with term_key 4 t read) (λ more. sorted_terms more (terms_said ws)) (read ++ t ∷ []) _
+    (sorted-behind term_key 4 t read behind.0 (omega (arith, few)))
     (others (read ++ t ∷ []) said behind.1 (omega (arith, few, long)) ∙ ap (λ (ts : List TermEntry). Ok ts) (append_assoc read (t ∷ []) (terms_of ws)))
 
-terms-sorted : (words : List Text) (read : List TermEntry) → all_terms words ≡ Ok tt → AreBehind term_key read (terms_of words) → length read + length (terms_of words) ≤ 4
+terms-sorted : (words : List Text) (read : List TermEntry) → all_terms words ≡ Ok tt → AreBehind term_key read (terms_of words) →
+    length read + length (terms_of words) ≤ 4
     → sorted_terms read (terms_said words) ≡ Ok (read ++ terms_of words)
 terms-sorted [] read said behind few = ap (λ (ts : List TermEntry). Ok ts) (sym (append-nil read))
 terms-sorted (name ∷ []) read said behind few = absurd (let no : Err 1 ≡ Ok tt = said in cc)
@@ -168,7 +181,8 @@ unfolding ranges_with
 ranged thread None entry may = absurd may
 ranged thread (Some r) entry may =
     goes (ranges_with entry r) _ _ _
-    (goes (sorted_with (λ (e : RangeEntry). e.register) 31 entry r.ranges) _ _ _ (sorted-behind (λ (e : RangeEntry). e.register) 31 entry r.ranges may.behind may.room) refl) refl
+    (goes (sorted_with (λ (e : RangeEntry). e.register) 31 entry r.ranges) _ _ _
+    (sorted-behind (λ (e : RangeEntry). e.register) 31 entry r.ranges may.behind may.room) refl) refl
 
 parented : (names : KnownNames) (said : Parent) → HasParent names said → parent_known names said ≡ Ok (parent_numbers names said)
 unfolding parent_known
@@ -177,7 +191,8 @@ parented names (parent.Slot cnode index) h = goes (number_known names.objects cn
 
 module _ (names : KnownNames) (cnode : Text) (index word0 word1 : ℕ) (from : Parent) where
   slot-noted : (thread : Thread) (next : Option StateRecord) → MayAddSlot names (record { thread = thread; next = next }) cnode index from
-      → noting (slots_with names cnode index word0 word1 from) (record { thread = thread; next = next }) ≡ Ok (with_slot (record { thread = thread; next = next }) (slot_entry names cnode index word0 word1 from))
+      → noting (slots_with names cnode index word0 word1 from) (record { thread = thread; next = next }) ≡ Ok
+      (with_slot (record { thread = thread; next = next }) (slot_entry names cnode index word0 word1 from))
   unfolding slots_with
   slot-noted thread None may = absurd may.room
   slot-noted thread (Some r) may =
@@ -194,7 +209,8 @@ coded labels o (code.Word value) may = goes (has_room 65536 o.thread.words) _ tt
 coded labels o (code.Jump rd target) may = absurd may.plain
 coded labels o (code.Branch op rs1 rs2 target) may = absurd may.plain
 
-pub inside-goes : (labels : FoundLabels) (number : ℕ) (names : KnownNames) (o : OpenDraft) (said : Line) → IsThreadLine labels number names o said → (said ≡ line.End → ⊥)
+pub inside-goes : (labels : FoundLabels) (number : ℕ) (names : KnownNames) (o : OpenDraft) (said : Line) → IsThreadLine labels number names o said →
+    (said ≡ line.End → ⊥)
     → inside labels number names o said ≡ Ok (thread_behind names o said)
 unfolding inside
 inside-goes labels number names o line.Blank h other = absurd h

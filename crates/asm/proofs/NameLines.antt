@@ -31,7 +31,8 @@ module _ (image : Image) (labels : List FoundLabels) (fits : SectionsFit image) 
       let fresh = name-fresh 117 0 (length front) (length front) (omega arith) (omega (arith, less, most, long)) in
       record {
         placed = record { free = rw fresh refl; room = omega (arith, less, most, long) };
-        reads = ap (λ ns. declaring image (record (with_untypeds (front ++ u ∷ [])) { names = record { untypeds = ns; objects = []; interrupts = [] } })) (names-next 117 front u);
+        reads = ap (λ ns. declaring image (record (with_untypeds (front ++ u ∷ [])) { names = record { untypeds = ns; objects = []; interrupts = [] } }))
+            (names-next 117 front u);
       }
 
   pub object-adds : (number : ℕ) (front : List ObjectEntry) (o : ObjectEntry) (rest : List ObjectEntry) → image.objects ≡ front ++ o ∷ rest
@@ -57,15 +58,21 @@ module _ (image : Image) (labels : List FoundLabels) (fits : SectionsFit image) 
           room = omega (arith, less, most, long);
         };
         reads = ap (λ n. declaring image (record (with_objects image []) {
-          names = record { untypeds = names_from 117 0 (length image.untypeds); objects = names_from 111 0 (length front) ++ object_name (length front) ∷ []; interrupts = [] };
+          names = record {
+            untypeds = names_from 117 0 (length image.untypeds);
+            objects = names_from 111 0 (length front) ++ object_name (length front) ∷ [];
+            interrupts = [];
+          };
           objects = front ++ (record { untyped = n; kind = o.kind; size = o.size }) ∷ [];
         })) number
-            ∙ ap (λ ns. declaring image (record (with_objects image (front ++ o ∷ [])) { names = record { untypeds = names_from 117 0 (length image.untypeds); objects = ns; interrupts = [] } }))
+            ∙ ap (λ ns. declaring image (record (with_objects image (front ++ o ∷ []))
+            { names = record { untypeds = names_from 117 0 (length image.untypeds); objects = ns; interrupts = [] } }))
             (names-next 111 front o);
       }
 
   pub interrupt-adds : (number : ℕ) (front : List InterruptEntry) (i : InterruptEntry) (rest : List InterruptEntry) → image.interrupts ≡ front ++ i ∷ rest
-      → Adds labels number (declaring image (with_interrupts image front)) (interrupt_said (length front, i)) (declaring image (with_interrupts image (front ++ i ∷ [])))
+      → Adds labels number (declaring image (with_interrupts image front)) (interrupt_said (length front, i))
+      (declaring image (with_interrupts image (front ++ i ∷ [])))
   interrupt-adds number front i rest same =
       let less = front-shorter image.interrupts front i rest same in
       let most = limits.header.interrupts in
@@ -88,7 +95,12 @@ module _ (image : Image) (labels : List FoundLabels) (fits : SectionsFit image) 
           room = omega (arith, less, most, long);
         };
         reads = ap (λ n. declaring image (record (with_interrupts image []) {
-          names = record { untypeds = names_from 117 0 (length image.untypeds); objects = names_from 111 0 (length image.objects); interrupts = interrupts_from 0 front ++ (interrupt_name (length front), i.line) ∷ [] };
+          names = record {
+            untypeds = names_from 117 0 (length image.untypeds);
+            objects = names_from 111 0 (length image.objects);
+            interrupts =
+                interrupts_from 0 front ++ (interrupt_name (length front), i.line) ∷ [];
+          };
           interrupts = front ++ (record { line = i.line; notification = n; badge = i.badge }) ∷ [];
         })) number
             ∙ ap (λ ns. declaring image (record (with_interrupts image (front ++ i ∷ [])) {

@@ -1,5 +1,6 @@
 -- The names that listings give: each stands for its own number, and no name stands for two.
-use Rattle.std.proofs.Common.{◌≡◌, ℕ, ◌+◌, ◌-◌, ◌^◌, ◌<◌, ◌≤◌, zero, suc, Bool, true, false, cond, not, List, [], ◌∷◌, ◌++◌, length, Some, None, unwrap_or, refl, ap, sym, ◌∙◌, arith, ltb, lt-ltb, decimal}
+use Rattle.std.proofs.Common.{◌≡◌, ℕ, ◌+◌, ◌-◌, ◌^◌, ◌<◌, ◌≤◌, zero, suc, Bool, true, false, cond, not, List, [], ◌∷◌, ◌++◌, length, Some, None, unwrap_or}
+use Rattle.std.proofs.Common.{refl, ap, sym, ◌∙◌, arith, ltb, lt-ltb, decimal}
 use Rattle.std.specs.Prelude.{map, nat_lt, position, ◌==◌, slice_index_or}
 use Rattle.std.specs.List.{enumerate_from, list_any, position_or_len, range_with_len}
 use Rattle.std.specs.Map.{lookup}
@@ -67,7 +68,8 @@ place c a (suc n) k low high small = by (ltb a k) refl (λ less. place c (a + 1)
     by false e others =
         let above = ltb-false a k e in
         let same : k ≡ a = omega (arith, low, above) in
-        ap (λ b. cond (not b) (1 + position_or_len (bytes_eq (c ∷ decimal k)) (names_from c (a + 1) n)) 0) (ap (λ j. bytes_eq (c ∷ decimal k) (c ∷ decimal j)) (sym same) ∙ bytes-same (c ∷ decimal k))
+        ap (λ b. cond (not b) (1 + position_or_len (bytes_eq (c ∷ decimal k)) (names_from c (a + 1) n)) 0)
+        (ap (λ j. bytes_eq (c ∷ decimal k) (c ∷ decimal j)) (sym same) ∙ bytes-same (c ∷ decimal k))
         ∙ omega (arith, same)
 
 position-named : (c n k : ℕ) → k < n → n ≤ 2 ^ 32 → position (bytes_eq (c ∷ decimal k)) (names_from c 0 n) ≡ Some k
@@ -105,7 +107,8 @@ interrupt-absent c k a (x ∷ xs) other = rw other (interrupt-absent c k (a + 1)
 pub interrupt-fresh : (k a : ℕ) (xs : List InterruptEntry) → a + length xs ≤ k → k < 2 ^ 32 → lookup (bytes_eq (interrupt_name k)) (interrupts_from a xs) ≡ None
 interrupt-fresh k a [] behind small = refl
 interrupt-fresh k a (x ∷ xs) behind small =
-    rw (name-differs 105 k a small (omega (arith, behind, small)) (λ same. omega (arith, behind, same))) (interrupt-fresh k (a + 1) xs (omega (arith, behind)) small)
+    rw (name-differs 105 k a small (omega (arith, behind, small)) (λ same. omega (arith, behind, same)))
+    (interrupt-fresh k (a + 1) xs (omega (arith, behind)) small)
 
 pub interrupt-found : (k a : ℕ) (xs : List InterruptEntry) (d : InterruptEntry) → a ≤ k → k < a + length xs → a + length xs ≤ 2 ^ 32
     → lookup (bytes_eq (interrupt_name k)) (interrupts_from a xs) ≡ Some (slice_index_or xs (k - a) d).line
@@ -124,5 +127,6 @@ interrupt-found k a (x ∷ xs) d low high small =
         let above = ltb-false a k e in
         let same : k ≡ a = omega (arith, low, above) in
         let at : k - a ≡ 0 = omega (arith, same) in
-        ap (λ b. cond b (Some x.line) (lookup (bytes_eq (interrupt_name k)) (interrupts_from (a + 1) xs))) (ap (λ j. bytes_eq (interrupt_name k) (interrupt_name j)) (sym same) ∙ bytes-same (interrupt_name k))
+        ap (λ b. cond b (Some x.line) (lookup (bytes_eq (interrupt_name k)) (interrupts_from (a + 1) xs)))
+        (ap (λ j. bytes_eq (interrupt_name k) (interrupt_name j)) (sym same) ∙ bytes-same (interrupt_name k))
         ∙ ap (λ i. Some (slice_index_or (x ∷ xs) i d).line) (sym at)

@@ -1,5 +1,6 @@
 -- Lines of capabilities, tables, frames and contents: each declares one entry behind the others.
-use Rattle.std.proofs.Common.{ℕ, ◌≡◌, ◌+◌, ◌-◌, ◌^◌, ◌<◌, ◌≤◌, Bool, true, false, List, [], ◌∷◌, ◌++◌, length, Option, Some, None, Ok, refl, ap, sym, ◌∙◌, subst, arith, decimal}
+use Rattle.std.proofs.Common.{ℕ, ◌≡◌, ◌+◌, ◌-◌, ◌^◌, ◌<◌, ◌≤◌, Bool, true, false, List, [], ◌∷◌, ◌++◌, length, Option, Some, None, Ok, refl, ap, sym, ◌∙◌}
+use Rattle.std.proofs.Common.{subst, arith, decimal}
 use Rattle.std.specs.Prelude.{map, nat_lt, slice_get, slice_index_or, option_map, if◌then◌else◌, MatchOption}
 use Rattle.std.specs.List.{AllByRecursion}
 use Rattle.std.specs.Option.{option_map_or}
@@ -55,13 +56,15 @@ module _ (image : Image) (limits : IsFitting image) where
   name_by source b = if b then interrupt_name (interrupt_of image source) else object_name source
 
   handler-line : (source : ℕ) → image.header.objects ≤ source → source < image.header.objects + image.header.interrupts
-      → lookup (bytes_eq (interrupt_name (interrupt_of image source))) (interrupts_from 0 image.interrupts) ≡ Some (line_of_interrupt image (interrupt_of image source))
+      → lookup (bytes_eq (interrupt_name (interrupt_of image source))) (interrupts_from 0 image.interrupts) ≡ Some
+      (line_of_interrupt image (interrupt_of image source))
   handler-line source low high =
       let all = limits.interrupts in
       let few = limits.header.interrupts in
       let k = interrupt_of image source in
       let same : k - 0 ≡ k = omega arith in
-      interrupt-found k 0 image.interrupts (record { line = 0; notification = 0; badge = 0 }) (omega arith) (omega (arith, low, high, all)) (omega (arith, all, few))
+      interrupt-found k 0 image.interrupts (record { line = 0; notification = 0; badge = 0 }) (omega arith) (omega (arith, low, high, all))
+      (omega (arith, all, few))
       ∙ ap (λ n. Some (slice_index_or image.interrupts n (record { line = 0; notification = 0; badge = 0 })).line) same
 
   record Sourced (source : ℕ) (name : Text) (said : Source) : Type 0 where
@@ -74,14 +77,16 @@ module _ (image : Image) (limits : IsFitting image) where
       let found = handler-line source (leb-true image.header.objects source e) high in
       record {
         known = subst (λ o. MatchOption o (IsNamed (names_of image).objects (interrupt_name (interrupt_of image source))) (λ _. Unit {0})) (sym found) tt;
-        same = ap (λ o. option_map_or (λ line. Handler line) o (Object (number_of (names_of image).objects (interrupt_name (interrupt_of image source))))) found;
+        same = ap (λ o. option_map_or (λ line. Handler line) o (Object (number_of (names_of image).objects (interrupt_name (interrupt_of image source)))))
+            found;
       }
   sourced-by source false e high =
       let absent = interrupt-absent 111 source 0 image.interrupts refl in
       let less : source < image.header.objects = grind (arith, nat_tests, e) in
       record {
         known = subst (λ o. MatchOption o (IsNamed (names_of image).objects (object_name source)) (λ _. Unit {0})) (sym absent) (object-named source less);
-        same = ap (λ o. option_map_or (λ line. Handler line) o (Object (number_of (names_of image).objects (object_name source)))) absent ∙ ap Object (object-number source less);
+        same = ap (λ o. option_map_or (λ line. Handler line) o (Object (number_of (names_of image).objects (object_name source)))) absent
+            ∙ ap Object (object-number source less);
       }
 
   sourced : (source : ℕ) → source < image.header.objects + image.header.interrupts → Sourced source (source_name image source) (source_said image source)
@@ -119,14 +124,16 @@ last-mapped {A = A} {B = B} f test xs =
 
 module _ (image : Image) (labels : List FoundLabels) (fits : SectionsFit image) (limits : IsFitting image) where
   pub capability-adds : (number : ℕ) (front : List CapabilityEntry) (c : CapabilityEntry) (rest : List CapabilityEntry) → image.capabilities ≡ front ++ c ∷ rest
-      → Adds labels number (declaring image (with_capabilities image front)) (capability_said image c) (declaring image (with_capabilities image (front ++ c ∷ [])))
+      → Adds labels number (declaring image (with_capabilities image front)) (capability_said image c)
+      (declaring image (with_capabilities image (front ++ c ∷ [])))
   capability-adds number front c rest same =
       let less = front-shorter image.capabilities front c rest same in
       let most = limits.header.capabilities in
       let long = limits.capabilities in
       let count = length-map front (capability_of image) in
       let one = capability-parts image.header.objects image.header.interrupts (least_behind (λ x. pair_key x.cnode x.index + 1) 0 front) c
-      (fits-at (capability_format image.header.objects image.header.interrupts) (λ x. pair_key x.cnode x.index + 1) 0 image.header.capabilities image.capabilities front c rest fits.capabilities same) in
+      (fits-at (capability_format image.header.objects image.header.interrupts) (λ x. pair_key x.cnode x.index + 1) 0 image.header.capabilities
+      image.capabilities front c rest fits.capabilities same) in
       let cnode = object-number image limits c.cnode one.1 in
       let source = sourced image limits c.source one.3 in
       record {
@@ -139,10 +146,19 @@ module _ (image : Image) (labels : List FoundLabels) (fits : SectionsFit image) 
           room = omega (arith, less, most, long, count);
         };
         reads = ap (λ n. declaring image (record (with_capabilities image []) {
-          capabilities = map (capability_of image) front ++ (record { cnode = n; index = c.index; source = source_of (names_of image) (source_name image c.source); rights = c.rights; payload = c.payload }) ∷ [];
+          capabilities = map (capability_of image) front
+              ++ (record {
+                cnode = n;
+                index = c.index;
+                source = source_of (names_of image) (source_name image c.source);
+                rights = c.rights;
+                payload =
+                    c.payload;
+              }) ∷ [];
         })) cnode
             ∙ (ap (λ s. declaring image (record (with_capabilities image []) {
-              capabilities = map (capability_of image) front ++ (record { cnode = c.cnode; index = c.index; source = s; rights = c.rights; payload = c.payload }) ∷ [];
+              capabilities = map (capability_of image) front
+                  ++ (record { cnode = c.cnode; index = c.index; source = s; rights = c.rights; payload = c.payload }) ∷ [];
             })) source.same
             ∙ ap (λ cs. declaring image (record (with_capabilities image []) { capabilities = cs })) (sym (map-append (capability_of image) front (c ∷ []))));
       }
@@ -168,7 +184,8 @@ module _ (image : Image) (labels : List FoundLabels) (fits : SectionsFit image) 
         reads = ap (λ n. declaring image (record (with_tables image []) {
           tables = front ++ (record { root = n; address = t.address; table = number_of (names_of image).objects (object_name t.table) }) ∷ [];
         })) root
-            ∙ ap (λ n. declaring image (record (with_tables image []) { tables = front ++ (record { root = t.root; address = t.address; table = n }) ∷ [] })) under;
+            ∙ ap (λ n. declaring image (record (with_tables image []) { tables = front ++ (record { root = t.root; address = t.address; table = n }) ∷ [] }))
+            under;
       }
 
   pub frame-adds : (number : ℕ) (front : List FrameEntry) (f : FrameEntry) (rest : List FrameEntry) → image.frames ≡ front ++ f ∷ rest
@@ -190,12 +207,15 @@ module _ (image : Image) (labels : List FoundLabels) (fits : SectionsFit image) 
           room = omega (arith, less, most, long);
         };
         reads = ap (λ n. declaring image (record (with_frames image []) {
-          frames = front ++ (record { root = n; address = f.address; frame = number_of (names_of image).objects (object_name f.frame); rights = f.rights }) ∷ [];
+          frames = front ++ (record { root = n; address = f.address; frame = number_of (names_of image).objects (object_name f.frame); rights = f.rights })
+              ∷ [];
         })) root
-            ∙ ap (λ n. declaring image (record (with_frames image []) { frames = front ++ (record { root = f.root; address = f.address; frame = n; rights = f.rights }) ∷ [] })) under;
+            ∙ ap (λ n. declaring image
+            (record (with_frames image []) { frames = front ++ (record { root = f.root; address = f.address; frame = n; rights = f.rights }) ∷ [] })) under;
       }
 
-  pub content-adds : length image.contents ≤ 4096 → (number : ℕ) (front : List ImageContent) (c : ImageContent) (rest : List ImageContent) → image.contents ≡ front ++ c ∷ rest
+  pub content-adds : length image.contents ≤ 4096 → (number : ℕ) (front : List ImageContent) (c : ImageContent) (rest : List ImageContent) →
+      image.contents ≡ front ++ c ∷ rest
       → Adds labels number (declaring image (with_contents image front)) (content_said c) (declaring image (with_contents image (front ++ c ∷ [])))
   content-adds most number front c rest same =
       let less = front-shorter image.contents front c rest same in
@@ -210,12 +230,25 @@ module _ (image : Image) (labels : List FoundLabels) (fits : SectionsFit image) 
           named = object-named image limits c.header.frame one.frame;
           numbers = all-words c.words one.words;
           short = omega (arith, count, short);
-          behind = ap (λ n. is_behind (λ (x : ImageContent). x.header.frame) n front) frame ∙ is-behind (λ (x : ImageContent). x.header.frame) c.header.frame 0 front one.behind;
+          behind = ap (λ n. is_behind (λ (x : ImageContent). x.header.frame) n front) frame
+              ∙ is-behind (λ (x : ImageContent). x.header.frame) c.header.frame 0 front one.behind;
           room = omega (arith, less, most);
         };
         reads = ap (λ n. declaring image (record (with_contents image []) {
-          contents = front ++ (record { header = record { frame = n; words = length (map value_of (map decimal c.words)) }; words = map value_of (map decimal c.words) }) ∷ [];
+          contents = front ++ (record {
+            header = record { frame = n; words = length (map value_of (map decimal c.words)) };
+            words =
+                map value_of (map decimal c.words);
+          }) ∷ [];
         })) frame
-            ∙ (ap (λ ws. declaring image (record (with_contents image []) { contents = front ++ (record { header = record { frame = c.header.frame; words = length ws }; words = ws }) ∷ [] })) words
-            ∙ ap (λ k. declaring image (record (with_contents image []) { contents = front ++ (record { header = record { frame = c.header.frame; words = k }; words = c.words }) ∷ [] })) one.long);
+            ∙ (ap (λ ws. declaring image
+            (record (with_contents image []) {
+              contents = front
+                  ++ (record { header = record { frame = c.header.frame; words = length ws }; words = ws }) ∷ [];
+            })) words
+            ∙ ap (λ k. declaring image
+            (record (with_contents image []) {
+              contents = front
+                  ++ (record { header = record { frame = c.header.frame; words = k }; words = c.words }) ∷ [];
+            })) one.long);
       }

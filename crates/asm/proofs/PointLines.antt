@@ -1,5 +1,6 @@
 -- Lines of a thread's points: each leads from what is known before the point to what is known behind it.
-use Rattle.std.proofs.Common.{ℕ, ◌≡◌, ◌==◌, ◌+◌, ◌<◌, ◌≤◌, zero, suc, Bool, true, false, List, [], ◌∷◌, ◌++◌, length, Option, Some, None, refl, ap, sym, ◌∙◌, subst, arith, ne_eqb, eq-eqb, eqb-true}
+use Rattle.std.proofs.Common.{ℕ, ◌≡◌, ◌==◌, ◌+◌, ◌<◌, ◌≤◌, zero, suc, Bool, true, false, List, [], ◌∷◌, ◌++◌, length, Option, Some, None, refl, ap, sym, ◌∙◌}
+use Rattle.std.proofs.Common.{subst, arith, ne_eqb, eq-eqb, eqb-true}
 use Rattle.std.specs.Prelude.{flat_map, find, slice_index, option_to_list}
 use Rattle.std.specs.List.{range_with_len}
 use Rattle.std.specs.Option.{option_map_or}
@@ -61,12 +62,14 @@ not-behind point from (r ∷ rs) h less =
     let low = h.0 in
     rw (ne_eqb r.header.point point (λ same. omega (arith, less, low, same))) (not-behind point (r.header.point + 1) rs h.1 (omega (arith, less, low)))
 
-pub record-there : (t : Thread) (point : ℕ) (front : List StateRecord) (r : StateRecord) (rest : List StateRecord) → t.records ≡ front ++ r ∷ rest → AreBefore point front
+pub record-there : (t : Thread) (point : ℕ) (front : List StateRecord) (r : StateRecord) (rest : List StateRecord) → t.records ≡ front ++ r ∷ rest →
+    AreBefore point front
     → r.header.point ≡ point → record_of t point ≡ Some r
 record-there t point front r rest same before here =
     ap (find (of_point point)) same ∙ (not-before point front (r ∷ rest) before ∙ rw (eq-eqb r.header.point point here) refl)
 
-pub no-record : (t : Thread) (point : ℕ) (front rest : List StateRecord) → t.records ≡ front ++ rest → AreBefore point front → RiseFrom (point + 1) rest → record_of t point ≡ None
+pub no-record : (t : Thread) (point : ℕ) (front rest : List StateRecord) → t.records ≡ front ++ rest → AreBefore point front → RiseFrom (point + 1) rest →
+    record_of t point ≡ None
 no-record t point front rest same before behind =
     ap (find (of_point point)) same ∙ (not-before point front rest before ∙ not-behind point (point + 1) rest behind (omega arith))
 
@@ -111,18 +114,22 @@ module _ (image : Image) (labels : List FoundLabels) (limits : IsFitting image) 
   pub at_point : (point : ℕ) → Left t point → Draft
   at_point point left = standing left.words left.records None
 
-  module _ (count : ℕ) (fits : many_fit (record_format (slots_format image.header.objects) t.header.words) (λ r. r.header.point + 1) 0 count t.records ≡ true) (few : length t.words ≤ 65536) where
+  module _ (count : ℕ) (fits : many_fit (record_format (slots_format image.header.objects) t.header.words) (λ r. r.header.point + 1) 0 count t.records ≡ true)
+      (few : length t.words ≤ 65536) where
     -- the word of a point, behind what is noted of it
     word-goes : (number : ℕ) (ws : List ℕ) (w : ℕ) (rest : List ℕ) (records : List StateRecord) (next : Option StateRecord) → t.words ≡ ws ++ w ∷ rest
-        → Goes labels number (standing ws records next) (line.Code None (code.Word (slice_index t.words (length ws))) ∷ []) (standing (ws ++ w ∷ []) (records ++ option_to_list next) None)
+        → Goes labels number (standing ws records next) (line.Code None (code.Word (slice_index t.words (length ws))) ∷ [])
+        (standing (ws ++ w ∷ []) (records ++ option_to_list next) None)
     word-goes number ws w rest records next same =
         let here : slice_index t.words (length ws) ≡ w = ap (λ xs. slice_index xs (length ws)) same ∙ word-at ws w rest in
         let long : length t.words ≡ length ws + length (w ∷ rest) = ap length same ∙ length-append ws (w ∷ rest) in
-        one-more labels number (standing ws records next) (standing (ws ++ w ∷ []) (records ++ option_to_list next) None) (standing (ws ++ w ∷ []) (records ++ option_to_list next) None)
+        one-more labels number (standing ws records next) (standing (ws ++ w ∷ []) (records ++ option_to_list next) None)
+        (standing (ws ++ w ∷ []) (records ++ option_to_list next) None)
         (line.Code None (code.Word (slice_index t.words (length ws)))) []
         (searched, record { plain = tt; room = omega (arith, long, few) })
         (ap (λ k. standing (ws ++ k ∷ []) (records ++ option_to_list next) None) here)
-        (nothing-more labels (next_number number) (standing (ws ++ w ∷ []) (records ++ option_to_list next) None) (standing (ws ++ w ∷ []) (records ++ option_to_list next) None) refl)
+        (nothing-more labels (next_number number) (standing (ws ++ w ∷ []) (records ++ option_to_list next) None)
+        (standing (ws ++ w ∷ []) (records ++ option_to_list next) None) refl)
 
     -- the lines of a point without its label
     pub record Behind (point number : ℕ) (left : Left t point) : Type 0 where
@@ -132,7 +139,8 @@ module _ (image : Image) (labels : List FoundLabels) (limits : IsFitting image) 
     longer : (ws : List ℕ) (w : ℕ) (point : ℕ) → length ws ≡ point → length (ws ++ w ∷ []) ≡ point + 1
     longer ws w point reached = let long = length-append ws (w ∷ []) in omega (arith, long, reached)
 
-    without-record : (point number : ℕ) (left : Left t point) (w : ℕ) (rest : List ℕ) → left.words_left ≡ w ∷ rest → RiseFrom (point + 1) left.records_left → Behind point number left
+    without-record : (point number : ℕ) (left : Left t point) (w : ℕ) (rest : List ℕ) → left.words_left ≡ w ∷ rest → RiseFrom (point + 1) left.records_left →
+        Behind point number left
     without-record point number left w rest here behind =
         let none = no-record t point left.records left.records_left left.all_records left.before behind in
         let words : t.words ≡ left.words ++ w ∷ rest = left.all_words ∙ ap (λ xs. left.words ++ xs) here in
@@ -155,7 +163,8 @@ module _ (image : Image) (labels : List FoundLabels) (limits : IsFitting image) 
               goes;
         }
 
-    with-record : (point number : ℕ) (left : Left t point) (w : ℕ) (rest : List ℕ) (r : StateRecord) (rs : List StateRecord) → left.words_left ≡ w ∷ rest → left.records_left ≡ r ∷ rs
+    with-record : (point number : ℕ) (left : Left t point) (w : ℕ) (rest : List ℕ) (r : StateRecord) (rs : List StateRecord) → left.words_left ≡ w ∷ rest →
+        left.records_left ≡ r ∷ rs
         → r.header.point ≡ point → RiseFrom (r.header.point + 1) rs → Behind point number left
     with-record point number left w rest r rs here first at behind =
         let all : t.records ≡ left.records ++ r ∷ rs = left.all_records ∙ ap (λ xs. left.records ++ xs) first in
@@ -164,10 +173,12 @@ module _ (image : Image) (labels : List FoundLabels) (limits : IsFitting image) 
         let long : length t.words ≡ length left.words + length (w ∷ rest) = ap length words ∙ length-append left.words (w ∷ rest) in
         let parts = record-parts image.header.objects t.header.words (least_behind (λ (x : StateRecord). x.header.point + 1) 0 left.records) r
         (fits-at (record_format (slots_format image.header.objects) t.header.words) (λ x. x.header.point + 1) 0 count t.records left.records r rs fits all) in
-        let noted = record-goes image labels limits ts searched t left.words left.records r t.header.words (least_behind (λ (x : StateRecord). x.header.point + 1) 0 left.records) parts
+        let noted = record-goes image labels limits ts searched t left.words left.records r t.header.words
+        (least_behind (λ (x : StateRecord). x.header.point + 1) 0 left.records) parts
         (left.reached ∙ sym at) (omega (arith, long, few)) number in
         let word = word-goes (number_behind number (record_said r)) left.words w rest left.records (Some r) words in
-        let both = join labels number (standing left.words left.records None) (standing left.words left.records (Some r)) (standing (left.words ++ w ∷ []) (left.records ++ r ∷ []) None)
+        let both = join labels number (standing left.words left.records None) (standing left.words left.records (Some r))
+        (standing (left.words ++ w ∷ []) (left.records ++ r ∷ []) None)
         (record_said r) (line.Code None (code.Word (slice_index t.words (length left.words))) ∷ []) noted word in
         record {
           next = record {
@@ -190,7 +201,8 @@ module _ (image : Image) (labels : List FoundLabels) (limits : IsFitting image) 
     pub body-goes : (point number : ℕ) (left : Left t point) → point < length t.words → Behind point number left
     body-goes point number left inside_words = by left.words_left refl left.records_left refl left.behind
       where
-        test : (w : ℕ) (rest : List ℕ) (r : StateRecord) (rs : List StateRecord) → left.words_left ≡ w ∷ rest → left.records_left ≡ r ∷ rs → point ≤ r.header.point
+        test : (w : ℕ) (rest : List ℕ) (r : StateRecord) (rs : List StateRecord) → left.words_left ≡ w ∷ rest → left.records_left ≡ r ∷ rs →
+            point ≤ r.header.point
             → RiseFrom (r.header.point + 1) rs → (b : Bool) → (r.header.point == point) ≡ b → Behind point number left
         test w rest r rs here first low behind true e = with-record point number left w rest r rs here first (eqb-true r.header.point point e) behind
         test w rest r rs here first low behind false e =
@@ -198,7 +210,8 @@ module _ (image : Image) (labels : List FoundLabels) (limits : IsFitting image) 
 
         by : (ws : List ℕ) → left.words_left ≡ ws → (rs : List StateRecord) → left.records_left ≡ rs → RiseFrom point rs → Behind point number left
         by [] here rs first rise =
-            absurd (let long : length t.words ≡ length left.words + length left.words_left = ap length left.all_words ∙ length-append left.words left.words_left in
+            absurd (let long : length t.words ≡ length left.words + length left.words_left = ap length left.all_words
+            ∙ length-append left.words left.words_left in
             let none : length left.words_left ≡ 0 = ap length here in
             let reached = left.reached in
             omega (arith, long, none, reached, inside_words))
@@ -208,20 +221,29 @@ module _ (image : Image) (labels : List FoundLabels) (limits : IsFitting image) 
     -- the lines of points that are not the entry
     pub record Passed (from n number : ℕ) (left : Left t from) : Type 0 where
       pub next : Left t (from + n)
-      pub goes : Goes labels number (standing left.words left.records None) (flat_map (point_said t) (range_with_len from n)) (standing next.words next.records None)
+      pub goes : Goes labels number (standing left.words left.records None) (flat_map (point_said t) (range_with_len from n))
+          (standing next.words next.records None)
 
-    pub points-go : (from n number : ℕ) (left : Left t from) → from + n ≤ length t.words → ((k : ℕ) → from ≤ k → k < from + n → t.header.entry ≡ k → ⊥) → Passed from n number left
+    pub points-go : (from n number : ℕ) (left : Left t from) → from + n ≤ length t.words → ((k : ℕ) → from ≤ k → k < from + n → t.header.entry ≡ k → ⊥) →
+        Passed from n number left
     points-go from zero number left short other =
         let same : from ≡ from + 0 = omega arith in
-        record { next = moved t from (from + 0) same left; goes = nothing-more labels number (standing left.words left.records None) (standing left.words left.records None) refl }
+        record {
+          next = moved t from (from + 0) same left;
+          goes =
+              nothing-more labels number (standing left.words left.records None) (standing left.words left.records None) refl;
+        }
     points-go from (suc n) number left short other =
         let plain = point-plain t from (other from (omega arith) (omega arith)) in
         let one = body-goes from number left (omega (arith, short)) in
-        let rest = points-go (from + 1) n (number_behind number (point_said t from)) one.next (omega (arith, short)) (λ k low high. other k (omega (arith, low)) (omega (arith, high))) in
+        let rest = points-go (from + 1) n (number_behind number (point_said t from)) one.next (omega (arith, short))
+        (λ k low high. other k (omega (arith, low)) (omega (arith, high))) in
         let same : from + 1 + n ≡ from + suc n = omega arith in
         record {
           next = moved t (from + 1 + n) (from + suc n) same rest.next;
-          goes = join labels number (standing left.words left.records None) (standing one.next.words one.next.records None) (standing rest.next.words rest.next.records None)
+          goes = join labels number (standing left.words left.records None) (standing one.next.words one.next.records None)
+              (standing rest.next.words rest.next.records None)
               (point_said t from) (flat_map (point_said t) (range_with_len (from + 1) n))
-              (subst (λ ls. Goes labels number (standing left.words left.records None) ls (standing one.next.words one.next.records None)) (sym plain) one.goes) rest.goes;
+              (subst (λ ls. Goes labels number (standing left.words left.records None) ls (standing one.next.words one.next.records None)) (sym plain) one.goes)
+              rest.goes;
         }

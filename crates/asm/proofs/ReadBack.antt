@@ -13,7 +13,8 @@ use Rattle.format_laws.proofs.Laws.{is-fitting, many-length}
 use Rattle.asm.specs.Drafts.{draft_of, nothing_read}
 use Rattle.asm.specs.Labels.{FoundLabels, closed, labels_in, next_number, nothing_searched, searched_from, searched_line}
 use Rattle.asm.specs.Reading.{AreInPlace, with_lines}
-use Rattle.asm.proofs.Said.{capability_said, content_said, frame_said, interrupt_said, listed_lines, memory_said, object_said, table_said, thread_said, untyped_said}
+use Rattle.asm.proofs.Said.{capability_said, content_said, frame_said, interrupt_said, listed_lines, memory_said, object_said, table_said, thread_said}
+use Rattle.asm.proofs.Said.{untyped_said}
 use Rattle.asm.proofs.Joins.{Goes, join, nothing-more, number_behind, one-more, plain-section, section}
 use Rattle.asm.proofs.LabelSearch.{all_labels, between_threads, searched-append, silent}
 use Rattle.asm.proofs.ListedImages.{image-listed}
@@ -48,7 +49,8 @@ abbrev sections_said : Image → List Line
 sections_said i = frames_said i ++ map content_said i.contents
 
 -- no label stands there
-quiet-append : {E : Type 0} (say : E → Line) → ((number : ℕ) (e : E) → searched_line nothing_searched number (say e) ≡ nothing_searched) → (front : List Line) (xs : List E)
+quiet-append : {E : Type 0} (say : E → Line) → ((number : ℕ) (e : E) → searched_line nothing_searched number (say e) ≡ nothing_searched) →
+    (front : List Line) (xs : List E)
     → searched_from 0 nothing_searched front ≡ nothing_searched → searched_from 0 nothing_searched (front ++ map say xs) ≡ nothing_searched
 quiet-append say quiet front xs before =
     searched-append 0 nothing_searched front (map say xs)
@@ -80,20 +82,33 @@ module _ (i : Image) (labels : List FoundLabels) (fits : SectionsFit i) (limits 
 
   sections-go : Goes labels 0 nothing_read (sections_said i) (after i [])
   sections-go =
-      let untypeds = join labels 0 nothing_read (declaring i (with_untypeds [])) (declaring i (with_untypeds i.untypeds)) (memory_said i ∷ []) (map untyped_said (numbered i.untypeds))
-      memory-goes (section labels (λ k e. untyped_said (k, e)) (λ us. declaring i (with_untypeds us)) i.untypeds (untyped-adds i labels fits limits) (next_number 0)) in
-      let objects = join labels 0 nothing_read (declaring i (with_untypeds i.untypeds)) (declaring i (with_objects i i.objects)) (untypeds_said i) (map object_said (numbered i.objects))
-      untypeds (section labels (λ k e. object_said (k, e)) (λ os. declaring i (with_objects i os)) i.objects (object-adds i labels fits limits) (number_behind 0 (untypeds_said i))) in
-      let interrupts = join labels 0 nothing_read (declaring i (with_objects i i.objects)) (declaring i (with_interrupts i i.interrupts)) (objects_said i) (map interrupt_said (numbered i.interrupts))
-      objects (section labels (λ k e. interrupt_said (k, e)) (λ xs. declaring i (with_interrupts i xs)) i.interrupts (interrupt-adds i labels fits limits) (number_behind 0 (objects_said i))) in
-      let capabilities = join labels 0 nothing_read (declaring i (with_interrupts i i.interrupts)) (declaring i (with_capabilities i i.capabilities)) (interrupts_said i) (map (capability_said i) i.capabilities)
-      interrupts (plain-section labels (capability_said i) (λ xs. declaring i (with_capabilities i xs)) i.capabilities (capability-adds i labels fits limits) (number_behind 0 (interrupts_said i))) in
-      let tables = join labels 0 nothing_read (declaring i (with_capabilities i i.capabilities)) (declaring i (with_tables i i.tables)) (capabilities_said i) (map table_said i.tables)
-      capabilities (plain-section labels table_said (λ xs. declaring i (with_tables i xs)) i.tables (table-adds i labels fits limits) (number_behind 0 (capabilities_said i))) in
-      let frames = join labels 0 nothing_read (declaring i (with_tables i i.tables)) (declaring i (with_frames i i.frames)) (tables_said i) (map frame_said i.frames)
-      tables (plain-section labels frame_said (λ xs. declaring i (with_frames i xs)) i.frames (frame-adds i labels fits limits) (number_behind 0 (tables_said i))) in
+      let untypeds = join labels 0 nothing_read (declaring i (with_untypeds [])) (declaring i (with_untypeds i.untypeds)) (memory_said i ∷ [])
+      (map untyped_said (numbered i.untypeds))
+      memory-goes (section labels (λ k e. untyped_said (k, e)) (λ us. declaring i (with_untypeds us)) i.untypeds (untyped-adds i labels fits limits)
+      (next_number 0)) in
+      let objects = join labels 0 nothing_read (declaring i (with_untypeds i.untypeds)) (declaring i (with_objects i i.objects)) (untypeds_said i)
+      (map object_said (numbered i.objects))
+      untypeds (section labels (λ k e. object_said (k, e)) (λ os. declaring i (with_objects i os)) i.objects (object-adds i labels fits limits)
+      (number_behind 0 (untypeds_said i))) in
+      let interrupts = join labels 0 nothing_read (declaring i (with_objects i i.objects)) (declaring i (with_interrupts i i.interrupts)) (objects_said i)
+      (map interrupt_said (numbered i.interrupts))
+      objects (section labels (λ k e. interrupt_said (k, e)) (λ xs. declaring i (with_interrupts i xs)) i.interrupts (interrupt-adds i labels fits limits)
+      (number_behind 0 (objects_said i))) in
+      let capabilities = join labels 0 nothing_read (declaring i (with_interrupts i i.interrupts)) (declaring i (with_capabilities i i.capabilities))
+      (interrupts_said i) (map (capability_said i) i.capabilities)
+      interrupts (plain-section labels (capability_said i) (λ xs. declaring i (with_capabilities i xs)) i.capabilities (capability-adds i labels fits limits)
+      (number_behind 0 (interrupts_said i))) in
+      let tables = join labels 0 nothing_read (declaring i (with_capabilities i i.capabilities)) (declaring i (with_tables i i.tables)) (capabilities_said i)
+      (map table_said i.tables)
+      capabilities (plain-section labels table_said (λ xs. declaring i (with_tables i xs)) i.tables (table-adds i labels fits limits)
+      (number_behind 0 (capabilities_said i))) in
+      let frames = join labels 0 nothing_read (declaring i (with_tables i i.tables)) (declaring i (with_frames i i.frames)) (tables_said i)
+      (map frame_said i.frames)
+      tables (plain-section labels frame_said (λ xs. declaring i (with_frames i xs)) i.frames (frame-adds i labels fits limits)
+      (number_behind 0 (tables_said i))) in
       join labels 0 nothing_read (declaring i (with_frames i i.frames)) (declaring i (with_contents i i.contents)) (frames_said i) (map content_said i.contents)
-      frames (plain-section labels content_said (λ xs. declaring i (with_contents i xs)) i.contents (content-adds i labels fits limits few-contents) (number_behind 0 (frames_said i)))
+      frames (plain-section labels content_said (λ xs. declaring i (with_contents i xs)) i.contents (content-adds i labels fits limits few-contents)
+      (number_behind 0 (frames_said i)))
 
 -- ---- the whole
 
@@ -117,7 +132,8 @@ labels-found i fits entered =
     ∙ threads-found i.header.objects 0 i.header.threads (number_behind 0 (sections_said i)) i.threads [] fits.threads (entered-each i.threads entered)) in
     ap (λ s. (closed s).threads) found
 
-whole-goes : (i : Image) → SectionsFit i → IsFitting i → All IsEntered i.threads → Goes (labels_in (listed_lines i)) 0 nothing_read (listed_lines i) (draft_of i)
+whole-goes : (i : Image) → SectionsFit i → IsFitting i → All IsEntered i.threads →
+    Goes (labels_in (listed_lines i)) 0 nothing_read (listed_lines i) (draft_of i)
 unfolding listed_lines
 whole-goes i fits limits entered =
     let labels = labels_in (listed_lines i) in
@@ -125,7 +141,8 @@ whole-goes i fits limits entered =
     let long = limits.threads in
     join labels 0 nothing_read (after i []) (draft_of i) (sections_said i) (flat_map thread_said i.threads)
     (sections-go i labels fits limits)
-    (threads-go i labels limits 0 i.header.threads (number_behind 0 (sections_said i)) [] i.threads [] fits.threads (entered-each i.threads entered) (omega (arith, few, long)) refl (labels-found i fits entered))
+    (threads-go i labels limits 0 i.header.threads (number_behind 0 (sections_said i)) [] i.threads [] fits.threads (entered-each i.threads entered)
+    (omega (arith, few, long)) refl (labels-found i fits entered))
 
 pub read-back : (image : Image) → whole_image.fits image ≡ true → All (λ (t : Thread). t.header.entry < t.header.words) image.threads → IsReadBack image
 unfolding listing
@@ -136,7 +153,8 @@ read-back image is entered =
     let goes = whole-goes image fits limits entered in
     record {
       said = listed_lines image;
-      listed = subst (AllZip Lists (listed_lines image)) (sym (lines-back (listing_lines image) (all-one-line (listed_lines image) (listing_lines image) listed))) listed;
+      listed = subst (AllZip Lists (listed_lines image))
+          (sym (lines-back (listing_lines image) (all-one-line (listed_lines image) (listing_lines image) listed))) listed;
       placed = goes.placed;
       reads = goes.reads;
     }

@@ -1,5 +1,6 @@
 -- Lines of a thread's registers and of what its certificate notes of a point.
-use Rattle.std.proofs.Common.{ℕ, ◌≡◌, ◌==◌, ◌+◌, ◌^◌, ◌<◌, ◌≤◌, ◌&&◌, ◌||◌, zero, suc, Bool, true, false, not, List, [], ◌∷◌, ◌++◌, length, Option, Some, None, Result, Ok, Err, refl, ap, sym, ◌∙◌, subst, arith, eqb-true}
+use Rattle.std.proofs.Common.{ℕ, ◌≡◌, ◌==◌, ◌+◌, ◌^◌, ◌<◌, ◌≤◌, ◌&&◌, ◌||◌, zero, suc, Bool, true, false, not, List, [], ◌∷◌, ◌++◌, length, Option, Some, None}
+use Rattle.std.proofs.Common.{Result, Ok, Err, refl, ap, sym, ◌∙◌, subst, arith, eqb-true}
 use Rattle.std.specs.Prelude.{map, flat_map, nat_lt, if◌then◌else◌}
 use Rattle.std.specs.List.{AllByRecursion}
 use Rattle.std.proofs.lemmas.Bool.{and_parts, ltb-true}
@@ -35,7 +36,13 @@ use Rattle.asm.proofs.ThreadParts.{RecordFits, least-some, range-parts, register
 
 abbrev pub opened : Thread → List RegisterEntry → List ℕ → List StateRecord → Option StateRecord → OpenDraft
 opened t rs ws records next = record {
-  thread = record { header = record t.header { registers = length rs; words = length ws; records = length records }; registers = rs; words = ws; records = records };
+  thread = record {
+    header = record t.header { registers = length rs; words = length ws; records = length records };
+    registers = rs;
+    words = ws;
+    records =
+        records;
+  };
   next = next;
 }
 
@@ -49,7 +56,8 @@ inside i ts o = record {
 
 -- ---- terms
 
-term-known : (r : Result TermEntry ℕ) (t : TermEntry) (ws : List Text) → ◌>>=◌ {B = TermEntry × List Text} r (λ term. Ok (term, ws)) ≡ Ok (t, ws) → term_or_zero r ≡ t
+term-known : (r : Result TermEntry ℕ) (t : TermEntry) (ws : List Text) → ◌>>=◌ {B = TermEntry × List Text} r (λ term. Ok (term, ws)) ≡ Ok (t, ws) →
+    term_or_zero r ≡ t
 term-known (Ok x) t ws e = ap first e
   where
     first : Result (TermEntry × List Text) ℕ → TermEntry
@@ -63,7 +71,8 @@ terms-back (t ∷ ts) h =
     let one = term-known _ t (flat_map term_words ts) (next-term t (term_words t ++ flat_map term_words ts) (flat_map term_words ts) h.0 refl) in
     ap (λ u. u ∷ terms_of (flat_map term_words ts)) one ∙ ap (λ us. t ∷ us) (terms-back ts h.1)
 
-pub terms-fit : (least count : ℕ) (ts : List TermEntry) → 1 ≤ least → many_fit term_format (λ e. e.register + 1) least count ts ≡ true → AllByRecursion IsTerm ts
+pub terms-fit : (least count : ℕ) (ts : List TermEntry) → 1 ≤ least → many_fit term_format (λ e. e.register + 1) least count ts ≡ true →
+    AllByRecursion IsTerm ts
 unfolding many_fit
 terms-fit least zero [] some is = tt
 terms-fit least zero (t ∷ ts) some is = absurd (let clash : false ≡ true = is in cc)
@@ -77,8 +86,11 @@ terms-rise : (count : ℕ) (whole front rest : List TermEntry) → many_fit term
 terms-rise count whole front [] is same = tt
 terms-rise count whole front (t ∷ rest) is same =
     let least = least_behind (λ (x : TermEntry). x.register + 1) 1 front in
-    let one = term-parts least t (least-some (λ (x : TermEntry). x.register) 1 front (omega arith)) (fits-at term_format (λ e. e.register + 1) 1 count whole front t rest is same) in
-    (is-behind (λ (x : TermEntry). x.register) t.register 1 front one.0, terms-rise count whole (front ++ t ∷ []) rest is (same ∙ sym (append_assoc front (t ∷ []) rest)))
+    let one = term-parts least t (least-some (λ (x : TermEntry). x.register) 1 front (omega arith))
+    (fits-at term_format (λ e. e.register + 1) 1 count whole front t rest is same) in (
+      is-behind (λ (x : TermEntry). x.register) t.register 1 front one.0,
+      terms-rise count whole (front ++ t ∷ []) rest is (same ∙ sym (append_assoc front (t ∷ []) rest)),
+    )
 
 -- ---- parents
 
@@ -90,7 +102,8 @@ left-true : (b : Bool) → (b || false) ≡ true → b ≡ true
 left-true true e = refl
 left-true false e = e
 
-parented : (image : Image) → IsFitting image → (e : SlotEntry) (b : Bool) → (e.parent_cnode == no_parent) ≡ b → (nat_lt e.parent_cnode image.header.objects || b) ≡ true
+parented : (image : Image) → IsFitting image → (e : SlotEntry) (b : Bool) → (e.parent_cnode == no_parent) ≡ b →
+    (nat_lt e.parent_cnode image.header.objects || b) ≡ true
     → (if b then (e.parent_index == no_parent) else (not ((e.word0 == 0) && (e.word1 == 0)) && nat_lt e.parent_index (2 ^ 14))) ≡ true
     → Parented image e (if b then parent.Boot else parent.Slot (object_name e.parent_cnode) e.parent_index)
 parented image limits e true is some named =
@@ -126,7 +139,8 @@ module _ (image : Image) (labels : List FoundLabels) (limits : IsFitting image) 
   register-adds count is few number front e rest same =
       let less = front-shorter t.registers front e rest same in
       let long = many-length register_format (λ x. x.register + 1) 1 count t.registers is in
-      let one = register-parts (least_behind (λ (x : RegisterEntry). x.register + 1) 1 front) e (least-some (λ (x : RegisterEntry). x.register) 1 front (omega arith))
+      let one = register-parts (least_behind (λ (x : RegisterEntry). x.register + 1) 1 front) e
+      (least-some (λ (x : RegisterEntry). x.register) 1 front (omega arith))
       (fits-at register_format (λ x. x.register + 1) 1 count t.registers front e rest is same) in
       record {
         placed = (searched, record { behind = is-behind (λ (x : RegisterEntry). x.register) e.register 1 front one.0; room = omega (arith, less, long, few) });
@@ -215,7 +229,9 @@ module _ (image : Image) (labels : List FoundLabels) (limits : IsFitting image) 
             parent_cnode = (parent_numbers (names_of image) (parent_said e)).0;
             parent_index = (parent_numbers (names_of image) (parent_said e)).1;
           }) ∷ []))) cnode
-              ∙ ap (λ p. at (noted r r.ranges (front ++ (record { cnode = e.cnode; index = e.index; word0 = e.word0; word1 = e.word1; parent_cnode = p.0; parent_index = p.1 }) ∷ []))) own.same;
+              ∙ ap (λ p. at (noted r r.ranges
+              (front ++ (record { cnode = e.cnode; index = e.index; word0 = e.word0; word1 = e.word1; parent_cnode = p.0; parent_index = p.1 }) ∷ [])))
+              own.same;
         }
 
     all-noted : noted r r.ranges r.slots ≡ Some r
@@ -230,7 +246,9 @@ module _ (image : Image) (labels : List FoundLabels) (limits : IsFitting image) 
     record-goes here few number =
         let m = measure-adds here few (next_number number) in
         let ranges = plain-section labels line.Range (λ fs. at (noted r fs [])) r.ranges range-adds (next_number number) in
-        let slots = plain-section labels slot_said (λ ss. at (noted r r.ranges ss)) r.slots slot-adds (number_behind (next_number number) (map line.Range r.ranges)) in
+        let slots = plain-section labels slot_said (λ ss. at (noted r r.ranges ss)) r.slots slot-adds
+        (number_behind (next_number number) (map line.Range r.ranges)) in
         one-more labels number (at None) (at (noted r [] [])) (at (Some r)) (measure_said r) (map line.Range r.ranges ++ map slot_said r.slots) m.placed m.reads
         (join labels (next_number number) (at (noted r [] [])) (at (noted r r.ranges [])) (at (Some r)) (map line.Range r.ranges) (map slot_said r.slots) ranges
-        (subst (λ o. Goes labels (number_behind (next_number number) (map line.Range r.ranges)) (at (noted r r.ranges [])) (map slot_said r.slots) (at o)) all-noted slots))
+        (subst (λ o. Goes labels (number_behind (next_number number) (map line.Range r.ranges)) (at (noted r r.ranges [])) (map slot_said r.slots) (at o))
+        all-noted slots))

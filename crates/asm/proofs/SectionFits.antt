@@ -5,7 +5,8 @@ use Rattle.std.proofs.lemmas.Bool.{and_parts}
 use Rattle.model.specs.declared.entries.ImageHeader.{ImageHeader}
 use Rattle.model.specs.declared.refusals.Refusal.TheVariants.{Magic, Version}
 use Rattle.model.specs.Images.Format.{Format, many_fit, number_or}
-use Rattle.model.specs.Images.Image.{Image, between, capability_format, content_format, frame_format, header_format, image_with, interrupt_format, magic, object_format, pair_key, sections_format, slots_format, table_format, thread_format, untyped_format, whole_image}
+use Rattle.model.specs.Images.Image.{Image, between, capability_format, content_format, frame_format, header_format, image_with, interrupt_format, magic}
+use Rattle.model.specs.Images.Image.{object_format, pair_key, sections_format, slots_format, table_format, thread_format, untyped_format, whole_image}
 use Rattle.format_laws.proofs.Laws.{field-parts}
 use Rattle.asm.proofs.Orders.{least_behind, many-at}
 
@@ -15,7 +16,8 @@ pub record SectionsFit (i : Image) : Type 0 where
   pub radix : between 1 (min 14 (i.header.memory_bits - 5)) i.header.boot_radix ≡ true
   pub untypeds : many_fit (λ _. untyped_format) (λ _. 0) 0 i.header.untypeds i.untypeds ≡ true
   pub objects : many_fit (object_format i.header.untypeds) (λ o. o.untyped) 0 i.header.objects i.objects ≡ true
-  pub capabilities : many_fit (capability_format i.header.objects i.header.interrupts) (λ x. pair_key x.cnode x.index + 1) 0 i.header.capabilities i.capabilities ≡ true
+  pub capabilities : many_fit (capability_format i.header.objects i.header.interrupts) (λ x. pair_key x.cnode x.index + 1) 0 i.header.capabilities
+      i.capabilities ≡ true
   pub interrupts : many_fit (interrupt_format i.header.objects) (λ x. x.line + 1) 0 i.header.interrupts i.interrupts ≡ true
   pub tables : many_fit (table_format i.header.objects) (λ x. pair_key x.root x.address + 1) 0 i.header.tables i.tables ≡ true
   pub frames : many_fit (frame_format i.header.objects) (λ x. pair_key x.root x.address + 1) 0 i.header.frames i.frames ≡ true
@@ -29,8 +31,11 @@ header-parts h is =
     let first = and_parts ((number_or (λ _. Magic) w32 (λ n. n == magic)).fits magic) _ is in
     let second = and_parts ((number_or (λ _. Version) w32 (λ n. n == 1)).fits h.version) _ first.1 in
     let a = and_parts _ _ second.1 in
-    let b = and_parts _ _ a.1 in
-    (eqb-true h.version 1 (and_parts _ (h.version == 1) second.0).1, (field-parts (between 16 24) h.memory_bits a.0).1, (field-parts (between 1 (min 14 (h.memory_bits - 5))) h.boot_radix b.0).1)
+    let b = and_parts _ _ a.1 in (
+      eqb-true h.version 1 (and_parts _ (h.version == 1) second.0).1,
+      (field-parts (between 16 24) h.memory_bits a.0).1,
+      (field-parts (between 1 (min 14 (h.memory_bits - 5))) h.boot_radix b.0).1,
+    )
 
 pub sections-fit : (image : Image) → whole_image.fits image ≡ true → SectionsFit image
 unfolding image_with sections_format

@@ -45,7 +45,8 @@ insert-shown {V} k v (e ∷ es) none = by (bytes_eq k.now e.0.now) refl (insert-
         → (lookup (bytes_eq k.now) (map with_text es) ≡ None → map with_text (insert_entry same_text es k v) ≡ map with_text es ++ (k.now, v) ∷ [])
         → map with_text (insert_entry same_text (e ∷ es) k v) ≡ map with_text (e ∷ es) ++ (k.now, v) ∷ []
     by true q others = absurd (let found : Some e.1 ≡ None = sym (ap (λ b. cond b (Some e.1) (lookup (bytes_eq k.now) (map with_text es))) q) ∙ none in cc)
-    by false q others = let left : lookup (bytes_eq k.now) (map with_text es) ≡ None = sym (ap (λ b. cond b (Some e.1) (lookup (bytes_eq k.now) (map with_text es))) q) ∙ none in
+    by false q others = let left : lookup (bytes_eq k.now) (map with_text es) ≡ None =
+        sym (ap (λ b. cond b (Some e.1) (lookup (bytes_eq k.now) (map with_text es))) q) ∙ none in
         ap (λ b. map with_text (if b then (e.0, v) ∷ es else e ∷ insert_entry same_text es k v)) q ∙ ap (λ xs. with_text e ∷ xs) (others left)
 
 pub insert-key-shown : (k : Bor Text) (ks : List (Bor Text)) → list_any (bytes_eq k.now) (map text_of ks) ≡ false

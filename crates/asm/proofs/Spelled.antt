@@ -17,7 +17,8 @@ le-from a b h = grind (arith, ints)
 
 offset-true : (least greatest z : ℤ) → least ≤ℤ z → z ≤ℤ greatest → bits (word_of z) 0 1 ≡ 0 → is_offset least greatest z ≡ true
 offset-true least greatest z low high even =
-    and_from (int_le least z && int_le z greatest) (bits (word_of z) 0 1 == 0) (and_from (int_le least z) (int_le z greatest) (le-true least z low) (le-true z greatest high)) (eq-eqb _ _ even)
+    and_from (int_le least z && int_le z greatest) (bits (word_of z) 0 1 == 0)
+    (and_from (int_le least z) (int_le z greatest) (le-true least z low) (le-true z greatest high)) (eq-eqb _ _ even)
 
 record IsOffset (least greatest z : ℤ) : Type 0 where
   low : least ≤ℤ z
@@ -47,7 +48,8 @@ branch_fits rs1 rs2 offset = is_register rs1 && is_register rs2 && is_offset (ne
 
 pub branch-true : (op : BranchOp) (rs1 rs2 : Register) (offset : ℤ) → IsInstr (Branch op rs1 rs2 offset) → branch_fits rs1 rs2 offset ≡ true
 branch-true op rs1 rs2 offset (small, few, (low, high, even)) =
-    and_from (is_register rs1 && is_register rs2) _ (and_from _ _ (lt-ltb rs1.0 32 small) (lt-ltb rs2.0 32 few)) (offset-true (negsuc 4095) (pos 4094) offset low high even)
+    and_from (is_register rs1 && is_register rs2) _ (and_from _ _ (lt-ltb rs1.0 32 small) (lt-ltb rs2.0 32 few))
+    (offset-true (negsuc 4095) (pos 4094) offset low high even)
 
 pub branch-from : (op : BranchOp) (rs1 rs2 : Register) (offset : ℤ) → branch_fits rs1 rs2 offset ≡ true → IsInstr (Branch op rs1 rs2 offset)
 branch-from op rs1 rs2 offset h =

@@ -14,7 +14,13 @@ use Rattle.asm.specs.Sections.{Declared}
 use Rattle.asm.proofs.NumberedNames.{names_from, names-longer, interrupts_from}
 
 abbrev pub declaring : Image → Declared → Draft
-declaring i d = record { memory = Some (record { bits = i.header.memory_bits; boot_radix = i.header.boot_radix }); declared = d; threads = []; open_thread = None }
+declaring i d = record {
+  memory = Some (record { bits = i.header.memory_bits; boot_radix = i.header.boot_radix });
+  declared = d;
+  threads = [];
+  open_thread =
+      None;
+}
 
 abbrev pub with_untypeds : List UntypedEntry → Declared
 with_untypeds us = record {

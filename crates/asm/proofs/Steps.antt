@@ -36,14 +36,16 @@ refused-means (Ok x) f there meant h is = absurd h.1
 refused-means (Err g) f there meant h is = subst (λ (k : Fault). (k ≡ WantOfMemory) ⊎ (meant ≡ Err (kind_of k))) (sym h.1) is
 
 -- the last step of a chain
-pub means-on : {T A B : Type 0} (r : Result T Fault) (there : T → A) (meant : Result A ℕ) (f : A → Result B ℕ) (behind : T → B) → ((x : T) → f (there x) ≡ Ok (behind x))
+pub means-on : {T A B : Type 0} (r : Result T Fault) (there : T → A) (meant : Result A ℕ) (f : A → Result B ℕ) (behind : T → B) →
+    ((x : T) → f (there x) ≡ Ok (behind x))
     → Means r there meant → Means r behind (meant >>= f)
 means-on (Ok x) there meant f behind h is = ap (λ m. m >>= f) is ∙ h x
 means-on (Err k) there meant f behind h (inl e) = inl e
 means-on (Err k) there meant f behind h (inr e) = inr (ap (λ m. m >>= f) e)
 
 -- what comes where memory alone may be refused
-pub gives-means : {T A : Type 0} (r : Result T Fault) (there : T → A) (meant : Result A ℕ) (P : T → Type 0) → ((x : T) → P x → meant ≡ Ok (there x)) → Gives r P → Means r there meant
+pub gives-means : {T A : Type 0} (r : Result T Fault) (there : T → A) (meant : Result A ℕ) (P : T → Type 0) → ((x : T) → P x → meant ≡ Ok (there x)) →
+    Gives r P → Means r there meant
 gives-means (Ok x) there meant P h is = h x is
 gives-means (Err k) there meant P h is = inl is
 
@@ -97,13 +99,28 @@ module _ (labels : List FoundLabels) (number : ℕ) (d : Draft) (said : Line) wh
   full-read e = ap (λ b. if b then Ok d else full_line labels number d said) e
 
   none-known : (memory : Option Memory) → is_some memory ≡ false
-      → elim memory [ Some m ↦ elim d.open_thread [ Some o ↦ in_thread (labels_at labels (length d.threads)) number d o said | None ↦ outside (labels_at labels (length d.threads)) d said ] | None ↦ first_line d said ]
+      → elim memory [
+        | Some m ↦ elim d.open_thread [
+          | Some o ↦ in_thread (labels_at labels (length d.threads)) number d o said
+          | None ↦
+              outside (labels_at labels (length d.threads)) d said
+        ]
+        | None ↦ first_line d said
+      ]
       ≡ first_line d said
   none-known None e = refl
   none-known (Some m) e = absurd (true≢false e)
 
   some-known : (memory : Option Memory) (thread : Option OpenDraft) → is_some memory ≡ true
-      → ◌≡◌ {A = Result Draft ℕ} (elim memory [ Some m ↦ elim thread [ Some o ↦ in_thread (labels_at labels (length d.threads)) number d o said | None ↦ outside (labels_at labels (length d.threads)) d said ] | None ↦ first_line d said ])
+      → ◌≡◌ {A = Result Draft ℕ}
+      (elim memory [
+        | Some m ↦ elim thread [
+          | Some o ↦ in_thread (labels_at labels (length d.threads)) number d o said
+          | None ↦
+              outside (labels_at labels (length d.threads)) d said
+        ]
+        | None ↦ first_line d said
+      ])
       (elim thread [ Some o ↦ in_thread (labels_at labels (length d.threads)) number d o said | None ↦ outside (labels_at labels (length d.threads)) d said ])
   some-known None thread e = absurd (true≢false (sym e))
   some-known (Some m) thread e = refl
@@ -111,15 +128,24 @@ module _ (labels : List FoundLabels) (number : ℕ) (d : Draft) (said : Line) wh
   pub first-read : is_blank said ≡ false → is_some d.memory ≡ false → first_line d said ≡ read_line labels number d said
   first-read full none = sym (full-read full ∙ none-known d.memory none)
 
-  pub outside-read : is_blank said ≡ false → is_some d.memory ≡ true → d.open_thread ≡ None → outside (labels_at labels (length d.threads)) d said ≡ read_line labels number d said
+  pub outside-read : is_blank said ≡ false → is_some d.memory ≡ true → d.open_thread ≡ None →
+      outside (labels_at labels (length d.threads)) d said ≡ read_line labels number d said
   outside-read full some none = sym (full-read full ∙ (some-known d.memory d.open_thread some
-      ∙ ap (λ (thread : Option OpenDraft). elim thread [ Some o ↦ in_thread (labels_at labels (length d.threads)) number d o said | None ↦ outside (labels_at labels (length d.threads)) d said ]) none))
+      ∙ ap (λ (thread : Option OpenDraft). elim thread [
+        | Some o ↦ in_thread (labels_at labels (length d.threads)) number d o said
+        | None ↦
+            outside (labels_at labels (length d.threads)) d said
+      ]) none))
 
   pub thread-read : (o : OpenDraft) (left : Option OpenDraft) → is_blank said ≡ false → is_some d.memory ≡ true → d.open_thread ≡ Some o
       → in_thread (labels_at labels (length d.threads)) number (record d { open_thread = left }) o said ≡ read_line labels number d said
   unfolding ended
   thread-read o left full some is = sym (full-read full ∙ (some-known d.memory d.open_thread some
-      ∙ ap (λ (thread : Option OpenDraft). elim thread [ Some o ↦ in_thread (labels_at labels (length d.threads)) number d o said | None ↦ outside (labels_at labels (length d.threads)) d said ]) is))
+      ∙ ap (λ (thread : Option OpenDraft). elim thread [
+        | Some o ↦ in_thread (labels_at labels (length d.threads)) number d o said
+        | None ↦
+            outside (labels_at labels (length d.threads)) d said
+      ]) is))
 
 -- ---- faults of lines
 
@@ -128,8 +154,10 @@ kind-told kind (inl e) = ap (λ k. kind_of (if k == 4 then Range else Syntax)) e
 kind-told kind (inr e) = ap (λ k. kind_of (if k == 4 then Range else Syntax)) e ∙ sym e
 
 -- the line `end`: no thread is open after it
-pub end-means : {T : Type 0} (labels : FoundLabels) (number : ℕ) (d : Draft) (o : OpenDraft) (said : Line) (r : Result T Fault) (there : T → Draft) → is_end said ≡ true
+pub end-means : {T : Type 0} (labels : FoundLabels) (number : ℕ) (d : Draft) (o : OpenDraft) (said : Line) (r : Result T Fault) (there : T → Draft) →
+    is_end said ≡ true
     → Means r there (ended d o) → Means r there (in_thread labels number d o said)
 end-means labels number d o said r there e is =
     means-same r there (ended d o) (in_thread labels number d o said)
-    (sym (ap (λ b. if b then ended d o else (inside labels number d.declared.names o said >>= λ (more : OpenDraft). Ok (record d { open_thread = Some more }))) e)) is
+    (sym (ap (λ b. if b then ended d o else (inside labels number d.declared.names o said >>= λ (more : OpenDraft). Ok (record d { open_thread = Some more })))
+    e)) is

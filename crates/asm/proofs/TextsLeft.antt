@@ -46,17 +46,20 @@ pub record SearchLeft (first : Searched) (at : Lines) (number : ℕ) (search : S
 pub all-to-search : (text : Text) (first : Searched) (at : Lines) → lines_rest at ≡ text → SearchLeft first at 0 first (lines text)
 all-to-search text first at e = record { texts = lines text; left = all-texts text at e; same = refl }
 
-pub one-searched : (first : Searched) (s t : Lines) (x : Bor Text) (number more : ℕ) (search found : Searched) (all : List Text) → SearchLeft first s number search all
+pub one-searched : (first : Searched) (s t : Lines) (x : Bor Text) (number more : ℕ) (search found : Searched) (all : List Text) →
+    SearchLeft first s number search all
     → lines_steps s (Some x) t → more ≡ next_number number → found ≡ searched_text search more x.now → SearchLeft first t more found all
 one-searched first s t x number more search found all now step counted finds =
     let next = next-text s t x now.texts now.left step in
     record {
       texts = next.others;
       left = next.rest;
-      same = (λ i. searched_texts (counted i) ((finds ∙ ap (λ n. searched_text search n x.now) counted) i) next.others) ∙ ap (searched_texts number search) (sym next.is) ∙ now.same;
+      same = (λ i. searched_texts (counted i) ((finds ∙ ap (λ n. searched_text search n x.now) counted) i) next.others)
+          ∙ ap (searched_texts number search) (sym next.is) ∙ now.same;
     }
 
-pub all-searched : (first : Searched) (s t : Lines) (number : ℕ) (search : Searched) (all : List Text) → SearchLeft first s number search all → lines_steps s None t
+pub all-searched : (first : Searched) (s t : Lines) (number : ℕ) (search : Searched) (all : List Text) → SearchLeft first s number search all →
+    lines_steps s None t
     → search ≡ searched_texts 0 first all
 all-searched first s t number search all now step = ap (searched_texts number search) (sym (no-text s t now.texts now.left step)) ∙ now.same
 
@@ -65,17 +68,21 @@ all-searched first s t number search all now step = ap (searched_texts number se
 -- what reading the line that waits, with this number, and those after it gives
 abbrev pub waiting_all : List FoundLabels → ℕ → Draft → Option Text → List Text → Result (ℕ × Draft) (ℕ × ℕ)
 waiting_all labels number d None texts = all_read labels number d texts
-waiting_all labels number d (Some text) texts = and_then (on_line number (text_read labels number (is_nil texts) d text)) (λ more. all_read labels number more texts)
+waiting_all labels number d (Some text) texts = and_then (on_line number (text_read labels number (is_nil texts) d text))
+    (λ more. all_read labels number more texts)
 
-pub record ReadLeft (labels : List FoundLabels) (first : Draft) (at : Lines) (number : ℕ) (waiting : Option (Bor Text)) (draft : Draft) (all : List Text) : Type 0 where
+pub record ReadLeft (labels : List FoundLabels) (first : Draft) (at : Lines) (number : ℕ) (waiting : Option (Bor Text)) (draft : Draft) (all : List Text) : Type
+    0 where
   pub texts : List Text
   pub left : AreLeft at texts
   pub same : waiting_all labels number draft (option_map text_now waiting) texts ≡ all_read labels 0 first all
 
-pub all-to-read : (labels : List FoundLabels) (first : Draft) (text : Text) (at : Lines) → lines_rest at ≡ text → ReadLeft labels first at 0 None first (lines text)
+pub all-to-read : (labels : List FoundLabels) (first : Draft) (text : Text) (at : Lines) → lines_rest at ≡ text →
+    ReadLeft labels first at 0 None first (lines text)
 all-to-read labels first text at e = record { texts = lines text; left = all-texts text at e; same = refl }
 
-goes-on : (labels : List FoundLabels) (number : ℕ) (d more : Draft) (waiting : Option Text) (text : Text) (others : List Text) → waiting_read labels number false d waiting ≡ Ok more
+goes-on : (labels : List FoundLabels) (number : ℕ) (d more : Draft) (waiting : Option Text) (text : Text) (others : List Text) →
+    waiting_read labels number false d waiting ≡ Ok more
     → waiting_all labels number d waiting (text ∷ others) ≡ all_read labels number more (text ∷ others)
 unfolding text_read
 goes-on labels number d more None text others e = ap (λ (r : Result Draft ℕ). all_read_of labels number r (text ∷ others)) e
@@ -86,7 +93,8 @@ goes-on labels number d more None text others e = ap (λ (r : Result Draft ℕ).
 goes-on labels number d more (Some waits) text others e =
     ap (λ (r : Result Draft ℕ). and_then (on_line number r) (λ more. all_read labels number more (text ∷ others))) e
 
-pub one-read : (labels : List FoundLabels) (first : Draft) (s t : Lines) (x : Bor Text) (number more : ℕ) (waiting : Option (Bor Text)) (draft grown : Draft) (all : List Text)
+pub one-read : (labels : List FoundLabels) (first : Draft) (s t : Lines) (x : Bor Text) (number more : ℕ) (waiting : Option (Bor Text)) (draft grown : Draft)
+    (all : List Text)
     → ReadLeft labels first s number waiting draft all → lines_steps s (Some x) t → more ≡ next_number number
     → waiting_read labels number false draft (option_map text_now waiting) ≡ Ok grown → ReadLeft labels first t more (Some x) grown all
 one-read labels first s t x number more waiting draft grown all now step counted reads =
@@ -99,7 +107,8 @@ one-read labels first s t x number more waiting draft grown all now step counted
           ∙ (ap (waiting_all labels number draft (option_map text_now waiting)) (sym next.is) ∙ now.same));
     }
 
-refused-on : (labels : List FoundLabels) (number kind : ℕ) (d : Draft) (waiting : Option Text) (texts : List Text) → waiting_read labels number (is_nil texts) d waiting ≡ Err kind
+refused-on : (labels : List FoundLabels) (number kind : ℕ) (d : Draft) (waiting : Option Text) (texts : List Text) →
+    waiting_read labels number (is_nil texts) d waiting ≡ Err kind
     → waiting_all labels number d waiting texts ≡ Err (number, kind)
 unfolding text_read
 refused-on labels number kind d None texts e = absurd (let no : Ok d ≡ Err kind = e in cc)
@@ -107,7 +116,8 @@ refused-on labels number kind d (Some waits) texts e =
     ap (λ (r : Result Draft ℕ). and_then (on_line number r) (λ more. all_read labels number more texts)) e
 
 -- a line with another after it is refused
-pub one-refused : (labels : List FoundLabels) (first : Draft) (s t : Lines) (x : Bor Text) (number kind : ℕ) (waiting : Option (Bor Text)) (draft : Draft) (all : List Text)
+pub one-refused : (labels : List FoundLabels) (first : Draft) (s t : Lines) (x : Bor Text) (number kind : ℕ) (waiting : Option (Bor Text)) (draft : Draft)
+    (all : List Text)
     → ReadLeft labels first s number waiting draft all → lines_steps s (Some x) t
     → waiting_read labels number false draft (option_map text_now waiting) ≡ Err kind → all_read labels 0 first all ≡ Err (number, kind)
 one-refused labels first s t x number kind waiting draft all now step refused =
@@ -130,7 +140,8 @@ pub last-read : (labels : List FoundLabels) (first : Draft) (s t : Lines) (numbe
     → ReadLeft labels first s number waiting draft all → lines_steps s None t
     → waiting_read labels number true draft (option_map text_now waiting) ≡ Ok grown → all_read labels 0 first all ≡ Ok (number, grown)
 last-read labels first s t number waiting draft grown all now step reads =
-    sym now.same ∙ (ap (waiting_all labels number draft (option_map text_now waiting)) (no-text s t now.texts now.left step) ∙ last-on labels number draft grown (option_map text_now waiting) reads)
+    sym now.same ∙ (ap (waiting_all labels number draft (option_map text_now waiting)) (no-text s t now.texts now.left step)
+    ∙ last-on labels number draft grown (option_map text_now waiting) reads)
 
 pub last-refused : (labels : List FoundLabels) (first : Draft) (s t : Lines) (number kind : ℕ) (waiting : Option (Bor Text)) (draft : Draft) (all : List Text)
     → ReadLeft labels first s number waiting draft all → lines_steps s None t

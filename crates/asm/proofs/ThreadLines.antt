@@ -1,5 +1,6 @@
 -- Lines of threads: each thread's lines add it to those before it.
-use Rattle.std.proofs.Common.{ℕ, ◌≡◌, ◌+◌, ◌-◌, ◌<◌, ◌≤◌, zero, suc, true, false, List, [], ◌∷◌, ◌++◌, length, Some, None, refl, ap, sym, ◌∙◌, subst, arith, eq-eqb}
+use Rattle.std.proofs.Common.{ℕ, ◌≡◌, ◌+◌, ◌-◌, ◌<◌, ◌≤◌, zero, suc, true, false, List, [], ◌∷◌, ◌++◌, length, Some, None, refl, ap, sym, ◌∙◌, subst, arith}
+use Rattle.std.proofs.Common.{eq-eqb}
 use Rattle.std.specs.Prelude.{map, flat_map, codes, is_some}
 use Rattle.std.specs.List.{AllByRecursion, range_with_len}
 use Rattle.std.proofs.lemmas.Bool.{and_parts}
@@ -14,7 +15,8 @@ use Rattle.asm.specs.Labels.{FoundLabels, is_first_on, next_number, place_named,
 use Rattle.asm.specs.Reading.{labels_at}
 use Rattle.asm.proofs.Said.{point_said, thread_line_said, thread_said}
 use Rattle.asm.proofs.Joins.{Goes, join, nothing-more, number_behind, one-more, plain-section}
-use Rattle.asm.proofs.LabelSearch.{all_labels, between_threads, body_said, first_said, from_label, label_number, last_said, searched-append, thread-found, thread-split, thread_labels}
+use Rattle.asm.proofs.LabelSearch.{all_labels, between_threads, body_said, first_said, from_label, label_number, last_said, searched-append, thread-found}
+use Rattle.asm.proofs.LabelSearch.{thread-split, thread_labels}
 use Rattle.asm.proofs.Orders.{least_behind}
 use Rattle.asm.proofs.PlaceLines.{object-named, object-number}
 use Rattle.asm.proofs.PointLines.{Left, RiseFrom, body-goes, moved, points-go, standing}
@@ -31,20 +33,23 @@ after i ts = record {
   open_thread = None;
 }
 
-records-rise : (objects words least count : ℕ) (rs : List StateRecord) → many_fit (record_format (slots_format objects) words) (λ r. r.header.point + 1) least count rs ≡ true → RiseFrom least rs
+records-rise : (objects words least count : ℕ) (rs : List StateRecord) →
+    many_fit (record_format (slots_format objects) words) (λ r. r.header.point + 1) least count rs ≡ true → RiseFrom least rs
 unfolding many_fit
 records-rise objects words least zero [] is = tt
 records-rise objects words least zero (r ∷ rs) is = absurd (let clash : false ≡ true = is in cc)
 records-rise objects words least (suc n) [] is = tt
 records-rise objects words least (suc n) (r ∷ rs) is =
-    let both = and_parts ((record_format (slots_format objects) words least).fits r) (many_fit (record_format (slots_format objects) words) (λ r. r.header.point + 1) (r.header.point + 1) n rs) is in
+    let both = and_parts ((record_format (slots_format objects) words least).fits r)
+    (many_fit (record_format (slots_format objects) words) (λ r. r.header.point + 1) (r.header.point + 1) n rs) is in
     ((record-parts objects words least r both.0).behind, records-rise objects words (r.header.point + 1) n rs both.1)
 
 none-long : {A : Type 0} (xs : List A) → length xs ≡ 0 → xs ≡ []
 none-long [] e = refl
 none-long (x ∷ xs) e = absurd (omega (arith, e))
 
-module _ (image : Image) (labels : List FoundLabels) (limits : IsFitting image) (ts : List Thread) (searched : length ts < length labels) (few_threads : length ts < 64)
+module _ (image : Image) (labels : List FoundLabels) (limits : IsFitting image) (ts : List Thread) (searched : length ts < length labels)
+    (few_threads : length ts < 64)
     (t : Thread) (fits : ThreadFits image.header.objects t) (entered : t.header.entry < t.header.words)
     (number : ℕ) (known : labels_at labels (length ts) ≡ thread_labels t number) where
   abbrev there : List ℕ → List StateRecord → Draft
@@ -65,7 +70,8 @@ module _ (image : Image) (labels : List FoundLabels) (limits : IsFitting image) 
       by (r ∷ rs) e rise =
           let all : t.records ≡ left.records ++ r ∷ rs = left.all_records ∙ ap (λ xs. left.records ++ xs) e in
           let parts = record-parts image.header.objects t.header.words (least_behind (λ (x : StateRecord). x.header.point + 1) 0 left.records) r
-          (fits-at (record_format (slots_format image.header.objects) t.header.words) (λ x. x.header.point + 1) 0 t.header.records t.records left.records r rs fits.records all) in
+          (fits-at (record_format (slots_format image.header.objects) t.header.words) (λ x. x.header.point + 1) 0 t.header.records t.records left.records r rs
+          fits.records all) in
           let low = rise.0 in
           let high = parts.inside in
           absurd (omega (arith, low, high))
@@ -83,7 +89,8 @@ module _ (image : Image) (labels : List FoundLabels) (limits : IsFitting image) 
       let words : left.words ≡ t.words = sym (append-nil left.words) ∙ (ap (λ xs. left.words ++ xs) (sym (none-unread left)) ∙ sym left.all_words) in
       let records : left.records ≡ t.records = sym (append-nil left.records) ∙ (ap (λ xs. left.records ++ xs) (sym (none-left left)) ∙ sym left.all_records) in
       let r = many-length register_format (λ x. x.register + 1) 1 t.header.registers t.registers fits.registers in
-      let c = many-length (record_format (slots_format image.header.objects) t.header.words) (λ x. x.header.point + 1) 0 t.header.records t.records fits.records in
+      let c = many-length (record_format (slots_format image.header.objects) t.header.words) (λ x. x.header.point + 1) 0 t.header.records t.records
+      fits.records in
       (λ i. (opened t t.registers (words i) (records i) None).thread)
       ∙ (λ i. record t { header = record t.header { registers = r i; words = long-words i; records = c i } })
 
@@ -94,7 +101,8 @@ module _ (image : Image) (labels : List FoundLabels) (limits : IsFitting image) 
       let cnode = object-number image limits h.cnode fits.header.cnode in
       let root = object-number image limits h.root fits.header.root in
       let entry : point_of (labels_at labels (length ts)) (codes "l") ≡ h.entry = ap (λ (ls : FoundLabels). point_of ls (codes "l")) known in
-      one-more labels number (after image ts) (inside image ts (opened t [] [] [] None)) (inside image ts (opened t [] [] [] None)) (line.Thread (thread_line_said t)) []
+      one-more labels number (after image ts) (inside image ts (opened t [] [] [] None)) (inside image ts (opened t [] [] [] None))
+      (line.Thread (thread_line_said t)) []
       (record {
         searched = searched;
         begins = record {
@@ -147,10 +155,14 @@ module _ (image : Image) (labels : List FoundLabels) (limits : IsFitting image) 
     behind = records-rise image.header.objects t.header.words 0 t.header.records t.records fits.records;
   }
 
-  label-goes : (ws : List ℕ) (records : List StateRecord) → Goes labels (number_behind number (first_said t)) (there ws records) (line.Label (codes "l") ∷ []) (there ws records)
+  label-goes : (ws : List ℕ) (records : List StateRecord) → Goes labels (number_behind number (first_said t)) (there ws records) (line.Label (codes "l") ∷ [])
+      (there ws records)
   label-goes ws records =
-      one-more labels (number_behind number (first_said t)) (there ws records) (there ws records) (there ws records) (line.Label (codes "l")) []
-      (searched, ap (λ (ls : FoundLabels). is_first_on ls (codes "l") (label_number t number)) known ∙ eq-eqb (label_number t number) (label_number t number) refl)
+      one-more labels (number_behind number (first_said t)) (there ws records) (there ws records) (there ws records) (line.Label (codes "l")) [] (
+        searched,
+        ap (λ (ls : FoundLabels). is_first_on ls (codes "l") (label_number t number)) known
+            ∙ eq-eqb (label_number t number) (label_number t number) refl,
+      )
       refl
       (nothing-more labels (next_number (number_behind number (first_said t))) (there ws records) (there ws records) refl)
 
@@ -172,14 +184,16 @@ module _ (image : Image) (labels : List FoundLabels) (limits : IsFitting image) 
   entered-goes =
       let long = long-words in
       let start = line.Thread (thread_line_said t) ∷ map line.Register t.registers in
-      let registers = join labels number (after image ts) (inside image ts (opened t [] [] [] None)) (there [] []) (line.Thread (thread_line_said t) ∷ []) (map line.Register t.registers)
+      let registers = join labels number (after image ts) (inside image ts (opened t [] [] [] None)) (there [] []) (line.Thread (thread_line_said t) ∷ [])
+      (map line.Register t.registers)
       begin-goes (registers-go (next_number number)) in
       let points = points-go image labels limits ts searched t t.header.records fits.records few-words 0 t.header.entry (number_behind number start) at_start
       (omega (arith, long, entered)) (λ k low high same. omega (arith, high, same)) in
       let none : 0 + t.header.entry ≡ t.header.entry = omega arith in
       record {
         left = moved t (0 + t.header.entry) t.header.entry none points.next;
-        goes = join labels number (after image ts) (there [] []) (there points.next.words points.next.records) start (flat_map (point_said t) (range_with_len 0 t.header.entry)) registers points.goes;
+        goes = join labels number (after image ts) (there [] []) (there points.next.words points.next.records) start
+            (flat_map (point_said t) (range_with_len 0 t.header.entry)) registers points.goes;
       }
 
   behind-entry : (from : ℕ) (left : Left t (t.header.entry + 1)) → Goes labels from (there left.words left.records) (last_said t) (after image (ts ++ t ∷ []))
@@ -191,7 +205,8 @@ module _ (image : Image) (labels : List FoundLabels) (limits : IsFitting image) 
       (omega (arith, long, count)) (λ k low high same. omega (arith, low, same)) in
       let two = flat_map (point_said t) (range_with_len (t.header.entry + 1) rest) in
       let last = moved t (t.header.entry + 1 + rest) t.header.words count points.next in
-      join labels from (there left.words left.records) (there points.next.words points.next.records) (after image (ts ++ t ∷ [])) two (line.End ∷ []) points.goes
+      join labels from (there left.words left.records) (there points.next.words points.next.records) (after image (ts ++ t ∷ [])) two (line.End ∷ [])
+      points.goes
       (end-goes (number_behind from two) last)
 
   pub thread-goes : Goes labels number (after image ts) (thread_said t) (after image (ts ++ t ∷ []))
@@ -199,13 +214,15 @@ module _ (image : Image) (labels : List FoundLabels) (limits : IsFitting image) 
       let long = long-words in
       let first = entered-goes in
       let n = number_behind number (first_said t) in
-      let body = body-goes image labels limits ts searched t t.header.records fits.records few-words t.header.entry (next_number n) first.left (omega (arith, long, entered)) in
+      let body = body-goes image labels limits ts searched t t.header.records fits.records few-words t.header.entry (next_number n) first.left
+      (omega (arith, long, entered)) in
       let rest = join labels (next_number n) (there first.left.words first.left.records) (there body.next.words body.next.records) (after image (ts ++ t ∷ []))
       (body_said t t.header.entry) (last_said t) body.goes (behind-entry (number_behind (next_number n) (body_said t t.header.entry)) body.next) in
       let labelled = join labels n (there first.left.words first.left.records) (there first.left.words first.left.records) (after image (ts ++ t ∷ []))
       (line.Label (codes "l") ∷ []) (body_said t t.header.entry ++ last_said t) (label-goes first.left.words first.left.records) rest in
       subst (λ ls. Goes labels number (after image ts) ls (after image (ts ++ t ∷ []))) (sym (thread-split t entered))
-      (join labels number (after image ts) (there first.left.words first.left.records) (after image (ts ++ t ∷ [])) (first_said t) (from_label t) first.goes labelled)
+      (join labels number (after image ts) (there first.left.words first.left.records) (after image (ts ++ t ∷ [])) (first_said t) (from_label t) first.goes
+      labelled)
 
 -- ---- all threads
 
@@ -218,7 +235,8 @@ label-there (y ∷ ys) x rest zero e = absurd (omega (arith, e))
 label-there (y ∷ ys) x rest (suc k) e = label-there ys x rest k (omega (arith, e))
 
 module _ (image : Image) (labels : List FoundLabels) (limits : IsFitting image) where
-  pub threads-go : (least count number : ℕ) (ts rest : List Thread) (front : List FoundLabels) → many_fit (λ _. thread_format (slots_format image.header.objects) image.header.objects) (λ _. 0) least count rest ≡ true
+  pub threads-go : (least count number : ℕ) (ts rest : List Thread) (front : List FoundLabels) →
+      many_fit (λ _. thread_format (slots_format image.header.objects) image.header.objects) (λ _. 0) least count rest ≡ true
       → AllByRecursion IsEntered rest → length ts + length rest ≤ 64 → length front ≡ length ts → labels ≡ front ++ all_labels number rest
       → Goes labels number (after image ts) (flat_map thread_said rest) (after image (ts ++ rest))
   unfolding many_fit
@@ -226,28 +244,36 @@ module _ (image : Image) (labels : List FoundLabels) (limits : IsFitting image) 
       nothing-more labels number (after image ts) (after image (ts ++ [])) (ap (after image) (sym (append-nil ts)))
   threads-go least zero number ts (t ∷ rest) front is inside_all few long same = absurd (let clash : false ≡ true = is in cc)
   threads-go least (suc n) number ts (t ∷ rest) front is inside_all few long same =
-      let both = and_parts ((thread_format (slots_format image.header.objects) image.header.objects).fits t) (many_fit (λ _. thread_format (slots_format image.header.objects) image.header.objects) (λ _. 0) 0 n rest) is in
+      let both = and_parts ((thread_format (slots_format image.header.objects) image.header.objects).fits t)
+      (many_fit (λ _. thread_format (slots_format image.header.objects) image.header.objects) (λ _. 0) 0 n rest) is in
       let own = thread_labels t number in
       let others = all_labels (number_behind number (thread_said t)) rest in
       let count : length labels ≡ length front + length (own ∷ others) = ap length same ∙ length-append front (own ∷ others) in
       let known : labels_at labels (length ts) ≡ own = ap (λ ls. labels_at ls (length ts)) same ∙ label-there front own others (length ts) long in
-      let longer : length (front ++ own ∷ []) ≡ length (ts ++ t ∷ []) = length-append front (own ∷ []) ∙ (ap (λ k. k + 1) long ∙ sym (length-append ts (t ∷ []))) in
+      let longer : length (front ++ own ∷ []) ≡ length (ts ++ t ∷ []) = length-append front (own ∷ [])
+      ∙ (ap (λ k. k + 1) long ∙ sym (length-append ts (t ∷ []))) in
       let more = length-append ts (t ∷ []) in
-      let one = thread-goes image labels limits ts (omega (arith, count, long)) (omega (arith, few)) t (thread-parts image.header.objects t both.0) inside_all.0 number known in
-      let behind = threads-go 0 n (number_behind number (thread_said t)) (ts ++ t ∷ []) rest (front ++ own ∷ []) both.1 inside_all.1 (omega (arith, few, more)) longer
+      let one = thread-goes image labels limits ts (omega (arith, count, long)) (omega (arith, few)) t (thread-parts image.header.objects t both.0) inside_all.0
+      number known in
+      let behind = threads-go 0 n (number_behind number (thread_said t)) (ts ++ t ∷ []) rest (front ++ own ∷ []) both.1 inside_all.1 (omega (arith, few, more))
+      longer
       (same ∙ sym (append_assoc front (own ∷ []) others)) in
       subst (λ us. Goes labels number (after image ts) (flat_map thread_said (t ∷ rest)) (after image us)) (append_assoc ts (t ∷ []) rest)
-      (join labels number (after image ts) (after image (ts ++ t ∷ [])) (after image ((ts ++ t ∷ []) ++ rest)) (thread_said t) (flat_map thread_said rest) one behind)
+      (join labels number (after image ts) (after image (ts ++ t ∷ [])) (after image ((ts ++ t ∷ []) ++ rest)) (thread_said t) (flat_map thread_said rest) one
+      behind)
 
-pub threads-found : (objects least count number : ℕ) (ts : List Thread) (found : List FoundLabels) → many_fit (λ _. thread_format (slots_format objects) objects) (λ _. 0) least count ts ≡ true
+pub threads-found : (objects least count number : ℕ) (ts : List Thread) (found : List FoundLabels) →
+    many_fit (λ _. thread_format (slots_format objects) objects) (λ _. 0) least count ts ≡ true
     → AllByRecursion IsEntered ts → searched_from number (between_threads found) (flat_map thread_said ts) ≡ between_threads (found ++ all_labels number ts)
 unfolding many_fit
 threads-found objects least count number [] found is inside_all = ap between_threads (sym (append-nil found))
 threads-found objects least zero number (t ∷ ts) found is inside_all = absurd (let clash : false ≡ true = is in cc)
 threads-found objects least (suc n) number (t ∷ ts) found is inside_all =
-    let both = and_parts ((thread_format (slots_format objects) objects).fits t) (many_fit (λ _. thread_format (slots_format objects) objects) (λ _. 0) 0 n ts) is in
+    let both = and_parts ((thread_format (slots_format objects) objects).fits t) (many_fit (λ _. thread_format (slots_format objects) objects) (λ _. 0) 0 n ts)
+    is in
     let fits = thread-parts objects t both.0 in
     searched-append number (between_threads found) (thread_said t) (flat_map thread_said ts)
-    ∙ (ap (λ s. searched_from (number_behind number (thread_said t)) s (flat_map thread_said ts)) (thread-found t number found inside_all.0 fits.header.few_words)
+    ∙ (ap (λ s. searched_from (number_behind number (thread_said t)) s (flat_map thread_said ts))
+    (thread-found t number found inside_all.0 fits.header.few_words)
     ∙ (threads-found objects 0 n (number_behind number (thread_said t)) ts (found ++ thread_labels t number ∷ []) both.1 inside_all.1
     ∙ ap between_threads (append_assoc found (thread_labels t number ∷ []) (all_labels (number_behind number (thread_said t)) ts))))

@@ -14,7 +14,9 @@ use Rattle.model.specs.declared.entries.TermEntry.{TermEntry}
 use Rattle.model.specs.declared.entries.ThreadHeader.{ThreadHeader}
 use Rattle.model.specs.Capabilities.CapabilityFields.{unpacked}
 use Rattle.model.specs.Images.Format.{field, fits_signed, many_fit, number}
-use Rattle.model.specs.Images.Image.{StateRecord, Thread, anything, below, between, is_constant, names_parent, no_parent, not_zero, pair_key, range_format, ranges_format, record_format, record_header_format, records_format, register_format, registers_format, slot_format, slots_format, term_format, terms_format, thread_format, thread_header_format, words_format}
+use Rattle.model.specs.Images.Image.{StateRecord, Thread, anything, below, between, is_constant, names_parent, no_parent, not_zero, pair_key, range_format}
+use Rattle.model.specs.Images.Image.{ranges_format, record_format, record_header_format, records_format, register_format, registers_format, slot_format}
+use Rattle.model.specs.Images.Image.{slots_format, term_format, terms_format, thread_format, thread_header_format, words_format}
 use Rattle.model.specs.Images.Listing.{range_line, register_line, slot_line}
 use Rattle.image_reading.proofs.Laws.{words-only}
 use Rattle.asm_line.specs.declared.lines.Line.TheVariants as line
@@ -111,7 +113,8 @@ record-header objects words least h is =
       (and_parts (fits_signed w64 h.constant) (is_constant h.constant) d.1).1,
     )
 
-pub record-parts : (objects words least : ℕ) (r : StateRecord) → (record_format (slots_format objects) words least).fits r ≡ true → RecordFits objects words least r
+pub record-parts : (objects words least : ℕ) (r : StateRecord) → (record_format (slots_format objects) words least).fits r ≡ true →
+    RecordFits objects words least r
 unfolding record_format ranges_format terms_format
 record-parts objects words least r is =
     let a = and_parts _ _ is in
@@ -140,7 +143,8 @@ least-some key least (x ∷ xs) h = least-some key (key x + 1) xs (omega arith)
 from-one : (least n : ℕ) → 1 ≤ least → between least 31 n ≡ true → between 1 31 n ≡ true
 from-one least n some h = let b = between-bounds least 31 n h in let low = b.0 in let high = b.1 in grind (arith, nat_tests, some, low, high)
 
-pub register-parts : (least : ℕ) (e : RegisterEntry) → 1 ≤ least → (register_format least).fits e ≡ true → (least ≤ e.register) × Lists (line.Register e) (register_line e)
+pub register-parts : (least : ℕ) (e : RegisterEntry) → 1 ≤ least → (register_format least).fits e ≡ true → (least ≤ e.register)
+    × Lists (line.Register e) (register_line e)
 unfolding register_format
 register-parts least e some is =
     let a = and_parts _ _ is in
@@ -154,8 +158,11 @@ range-parts least e some is =
     let a = and_parts _ _ is in
     let b = and_parts _ _ a.1 in
     let register_fits = (field-parts (between least 31) e.register a.0).1 in
-    let high = field-parts (λ high. nat_le e.low high && (nat_lt 0 e.low || nat_lt high (2 ^ 32 - 1))) e.high b.1 in
-    ((between-bounds least 31 e.register register_fits).0, range e (from-one least e.register some register_fits) (field-parts anything e.low b.0).0 high.0 high.1)
+    let high = field-parts (λ high. nat_le e.low high && (nat_lt 0 e.low || nat_lt high (2 ^ 32 - 1))) e.high b.1 in (
+      (between-bounds least 31 e.register register_fits).0,
+      range e (from-one least e.register some register_fits) (field-parts anything e.low b.0).0 high.0
+          high.1,
+    )
 
 pub term-parts : (least : ℕ) (e : TermEntry) → 1 ≤ least → (term_format least).fits e ≡ true → (least ≤ e.register) × IsTerm e
 unfolding term_format
@@ -174,7 +181,8 @@ pub record SlotFits (objects least : ℕ) (e : SlotEntry) : Type 0 where
   pub named : names_parent ((e.word0 == 0) && (e.word1 == 0)) e.parent_cnode e.parent_index ≡ true
   pub lists : Lists (slot_said e) (slot_line e)
 
-slot-lists : (e : SlotEntry) (found : Option Cap) → unpacked e.word0 e.word1 ≡ found → is_some found ≡ true → IsWord e.cnode → nat_lt e.index (2 ^ 14) ≡ true → IsWord e.word0 → IsWord e.word1
+slot-lists : (e : SlotEntry) (found : Option Cap) → unpacked e.word0 e.word1 ≡ found → is_some found ≡ true → IsWord e.cnode → nat_lt e.index (2 ^ 14) ≡ true →
+    IsWord e.word0 → IsWord e.word1
     → IsWord e.parent_cnode → names_parent ((e.word0 == 0) && (e.word1 == 0)) e.parent_cnode e.parent_index ≡ true → Lists (slot_said e) (slot_line e)
 slot-lists e None found some a h w0 w1 g k = absurd (let clash : false ≡ true = some in cc)
 slot-lists e (Some c) found some a h w0 w1 g k =
@@ -199,5 +207,6 @@ slot-parts objects least e few is =
       cnode = cnode;
       parent = parent.1;
       named = named;
-      lists = slot-lists e (unpacked e.word0 e.word1) refl word1.1 (omega (arith, few, cnode)) index.1 (field-parts anything e.word0 c.0).0 word1.0 parent.0 named;
+      lists = slot-lists e (unpacked e.word0 e.word1) refl word1.1 (omega (arith, few, cnode)) index.1 (field-parts anything e.word0 c.0).0 word1.0 parent.0
+          named;
     }

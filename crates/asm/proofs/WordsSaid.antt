@@ -1,6 +1,7 @@
 -- The words of a `data` line and the terms of a `measure` line, as a loop reads them.
 use Rattle.std.specs.Prelude.{◌⊎◌, nat_le, nat_lt, Result, if◌then◌else◌}
-use Rattle.std.proofs.Common.{◌≡◌, ℕ, ◌<◌, ◌≤◌, ◌+◌, Bool, true, false, List, [], ◌∷◌, ◌++◌, length, Option, Some, None, Ok, Err, ℤ, refl, sym, ap, subst, ◌∙◌, arith, length-append, append_assoc}
+use Rattle.std.proofs.Common.{◌≡◌, ℕ, ◌<◌, ◌≤◌, ◌+◌, Bool, true, false, List, [], ◌∷◌, ◌++◌, length, Option, Some, None, Ok, Err, ℤ, refl, sym, ap, subst, ◌∙◌}
+use Rattle.std.proofs.Common.{arith, length-append, append_assoc}
 use Rattle.std.specs.Result.{result_ok}
 use Rattle.std.proofs.lemmas.Bool.{le-leb, lt-leb, ltb-true, ltb-false}
 use Rattle.std.proofs.lemmas.List.{append-nil}
@@ -42,7 +43,8 @@ shown-word (Ok value) ws = refl
 shown-word (Err e) ws = refl
 
 shown-number : (r : Result ℤ ℕ) (ws : List Text)
-    → elim (r >>= λ number. word number) [ Ok value ↦ value ∷ values_of ws | Err e ↦ [] ] ≡ shown (result_ok (r >>= λ number. word number >>= λ value. Ok (value, ws)))
+    → elim (r >>= λ number. word number) [ Ok value ↦ value ∷ values_of ws | Err e ↦ [] ] ≡ shown
+    (result_ok (r >>= λ number. word number >>= λ value. Ok (value, ws)))
 shown-number (Ok z) ws = shown-word (word z) ws
 shown-number (Err e) ws = refl
 
@@ -60,14 +62,17 @@ pub record ValuesLeft (read : List ℕ) (rest all : List Text) : Type 0 where
   pub so_far : read ++ values_of rest ≡ values_of all
   pub few : length read ≤ 1024
 
-pub one-value-more : (read grown : List ℕ) (words all : List Text) (n : ℕ) (rest : List Text) → ValuesLeft read words all → Some (n, rest) ≡ result_ok (word_first words)
+pub one-value-more : (read grown : List ℕ) (words all : List Text) (n : ℕ) (rest : List Text) → ValuesLeft read words all →
+    Some (n, rest) ≡ result_ok (word_first words)
     → has_room 1024 read ≡ Ok tt → grown ≡ read ++ n ∷ [] → ValuesLeft grown rest all
 one-value-more read grown words all n rest now first room same = record {
-  so_far = ap (λ xs. xs ++ values_of rest) same ∙ append_assoc read (n ∷ []) (values_of rest) ∙ ap (λ xs. read ++ xs) (sym (first-value words n rest first)) ∙ now.so_far;
+  so_far = ap (λ xs. xs ++ values_of rest) same ∙ append_assoc read (n ∷ []) (values_of rest) ∙ ap (λ xs. read ++ xs) (sym (first-value words n rest first))
+      ∙ now.so_far;
   few = let long : length grown ≡ length read + 1 = ap length same ∙ length-append read (n ∷ []) in omega (arith, long, has-room 1024 read room);
 }
 
-pub values-full : (read : List ℕ) (words all : List Text) (n : ℕ) (rest : List Text) (kind : ℕ) → ValuesLeft read words all → Some (n, rest) ≡ result_ok (word_first words)
+pub values-full : (read : List ℕ) (words all : List Text) (n : ℕ) (rest : List Text) (kind : ℕ) → ValuesLeft read words all →
+    Some (n, rest) ≡ result_ok (word_first words)
     → has_room 1024 read ≡ Err kind → words_said all ≡ Err kind
 unfolding words_said
 values-full read words all n rest kind now first none =
@@ -91,7 +96,8 @@ abbrev shown_terms : Option (TermEntry × List Text) → List TermEntry
 shown_terms (Some first) = first.0 ∷ terms_said first.1
 shown_terms None = []
 
-shown-term : (r : Result TermEntry ℕ) (ws : List Text) → elim r [ Ok term ↦ term ∷ terms_said ws | Err e ↦ [] ] ≡ shown_terms (result_ok (r >>= λ term. Ok (term, ws)))
+shown-term : (r : Result TermEntry ℕ) (ws : List Text) → elim r [ Ok term ↦ term ∷ terms_said ws | Err e ↦ [] ] ≡ shown_terms
+    (result_ok (r >>= λ term. Ok (term, ws)))
 shown-term (Ok term) ws = refl
 shown-term (Err e) ws = refl
 
@@ -103,7 +109,8 @@ terms-shown (name ∷ factor ∷ ws) = shown-term (term_of name factor) ws
 pub no-terms : (words : List Text) → None ≡ result_ok (term_first words) → terms_said words ≡ []
 no-terms words e = terms-shown words ∙ sym (ap shown_terms e)
 
-pub first-term-said : (words : List Text) (t : TermEntry) (rest : List Text) → Some (t, rest) ≡ result_ok (term_first words) → terms_said words ≡ t ∷ terms_said rest
+pub first-term-said : (words : List Text) (t : TermEntry) (rest : List Text) → Some (t, rest) ≡ result_ok (term_first words) →
+    terms_said words ≡ t ∷ terms_said rest
 first-term-said words t rest e = terms-shown words ∙ sym (ap shown_terms e)
 
 abbrev pub register_key : TermEntry → ℕ
@@ -114,14 +121,17 @@ pub one-term-sorted : (read grown : List TermEntry) (words all : List Text) (t :
     → sorted_terms read (terms_said words) ≡ sorted_terms [] (terms_said all) → Some (t, rest) ≡ result_ok (term_first words)
     → sorted_with register_key 4 t read ≡ Ok grown → sorted_terms grown (terms_said rest) ≡ sorted_terms [] (terms_said all)
 one-term-sorted read grown words all t rest now first made =
-    sym (ap (λ ts. sorted_terms read ts) (first-term-said words t rest first) ∙ ap (λ (r : Result (List TermEntry) ℕ). r >>= λ more. sorted_terms more (terms_said rest)) made) ∙ now
+    sym (ap (λ ts. sorted_terms read ts) (first-term-said words t rest first)
+    ∙ ap (λ (r : Result (List TermEntry) ℕ). r >>= λ more. sorted_terms more (terms_said rest)) made) ∙ now
 
 pub term-refused : (read : List TermEntry) (words all : List Text) (t : TermEntry) (rest : List Text) (kind : ℕ)
     → sorted_terms read (terms_said words) ≡ sorted_terms [] (terms_said all) → Some (t, rest) ≡ result_ok (term_first words)
     → sorted_with register_key 4 t read ≡ Err kind → sorted_terms [] (terms_said all) ≡ Err kind
 term-refused read words all t rest kind now first refused =
-    sym now ∙ ap (λ ts. sorted_terms read ts) (first-term-said words t rest first) ∙ ap (λ (r : Result (List TermEntry) ℕ). r >>= λ more. sorted_terms more (terms_said rest)) refused
+    sym now ∙ ap (λ ts. sorted_terms read ts) (first-term-said words t rest first)
+    ∙ ap (λ (r : Result (List TermEntry) ℕ). r >>= λ more. sorted_terms more (terms_said rest)) refused
 
-pub terms-done : (read : List TermEntry) (words all : List Text) → sorted_terms read (terms_said words) ≡ sorted_terms [] (terms_said all) → None ≡ result_ok (term_first words)
+pub terms-done : (read : List TermEntry) (words all : List Text) → sorted_terms read (terms_said words) ≡ sorted_terms [] (terms_said all) →
+    None ≡ result_ok (term_first words)
     → sorted_terms [] (terms_said all) ≡ Ok read
 terms-done read words all now none = sym now ∙ ap (λ ts. sorted_terms read ts) (no-terms words none)

@@ -2,7 +2,8 @@
 -- line that is none of the text form or out of its place, 2 for an unknown name, 3 for a name that is there already,
 -- and 4 for a number, an order or a count. On one line the place comes first, then its names from left to right, and
 -- then order, doubles and counts (docs/MANUAL.md, "The text of an image").
-use Rattle.std.specs.Prelude.{ℕ, ◌==◌, ◌&&◌, Bool, true, false, not, if◌then◌else◌, ℤ, pos, negsuc, ◌-ℤ◌, ◌*ℤ◌, List, [], ◌∷◌, ◌++◌, length, map, max, nat_lt, nat_le, int_le, int_lt, is_some, Option, Some, None, Result, Ok, Err}
+use Rattle.std.specs.Prelude.{ℕ, ◌==◌, ◌&&◌, Bool, true, false, not, if◌then◌else◌, ℤ, pos, negsuc, ◌-ℤ◌, ◌*ℤ◌, List, [], ◌∷◌, ◌++◌, length, map, max, nat_lt}
+use Rattle.std.specs.Prelude.{nat_le, int_le, int_lt, is_some, Option, Some, None, Result, Ok, Err}
 use Rattle.std.specs.Option.{option_map_or}
 use Rattle.std.specs.Str.Lines.{lines}
 use Rattle.model.specs.declared.entries.FrameEntry.{FrameEntry}
@@ -59,7 +60,8 @@ unfoldable pub placed_with : Declared → Line → Result Declared ℕ
 placed_with d (line.Capability cnode index source rights payload) = do
   number ← number_known d.names.objects cnode
   made_from ← source_known d.names source
-  capabilities ← sorted_with (λ (e : Capability). pair_key e.cnode e.index) 16384 (record { cnode = number; index = index; source = made_from; rights = rights; payload = payload }) d.capabilities
+  capabilities ← sorted_with (λ (e : Capability). pair_key e.cnode e.index) 16384
+      (record { cnode = number; index = index; source = made_from; rights = rights; payload = payload }) d.capabilities
   Ok (record d { capabilities = capabilities })
 placed_with d (line.Table root address table) = do
   number ← number_known d.names.objects root
@@ -69,7 +71,8 @@ placed_with d (line.Table root address table) = do
 placed_with d (line.Frame root address frame rights) = do
   number ← number_known d.names.objects root
   other ← number_known d.names.objects frame
-  frames ← sorted_with (λ (e : FrameEntry). pair_key e.root e.address) 4096 (record { root = number; address = address; frame = other; rights = rights }) d.frames
+  frames ← sorted_with (λ (e : FrameEntry). pair_key e.root e.address) 4096 (record { root = number; address = address; frame = other; rights = rights })
+      d.frames
   Ok (record d { frames = frames })
 placed_with d (line.Content frame words) = do
   number ← number_known d.names.objects frame
@@ -197,7 +200,8 @@ unfoldable pub slots_with : KnownNames → Text → ℕ → ℕ → ℕ → Pare
 slots_with names cnode index word0 word1 parent noted = do
   number ← number_known names.objects cnode
   from ← parent_known names parent
-  slots ← sorted_with (λ (e : SlotEntry). pair_key e.cnode e.index) 256 (record { cnode = number; index = index; word0 = word0; word1 = word1; parent_cnode = from.0; parent_index = from.1 }) noted.slots
+  slots ← sorted_with (λ (e : SlotEntry). pair_key e.cnode e.index) 256
+      (record { cnode = number; index = index; word0 = word0; word1 = word1; parent_cnode = from.0; parent_index = from.1 }) noted.slots
   Ok (record noted { header = record noted.header { slots = length slots }; slots = slots })
 
 -- ---- words
@@ -360,7 +364,8 @@ waiting_read labels number is_last d (Some text) = text_read labels number is_la
 abbrev pub all_read : List FoundLabels → ℕ → Draft → List Text → Result (ℕ × Draft) (ℕ × ℕ)
 all_read labels number d [] = Ok (number, d)
 all_read labels number d (text ∷ others) =
-    and_then (on_line (next_number number) (text_read labels (next_number number) (is_nil others) d text)) (λ more. all_read labels (next_number number) more others)
+    and_then (on_line (next_number number) (text_read labels (next_number number) (is_nil others) d text))
+    (λ more. all_read labels (next_number number) more others)
 
 -- after the last line: an image of the format
 abbrev pub image_of : Memory → Draft → Image

@@ -1,5 +1,6 @@
 -- The names that are declared so far.
-use Rattle.std.specs.Prelude.{◌≡◌, ℕ, ◌<◌, ◌^◌, ◌||◌, Bool, not, List, [], ◌∷◌, ◌++◌, Option, Some, None, MatchOption, is_some, unwrap_or, position, Result, Ok, Err}
+use Rattle.std.specs.Prelude.{◌≡◌, ℕ, ◌<◌, ◌^◌, ◌||◌, Bool, not, List, [], ◌∷◌, ◌++◌, Option, Some, None, MatchOption, is_some, unwrap_or, position, Result, Ok}
+use Rattle.std.specs.Prelude.{Err}
 use Rattle.std.specs.List.{list_any}
 use Rattle.std.specs.Option.{option_map_or}
 use Rattle.std.specs.Map.{lookup}
@@ -57,7 +58,11 @@ unfoldable pub number_known : List Text → Text → Result ℕ ℕ
 number_known names name = number_at (position (bytes_eq name) names)
 
 unfoldable pub source_known : KnownNames → Text → Result Source ℕ
-source_known names name = elim (line_of_name names name) [ Some line ↦ Ok (Handler line) | None ↦ number_known names.objects name >>= λ number. Ok (Object number) ]
+source_known names name = elim (line_of_name names name) [
+  | Some line ↦ Ok (Handler line)
+  | None ↦ number_known names.objects name >>= λ number.
+      Ok (Object number)
+]
 
 -- ---- one name more
 

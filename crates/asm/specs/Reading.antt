@@ -7,8 +7,11 @@ use Rattle.asm_line.specs.declared.lines.Line.TheVariants as line
 use Rattle.asm.specs.Drafts.{Draft}
 use Rattle.asm.specs.Labels.{FoundLabels, no_labels, is_first_on, next_number}
 use Rattle.asm.specs.Names.{KnownNames}
-use Rattle.asm.specs.Sections.{MayAddUntyped, with_untyped, MayAddObject, object_entry, with_object, MayAddInterrupt, interrupt_entry, with_interrupt, MayAddCapability, capability_said, with_capability, MayAddTable, table_entry, with_table, MayAddFrame, frame_entry, with_frame, MayAddContent, content_said, with_content}
-use Rattle.asm.specs.Threads.{OpenDraft, MayBegin, thread_begun, MayAddRegister, with_register, MayAddMeasure, with_measure, MayAddRange, with_range, MayAddSlot, slot_entry, with_slot, MayAddCode, with_word, plain_word, MayEnd}
+use Rattle.asm.specs.Sections.{MayAddUntyped, with_untyped, MayAddObject, object_entry, with_object, MayAddInterrupt, interrupt_entry, with_interrupt}
+use Rattle.asm.specs.Sections.{MayAddCapability, capability_said, with_capability, MayAddTable, table_entry, with_table, MayAddFrame, frame_entry, with_frame}
+use Rattle.asm.specs.Sections.{MayAddContent, content_said, with_content}
+use Rattle.asm.specs.Threads.{OpenDraft, MayBegin, thread_begun, MayAddRegister, with_register, MayAddMeasure, with_measure, MayAddRange, with_range}
+use Rattle.asm.specs.Threads.{MayAddSlot, slot_entry, with_slot, MayAddCode, with_word, plain_word, MayEnd}
 
 -- ---- the first line
 
@@ -98,7 +101,8 @@ IsInPlace labels number d said = MatchOption d.memory (IsFirst said) (λ _. Matc
     (λ o. (length d.threads < length labels) × IsThreadLine (labels_at labels (length d.threads)) number d.declared.names o said))
 
 abbrev pub with_line : List FoundLabels → Draft → Line → Draft
-with_line labels d said = option_map_or (λ _. option_map_or (λ o. with_thread_line (record d { open_thread = None }) o said) d.open_thread (with_declaration labels d said))
+with_line labels d said =
+    option_map_or (λ _. option_map_or (λ o. with_thread_line (record d { open_thread = None }) o said) d.open_thread (with_declaration labels d said))
     d.memory (with_first d said)
 
 -- the same of all lines behind the one with this number

@@ -1,5 +1,6 @@
 -- A thread as far as it is read, and what one more line makes of it.
-use Rattle.std.specs.Prelude.{◌≡◌, ℕ, ◌<◌, ◌≤◌, true, List, [], ◌∷◌, ◌++◌, length, is_some, Option, Some, None, MatchOption, option_map, option_to_list, ℤ, Result, Ok, Err}
+use Rattle.std.specs.Prelude.{◌≡◌, ℕ, ◌<◌, ◌≤◌, true, List, [], ◌∷◌, ◌++◌, length, is_some, Option, Some, None, MatchOption, option_map, option_to_list, ℤ}
+use Rattle.std.specs.Prelude.{Result, Ok, Err}
 use Rattle.model.specs.declared.entries.RegisterEntry.{RegisterEntry}
 use Rattle.model.specs.declared.entries.RangeEntry.{RangeEntry}
 use Rattle.model.specs.declared.entries.SlotEntry.{SlotEntry}

@@ -1,6 +1,7 @@
 -- Each line of a listing is read as what it says.
 use Rattle.std.specs.Prelude.{◌==◌, nat_lt, nat_le}
-use Rattle.std.proofs.Common.{◌≡◌, ℕ, zero, suc, ◌-◌, ◌^◌, ◌<◌, Bool, true, false, not, ◌&&◌, List, [], ◌∷◌, ◌++◌, length, Some, None, Ok, ℤ, pos, negsuc, refl, ap, ◌∙◌, arith, codes, min}
+use Rattle.std.proofs.Common.{◌≡◌, ℕ, zero, suc, ◌-◌, ◌^◌, ◌<◌, Bool, true, false, not, ◌&&◌, List, [], ◌∷◌, ◌++◌, length, Some, None, Ok, ℤ, pos, negsuc, refl}
+use Rattle.std.proofs.Common.{ap, ◌∙◌, arith, codes, min}
 use Rattle.std.specs.Fmt.{decimal}
 use Rattle.std.specs.List.{list_all}
 use Rattle.std.proofs.lemmas.Bool.{and_parts, and_from}
@@ -14,7 +15,9 @@ use Rattle.asm_line.specs.declared.lines.Line.{Line}
 use Rattle.asm_line.specs.declared.lines.Line.TheVariants as said
 use Rattle.asm_line.specs.declared.lines.Code.TheVariants as code
 use Rattle.asm_line.specs.Words.{◌>>=◌, within, name_of, name_first, object_first}
-use Rattle.asm_line.specs.Lines.{keyword_of, thread_keyword_of, memory_of, untyped_of, interrupt_of, table_of, frame_of, register_line_of, word, kind_of, kind_first, size_first, last_kind, object_of, capability_of, content_of, all_numbers, all_words, some_numbers, thread_of, thread_words_of, thread_said, budget_of, range_of}
+use Rattle.asm_line.specs.Lines.{keyword_of, thread_keyword_of, memory_of, untyped_of, interrupt_of, table_of, frame_of, register_line_of, word, kind_of}
+use Rattle.asm_line.specs.Lines.{kind_first, size_first, last_kind, object_of, capability_of, content_of, all_numbers, all_words, some_numbers, thread_of}
+use Rattle.asm_line.specs.Lines.{thread_words_of, thread_said, budget_of, range_of}
 use Rattle.asm_line.specs.Parsing.{line_of, line_for, plain_word_of, IsKnown}
 use Rattle.asm_line.specs.Listed.{IsWord}
 use Rattle.asm_line.proofs.PlainWords.{IsPlainWord, AllPlain, decimal-plain, is_plain, digits-plain, decimal-digits}
@@ -70,31 +73,39 @@ unfolding line_of keyword_of line_for memory_of last_numbers last_number
 memory-says bits radix h k small other = rw (first-decimal bits (decimal radix ∷ []) small) (rw (first-decimal radix [] other) (rw h (rw k refl)))
 
 pub untyped-says : (k offset bits : ℕ) → IsWord k → IsWord offset → between 4 24 bits ≡ true → bits < 2 ^ 63
-    → line_of (codes "untyped" ∷ untyped_name k ∷ decimal offset ∷ decimal bits ∷ []) ≡ Some (Ok (said.Untyped (untyped_name k) (record { offset = offset; bits = bits })))
+    → line_of (codes "untyped" ∷ untyped_name k ∷ decimal offset ∷ decimal bits ∷ []) ≡ Some
+    (Ok (said.Untyped (untyped_name k) (record { offset = offset; bits = bits })))
 unfolding line_of keyword_of line_for untyped_of last_numbers last_number
 untyped-says k offset bits a b h small =
     rw (first-object 117 k (decimal offset ∷ decimal bits ∷ []) refl refl (wide k a)) (rw (first-decimal offset (decimal bits ∷ []) (wide offset b))
     (rw (first-decimal bits [] small) (rw (is-word offset b) (rw h refl))))
 
-pub interrupt-says : (k number notification badge : ℕ) → IsWord k → between 0 63 number ≡ true → number < 2 ^ 63 → IsWord notification → between 0 (2 ^ 28 - 1) badge ≡ true → badge < 2 ^ 63
-    → line_of (codes "irq" ∷ interrupt_name k ∷ decimal number ∷ object_name notification ∷ decimal badge ∷ []) ≡ Some (Ok (said.Interrupt (interrupt_name k) number (object_name notification) badge))
+pub interrupt-says : (k number notification badge : ℕ) → IsWord k → between 0 63 number ≡ true → number < 2 ^ 63 → IsWord notification →
+    between 0 (2 ^ 28 - 1) badge ≡ true → badge < 2 ^ 63
+    → line_of (codes "irq" ∷ interrupt_name k ∷ decimal number ∷ object_name notification ∷ decimal badge ∷ []) ≡ Some
+    (Ok (said.Interrupt (interrupt_name k) number (object_name notification) badge))
 unfolding line_of keyword_of line_for interrupt_of place_first last_number
 interrupt-says k number notification badge a h small b g less =
-    rw (first-object 105 k (decimal number ∷ object_name notification ∷ decimal badge ∷ []) refl refl (wide k a)) (rw (first-decimal number (object_name notification ∷ decimal badge ∷ []) small)
+    rw (first-object 105 k (decimal number ∷ object_name notification ∷ decimal badge ∷ []) refl refl (wide k a))
+    (rw (first-decimal number (object_name notification ∷ decimal badge ∷ []) small)
     (rw (first-object 111 notification (decimal badge ∷ []) refl refl (wide notification b)) (rw (first-decimal badge [] less) (rw h (rw g refl)))))
 
 pub table-says : (root address table : ℕ) → IsWord root → IsWord address → IsWord table
-    → line_of (codes "table" ∷ object_name root ∷ decimal address ∷ object_name table ∷ []) ≡ Some (Ok (said.Table (object_name root) address (object_name table)))
+    → line_of (codes "table" ∷ object_name root ∷ decimal address ∷ object_name table ∷ []) ≡ Some
+    (Ok (said.Table (object_name root) address (object_name table)))
 unfolding line_of keyword_of line_for table_of place_first
 table-says root address table a b d =
-    rw (first-object 111 root (decimal address ∷ object_name table ∷ []) refl refl (wide root a)) (rw (first-decimal address (object_name table ∷ []) (wide address b))
+    rw (first-object 111 root (decimal address ∷ object_name table ∷ []) refl refl (wide root a))
+    (rw (first-decimal address (object_name table ∷ []) (wide address b))
     (rw (first-object 111 table [] refl refl (wide table d)) (rw (is-word address b) refl)))
 
 pub frame-says : (root address frame rights : ℕ) → IsWord root → IsWord address → IsWord frame → between 0 7 rights ≡ true → rights < 2 ^ 63
-    → line_of (codes "map" ∷ object_name root ∷ decimal address ∷ object_name frame ∷ decimal rights ∷ []) ≡ Some (Ok (said.Frame (object_name root) address (object_name frame) rights))
+    → line_of (codes "map" ∷ object_name root ∷ decimal address ∷ object_name frame ∷ decimal rights ∷ []) ≡ Some
+    (Ok (said.Frame (object_name root) address (object_name frame) rights))
 unfolding line_of keyword_of line_for frame_of place_first last_number
 frame-says root address frame rights a b d h small =
-    rw (first-object 111 root (decimal address ∷ object_name frame ∷ decimal rights ∷ []) refl refl (wide root a)) (rw (first-decimal address (object_name frame ∷ decimal rights ∷ []) (wide address b))
+    rw (first-object 111 root (decimal address ∷ object_name frame ∷ decimal rights ∷ []) refl refl (wide root a))
+    (rw (first-decimal address (object_name frame ∷ decimal rights ∷ []) (wide address b))
     (rw (first-object 111 frame (decimal rights ∷ []) refl refl (wide frame d)) (rw (first-decimal rights [] small) (rw (is-word address b) (rw h refl)))))
 
 pub word-says : (n : ℕ) → IsWord n → line_of (codes "word" ∷ decimal n ∷ []) ≡ Some (Ok (said.Code None (code.Word n)))
@@ -168,11 +179,14 @@ size-says (suc (suc (suc (suc (suc (suc (suc zero))))))) size h small fits = wit
 size-says (suc (suc (suc (suc (suc (suc (suc (suc zero)))))))) size h small fits = without-size size fits
 size-says (suc (suc (suc (suc (suc (suc (suc (suc (suc n))))))))) size h small fits = absurd (grind (arith, nat_tests))
 
-pub object-says : (k untyped kind size : ℕ) (words : List Text) → IsWord k → IsWord untyped → between 1 8 kind ≡ true → IsWord size → size_fits kind size ≡ true → Sized size words
-    → line_of (codes "object" ∷ object_name k ∷ untyped_name untyped ∷ kind_name kind ∷ words) ≡ Some (Ok (said.Object (object_name k) (untyped_name untyped) kind size))
+pub object-says : (k untyped kind size : ℕ) (words : List Text) → IsWord k → IsWord untyped → between 1 8 kind ≡ true → IsWord size →
+    size_fits kind size ≡ true → Sized size words
+    → line_of (codes "object" ∷ object_name k ∷ untyped_name untyped ∷ kind_name kind ∷ words) ≡ Some
+    (Ok (said.Object (object_name k) (untyped_name untyped) kind size))
 unfolding line_of keyword_of line_for object_of last_kind
 object-says k untyped kind size words a b h small fits sized =
-    rw (first-object 111 k (untyped_name untyped ∷ kind_name kind ∷ words) refl refl (wide k a)) (rw (first-object 117 untyped (kind_name kind ∷ words) refl refl (wide untyped b))
+    rw (first-object 111 k (untyped_name untyped ∷ kind_name kind ∷ words) refl refl (wide k a))
+    (rw (first-object 117 untyped (kind_name kind ∷ words) refl refl (wide untyped b))
     (rw (first-kind kind words h) (rw sized.first (rw (is-word size small) (rw fits refl)))))
 
 -- ---- sources of capabilities
@@ -189,17 +203,21 @@ source-says i source h = elim (is_handler i source) as (λ b. Sourced (if b then
 ]
 
 capability-named : (cnode index : ℕ) (name : Text) (rights payload : ℕ) → IsWord cnode → IsWord index → Sourced name → IsWord rights → IsWord payload
-    → line_of (codes "cap" ∷ object_name cnode ∷ decimal index ∷ name ∷ decimal rights ∷ decimal payload ∷ []) ≡ Some (Ok (said.Capability (object_name cnode) index name rights payload))
+    → line_of (codes "cap" ∷ object_name cnode ∷ decimal index ∷ name ∷ decimal rights ∷ decimal payload ∷ []) ≡ Some
+    (Ok (said.Capability (object_name cnode) index name rights payload))
 unfolding line_of keyword_of line_for capability_of place_first last_numbers last_number
 capability-named cnode index name rights payload a b s e f =
-    rw (first-object 111 cnode (decimal index ∷ name ∷ decimal rights ∷ decimal payload ∷ []) refl refl (wide cnode a)) (rw (first-decimal index (name ∷ decimal rights ∷ decimal payload ∷ []) (wide index b))
-    (rw (s.first (decimal rights ∷ decimal payload ∷ [])) (rw (first-decimal rights (decimal payload ∷ []) (wide rights e)) (rw (first-decimal payload [] (wide payload f))
+    rw (first-object 111 cnode (decimal index ∷ name ∷ decimal rights ∷ decimal payload ∷ []) refl refl (wide cnode a))
+    (rw (first-decimal index (name ∷ decimal rights ∷ decimal payload ∷ []) (wide index b))
+    (rw (s.first (decimal rights ∷ decimal payload ∷ []))
+    (rw (first-decimal rights (decimal payload ∷ []) (wide rights e)) (rw (first-decimal payload [] (wide payload f))
     (rw (is-word index b) (rw (is-word rights e) (rw (is-word payload f) refl)))))))
 
 pub capability-says : (i : Image) (cnode index source rights payload : ℕ) → IsWord cnode → IsWord index → IsWord source → IsWord rights → IsWord payload
     → line_of (codes "cap" ∷ object_name cnode ∷ decimal index ∷ source_name i source ∷ decimal rights ∷ decimal payload ∷ [])
     ≡ Some (Ok (said.Capability (object_name cnode) index (source_name i source) rights payload))
-capability-says i cnode index source rights payload a b d e f = capability-named cnode index (source_name i source) rights payload a b (source-says i source d) e f
+capability-says i cnode index source rights payload a b d e f =
+    capability-named cnode index (source_name i source) rights payload a b (source-says i source d) e f
 
 -- ---- contents
 
@@ -232,12 +250,26 @@ first-label words = refl
 
 pub thread-says : (tcb cnode guard root priority budget fault base : ℕ) → IsWord tcb → IsWord cnode → IsWord guard → IsWord root
     → between 0 255 priority ≡ true → priority < 2 ^ 63 → between 1 (2 ^ 62) budget ≡ true → budget < 2 ^ 63 → IsWord fault → IsWord base
-    → line_of (codes "thread" ∷ object_name tcb ∷ object_name cnode ∷ decimal guard ∷ object_name root ∷ decimal priority ∷ decimal budget ∷ decimal fault ∷ codes "l" ∷ decimal base ∷ [])
-    ≡ Some (Ok (said.Thread (record { tcb = object_name tcb; cnode = object_name cnode; guard = guard; root = object_name root; priority = priority; budget = budget; fault = fault; entry = codes "l"; base = base })))
+    → line_of (codes "thread" ∷ object_name tcb ∷ object_name cnode ∷ decimal guard ∷ object_name root ∷ decimal priority ∷ decimal budget ∷ decimal fault
+    ∷ codes "l" ∷ decimal base ∷ [])
+    ≡ Some (Ok (said.Thread (record {
+      tcb = object_name tcb;
+      cnode = object_name cnode;
+      guard = guard;
+      root = object_name root;
+      priority = priority;
+      budget =
+          budget;
+      fault = fault;
+      entry = codes "l";
+      base = base;
+    })))
 unfolding line_of keyword_of line_for thread_of thread_words_of thread_said budget_of place_first last_number
 thread-says tcb cnode guard root priority budget fault base a b d e h small k less f g =
-    rw (first-object 111 tcb (object_name cnode ∷ decimal guard ∷ object_name root ∷ decimal priority ∷ decimal budget ∷ decimal fault ∷ codes "l" ∷ decimal base ∷ []) refl refl (wide tcb a))
-    (rw (first-object 111 cnode (decimal guard ∷ object_name root ∷ decimal priority ∷ decimal budget ∷ decimal fault ∷ codes "l" ∷ decimal base ∷ []) refl refl (wide cnode b))
+    rw (first-object 111 tcb (object_name cnode ∷ decimal guard ∷ object_name root ∷ decimal priority ∷ decimal budget ∷ decimal fault ∷ codes "l" ∷ decimal
+    base ∷ []) refl refl (wide tcb a))
+    (rw (first-object 111 cnode (decimal guard ∷ object_name root ∷ decimal priority ∷ decimal budget ∷ decimal fault ∷ codes "l" ∷ decimal base ∷ []) refl refl
+    (wide cnode b))
     (rw (first-decimal guard (object_name root ∷ decimal priority ∷ decimal budget ∷ decimal fault ∷ codes "l" ∷ decimal base ∷ []) (wide guard d))
     (rw (first-object 111 root (decimal priority ∷ decimal budget ∷ decimal fault ∷ codes "l" ∷ decimal base ∷ []) refl refl (wide root e))
     (rw (first-decimal priority (decimal budget ∷ decimal fault ∷ codes "l" ∷ decimal base ∷ []) small)
@@ -249,11 +281,13 @@ thread-says tcb cnode guard root priority budget fault base a b d e h small k le
 
 -- ---- certificates
 
-pub range-says : (r low high : ℕ) → nat_lt 0 r ≡ true → r < 32 → IsWord low → IsWord high → (nat_le low high && (nat_lt 0 low || nat_lt high (2 ^ 32 - 1))) ≡ true
+pub range-says : (r low high : ℕ) → nat_lt 0 r ≡ true → r < 32 → IsWord low → IsWord high →
+    (nat_le low high && (nat_lt 0 low || nat_lt high (2 ^ 32 - 1))) ≡ true
     → line_of (codes "range" ∷ register_name r ∷ decimal low ∷ decimal high ∷ []) ≡ Some (Ok (said.Range (record { register = r; low = low; high = high })))
 unfolding line_of keyword_of thread_keyword_of line_for range_of last_numbers last_number
 range-says r low high some less a b h =
-    rw (first-register r (decimal low ∷ decimal high ∷ []) less) (rw (first-decimal low (decimal high ∷ []) (wide low a)) (rw (first-decimal high [] (wide high b))
+    rw (first-register r (decimal low ∷ decimal high ∷ []) less)
+    (rw (first-decimal low (decimal high ∷ []) (wide low a)) (rw (first-decimal high [] (wide high b))
     (rw some (rw (is-word low a) (rw (is-word high b) (rw h refl))))))
 
 -- ---- measures
@@ -293,7 +327,8 @@ small-constant : (z : ℤ) → is_constant z ≡ true → IsSmall z
 small-constant (pos n) h = grind (arith, nat_tests)
 small-constant (negsuc n) h = let less : n < 2 ^ 62 = ltb-true _ _ h in omega arith
 
-pub measure-says : (z : ℤ) (words : List Text) → is_constant z ≡ true → IsTermWords words → line_of (codes "measure" ∷ whole_number z ∷ words) ≡ Some (Ok (said.Measure z words))
+pub measure-says : (z : ℤ) (words : List Text) → is_constant z ≡ true → IsTermWords words →
+    line_of (codes "measure" ∷ whole_number z ∷ words) ≡ Some (Ok (said.Measure z words))
 unfolding line_of keyword_of thread_keyword_of line_for measure_of constant_of
 measure-says z words h t = rw (first-number z words (small-constant z h)) (rw t.pairs (rw h (rw t.terms refl)))
 
@@ -309,9 +344,11 @@ pub record Parented (first second : Text) (empty : Bool) (p : Parent) : Type 0 w
   pub index : number_first (second ∷ []) ≡ Ok (number, [])
   pub whole : parent_with empty raw number ≡ Ok p
 
-slot-says : (cnode index word0 word1 : ℕ) (first second : Text) (p : Parent) → IsWord cnode → between 0 (2 ^ 14 - 1) index ≡ true → index < 2 ^ 63 → IsWord word0 → IsWord word1
+slot-says : (cnode index word0 word1 : ℕ) (first second : Text) (p : Parent) → IsWord cnode → between 0 (2 ^ 14 - 1) index ≡ true → index < 2 ^ 63 →
+    IsWord word0 → IsWord word1
     → Parented first second ((word0 == 0) && (word1 == 0)) p
-    → line_of (codes "slot" ∷ object_name cnode ∷ decimal index ∷ decimal word0 ∷ decimal word1 ∷ first ∷ second ∷ []) ≡ Some (Ok (said.Slot (object_name cnode) index word0 word1 p))
+    → line_of (codes "slot" ∷ object_name cnode ∷ decimal index ∷ decimal word0 ∷ decimal word1 ∷ first ∷ second ∷ []) ≡ Some
+    (Ok (said.Slot (object_name cnode) index word0 word1 p))
 unfolding line_of keyword_of thread_keyword_of line_for slot_of slot_words_of slot_said last_number
 slot-says cnode index word0 word1 first second p a h small b d parented =
     rw (first-object 111 cnode (decimal index ∷ decimal word0 ∷ decimal word1 ∷ first ∷ second ∷ []) refl refl (wide cnode a))
@@ -323,7 +360,8 @@ slot-says cnode index word0 word1 first second p a h small b d parented =
 boot-parented : (empty : Bool) → Parented (codes "boot") (decimal 0) empty parent.Boot
 boot-parented empty = record { raw = parent.Boot; number = pos 0; begins = refl; index = first-decimal 0 [] (omega arith); whole = refl }
 
-named-parented : (cnode index : ℕ) (empty : Bool) → IsWord cnode → (not empty && nat_lt index (2 ^ 14)) ≡ true → Parented (object_name cnode) (decimal index) empty (parent.Slot (object_name cnode) index)
+named-parented : (cnode index : ℕ) (empty : Bool) → IsWord cnode → (not empty && nat_lt index (2 ^ 14)) ≡ true →
+    Parented (object_name cnode) (decimal index) empty (parent.Slot (object_name cnode) index)
 named-parented cnode index empty a h =
     let both = and_parts (not empty) (nat_lt index (2 ^ 14)) h in
     let less : index < 2 ^ 14 = ltb-true _ _ both.1 in
@@ -341,7 +379,8 @@ parent_by b e = if b then parent.Boot else parent.Slot (object_name e.parent_cno
 abbrev pub parent_words_by : Bool → SlotEntry → List Text
 parent_words_by b e = if b then codes "boot" ∷ decimal 0 ∷ [] else object_name e.parent_cnode ∷ decimal e.parent_index ∷ []
 
-pub slot-reads : (e : SlotEntry) (c : Cap) (b : Bool) → IsWord e.cnode → nat_lt e.index (2 ^ 14) ≡ true → IsWord e.word0 → IsWord e.word1 → IsCapability c → e.word0 ∷ e.word1 ∷ [] ≡ words_of_capability c
+pub slot-reads : (e : SlotEntry) (c : Cap) (b : Bool) → IsWord e.cnode → nat_lt e.index (2 ^ 14) ≡ true → IsWord e.word0 → IsWord e.word1 → IsCapability c →
+    e.word0 ∷ e.word1 ∷ [] ≡ words_of_capability c
     → IsWord e.parent_cnode → (if b then e.parent_index == no_parent else (not ((e.word0 == 0) && (e.word1 == 0)) && nat_lt e.parent_index (2 ^ 14))) ≡ true
     → Reads (said.Slot (object_name e.cnode) e.index e.word0 e.word1 (parent_by b e))
     (line ((codes "slot" ∷ object_name e.cnode ∷ decimal e.index ∷ decimal e.word0 ∷ decimal e.word1 ∷ []) ++ parent_words_by b e))
@@ -350,7 +389,16 @@ slot-reads e c true a h w0 w1 cap own g k =
     let inside : between 0 (2 ^ 14 - 1) e.index ≡ true = grind (arith, nat_tests) in record {
       words = codes "slot" ∷ object_name e.cnode ∷ decimal e.index ∷ decimal e.word0 ∷ decimal e.word1 ∷ codes "boot" ∷ decimal 0 ∷ [];
       spelled = refl;
-      plain = (plain-literal (codes "slot") (omega arith) refl, (named-plain 111 e.cnode refl a, (decimal-plain e.index (omega arith), (number-plain e.word0 w0, (number-plain e.word1 w1, (plain-literal (codes "boot") (omega arith) refl, (number-plain 0 (omega arith), tt)))))));
+      plain = (
+        plain-literal (codes "slot") (omega arith) refl,
+        (
+          named-plain 111 e.cnode refl a,
+          (
+            decimal-plain e.index (omega arith),
+            (number-plain e.word0 w0, (number-plain e.word1 w1, (plain-literal (codes "boot") (omega arith) refl, (number-plain 0 (omega arith), tt)))),
+          ),
+        ),
+      );
       known = (c, cap, own);
       says = slot-says e.cnode e.index e.word0 e.word1 (codes "boot") (decimal 0) parent.Boot a inside (omega arith) w0 w1 (boot-parented _);
     }
@@ -359,11 +407,22 @@ slot-reads e c false a h w0 w1 cap own g k =
     let both = and_parts (not ((e.word0 == 0) && (e.word1 == 0))) (nat_lt e.parent_index (2 ^ 14)) k in
     let parent-less : e.parent_index < 2 ^ 14 = ltb-true _ _ both.1 in
     let inside : between 0 (2 ^ 14 - 1) e.index ≡ true = grind (arith, nat_tests) in record {
-      words = codes "slot" ∷ object_name e.cnode ∷ decimal e.index ∷ decimal e.word0 ∷ decimal e.word1 ∷ object_name e.parent_cnode ∷ decimal e.parent_index ∷ [];
+      words = codes "slot" ∷ object_name e.cnode ∷ decimal e.index ∷ decimal e.word0 ∷ decimal e.word1 ∷ object_name e.parent_cnode ∷ decimal e.parent_index
+          ∷ [];
       spelled = refl;
-      plain = (plain-literal (codes "slot") (omega arith) refl, (named-plain 111 e.cnode refl a, (decimal-plain e.index (omega arith), (number-plain e.word0 w0, (number-plain e.word1 w1, (named-plain 111 e.parent_cnode refl g, (decimal-plain e.parent_index (omega arith), tt)))))));
+      plain = (
+        plain-literal (codes "slot") (omega arith) refl,
+        (
+          named-plain 111 e.cnode refl a,
+          (
+            decimal-plain e.index (omega arith),
+            (number-plain e.word0 w0, (number-plain e.word1 w1, (named-plain 111 e.parent_cnode refl g, (decimal-plain e.parent_index (omega arith), tt)))),
+          ),
+        ),
+      );
       known = (c, cap, own);
-      says = slot-says e.cnode e.index e.word0 e.word1 (object_name e.parent_cnode) (decimal e.parent_index) (parent.Slot (object_name e.parent_cnode) e.parent_index) a inside (omega arith) w0 w1 (named-parented e.parent_cnode e.parent_index _ g k);
+      says = slot-says e.cnode e.index e.word0 e.word1 (object_name e.parent_cnode) (decimal e.parent_index)
+          (parent.Slot (object_name e.parent_cnode) e.parent_index) a inside (omega arith) w0 w1 (named-parented e.parent_cnode e.parent_index _ g k);
     }
 
 -- ---- what is lent

@@ -5,13 +5,18 @@ use Rattle.std.specs.Fmt.{decimal}
 use Rattle.std.specs.List.{list_all, position}
 use Rattle.std.proofs.lemmas.Bool.Decides.{nat_tests}
 use Rattle.model.specs.Images.Image.{between, no_parent}
-use Rattle.model.specs.Images.Listing.{Text, untyped_name, object_name, interrupt_name, register_name, kind_name, source_name, whole_number, term_words, size_words}
+use Rattle.model.specs.Images.Listing.{Text, untyped_name, object_name, interrupt_name, register_name, kind_name, source_name, whole_number, term_words}
+use Rattle.model.specs.Images.Listing.{size_words}
 use Rattle.asm_line.specs.declared.lines.Line.{Line}
 use Rattle.asm_line.specs.Words.{words_of}
 use Rattle.asm_line.specs.Parsing.{line_of}
-use Rattle.asm_line.specs.Listed.{Lists, memory, untyped, object, interrupt, capability, table, frame, content, thread, measure, range, slot, register, label, word, end, IsWord}
+use Rattle.asm_line.specs.Listed.{Lists, memory, untyped, object, interrupt, capability, table, frame, content, thread, measure, range, slot, register, label}
+use Rattle.asm_line.specs.Listed.{word, end, IsWord}
 use Rattle.asm_line.proofs.PlainWords.{IsPlainWord, is_plain, decimal-plain, words-line, line-all, none-there}
-use Rattle.asm_line.proofs.ListedLines.{Reads, named-plain, named-digits, number-plain, plain-literal, memory-says, untyped-says, object-says, size-says, interrupt-says, capability-says, table-says, frame-says, content-says, thread-says, measure-says, constant-plain, terms-say, range-says, register-says, label-says, word-says, end-says, kind-says, source-says, plain-numbers, slot-reads}
+use Rattle.asm_line.proofs.ListedLines.{Reads, named-plain, named-digits, number-plain, plain-literal, memory-says, untyped-says, object-says, size-says}
+use Rattle.asm_line.proofs.ListedLines.{interrupt-says, capability-says, table-says, frame-says, content-says, thread-says, measure-says, constant-plain}
+use Rattle.asm_line.proofs.ListedLines.{terms-say, range-says, register-says, label-says, word-says, end-says, kind-says, source-says, plain-numbers}
+use Rattle.asm_line.proofs.ListedLines.{slot-reads}
 
 most : (low high n : ℕ) → between low high n ≡ true → high < 2 ^ 63 → n < 2 ^ 63
 most low high n h less = grind (arith, nat_tests)
@@ -38,7 +43,10 @@ pub reads : (l : Line) (text : Text) → Lists l text → Reads l text
 reads _ _ (memory i h k) = record {
   words = codes "memory" ∷ decimal i.header.memory_bits ∷ decimal i.header.boot_radix ∷ [];
   spelled = refl;
-  plain = (literal (codes "memory") (omega arith) refl, (small-plain 16 24 _ h (omega arith), (small-plain 1 (min 14 (i.header.memory_bits - 5)) _ k (omega arith), tt)));
+  plain = (
+    literal (codes "memory") (omega arith) refl,
+    (small-plain 16 24 _ h (omega arith), (small-plain 1 (min 14 (i.header.memory_bits - 5)) _ k (omega arith), tt)),
+  );
   known = tt;
   says = memory-says _ _ h k (most 16 24 _ h (omega arith)) (most 1 (min 14 (i.header.memory_bits - 5)) _ k (omega arith));
 }
@@ -59,14 +67,29 @@ reads _ _ (object k e a b h small fits) = let sized = size-says e.kind e.size h 
 reads _ _ (interrupt k e a h b g) = let badge = badge-fits e.badge g in record {
   words = codes "irq" ∷ interrupt_name k ∷ decimal e.line ∷ object_name e.notification ∷ decimal e.badge ∷ [];
   spelled = refl;
-  plain = (literal (codes "irq") (omega arith) refl, (named-plain 105 k refl a, (small-plain 0 63 e.line h (omega arith), (named-plain 111 e.notification refl b, (small-plain 0 (2 ^ 28 - 1) e.badge badge (omega arith), tt)))));
+  plain = (
+    literal (codes "irq") (omega arith) refl,
+    (
+      named-plain 105 k refl a,
+      (
+        small-plain 0 63 e.line h (omega arith),
+        (named-plain 111 e.notification refl b, (small-plain 0 (2 ^ 28 - 1) e.badge badge (omega arith), tt)),
+      ),
+    ),
+  );
   known = tt;
   says = interrupt-says k e.line e.notification e.badge a h (most 0 63 e.line h (omega arith)) b badge (most 0 (2 ^ 28 - 1) e.badge badge (omega arith));
 }
 reads _ _ (capability i e a b d f g) = record {
   words = codes "cap" ∷ object_name e.cnode ∷ decimal e.index ∷ source_name i e.source ∷ decimal e.rights ∷ decimal e.payload ∷ [];
   spelled = refl;
-  plain = (literal (codes "cap") (omega arith) refl, (named-plain 111 e.cnode refl a, (number-plain e.index b, ((source-says i e.source d).plain, (number-plain e.rights f, (number-plain e.payload g, tt))))));
+  plain = (
+    literal (codes "cap") (omega arith) refl,
+    (
+      named-plain 111 e.cnode refl a,
+      (number-plain e.index b, ((source-says i e.source d).plain, (number-plain e.rights f, (number-plain e.payload g, tt)))),
+    ),
+  );
   known = tt;
   says = capability-says i e.cnode e.index e.source e.rights e.payload a b d f g;
 }
@@ -80,7 +103,10 @@ reads _ _ (table e a b d) = record {
 reads _ _ (frame e a b d h) = record {
   words = codes "map" ∷ object_name e.root ∷ decimal e.address ∷ object_name e.frame ∷ decimal e.rights ∷ [];
   spelled = refl;
-  plain = (literal (codes "map") (omega arith) refl, (named-plain 111 e.root refl a, (number-plain e.address b, (named-plain 111 e.frame refl d, (small-plain 0 7 e.rights h (omega arith), tt)))));
+  plain = (
+    literal (codes "map") (omega arith) refl,
+    (named-plain 111 e.root refl a, (number-plain e.address b, (named-plain 111 e.frame refl d, (small-plain 0 7 e.rights h (omega arith), tt)))),
+  );
   known = tt;
   says = frame-says e.root e.address e.frame e.rights a b d h (most 0 7 e.rights h (omega arith));
 }
@@ -92,7 +118,8 @@ reads _ _ (content c a some h) = record {
   says = content-says c.header.frame c.words a some h;
 }
 reads _ _ (thread t a b d e h k f g) = let x = t.header in record {
-  words = codes "thread" ∷ object_name x.tcb ∷ object_name x.cnode ∷ decimal x.guard ∷ object_name x.root ∷ decimal x.priority ∷ decimal x.budget ∷ decimal x.fault ∷ codes "l" ∷ decimal x.base ∷ [];
+  words = codes "thread" ∷ object_name x.tcb ∷ object_name x.cnode ∷ decimal x.guard ∷ object_name x.root ∷ decimal x.priority ∷ decimal x.budget ∷ decimal
+      x.fault ∷ codes "l" ∷ decimal x.base ∷ [];
   spelled = refl;
   plain = (
     literal (codes "thread") (omega arith) refl,
@@ -106,7 +133,10 @@ reads _ _ (thread t a b d e h k f g) = let x = t.header in record {
             named-plain 111 x.root refl e,
             (
               small-plain 0 255 x.priority h (omega arith),
-              (small-plain 1 (2 ^ 62) x.budget k (omega arith), (number-plain x.fault f, (literal (codes "l") (omega arith) refl, (number-plain x.base g, tt)))),
+              (
+                small-plain 1 (2 ^ 62) x.budget k (omega arith),
+                (number-plain x.fault f, (literal (codes "l") (omega arith) refl, (number-plain x.base g, tt))),
+              ),
             ),
           ),
         ),
@@ -114,7 +144,8 @@ reads _ _ (thread t a b d e h k f g) = let x = t.header in record {
     ),
   );
   known = tt;
-  says = thread-says x.tcb x.cnode x.guard x.root x.priority x.budget x.fault x.base a b d e h (most 0 255 x.priority h (omega arith)) k (most 1 (2 ^ 62) x.budget k (omega arith)) f g;
+  says = thread-says x.tcb x.cnode x.guard x.root x.priority x.budget x.fault x.base a b d e h (most 0 255 x.priority h (omega arith)) k
+      (most 1 (2 ^ 62) x.budget k (omega arith)) f g;
 }
 reads _ _ (measure r h ts) = let terms = terms-say r.terms ts in record {
   words = codes "measure" ∷ whole_number r.header.constant ∷ flat_map term_words r.terms;
@@ -126,7 +157,10 @@ reads _ _ (measure r h ts) = let terms = terms-say r.terms ts in record {
 reads _ _ (range e h a b k) = record {
   words = codes "range" ∷ register_name e.register ∷ decimal e.low ∷ decimal e.high ∷ [];
   spelled = refl;
-  plain = (literal (codes "range") (omega arith) refl, (named-digits 120 e.register refl (let fits = under e.register h in omega (arith, fits)), (number-plain e.low a, (number-plain e.high b, tt))));
+  plain = (
+    literal (codes "range") (omega arith) refl,
+    (named-digits 120 e.register refl (let fits = under e.register h in omega (arith, fits)), (number-plain e.low a, (number-plain e.high b, tt))),
+  );
   known = tt;
   says = range-says e.register e.low e.high (least 0 31 e.register h) (under e.register h) a b k;
 }
@@ -134,7 +168,10 @@ reads _ _ (slot e c a h w0 w1 cap own g k) = slot-reads e c (e.parent_cnode == n
 reads _ _ (register e h some small) = record {
   words = codes "reg" ∷ register_name e.register ∷ decimal e.value ∷ [];
   spelled = refl;
-  plain = (literal (codes "reg") (omega arith) refl, (named-digits 120 e.register refl (let fits = under e.register h in omega (arith, fits)), (number-plain e.value small, tt)));
+  plain = (
+    literal (codes "reg") (omega arith) refl,
+    (named-digits 120 e.register refl (let fits = under e.register h in omega (arith, fits)), (number-plain e.value small, tt)),
+  );
   known = tt;
   says = register-says e.register e.value (least 0 31 e.register h) (under e.register h) (value-fits e.value some small) small;
 }
@@ -172,7 +209,8 @@ pub reads-ascii : (l : Line) (text : Text) → Reads l text → list_all (λ b. 
 reads-ascii l text r = ap (list_all (λ b. nat_lt b 128)) r.spelled ∙ line-all (λ b. nat_lt b 128) plain-ascii refl r.words r.plain
 
 pub reads-code : (l : Line) (text : Text) → Reads l text → position (λ b. b == 35) text ≡ None
-reads-code l text r = none-there (λ b. b == 35) text (ap (list_all (λ b. not (b == 35))) r.spelled ∙ line-all (λ b. not (b == 35)) plain-code refl r.words r.plain)
+reads-code l text r = none-there (λ b. b == 35) text (ap (list_all (λ b. not (b == 35))) r.spelled
+    ∙ line-all (λ b. not (b == 35)) plain-code refl r.words r.plain)
 
 pub reads-says : (l : Line) (text : Text) → Reads l text → line_of (words_of text) ≡ Some (Ok l)
 reads-says l text r = ap line_of (ap words_of r.spelled ∙ words-line r.words r.plain) ∙ r.says

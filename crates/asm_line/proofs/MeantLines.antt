@@ -71,16 +71,19 @@ said-from [] l h e = same_Some _ _ e
 said-from (word ∷ words) l h e = by-keyword (keyword_of word) refl e
   where
     by-label : (o : Option Text) → label_line o words ≡ Some (Ok l)
-        → ◌≡◌ {A = Result Line ℕ} (elim o [ Some name ↦ labelled_line name words | None ↦ (instruction_of word words >>= λ said. Ok (line.Code None said)) ]) (Ok l)
+        → ◌≡◌ {A = Result Line ℕ} (elim o [ Some name ↦ labelled_line name words | None ↦ (instruction_of word words >>= λ said. Ok (line.Code None said)) ])
+        (Ok l)
     by-label o e = by-words o words e
       where
         by-words : (o : Option Text) (ws : List Text) → label_line o ws ≡ Some (Ok l)
-            → ◌≡◌ {A = Result Line ℕ} (elim o [ Some name ↦ labelled_line name ws | None ↦ (instruction_of word ws >>= λ said. Ok (line.Code None said)) ]) (Ok l)
+            → ◌≡◌ {A = Result Line ℕ} (elim o [ Some name ↦ labelled_line name ws | None ↦ (instruction_of word ws >>= λ said. Ok (line.Code None said)) ])
+            (Ok l)
         by-words (Some name) [] e = same_Some _ _ e
         by-words (Some name) (w ∷ ws) e = absurd (let no : None ≡ Some (Ok l) = e in cc)
         by-words None ws e = absurd (let no : None ≡ Some (Ok l) = e in cc)
 
-    by-keyword : (o : Option Keyword) → keyword_of word ≡ o → ◌≡◌ {A = Option (Result Line ℕ)} (elim o [ Some k ↦ Some (line_for k words) | None ↦ label_line (label_of word) words ]) (Some (Ok l))
+    by-keyword : (o : Option Keyword) → keyword_of word ≡ o →
+        ◌≡◌ {A = Option (Result Line ℕ)} (elim o [ Some k ↦ Some (line_for k words) | None ↦ label_line (label_of word) words ]) (Some (Ok l))
         → ◌≡◌ {A = Result Line ℕ} (elim o [ Some k ↦ line_with k words | None ↦ other_line_of word words ]) (Ok l)
     by-keyword (Some k) is e = with-keyword k words l h (same_Some _ _ e)
     by-keyword None is e = by-label (label_of word) e

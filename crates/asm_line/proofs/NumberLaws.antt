@@ -1,6 +1,7 @@
 -- What listings write of numbers, names and registers is read as these.
 use Rattle.std.specs.Prelude.{◌==◌}
-use Rattle.std.proofs.Common.{◌≡◌, ℕ, suc, ◌+◌, ◌-◌, ◌*◌, ◌/◌, ◌%◌, ◌^◌, ◌<◌, ◌≤◌, Bool, true, false, ◌&&◌, cond, List, [], ◌∷◌, ◌++◌, length, Some, Ok, Err, ℤ, pos, negsuc, refl, ap, ◌∙◌, arith, ltb, lt-ltb, min}
+use Rattle.std.proofs.Common.{◌≡◌, ℕ, suc, ◌+◌, ◌-◌, ◌*◌, ◌/◌, ◌%◌, ◌^◌, ◌<◌, ◌≤◌, Bool, true, false, ◌&&◌, cond, List, [], ◌∷◌, ◌++◌, length, Some, Ok, Err, ℤ}
+use Rattle.std.proofs.Common.{pos, negsuc, refl, ap, ◌∙◌, arith, ltb, lt-ltb, min}
 use Rattle.std.specs.Fmt.{decimal}
 use Rattle.std.specs.Str.{all_ascii_digits}
 use Rattle.std.specs.Char.{is_ascii_digit, digit_value}
@@ -9,7 +10,8 @@ use Rattle.std.proofs.lemmas.Bool.{and_parts, and_right, ltb-true, ltb-false}
 use Rattle.std.proofs.lemmas.Bool.Decides.{nat_tests}
 use Rattle.std.proofs.lemmas.Fmt.{decimal_nonempty, decimal_by_steps, decimal_digit, decimal_step}
 use Rattle.model.specs.Images.Listing.{Text, whole_number, register_name}
-use Rattle.asm_line.specs.Words.{◌>>=◌, is_name_start, name_of, object_first, number_of, number_first, value_on, magnitude, digit_in, small_number_of, register_numbered, register_of, register_first}
+use Rattle.asm_line.specs.Words.{◌>>=◌, is_name_start, name_of, object_first, number_of, number_first, value_on, magnitude, digit_in, small_number_of}
+use Rattle.asm_line.specs.Words.{register_numbered, register_of, register_first}
 use Rattle.asm_line.proofs.PlainWords.{decimal-digits, digits-name}
 
 -- ---- values
@@ -18,7 +20,8 @@ value-append : (radix m : ℕ) (xs ys : Text) → value_on radix m (xs ++ ys) �
 value-append radix m [] ys = refl
 value-append radix m (x ∷ xs) ys =
     let rest = value-append radix (min (m * radix + digit_value x) (2 ^ 63 - 1)) xs ys in
-    elim (ltb (digit_value x) radix) as (λ b. ((cond b (Ok (digit_value x)) (Err 1)) >>= λ digit. value_on radix (min (m * radix + digit) (2 ^ 63 - 1)) (xs ++ ys))
+    elim (ltb (digit_value x) radix)
+    as (λ b. ((cond b (Ok (digit_value x)) (Err 1)) >>= λ digit. value_on radix (min (m * radix + digit) (2 ^ 63 - 1)) (xs ++ ys))
     ≡ (((cond b (Ok (digit_value x)) (Err 1)) >>= λ digit. value_on radix (min (m * radix + digit) (2 ^ 63 - 1)) xs) >>= λ k. value_on radix k ys))
     [ true ↦ rest | false ↦ refl ]
 
@@ -46,7 +49,8 @@ value-decimal n small = decimal_by_steps Valued one more n (omega arith) small
     more k ds least front less =
         let same : k / 10 * 10 + k % 10 ≡ k = omega arith in
         value-append 10 0 ds ((48 + k % 10) ∷ [])
-        ∙ (ap (λ r. r >>= λ m. value_on 10 m ((48 + k % 10) ∷ [])) (front (omega arith)) ∙ (digit-last (k / 10) (k % 10) (omega arith) (omega arith) ∙ ap Ok same))
+        ∙ (ap (λ r. r >>= λ m. value_on 10 m ((48 + k % 10) ∷ [])) (front (omega arith))
+        ∙ (digit-last (k / 10) (k % 10) (omega arith) (omega arith) ∙ ap Ok same))
 
 magnitude-some : (radix : ℕ) (ds : Text) → 0 < length ds → magnitude radix ds ≡ value_on radix 0 ds
 magnitude-some radix [] h = absurd (omega arith)
@@ -139,6 +143,8 @@ unfolding register_first
 first-register n words less = ap (λ r. r >>= λ number. Ok (number, words)) (register-name n less)
 
 -- a name that begins otherwise than `boot`
-pub first-object : (c n : ℕ) (words : List Text) → is_name_start c ≡ true → (c == 98) ≡ false → n < 2 ^ 63 → object_first ((c ∷ decimal n) ∷ words) ≡ Ok (c ∷ decimal n, words)
+pub first-object : (c n : ℕ) (words : List Text) → is_name_start c ≡ true → (c == 98) ≡ false → n < 2 ^ 63 →
+    object_first ((c ∷ decimal n) ∷ words) ≡ Ok (c ∷ decimal n, words)
 unfolding object_first
-first-object c n words start other small = rw other (ap (λ r. r >>= λ name. Ok (name, words)) (name-digits c (decimal n) start (decimal-digits n (omega arith))))
+first-object c n words start other small =
+    rw other (ap (λ r. r >>= λ name. Ok (name, words)) (name-digits c (decimal n) start (decimal-digits n (omega arith))))

@@ -92,4 +92,5 @@ all-prefix q (x ∷ xs) h =
     rw both.0 (omega (arith, rest))
 
 pub none-there : (q : ℕ → Bool) (xs : Text) → list_all (λ b. not (q b)) xs ≡ true → position q xs ≡ None
-none-there q xs h = let long = all-prefix (λ b. not (q b)) xs h in let less : ltb (prefix_len (λ b. not (q b)) xs) (length xs) ≡ false = le-ltb _ _ (omega (arith, long)) in rw less refl
+none-there q xs h = let long = all-prefix (λ b. not (q b)) xs h in let less : ltb (prefix_len (λ b. not (q b)) xs) (length xs) ≡ false =
+    le-ltb _ _ (omega (arith, long)) in rw less refl

@@ -1,5 +1,6 @@
 -- How a text falls into words.
-use Rattle.std.proofs.Common.{◌≡◌, ℕ, suc, ◌+◌, ◌<◌, ◌≤◌, Bool, true, false, not, cond, List, [], ◌∷◌, length, take, drop, get_or, Some, None, refl, sym, ap, ◌∙◌, arith, ltb, unwrap_or}
+use Rattle.std.proofs.Common.{◌≡◌, ℕ, suc, ◌+◌, ◌<◌, ◌≤◌, Bool, true, false, not, cond, List, [], ◌∷◌, length, take, drop, get_or, Some, None, refl, sym, ap}
+use Rattle.std.proofs.Common.{◌∙◌, arith, ltb, unwrap_or}
 use Rattle.std.specs.List.{slice_split, position_or_len, prefix_len, position, filter}
 use Rattle.std.proofs.lemmas.Bool.{ltb-true, ltb-false, lt-ltb}
 use Rattle.std.proofs.lemmas.List.Sums.{passes_at_first}
@@ -31,7 +32,8 @@ found : (p : ℕ → Bool) (xs : Text) (i : ℕ) → position p xs ≡ Some i �
 found p xs i = by (ltb (position_or_len p xs) (length xs)) refl
   where
     by : (b : Bool) → ltb (position_or_len p xs) (length xs) ≡ b → cond b (Some (position_or_len p xs)) None ≡ Some i → Found p xs i
-    by true e h = let same : position_or_len p xs ≡ i = cc in record { place = same; inside = let less : position_or_len p xs < length xs = ltb-true _ _ e in omega arith }
+    by true e h = let same : position_or_len p xs ≡ i = cc in
+        record { place = same; inside = let less : position_or_len p xs < length xs = ltb-true _ _ e in omega arith }
     by false e h = absurd (cc)
 
 absent : (p : ℕ → Bool) (xs : Text) → position p xs ≡ None → length xs ≤ position_or_len p xs

@@ -1,5 +1,6 @@
 -- What lines say, by their words. The grammar of a line comes first, and then the ranges of its own numbers.
-use Rattle.std.specs.Prelude.{ℕ, ◌-◌, ◌^◌, ◌==◌, Bool, ◌||◌, ◌&&◌, not, if◌then◌else◌, ℤ, pos, negsuc, codes, List, [], ◌∷◌, nat_lt, nat_le, min, Option, Some, None, Result, Ok, Err}
+use Rattle.std.specs.Prelude.{ℕ, ◌-◌, ◌^◌, ◌==◌, Bool, ◌||◌, ◌&&◌, not, if◌then◌else◌, ℤ, pos, negsuc, codes, List, [], ◌∷◌, nat_lt, nat_le, min, Option, Some}
+use Rattle.std.specs.Prelude.{None, Result, Ok, Err}
 use Rattle.std.specs.Str.{bytes_eq}
 use Rattle.std.specs.Int.{w32}
 use Rattle.model.specs.declared.entries.TermEntry.{TermEntry}
@@ -14,7 +15,8 @@ use Rattle.asm_line.specs.declared.lines.Parent.{Parent}
 use Rattle.asm_line.specs.declared.lines.Parent.TheVariants as parent
 use Rattle.asm_line.specs.declared.thread_lines.SlotWords.{SlotWords}
 use Rattle.asm_line.specs.declared.thread_lines.ThreadWords.{ThreadWords}
-use Rattle.asm_line.specs.Words.{◌>>=◌, ends, last_number, last_numbers, name_of, name_first, number_of, number_first, object_first, place_first, register_first, register_of, within}
+use Rattle.asm_line.specs.Words.{◌>>=◌, ends, last_number, last_numbers, name_of, name_first, number_of, number_first, object_first, place_first}
+use Rattle.asm_line.specs.Words.{register_first, register_of, within}
 
 -- ---- keywords
 
@@ -177,7 +179,17 @@ thread_words_of words = do
   fault ← number_first budget.1
   entry ← name_first fault.1
   base ← last_number entry.1
-  Ok (record { tcb = tcb.0; cnode = spaces.0; guard = spaces.1; root = spaces.2; priority = priority.0; budget = budget.0; fault = fault.0; entry = entry.0; base = base })
+  Ok (record {
+    tcb = tcb.0;
+    cnode = spaces.0;
+    guard = spaces.1;
+    root = spaces.2;
+    priority = priority.0;
+    budget = budget.0;
+    fault = fault.0;
+    entry = entry.0;
+    base = base;
+  })
 
 -- the ranges of its numbers
 unfoldable pub thread_said : ThreadWords → Result Line ℕ
@@ -187,7 +199,18 @@ thread_said words = do
   budget ← budget_of words.budget
   fault ← word words.fault
   base ← word words.base
-  Ok (line.Thread (record { tcb = words.tcb; cnode = words.cnode; guard = guard; root = words.root; priority = priority; budget = budget; fault = fault; entry = words.entry; base = base }))
+  Ok (line.Thread (record {
+    tcb = words.tcb;
+    cnode = words.cnode;
+    guard = guard;
+    root = words.root;
+    priority = priority;
+    budget = budget;
+    fault = fault;
+    entry =
+        words.entry;
+    base = base;
+  }))
 
 unfoldable pub thread_of : List Text → Result Line ℕ
 thread_of words = thread_words_of words >>= thread_said

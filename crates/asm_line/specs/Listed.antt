@@ -19,7 +19,9 @@ use Rattle.model.specs.declared.entries.TermEntry.{TermEntry}
 use Rattle.model.specs.Capabilities.CapabilityWords.{IsCapability, words_of}
 use Rattle.model.specs.Images.Format.{fits_signed}
 use Rattle.model.specs.Images.Image.{Image, Thread, ImageContent, StateRecord, between, size_fits, not_zero, is_constant, no_parent, names_parent}
-use Rattle.model.specs.Images.Listing.{Text, line, untyped_name, object_name, interrupt_name, source_name, term_words, memory_line, untyped_line, object_line, interrupt_line, capability_line, table_line, frame_line, content_line, thread_line, register_line, range_line, measure_line, slot_line}
+use Rattle.model.specs.Images.Listing.{Text, line, untyped_name, object_name, interrupt_name, source_name, term_words, memory_line, untyped_line, object_line}
+use Rattle.model.specs.Images.Listing.{interrupt_line, capability_line, table_line, frame_line, content_line, thread_line, register_line, range_line}
+use Rattle.model.specs.Images.Listing.{measure_line, slot_line}
 use Rattle.asm_line.specs.declared.lines.Line.{Line}
 use Rattle.asm_line.specs.declared.lines.Line.TheVariants as said
 use Rattle.asm_line.specs.declared.lines.Code.TheVariants as code
@@ -54,12 +56,26 @@ pub data Lists : Line → Text → Type 0 where
       → Lists (said.Content (object_name c.header.frame) (map decimal c.words)) (content_line c)
   thread : (t : Thread) → IsWord t.header.tcb → IsWord t.header.cnode → IsWord t.header.guard → IsWord t.header.root → between 0 255 t.header.priority ≡ true
       → between 1 (2 ^ 62) t.header.budget ≡ true → IsWord t.header.fault → IsWord t.header.base
-      → Lists (said.Thread (record { tcb = object_name t.header.tcb; cnode = object_name t.header.cnode; guard = t.header.guard; root = object_name t.header.root; priority = t.header.priority; budget = t.header.budget; fault = t.header.fault; entry = codes "l"; base = t.header.base })) (thread_line t)
+      → Lists (said.Thread (record {
+        tcb = object_name t.header.tcb;
+        cnode = object_name t.header.cnode;
+        guard = t.header.guard;
+        root =
+            object_name t.header.root;
+        priority = t.header.priority;
+        budget = t.header.budget;
+        fault = t.header.fault;
+        entry = codes "l";
+        base = t.header.base;
+      }))
+      (thread_line t)
   measure : (r : StateRecord) → is_constant r.header.constant ≡ true → AllByRecursion IsTerm r.terms
       → Lists (said.Measure r.header.constant (flat_map term_words r.terms)) (measure_line r)
-  range : (e : RangeEntry) → between 1 31 e.register ≡ true → IsWord e.low → IsWord e.high → (nat_le e.low e.high && (nat_lt 0 e.low || nat_lt e.high (2 ^ 32 - 1))) ≡ true
+  range : (e : RangeEntry) → between 1 31 e.register ≡ true → IsWord e.low → IsWord e.high →
+      (nat_le e.low e.high && (nat_lt 0 e.low || nat_lt e.high (2 ^ 32 - 1))) ≡ true
       → Lists (said.Range e) (range_line e)
-  slot : (e : SlotEntry) (c : Cap) → IsWord e.cnode → nat_lt e.index (2 ^ 14) ≡ true → IsWord e.word0 → IsWord e.word1 → IsCapability c → e.word0 ∷ e.word1 ∷ [] ≡ words_of c
+  slot : (e : SlotEntry) (c : Cap) → IsWord e.cnode → nat_lt e.index (2 ^ 14) ≡ true → IsWord e.word0 → IsWord e.word1 → IsCapability c →
+      e.word0 ∷ e.word1 ∷ [] ≡ words_of c
       → IsWord e.parent_cnode → names_parent ((e.word0 == 0) && (e.word1 == 0)) e.parent_cnode e.parent_index ≡ true
       → Lists (said.Slot (object_name e.cnode) e.index e.word0 e.word1 (parent_said e)) (slot_line e)
   register : (e : RegisterEntry) → between 1 31 e.register ≡ true → nat_lt 0 e.value ≡ true → IsWord e.value → Lists (said.Register e) (register_line e)

@@ -1,18 +1,21 @@
 -- Whole lines, but for instructions.
-use Rattle.std.specs.Prelude.{◌≡◌, ℕ, ◌-◌, ◌==◌, if◌then◌else◌, List, [], ◌∷◌, length, take, slice_index_or, position, option_and_then, Option, Some, None, Result, Ok}
+use Rattle.std.specs.Prelude.{◌≡◌, ℕ, ◌-◌, ◌==◌, if◌then◌else◌, List, [], ◌∷◌, length, take, slice_index_or, position, option_and_then, Option, Some, None}
+use Rattle.std.specs.Prelude.{Result, Ok}
 use Rattle.std.specs.Option.{option_map_or}
 use Rattle.std.specs.Result.{result_ok}
 use Rattle.model.specs.declared.capabilities.Cap.{Cap}
 use Rattle.model.specs.Capabilities.CapabilityWords.{IsCapability, words_of}
 use Rattle.model.specs.Images.Listing.{Text}
 use Rattle.asm_line.specs.declared.keywords.Keyword.{Keyword}
-use Rattle.asm_line.specs.declared.keywords.Keyword.TheVariants.{Memory, Untyped, Object, Interrupt, Capability, Table, Frame, Content, Thread, Register, Measure, Range, Slot, Word, End}
+use Rattle.asm_line.specs.declared.keywords.Keyword.TheVariants.{Memory, Untyped, Object, Interrupt, Capability, Table, Frame, Content, Thread, Register}
+use Rattle.asm_line.specs.declared.keywords.Keyword.TheVariants.{Measure, Range, Slot, Word, End}
 use Rattle.asm_line.specs.declared.lines.Line.{Line}
 use Rattle.asm_line.specs.declared.lines.Line.TheVariants as line
 use Rattle.asm_line.specs.declared.lines.Code.{Code}
 use Rattle.asm_line.specs.declared.lines.Code.TheVariants as code
 use Rattle.asm_line.specs.Words.{◌>>=◌, ends, last_number, name_of}
-use Rattle.asm_line.specs.Lines.{capability_of, content_of, frame_of, interrupt_of, keyword_of, measure_of, memory_of, object_of, range_of, register_line_of, slot_of, table_of, thread_of, untyped_of, word}
+use Rattle.asm_line.specs.Lines.{capability_of, content_of, frame_of, interrupt_of, keyword_of, measure_of, memory_of, object_of, range_of, register_line_of}
+use Rattle.asm_line.specs.Lines.{slot_of, table_of, thread_of, untyped_of, word}
 
 unfoldable pub plain_word_of : List Text → Result Code ℕ
 plain_word_of words = do

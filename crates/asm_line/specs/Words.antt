@@ -1,6 +1,7 @@
 -- The words of a line, and what a word is: a name or a number. A fault is 1 where the line is none of the text form,
 -- and 4 where a number is out of its range.
-use Rattle.std.specs.Prelude.{ℕ, ◌+◌, ◌-◌, ◌*◌, ◌^◌, ◌==◌, Bool, ◌||◌, ◌&&◌, false, if◌then◌else◌, ℤ, pos, negsuc, neg_ℤ, List, [], ◌∷◌, length, nat_lt, nat_le, min, filter, drop, slice_index_or, Result, Ok, Err}
+use Rattle.std.specs.Prelude.{ℕ, ◌+◌, ◌-◌, ◌*◌, ◌^◌, ◌==◌, Bool, ◌||◌, ◌&&◌, false, if◌then◌else◌, ℤ, pos, negsuc, neg_ℤ, List, [], ◌∷◌, length, nat_lt, nat_le}
+use Rattle.std.specs.Prelude.{min, filter, drop, slice_index_or, Result, Ok, Err}
 use Rattle.std.specs.Prelude.{Option, Some, None, not, codes}
 use Rattle.std.specs.Str.{bytes_eq}
 use Rattle.std.specs.Char.{digit_value, is_ascii_lowercase, is_ascii_digit}

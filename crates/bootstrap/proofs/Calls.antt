@@ -37,7 +37,8 @@ done before total p none so_far = so_far ∙ ap (called p) none
 pub leaves-more : {A : Type 0} (cs behind : List LoaderCall) (p p1 q : Progress) (r : Result A BootFault) → called p cs ≡ Ok p1
     → GivesState (called p1 behind) r q → GivesState (called p (cs ++ behind)) r q
 leaves-more cs behind p p1 q r passed left =
-    let whole : called p (cs ++ behind) ≡ called p1 behind = called-append p cs behind ∙ ap (λ (d : Result Progress BootFault). d >>= λ q. called q behind) passed in
+    let whole : called p (cs ++ behind) ≡ called p1 behind = called-append p cs behind
+    ∙ ap (λ (d : Result Progress BootFault). d >>= λ q. called q behind) passed in
     subst (λ (d : Result Progress BootFault). GivesState d r q) (sym whole) left
 
 pub calls-fail : (cs behind : List LoaderCall) (p : Progress) (fault : BootFault) → called p cs ≡ Err fault → called p (cs ++ behind) ≡ Err fault
@@ -46,5 +47,6 @@ calls-fail cs behind p fault failed = called-append p cs behind ∙ ap (λ (d : 
 pub then-ok : (xs ys : List LoaderCall) (p p1 p2 : Progress) → called p xs ≡ Ok p1 → called p1 ys ≡ Ok p2 → called p (xs ++ ys) ≡ Ok p2
 then-ok xs ys p p1 p2 first second = called-append p xs ys ∙ ap (λ (d : Result Progress BootFault). d >>= λ q. called q ys) first ∙ second
 
-pub then-err : (xs ys : List LoaderCall) (p p1 : Progress) (fault : BootFault) → called p xs ≡ Ok p1 → called p1 ys ≡ Err fault → called p (xs ++ ys) ≡ Err fault
+pub then-err : (xs ys : List LoaderCall) (p p1 : Progress) (fault : BootFault) → called p xs ≡ Ok p1 → called p1 ys ≡ Err fault →
+    called p (xs ++ ys) ≡ Err fault
 then-err xs ys p p1 fault first second = called-append p xs ys ∙ ap (λ (d : Result Progress BootFault). d >>= λ q. called q ys) first ∙ second

@@ -10,7 +10,8 @@ use Rattle.model.specs.Kernel.CallForms.{mint_label, move_label}
 use Rattle.model.specs.declared.entries.CapabilityEntry.{CapabilityEntry}
 use Rattle.model.specs.declared.entries.ObjectEntry.{ObjectEntry}
 
-module _ (image : Image) (entry : CapabilityEntry) (cnode : ObjectEntry) (slot source : ℕ) (untyped : Bool) (there : slice_get image.objects entry.cnode ≡ Some cnode)
+module _ (image : Image) (entry : CapabilityEntry) (cnode : ObjectEntry) (slot source : ℕ) (untyped : Bool)
+    (there : slice_get image.objects entry.cnode ≡ Some cnode)
     (slot_is : slot ≡ original_slot image entry.cnode) (source_is : source ≡ source_slot image entry.source)
     (untyped_is : untyped ≡ is_untyped_type (source_type image entry.source)) where
   abbrev arguments : List ℕ

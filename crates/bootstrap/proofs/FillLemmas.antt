@@ -1,5 +1,6 @@
 -- Filling page by page is filling all, where each page has a frame.
-use Rattle.std.proofs.Common.{◌≡◌, ◌∙◌, ℕ, ◌+◌, ◌-◌, ◌*◌, ◌<◌, ◌≤◌, ◌%◌, ◌==◌, ◌&&◌, Bool, true, false, Option, Some, None, List, [], ◌∷◌, Result, Ok, Err, length, map, refl, sym, ap, subst, arith}
+use Rattle.std.proofs.Common.{◌≡◌, ◌∙◌, ℕ, ◌+◌, ◌-◌, ◌*◌, ◌<◌, ◌≤◌, ◌%◌, ◌==◌, ◌&&◌, Bool, true, false, Option, Some, None, List, [], ◌∷◌, Result, Ok, Err}
+use Rattle.std.proofs.Common.{length, map, refl, sym, ap, subst, arith}
 use Rattle.std.specs.Prelude.{filter_map, if◌then◌else◌, is_some, option_and_then, option_map, nat_le, drop, take}
 use Rattle.std.specs.List.{cons_option, list_all, range_with_len}
 use Rattle.std.proofs.lemmas.List.{take_all}
@@ -63,19 +64,24 @@ one-page image t address b rest s (Some f) next later =
     one-more b one rest s (fill s one.offset one.bytes) next refl later
 
 pub all-pages : (image : Image) (t : Thread) (pages : List ℕ) (s : State)
-    → option_and_then (fill_all s) (if list_all (λ address. is_some (frame_at image t.header.root address)) pages then Some (filter_map (page_fill image t) pages) else None)
+    → option_and_then (fill_all s) (if list_all (λ address. is_some (frame_at image t.header.root address)) pages then
+    Some (filter_map (page_fill image t) pages) else None)
     ≡ pages_filled image t s pages
 all-pages image t [] s = refl
 all-pages image t (address ∷ later) s =
-    one-page image t address (list_all (λ a. is_some (frame_at image t.header.root a)) later) (filter_map (page_fill image t) later) s (frame_at image t.header.root address)
+    one-page image t address (list_all (λ a. is_some (frame_at image t.header.root a)) later) (filter_map (page_fill image t) later) s
+    (frame_at image t.header.root address)
     (λ filled. pages_filled image t filled later) (λ filled. all-pages image t later filled)
 
 -- a program that begins at a page under a root table
-pub program-filled : (image : Image) (t : Thread) (number untypeds : ℕ) (p : Progress) → (t.header.base % page_size == 0) ≡ true → is_root_type (type_at image t.header.root) ≡ true
-    → performed untypeds p (program_operation image (record { number = number; thread = t })) ≡ placed number p.calls (pages_filled image t p.state (program_pages t))
+pub program-filled : (image : Image) (t : Thread) (number untypeds : ℕ) (p : Progress) → (t.header.base % page_size == 0) ≡ true →
+    is_root_type (type_at image t.header.root) ≡ true
+    → performed untypeds p (program_operation image (record { number = number; thread = t })) ≡ placed number p.calls
+    (pages_filled image t p.state (program_pages t))
 program-filled image t number untypeds p aligned root =
     let all = list_all (λ address. is_some (frame_at image t.header.root address)) (program_pages t) in
-    ap (λ (b : Bool). placed number p.calls (option_and_then (fill_all p.state) (if b && is_root_type (type_at image t.header.root) && all then Some (program_fills image t) else None))) aligned
+    ap (λ (b : Bool). placed number p.calls (option_and_then (fill_all p.state)
+    (if b && is_root_type (type_at image t.header.root) && all then Some (program_fills image t) else None))) aligned
     ∙ ap (λ (b : Bool). placed number p.calls (option_and_then (fill_all p.state) (if b && all then Some (program_fills image t) else None))) root
     ∙ ap (placed number p.calls) (all-pages image t (program_pages t) p.state)
 
@@ -83,7 +89,8 @@ pub program-misaligned : (image : Image) (t : Thread) (number untypeds : ℕ) (p
     → performed untypeds p (program_operation image (record { number = number; thread = t })) ≡ Err (Outside number)
 program-misaligned image t number untypeds p is =
     let all = list_all (λ address. is_some (frame_at image t.header.root address)) (program_pages t) in
-    ap (λ (b : Bool). placed number p.calls (option_and_then (fill_all p.state) (if b && is_root_type (type_at image t.header.root) && all then Some (program_fills image t) else None))) is
+    ap (λ (b : Bool). placed number p.calls (option_and_then (fill_all p.state)
+    (if b && is_root_type (type_at image t.header.root) && all then Some (program_fills image t) else None))) is
 
 no-root : (a b : Bool) → a && false && b ≡ false
 no-root true b = refl
@@ -108,7 +115,8 @@ pub op-fails : (untypeds : ℕ) (o : Operation) (later : List Operation) (total 
     → total ≡ all_performed untypeds p (o ∷ later) → performed untypeds p o ≡ Err fault → total ≡ Err fault
 op-fails untypeds o later total p fault so_far failed = so_far ∙ ap (λ (r : Result Progress BootFault). r >>= λ q. all_performed untypeds q later) failed
 
-pub op-none : (untypeds : ℕ) (later : List Operation) (total : Result Progress BootFault) (p : Progress) → later ≡ [] → total ≡ all_performed untypeds p later → total ≡ Ok p
+pub op-none : (untypeds : ℕ) (later : List Operation) (total : Result Progress BootFault) (p : Progress) → later ≡ [] → total ≡ all_performed untypeds p later →
+    total ≡ Ok p
 op-none untypeds later total p none so_far = so_far ∙ ap (all_performed untypeds p) none
 
 -- ---- nothing is filled where no frame is
@@ -159,8 +167,10 @@ pages-first t =
     let k : page_count t ≡ page_count t - 0 = omega arith in
     ap (λ (count : ℕ). map (λ page. t.header.base + page * page_size) (range_with_len 0 count)) k
 
-pub page-leaves : {A : Type 0} (image : Image) (t : Thread) (s : State) (page : ℕ) (f : FrameEntry) (a b place : ℕ) (program bytes : List ℕ) (h : ThreadHeader) (number calls : ℕ)
-    (r : Result A BootFault) (q : Progress) → h ≡ t.header → a ≡ h.base → b ≡ page * page_size → Some f ≡ frame_at image h.root (a + b) → place ≡ offset_of image f.frame
+pub page-leaves : {A : Type 0} (image : Image) (t : Thread) (s : State) (page : ℕ) (f : FrameEntry) (a b place : ℕ) (program bytes : List ℕ) (h : ThreadHeader)
+    (number calls : ℕ)
+    (r : Result A BootFault) (q : Progress) → h ≡ t.header → a ≡ h.base → b ≡ page * page_size → Some f ≡ frame_at image h.root (a + b) →
+    place ≡ offset_of image f.frame
     → bytes ≡ take page_size (drop (page * page_size) program) → program ≡ bytes_of t.words → GivesState (placed number calls (fill s place bytes)) r q
     → GivesState (placed number calls (page_filled image t s (t.header.base + page * page_size))) r q
 page-leaves image t s page f a b place program bytes h number calls r q header base offset found at cut words left =
@@ -169,6 +179,7 @@ page-leaves image t s page f a b place program bytes h number calls r q header b
     sym (found ∙ ap (λ (h : ThreadHeader). frame_at image h.root (a + b)) header ∙ ap (λ (n : ℕ). frame_at image t.header.root (n + b)) base_is
     ∙ ap (λ (n : ℕ). frame_at image t.header.root (t.header.base + n)) offset) in
     let same : fill s place bytes ≡ page_filled image t s (t.header.base + page * page_size) =
-    ap (λ (n : ℕ). fill s n bytes) at ∙ ap (λ (xs : List ℕ). fill s (offset_of image f.frame) xs) (cut ∙ ap (λ (xs : List ℕ). take page_size (drop (page * page_size) xs)) words)
+    ap (λ (n : ℕ). fill s n bytes) at ∙ ap (λ (xs : List ℕ). fill s (offset_of image f.frame) xs)
+    (cut ∙ ap (λ (xs : List ℕ). take page_size (drop (page * page_size) xs)) words)
     ∙ sym (page-there image t s (page * page_size) f frame) in
     subst (λ (o : Option State). GivesState (placed number calls o) r q) same left

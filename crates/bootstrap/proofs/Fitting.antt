@@ -7,7 +7,9 @@ use Rattle.std.proofs.lemmas.Bool.{and_parts, ltb-true, leb-true}
 use Rattle.model.specs.declared.entries.ImageHeader.{ImageHeader}
 use Rattle.model.specs.declared.refusals.Refusal.TheVariants.{Magic, Version}
 use Rattle.model.specs.Images.Format.{Format, both, field, many_fit, number, number_or}
-use Rattle.model.specs.Images.Image.{Image, ImageContent, Thread, anything, below, between, capability_format, content_format, frame_format, header_format, image_with, interrupt_format, magic, object_format, pair_key, register_format, registers_format, sections_format, size_fits, slots_format, table_format, thread_format, thread_header_format, untyped_format, whole_image, words_format}
+use Rattle.model.specs.Images.Image.{Image, ImageContent, Thread, anything, below, between, capability_format, content_format, frame_format, header_format}
+use Rattle.model.specs.Images.Image.{image_with, interrupt_format, magic, object_format, pair_key, register_format, registers_format, sections_format}
+use Rattle.model.specs.Images.Image.{size_fits, slots_format, table_format, thread_format, thread_header_format, untyped_format, whole_image, words_format}
 use Rattle.format_laws.specs.Fitting.{HeaderFits}
 use Rattle.format_laws.proofs.Laws.{field-between, field-parts, is-fitting, many-length}
 use Rattle.bootstrap.specs.Limits.{ContentFits, IsLimited, IsSmall, ThreadFits}
@@ -43,7 +45,8 @@ last-counts h is =
     let e = and_parts ((field (between 0 16384)).fits h.capabilities) _ d.1 in
     let f = and_parts ((field (between 0 64)).fits h.interrupts) _ e.1 in
     let g = and_parts ((field (between 0 1024)).fits h.tables) _ f.1 in
-    let k = and_parts ((field (between 0 4096)).fits h.frames) ((both {B = ℕ} (field (between 0 4096)) (λ _. field (between 1 64))).fits (h.contents, h.threads)) g.1 in
+    let k = and_parts ((field (between 0 4096)).fits h.frames)
+    ((both {B = ℕ} (field (between 0 4096)) (λ _. field (between 1 64))).fits (h.contents, h.threads)) g.1 in
     let m = and_parts ((field (between 0 4096)).fits h.contents) ((field (between 1 64)).fits h.threads) k.1 in
     ((field-between 0 4096 h.contents m.0).1, (field-between 1 64 h.threads m.1).1)
 
@@ -137,11 +140,23 @@ limited image is =
     record {
       header = header-small h a.0 fitting.header;
       untypeds = record { count = fitting.untypeds; entries = λ k u at. record { bits = (fitting.untyped k u at).high } };
-      objects = record { count = fitting.objects; entries = λ k o at. let fits = fitting.object k o at in record { untyped = fits.untyped; size = size-most o.kind o.size fits.size } };
-      capabilities = record { count = fitting.capabilities; entries = λ k c at. let fits = fitting.capability k c at in record { cnode = fits.cnode; source = fits.source } };
+      objects = record {
+        count = fitting.objects;
+        entries = λ k o at. let fits = fitting.object k o at in
+            record { untyped = fits.untyped; size = size-most o.kind o.size fits.size };
+      };
+      capabilities = record {
+        count = fitting.capabilities;
+        entries = λ k c at. let fits = fitting.capability k c at in
+            record { cnode = fits.cnode; source = fits.source };
+      };
       interrupts = record { count = fitting.interrupts; entries = λ k i at. record { notification = (fitting.interrupt k i at).notification } };
       tables = record { count = fitting.tables; entries = λ k t at. let fits = fitting.table k t at in record { root = fits.root; table = fits.table } };
-      frames = record { count = fitting.frames; entries = λ k f at. let fits = fitting.frame k f at in record { root = fits.root; frame = fits.frame; address = fits.address } };
+      frames = record {
+        count = fitting.frames;
+        entries = λ k f at. let fits = fitting.frame k f at in
+            record { root = fits.root; frame = fits.frame; address = fits.address };
+      };
       pages_rise = fitting.pages_rise;
       contents = contents.0;
       content_count = contents.1;

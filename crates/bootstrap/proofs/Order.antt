@@ -43,34 +43,43 @@ runs image (Fills number fills ∷ later) n s = place-goes image number n later 
 
 -- ---- sections one after another
 
-pub all-append : (untypeds : ℕ) (p : Progress) (xs ys : List Operation) → all_performed untypeds p (xs ++ ys) ≡ (all_performed untypeds p xs >>= λ q. all_performed untypeds q ys)
+pub all-append : (untypeds : ℕ) (p : Progress) (xs ys : List Operation) →
+    all_performed untypeds p (xs ++ ys) ≡ (all_performed untypeds p xs >>= λ q. all_performed untypeds q ys)
 all-append untypeds p [] ys = refl
 all-append untypeds p (x ∷ xs) ys =
     let one = performed untypeds p x in
-    ap (λ (next : Progress → Result Progress BootFault). one >>= next) (λ i q. all-append untypeds q xs ys i) ∙ bind-bind one (λ q. all_performed untypeds q xs) (λ q. all_performed untypeds q ys)
+    ap (λ (next : Progress → Result Progress BootFault). one >>= next) (λ i q. all-append untypeds q xs ys i)
+    ∙ bind-bind one (λ q. all_performed untypeds q xs) (λ q. all_performed untypeds q ys)
 
 pub all-calls : (untypeds : ℕ) (p : Progress) (cs : List LoaderCall) → all_performed untypeds p (map Calls cs) ≡ called p cs
 all-calls untypeds p [] = refl
-all-calls untypeds p (c ∷ cs) = ap (λ (next : Progress → Result Progress BootFault). counted p.calls (made p.state c) >>= next) (λ i q. all-calls untypeds q cs i)
+all-calls untypeds p (c ∷ cs) = ap (λ (next : Progress → Result Progress BootFault). counted p.calls (made p.state c) >>= next)
+    (λ i q. all-calls untypeds q cs i)
 
 -- ---- a section more was done, or this one failed
 
 pub then-done : (untypeds : ℕ) (xs ys : List Operation) (total : Result Progress BootFault) (p q : Progress) → total ≡ all_performed untypeds p (xs ++ ys)
     → all_performed untypeds p xs ≡ Ok q → total ≡ all_performed untypeds q ys
-then-done untypeds xs ys total p q whole passed = whole ∙ all-append untypeds p xs ys ∙ ap (λ (r : Result Progress BootFault). r >>= λ q. all_performed untypeds q ys) passed
+then-done untypeds xs ys total p q whole passed = whole ∙ all-append untypeds p xs ys
+    ∙ ap (λ (r : Result Progress BootFault). r >>= λ q. all_performed untypeds q ys) passed
 
-pub then-failed : (untypeds : ℕ) (xs ys : List Operation) (total : Result Progress BootFault) (p : Progress) (fault : BootFault) → total ≡ all_performed untypeds p (xs ++ ys)
+pub then-failed : (untypeds : ℕ) (xs ys : List Operation) (total : Result Progress BootFault) (p : Progress) (fault : BootFault) →
+    total ≡ all_performed untypeds p (xs ++ ys)
     → all_performed untypeds p xs ≡ Err fault → total ≡ Err fault
-then-failed untypeds xs ys total p fault whole failed = whole ∙ all-append untypeds p xs ys ∙ ap (λ (r : Result Progress BootFault). r >>= λ q. all_performed untypeds q ys) failed
+then-failed untypeds xs ys total p fault whole failed = whole ∙ all-append untypeds p xs ys
+    ∙ ap (λ (r : Result Progress BootFault). r >>= λ q. all_performed untypeds q ys) failed
 
-pub both-ok : (untypeds : ℕ) (xs ys : List Operation) (p p1 p2 : Progress) → all_performed untypeds p xs ≡ Ok p1 → all_performed untypeds p1 ys ≡ Ok p2 → all_performed untypeds p (xs ++ ys) ≡ Ok p2
+pub both-ok : (untypeds : ℕ) (xs ys : List Operation) (p p1 p2 : Progress) → all_performed untypeds p xs ≡ Ok p1 → all_performed untypeds p1 ys ≡ Ok p2 →
+    all_performed untypeds p (xs ++ ys) ≡ Ok p2
 both-ok untypeds xs ys p p1 p2 first second = then-done untypeds xs ys _ p p1 refl first ∙ second
 
-pub second-failed : (untypeds : ℕ) (xs ys : List Operation) (p p1 : Progress) (fault : BootFault) → all_performed untypeds p xs ≡ Ok p1 → all_performed untypeds p1 ys ≡ Err fault
+pub second-failed : (untypeds : ℕ) (xs ys : List Operation) (p p1 : Progress) (fault : BootFault) → all_performed untypeds p xs ≡ Ok p1 →
+    all_performed untypeds p1 ys ≡ Err fault
     → all_performed untypeds p (xs ++ ys) ≡ Err fault
 second-failed untypeds xs ys p p1 fault first second = then-done untypeds xs ys _ p p1 refl first ∙ second
 
-pub first-failed : (untypeds : ℕ) (xs ys : List Operation) (p : Progress) (fault : BootFault) → all_performed untypeds p xs ≡ Err fault → all_performed untypeds p (xs ++ ys) ≡ Err fault
+pub first-failed : (untypeds : ℕ) (xs ys : List Operation) (p : Progress) (fault : BootFault) → all_performed untypeds p xs ≡ Err fault →
+    all_performed untypeds p (xs ++ ys) ≡ Err fault
 first-failed untypeds xs ys p fault failed = then-failed untypeds xs ys _ p fault refl failed
 
 pub second-leaves : {A : Type 0} (untypeds : ℕ) (xs ys : List Operation) (p p1 q : Progress) (r : Result A BootFault) → all_performed untypeds p xs ≡ Ok p1

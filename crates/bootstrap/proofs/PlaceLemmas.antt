@@ -15,7 +15,8 @@ unfolding used_by
 used-none untyped = refl
 
 pub used-next : (objects : List ObjectEntry) (n : ℕ) (o : ObjectEntry) (untyped : ℕ) → slice_get objects n ≡ Some o
-    → used_by (take (n + 1) objects) untyped ≡ (if o.untyped == untyped then place_of_object (used_by (take n objects) untyped) (bits_of o) 1 else used_by (take n objects) untyped)
+    → used_by (take (n + 1) objects) untyped ≡ (if o.untyped == untyped then place_of_object (used_by (take n objects) untyped) (bits_of o) 1 else
+    used_by (take n objects) untyped)
 unfolding used_by
 used-next objects n o untyped is =
     let at : get_or objects n o ≡ o = get_or_from_slice_get objects n o o is in

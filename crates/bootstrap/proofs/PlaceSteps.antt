@@ -66,11 +66,13 @@ module _ (image : Image) (n : ℕ) (o : ObjectEntry) (used : List ℕ) (first si
       → (u : ℕ) → u < 64 → slice_index (set used o.untyped (first + size)) u ≤ 2147483648 * (n + 1)
   used-low low bounded most u few = elim (eqb_tells o.untyped u) [
     | inl here ↦
-        let now : slice_index (set used o.untyped (first + size)) u ≡ first + size = get_or-set_at used o.untyped u (first + size) 0 (sym here.1) (omega (arith, inside, many)) in
+        let now : slice_index (set used o.untyped (first + size)) u ≡ first + size =
+        get_or-set_at used o.untyped u (first + size) 0 (sym here.1) (omega (arith, inside, many)) in
         let was = low o.untyped inside in
         omega (arith, now, was, bounded, most)
     | inr other ↦
-        let now : slice_index (set used o.untyped (first + size)) u ≡ slice_index used u = get_or-set_other used o.untyped u (first + size) 0 (λ same. other.1 (sym same)) in
+        let now : slice_index (set used o.untyped (first + size)) u ≡ slice_index used u =
+        get_or-set_other used o.untyped u (first + size) 0 (λ same. other.1 (sym same)) in
         let was = low u few in
         omega (arith, now, was)
   ]

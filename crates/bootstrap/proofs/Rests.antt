@@ -9,7 +9,8 @@ use Rattle.model.specs.declared.entries.FrameEntry.{FrameEntry}
 use Rattle.model.specs.declared.entries.InterruptEntry.{InterruptEntry}
 use Rattle.model.specs.declared.entries.TableEntry.{TableEntry}
 use Rattle.model.specs.declared.entries.UntypedEntry.{UntypedEntry}
-use Rattle.model.specs.Images.BootCalls.{LoaderCall, Operation, PutsUntyped, capability_call, frame_calls, interrupt_call, object_call, program_operation, signal_calls, table_call}
+use Rattle.model.specs.Images.BootCalls.{LoaderCall, Operation, PutsUntyped, capability_call, frame_calls, interrupt_call, object_call, program_operation}
+use Rattle.model.specs.Images.BootCalls.{signal_calls, table_call}
 use Rattle.model.specs.Images.Image.{Image, Thread}
 
 -- ---- lists from a place on
@@ -98,7 +99,8 @@ puts_untyped u = PutsUntyped u.0 u.1
 abbrev pub untypeds_from : Image → ℕ → List Operation
 untypeds_from image n = map puts_untyped (enumerate_from n (drop n image.untypeds))
 
-pub untypeds-next : (image : Image) (n : ℕ) (x : UntypedEntry) → slice_get image.untypeds n ≡ Some x → untypeds_from image n ≡ PutsUntyped n x ∷ untypeds_from image (n + 1)
+pub untypeds-next : (image : Image) (n : ℕ) (x : UntypedEntry) → slice_get image.untypeds n ≡ Some x →
+    untypeds_from image n ≡ PutsUntyped n x ∷ untypeds_from image (n + 1)
 untypeds-next image n x is = ap (λ xs. map puts_untyped (enumerate_from n xs)) (rest-next image.untypeds n x is)
 
 pub untypeds-none : (image : Image) (n : ℕ) → length image.untypeds ≤ n → untypeds_from image n ≡ []

@@ -27,7 +27,8 @@ decided image o = option_map_or (λ u. Some u.0) o (if too_few_boot_slots image 
 pub overlapping-here : (image : Image) (n : ℕ) (x : UntypedEntry) → slice_get image.untypeds n ≡ Some x → overlaps image (n, x) ≡ true
     → overlapping_from image 0 ≡ overlapping_from image n → misplaced image ≡ Some n
 overlapping-here image n x at is so_far =
-    ap (decided image) (so_far ∙ find-here (overlaps image) (enumerate_from n (drop n image.untypeds)) (enumerate_from (n + 1) (drop (n + 1) image.untypeds)) (n, x)
+    ap (decided image) (so_far ∙ find-here (overlaps image) (enumerate_from n (drop n image.untypeds)) (enumerate_from (n + 1) (drop (n + 1) image.untypeds))
+    (n, x)
     (ap (enumerate_from n) (rest-next image.untypeds n x at)) is)
 
 pub overlapping-later : (image : Image) (n : ℕ) (x : UntypedEntry) → slice_get image.untypeds n ≡ Some x → overlaps image (n, x) ≡ false

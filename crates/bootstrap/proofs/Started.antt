@@ -14,8 +14,10 @@ abbrev all_calls_of : Thread → ℕ → ℕ → ℕ → ThreadHeader → List L
 all_calls_of t tcb cspace vspace h = first_thread_calls tcb cspace vspace h ++ (map (register_call tcb) t.registers ++ loader_call tcb resume_label [] ∷ [])
 
 pub started : {A : Type 0} (image : Image) (t : Thread) (tcb cspace vspace : ℕ) (h : ThreadHeader) (p p1 q : Progress) (r : Result A BootFault) → h ≡ t.header
-    → tcb ≡ original_slot image h.tcb → cspace ≡ original_slot image h.cnode → vspace ≡ original_slot image h.root → called p (first_thread_calls tcb cspace vspace h) ≡ Ok p1
-    → GivesState (called p1 (map (register_call tcb) t.registers ++ loader_call tcb resume_label [] ∷ [])) r q → GivesState (called p (thread_calls image t)) r q
+    → tcb ≡ original_slot image h.tcb → cspace ≡ original_slot image h.cnode → vspace ≡ original_slot image h.root →
+    called p (first_thread_calls tcb cspace vspace h) ≡ Ok p1
+    → GivesState (called p1 (map (register_call tcb) t.registers ++ loader_call tcb resume_label [] ∷ [])) r q →
+    GivesState (called p (thread_calls image t)) r q
 started image t tcb cspace vspace h p p1 q r header at_tcb at_cspace at_vspace first rest =
     let same : all_calls_of t tcb cspace vspace h ≡ thread_calls image t =
     ap (λ (n : ℕ). all_calls_of t n cspace vspace h) at_tcb ∙ ap (λ (n : ℕ). all_calls_of t (original_slot image h.tcb) n vspace h) at_cspace

@@ -49,7 +49,8 @@ register_call tcb r = loader_call tcb set_register_label (r.register ∷ r.value
 -- Configure, SetPriority and SetRegister for the program counter
 abbrev pub first_thread_calls : ℕ → ℕ → ℕ → ThreadHeader → List LoaderCall
 first_thread_calls tcb cspace vspace h =
-    loader_call tcb configure_label ((h.fault ∷ boot_argument cspace) ++ boot_argument vspace ++ h.guard ∷ []) ∷ loader_call tcb set_priority_label (h.priority ∷ [])
+    loader_call tcb configure_label ((h.fault ∷ boot_argument cspace) ++ boot_argument vspace ++ h.guard ∷ []) ∷ loader_call tcb set_priority_label
+    (h.priority ∷ [])
     ∷ loader_call tcb set_register_label (0 ∷ (h.base + 4 * h.entry) % 2 ^ 32 ∷ []) ∷ []
 
 -- one operation in a system with so many untypeds

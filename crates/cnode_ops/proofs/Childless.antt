@@ -32,7 +32,8 @@ unnamed-parent t u removed (ends o object none same) y =
 
 -- ---- what the store answers
 
-module _ (before taken after : Slots) (t u : State) (removed : Cap) (x : ℕ) (taken_is : taken ≡ spliced (unmapped_at before x) x) (has : t.slots ≡ taken) (ending : IfUnnamed t removed u)
+module _ (before taken after : Slots) (t u : State) (removed : Cap) (x : ℕ) (taken_is : taken ≡ spliced (unmapped_at before x) x) (has : t.slots ≡ taken)
+    (ending : IfUnnamed t removed u)
     (has_after : u.slots ≡ after) where
   left-parent : (y : ℕ) → parent_at after y ≡ parent_at (spliced (unmapped_at before x) x) y
   left-parent y =
@@ -42,7 +43,8 @@ module _ (before taken after : Slots) (t u : State) (removed : Cap) (x : ℕ) (t
   own-parent = (unmapped-itself before x (capability_at before x) refl).1
 
   -- a parent that is left without a child
-  some-left : (found : Option ℕ) (parent : ℕ) → LeavesChildless (unmapped_at before x) x found → found ≡ Some parent → (parent_at before x ≡ Some parent) × IsChildless after parent
+  some-left : (found : Option ℕ) (parent : ℕ) → LeavesChildless (unmapped_at before x) x found → found ≡ Some parent → (parent_at before x ≡ Some parent)
+      × IsChildless after parent
   some-left found parent (childless q up none) is =
       let same : q ≡ parent = (let e : Some q ≡ Some parent = is in cc) in (
         sym own-parent ∙ up ∙ is,

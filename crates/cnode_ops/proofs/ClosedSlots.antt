@@ -17,7 +17,8 @@ one-within slot y = elim (eqb_tells y slot) [
 
 pub one-closed : (s : State) (slots now : Slots) (slot : ℕ) → s.slots ≡ slots → now ≡ closed slots slot 1 → with_slots s now ≡ without_slot s slot
 one-closed s slots now slot has is =
-    ap (λ (n : Slots). with_slots s n) (is ∙ ap (λ (n : Slots). closed n slot 1) (sym has)) ∙ (λ i. with_slots s (λ y. ap (λ b. if b then None else s.slots y) (one-within slot y) i))
+    ap (λ (n : Slots). with_slots s n) (is ∙ ap (λ (n : Slots). closed n slot 1) (sym has))
+    ∙ (λ i. with_slots s (λ y. ap (λ b. if b then None else s.slots y) (one-within slot y) i))
 
 pub none-closed : (s : State) (slot : ℕ) → s.slots slot ≡ None → s ≡ without_slot s slot
 none-closed s slot none = λ i. record s { slots = λ y. each y i }
@@ -36,7 +37,8 @@ not-open slots slot closed_is = elim (slots slot) as (λ o. slots slot ≡ o →
 ] refl
 
 pub stays-closed : (slots now : Slots) (slot : ℕ) → now ≡ closed slots slot 1 → (y : ℕ) → slots y ≡ None → now y ≡ None
-stays-closed slots now slot is y none = ap (λ (n : Slots). n y) is ∙ elim (is_within slot 1 y) as (λ b. (if b then None else slots y) ≡ None) [ true ↦ refl | false ↦ none ]
+stays-closed slots now slot is y none = ap (λ (n : Slots). n y) is
+    ∙ elim (is_within slot 1 y) as (λ b. (if b then None else slots y) ≡ None) [ true ↦ refl | false ↦ none ]
 
 pub is-zero : (n : ℕ) → (n == 0) ≡ true → n ≡ 0
 is-zero n is = elim (eqb_tells n 0) [ inl here ↦ here.1 | inr other ↦ absurd (let clash : false ≡ true = sym other.0 ∙ is in cc) ]

@@ -1,5 +1,6 @@
 -- What emptying one slot of a set leaves of the set, and of the full slots.
-use Rattle.std.proofs.Common.{ℕ, zero, suc, ◌≡◌, ◌≢◌, ◌∙◌, ◌+◌, ◌/◌, ◌^◌, ◌<◌, ◌≤◌, ◌||◌, inl, inr, Bool, is_some, option_map, true, false, List, [], ◌∷◌, get_or, length, filter, cond, Some, None, refl, sym, ap, subst, arith}
+use Rattle.std.proofs.Common.{ℕ, zero, suc, ◌≡◌, ◌≢◌, ◌∙◌, ◌+◌, ◌/◌, ◌^◌, ◌<◌, ◌≤◌, ◌||◌, inl, inr, Bool, is_some, option_map, true, false, List, [], ◌∷◌}
+use Rattle.std.proofs.Common.{get_or, length, filter, cond, Some, None, refl, sym, ap, subst, arith}
 use Rattle.std.specs.List.{range_with_len}
 use Rattle.std.proofs.lemmas.Bool.Decides.{eqb_tells}
 use Rattle.std.proofs.lemmas.List.FromFn.{get_or-range_with_len, length-range_with_len}
@@ -8,7 +9,8 @@ use Rattle.model.specs.Kernel.Removal.{SlotSet, emptied, kept_entry}
 use Rattle.model.specs.Kernel.State.{State, binding_slot, slot_numbers}
 use Rattle.model.proofs.Ancestors.{depth-child, descendant-from_test, descendant-full, full-open}
 use Rattle.removal_laws.specs.Steps.{BindingEmptied, IsReady, SameShape, alone, bindings_from, bound, joined, left, unbound}
-use Rattle.removal_laws.proofs.Laws.{descends-still, emptied-same, full-apart, full-was, line-left, line-taken, lines-done, not-full, open-kept, or-cases, ready-emptied, round, there-out}
+use Rattle.removal_laws.proofs.Laws.{descends-still, emptied-same, full-apart, full-was, line-left, line-taken, lines-done, not-full, open-kept, or-cases}
+use Rattle.removal_laws.proofs.Laws.{ready-emptied, round, there-out}
 use Rattle.cnode_ops.specs.Sets.{set_of}
 use Rattle.cnode_ops.specs.declared.sets.Removed.{Removed}
 use Rattle.cnode_ops.specs.declared.sets.Removed.TheVariants.{Below, One}
@@ -29,7 +31,8 @@ pub set-still : (s : State) (set : Removed) (x y : ℕ) → IsReady s → IsFull
     → set_of (emptied s (alone x)).slots set y ≡ set_of s.slots set y
 set-still s (One slot) x y ready full member stays = refl
 set-still s (Below root) x y ready full member stays =
-    let apart : root ≢ x = λ same. absurd (let clash : false ≡ true = sym (not-below-itself s.slots root ready.derivation) ∙ ap (is_descendant s.slots root) same ∙ member in cc) in
+    let apart : root ≢ x = λ same. absurd (let clash : false ≡ true = sym (not-below-itself s.slots root ready.derivation)
+    ∙ ap (is_descendant s.slots root) same ∙ member in cc) in
     descends-still s x ready.derivation ready.near full root apart (ready-emptied s x ready full).derivation y (full-apart s x y stays)
 
 pub members-open : (s : State) (set : Removed) (x : ℕ) → IsReady s → IsFull s.slots x → ((y : ℕ) → set_of s.slots set y ≡ true → IsOpen s.slots y)
@@ -52,7 +55,8 @@ fewer-at-most p q (n ∷ ns) less =
       ]
     ] refl
 
-fewer-passes : (p q : ℕ → Bool) (ns : List ℕ) (x i : ℕ) → ((n : ℕ) → q n ≡ true → p n ≡ true) → p x ≡ true → q x ≡ false → i < length ns → get_or ns i 0 ≡ x → length (filter q ns) < length (filter p ns)
+fewer-passes : (p q : ℕ → Bool) (ns : List ℕ) (x i : ℕ) → ((n : ℕ) → q n ≡ true → p n ≡ true) → p x ≡ true → q x ≡ false → i < length ns → get_or ns i 0 ≡ x →
+    length (filter q ns) < length (filter p ns)
 fewer-passes p q [] x i less passes fails few here = absurd (omega (arith, few))
 fewer-passes p q (n ∷ ns) x zero less passes fails few here =
     omega (
@@ -80,7 +84,8 @@ unfolding slot_numbers
 fewer-full s x ready full =
     let count : ℕ = 2 ^ s.memory_bits / 16 in
     let near : x < count = ready.near x full in
-    fewer-passes (is_full s.slots) (is_full (emptied s (alone x)).slots) (range_with_len 0 count) x x (full-was s x ready full) full (not-full s x) (rw (length-range_with_len 0 count) near) (get_or-range_with_len 0 count x 0 near ∙ omega arith)
+    fewer-passes (is_full s.slots) (is_full (emptied s (alone x)).slots) (range_with_len 0 count) x x (full-was s x ready full) full (not-full s x)
+    (rw (length-range_with_len 0 count) near) (get_or-range_with_len 0 count x 0 near ∙ omega arith)
 
 -- ---- what is left of a set
 
@@ -88,7 +93,8 @@ pub record IsLeftOf (s w : State) (set : Removed) : Type 0 where
   pub ready : IsReady w
   pub shape : SameShape s w
   pub members : (y : ℕ) → set_of w.slots set y ≡ true → IsOpen w.slots y
-  pub taken : (more : SlotSet) → ((y : ℕ) → more y ≡ true → IsOpen s.slots y) → emptied s (joined (set_of s.slots set) more) ≡ emptied w (joined (set_of w.slots set) more)
+  pub taken : (more : SlotSet) → ((y : ℕ) → more y ≡ true → IsOpen s.slots y) →
+      emptied s (joined (set_of s.slots set) more) ≡ emptied w (joined (set_of w.slots set) more)
 
 pub left-first : (s : State) (set : Removed) → IsReady s → ((y : ℕ) → set_of s.slots set y ≡ true → IsOpen s.slots y) → IsLeftOf s s set
 left-first s set ready members = record {
@@ -98,7 +104,8 @@ left-first s set ready members = record {
   taken = λ more opens. refl;
 }
 
-joined-open : (s : State) (set more : SlotSet) → ((y : ℕ) → set y ≡ true → IsOpen s.slots y) → ((y : ℕ) → more y ≡ true → IsOpen s.slots y) → (y : ℕ) → joined set more y ≡ true → IsOpen s.slots y
+joined-open : (s : State) (set more : SlotSet) → ((y : ℕ) → set y ≡ true → IsOpen s.slots y) → ((y : ℕ) → more y ≡ true → IsOpen s.slots y) → (y : ℕ) →
+    joined set more y ≡ true → IsOpen s.slots y
 joined-open s set more first second y member = elim (or-cases (set y) (more y) member) [ inl is ↦ first y is | inr is ↦ second y is ]
 
 -- what is open once a slot is emptied was open
@@ -106,12 +113,14 @@ open-was : (s : State) (x y : ℕ) → IsOpen s.slots x → IsOpen (emptied s (a
 open-was s x y here opens = elim (eqb_tells y x) [
   | inl at ↦ subst (λ (n : ℕ). IsOpen s.slots n) (sym at.1) here
   | inr away ↦ elim (s.slots y) as (λ o. s.slots y ≡ o → IsOpen s.slots y) [
-    | None ↦ λ none. absurd (let clash : false ≡ true = sym (ap is_some (there-out s (alone x) y away.0 ∙ ap (option_map (kept_entry s (alone x) y)) none)) ∙ opens in cc)
+    | None ↦ λ none. absurd (let clash : false ≡ true = sym (ap is_some (there-out s (alone x) y away.0 ∙ ap (option_map (kept_entry s (alone x) y)) none))
+        ∙ opens in cc)
     | Some h ↦ λ some. ap is_some some
   ] refl
 ]
 
-pub left-next : (s w now : State) (set : Removed) (x : ℕ) → IsLeftOf s w set → IsFull w.slots x → set_of w.slots set x ≡ true → now ≡ emptied w (alone x) → IsLeftOf s now set
+pub left-next : (s w now : State) (set : Removed) (x : ℕ) → IsLeftOf s w set → IsFull w.slots x → set_of w.slots set x ≡ true → now ≡ emptied w (alone x) →
+    IsLeftOf s now set
 left-next s w now set x so_far full member is =
     let one : State = emptied w (alone x) in
     let ready_now = ready-emptied w x so_far.ready full in
@@ -133,7 +142,8 @@ left-next s w now set x so_far full member is =
           (joined-open w (set_of one.slots set) more (λ y in_set. open-was w x y (full-open w.slots x full) (members_now y in_set)) more_open);
     })
 
-pub left-done : (s w : State) (set : Removed) → IsLeftOf s w set → ((y : ℕ) → IsFull w.slots y → set_of w.slots set y ≡ false) → (more : SlotSet) → ((y : ℕ) → more y ≡ true → IsOpen s.slots y)
+pub left-done : (s w : State) (set : Removed) → IsLeftOf s w set → ((y : ℕ) → IsFull w.slots y → set_of w.slots set y ≡ false) → (more : SlotSet) →
+    ((y : ℕ) → more y ≡ true → IsOpen s.slots y)
     → emptied s (joined (set_of s.slots set) more) ≡ emptied w more
 left-done s w set so_far none more opens =
     let more_open : (y : ℕ) → more y ≡ true → IsOpen w.slots y = λ y in_more. so_far.shape.open_slots y (opens y in_more) in
@@ -156,7 +166,8 @@ lines-first s taken ready = record { ready = ready; radix = refl; whole = refl }
 next-number : (n : ℕ) → suc n ≡ n + 1
 next-number n = omega arith
 
-pub line-emptied : (s w now : State) (taken : ℕ → Bool) (line : ℕ) → line < 64 → LinesLeft s w taken line → BindingEmptied w line (taken line) now → LinesLeft s now taken (line + 1)
+pub line-emptied : (s w now : State) (taken : ℕ → Bool) (line : ℕ) → line < 64 → LinesLeft s w taken line → BindingEmptied w line (taken line) now →
+    LinesLeft s now taken (line + 1)
 line-emptied s w now taken line few lines_left (bound is full same) =
     let ready_now = ready-emptied w (binding_slot w line) lines_left.ready full in
     subst (λ (t : State). LinesLeft s t taken (line + 1)) (sym same) (record {
@@ -184,4 +195,5 @@ line-emptied s w now taken line few lines_left (left is same) =
     })
 
 pub lines-gone : (s w : State) (taken : ℕ → Bool) (line : ℕ) → line ≡ 64 → LinesLeft s w taken line → emptied s (bindings_from s taken 0) ≡ w
-lines-gone s w taken line is lines_left = lines_left.whole ∙ ap (λ (n : ℕ). emptied w (bindings_from w taken n)) is ∙ lines-done w taken lines_left.ready.derivation
+lines-gone s w taken line is lines_left = lines_left.whole ∙ ap (λ (n : ℕ). emptied w (bindings_from w taken n)) is
+    ∙ lines-done w taken lines_left.ready.derivation

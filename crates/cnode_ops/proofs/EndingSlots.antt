@@ -19,15 +19,18 @@ pub no-slot : (first : ℕ) (test : ℕ → Bool) → some_slot first 0 test ≡
 no-slot first test = some-none first 0 test (λ i less. absurd (omega (arith, less)))
 
 -- what an object's slots are by what is known of it
-pub own-is : (slots : Slots) (size : ℕ) (set : Removed) (capability : Cap) (offset : ℕ) (named : Bool) → object_of capability ≡ Some offset → named ≡ is_named_beside slots size set offset
+pub own-is : (slots : Slots) (size : ℕ) (set : Removed) (capability : Cap) (offset : ℕ) (named : Bool) → object_of capability ≡ Some offset →
+    named ≡ is_named_beside slots size set offset
     → own_slots slots size set capability ≡ window (offset / 16) (if named then 0 else slots_named capability)
 own-is slots size set capability offset named object is =
-    ap (λ (o : Option ℕ). option_map_or (λ at. window (at / 16) (if is_named_beside slots size set at then 0 else slots_named capability)) o (window 0 0)) object
+    ap (λ (o : Option ℕ). option_map_or (λ at. window (at / 16) (if is_named_beside slots size set at then 0 else slots_named capability)) o (window 0 0))
+    object
     ∙ ap (λ b. window (offset / 16) (if b then 0 else slots_named capability)) (sym is)
 
 pub own-none : (slots : Slots) (size : ℕ) (set : Removed) (capability : Cap) → object_of capability ≡ None → own_slots slots size set capability ≡ window 0 0
 own-none slots size set capability object =
-    ap (λ (o : Option ℕ). option_map_or (λ at. window (at / 16) (if is_named_beside slots size set at then 0 else slots_named capability)) o (window 0 0)) object
+    ap (λ (o : Option ℕ). option_map_or (λ at. window (at / 16) (if is_named_beside slots size set at then 0 else slots_named capability)) o (window 0 0))
+    object
 
 -- one of them stays exactly if the object is left so
 module _ (slots : Slots) (size : ℕ) (set : Removed) where
@@ -35,10 +38,11 @@ module _ (slots : Slots) (size : ℕ) (set : Removed) where
       → some_own (option_map_or (λ at. window (at / 16) (if is_named_beside slots size set at then 0 else count)) o (window 0 0)) (stays slots set)
       ≡ option_map_or (λ at. some_slot (at / 16) count (stays slots set) && not (is_named_beside slots size set at)) o false
   at-object count None = no-slot 0 (stays slots set)
-  at-object count (Some at) = elim (is_named_beside slots size set at) as (λ b. some_slot (at / 16) (if b then 0 else count) (stays slots set) ≡ (some_slot (at / 16) count (stays slots set) && not b)) [
-    | true ↦ no-slot (at / 16) (stays slots set) ∙ sym (and-false (some_slot (at / 16) count (stays slots set)))
-    | false ↦ sym (and-true (some_slot (at / 16) count (stays slots set)))
-  ]
+  at-object count (Some at) = elim (is_named_beside slots size set at)
+      as (λ b. some_slot (at / 16) (if b then 0 else count) (stays slots set) ≡ (some_slot (at / 16) count (stays slots set) && not b)) [
+        | true ↦ no-slot (at / 16) (stays slots set) ∙ sym (and-false (some_slot (at / 16) count (stays slots set)))
+        | false ↦ sym (and-true (some_slot (at / 16) count (stays slots set)))
+      ]
 
   pub own-filled : (capability : Cap) → some_own (own_slots slots size set capability) (stays slots set) ≡ is_left_filled slots size set capability
   own-filled capability = at-object (slots_named capability) (object_of capability)
@@ -48,7 +52,8 @@ module _ (slots : Slots) (size : ℕ) (set : Removed) where
   less-passes own test more is none = some-none own.first own.count test (λ i less.
       elim (test (own.first + i)) as (λ b. test (own.first + i) ≡ b → b ≡ false) [
         | false ↦ λ _. refl
-        | true ↦ λ yes. absurd (let clash : false ≡ true = sym none ∙ some-at own.first own.count (own.first + i) more (omega arith) (omega (arith, less)) (is (own.first + i) yes) in cc)
+        | true ↦ λ yes. absurd (let clash : false ≡ true = sym none
+            ∙ some-at own.first own.count (own.first + i) more (omega arith) (omega (arith, less)) (is (own.first + i) yes) in cc)
       ] refl)
 
   pub none-refused : ((slot : ℕ) → goes slots set slot ≡ true → some_own (own_slots slots size set (capability_at slots slot)) (is_full slots) ≡ false)
@@ -58,18 +63,22 @@ module _ (slots : Slots) (size : ℕ) (set : Removed) where
         | false ↦ λ _. refl
         | true ↦ λ is.
             sym (own-filled (capability_at slots (0 + i)))
-            ∙ less-passes (own_slots slots size set (capability_at slots (0 + i))) (stays slots set) (is_full slots) (λ y yes. (both (is_full slots y) _ yes).0) (none (0 + i) is)
+            ∙ less-passes (own_slots slots size set (capability_at slots (0 + i))) (stays slots set) (is_full slots) (λ y yes. (both (is_full slots y) _ yes).0)
+            (none (0 + i) is)
       ] refl)
 
   -- and where nothing goes, none is
   pub nothing-refused : ((slot : ℕ) → goes slots set slot ≡ false) → is_some_left_filled slots size set ≡ false
-  nothing-refused none = some-none 0 size (refuses slots size set) (λ i less. ap (λ b. b && is_left_filled slots size set (capability_at slots (0 + i))) (none (0 + i)))
+  nothing-refused none = some-none 0 size (refuses slots size set)
+      (λ i less. ap (λ b. b && is_left_filled slots size set (capability_at slots (0 + i))) (none (0 + i)))
 
   -- what is asked by marks is asked of what stays
   pub asked-by-marks : (words : List ℕ) → ((slot : ℕ) → is_unmarked slots words slot ≡ stays slots set slot)
-      → some_slot 0 size (λ slot. goes slots set slot && some_own (own_slots slots size set (capability_at slots slot)) (is_unmarked slots words)) ≡ is_some_left_filled slots size set
+      → some_slot 0 size (λ slot. goes slots set slot && some_own (own_slots slots size set (capability_at slots slot)) (is_unmarked slots words))
+      ≡ is_some_left_filled slots size set
   asked-by-marks words stay =
-      let same : (slot : ℕ) → (goes slots set slot && some_own (own_slots slots size set (capability_at slots slot)) (is_unmarked slots words)) ≡ refuses slots size set slot = λ slot.
+      let same : (slot : ℕ) → (goes slots set slot && some_own (own_slots slots size set (capability_at slots slot)) (is_unmarked slots words)) ≡ refuses slots
+      size set slot = λ slot.
       ap (λ b. goes slots set slot && b)
       (ap (λ (test : ℕ → Bool). some_own (own_slots slots size set (capability_at slots slot)) test) (λ j y. stay y j) ∙ own-filled (capability_at slots slot))
       in

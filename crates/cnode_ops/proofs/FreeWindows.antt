@@ -1,5 +1,6 @@
 -- The slots of a window lie in the CNode, and are empty where none is full.
-use Rattle.std.proofs.Common.{ℕ, ◌≡◌, ◌∙◌, ◌+◌, ◌-◌, ◌/◌, ◌^◌, ◌<◌, ◌≤◌, ◌&&◌, Bool, true, false, not, nat_le, Option, Some, None, Result, Ok, Err, refl, sym, subst, arith}
+use Rattle.std.proofs.Common.{ℕ, ◌≡◌, ◌∙◌, ◌+◌, ◌-◌, ◌/◌, ◌^◌, ◌<◌, ◌≤◌, ◌&&◌, Bool, true, false, not, nat_le, Option, Some, None, Result, Ok, Err, refl, sym}
+use Rattle.std.proofs.Common.{subst, arith}
 use Rattle.std.proofs.lemmas.Bool.{and_parts, leb-true, not-false}
 use Rattle.cspace.proofs.Laws.{slot_below}
 use Rattle.cnode_ops.specs.Nodes.{HasOpenSlots}
@@ -37,7 +38,8 @@ none-full : (slots : Slots) (first count i : ℕ) → any_full slots first count
 unfolding some_slot
 none-full slots first count i none less =
     elim (is_full slots (first + i)) as (λ b. is_full slots (first + i) ≡ b → b ≡ false) [
-      | true ↦ λ full. absurd (let clash : true ≡ false = sym (some-at first count (first + i) (is_full slots) (omega arith) (omega (arith, less)) full) ∙ none in cc)
+      | true ↦ λ full. absurd (let clash : true ≡ false = sym (some-at first count (first + i) (is_full slots) (omega arith) (omega (arith, less)) full)
+          ∙ none in cc)
       | false ↦ λ _. refl
     ] refl
 
@@ -47,12 +49,14 @@ pub window-free : (slots : Slots) (offset radix guard index count : ℕ) → IsD
 window-free slots offset radix guard index count tree there has none i less =
     let slot : ℕ = offset / 16 + index + i in
     let fits = (counted radix index count has).2 in
-    let opens : IsOpen slots slot = subst (λ (n : ℕ). IsOpen slots n) (omega arith) (there.each offset radix guard (index + i) refl (omega (arith, fits, less))) in
+    let opens : IsOpen slots slot = subst (λ (n : ℕ). IsOpen slots n) (omega arith)
+    (there.each offset radix guard (index + i) refl (omega (arith, fits, less))) in
     open-empty slots slot tree opens (not-false (is_empty (capability_at slots slot)) (none-full slots (offset / 16 + index) count i none less))
 
 -- a window has 1 to 256 slots
 answered : (o : Option Node) (has full : Node → Bool) (first : Node → ℕ) (found : ℕ)
-    → Ok found ≡ (wanted o FailedLookup >>= λ n. check (has n) RangeError >>= λ _. check (full n) DeleteFirst >>= λ _. Ok (first n)) → (n : Node) × (has n ≡ true)
+    → Ok found ≡ (wanted o FailedLookup >>= λ n. check (has n) RangeError >>= λ _. check (full n) DeleteFirst >>= λ _. Ok (first n)) → (n : Node)
+    × (has n ≡ true)
 answered None has full first found is = absurd (let clash : ◌≡◌ {A = Result ℕ KError} (Ok found) (Err FailedLookup) = is in cc)
 answered (Some n) has full first found is =
     elim (has n) as (λ b. has n ≡ b → Ok found ≡ (check b RangeError >>= λ _. check (full n) DeleteFirst >>= λ _. Ok (first n)) → (n : Node) × (has n ≡ true)) [
@@ -62,6 +66,7 @@ answered (Some n) has full first found is =
 
 pub window-counted : (slots : Slots) (held : Cap) (index count first : ℕ) → Ok first ≡ window slots held index count → (1 ≤ count) × (count ≤ 256)
 window-counted slots held index count first is =
-    let node = answered (cnode_of held) (λ n. has_slots n.radix index count) (λ n. not (any_full slots (slot_of n.offset index) count)) (λ n. slot_of n.offset index) first is in
+    let node = answered (cnode_of held) (λ n. has_slots n.radix index count) (λ n. not (any_full slots (slot_of n.offset index) count))
+    (λ n. slot_of n.offset index) first is in
     let parts = counted node.0.radix index count node.1 in
     (parts.0, parts.1)

@@ -1,11 +1,13 @@
 -- Going over a list of slots, each of them once.
-use Rattle.std.proofs.Common.{ℕ, ◌≡◌, ◌≢◌, ◌∙◌, ◌+◌, ◌<◌, ◌≤◌, Bool, true, false, not, if◌then◌else◌, Option, Some, None, List, [], ◌∷◌, length, refl, sym, ap, subst, arith}
+use Rattle.std.proofs.Common.{ℕ, ◌≡◌, ◌≢◌, ◌∙◌, ◌+◌, ◌<◌, ◌≤◌, Bool, true, false, not, if◌then◌else◌, Option, Some, None, List, [], ◌∷◌, length, refl, sym, ap}
+use Rattle.std.proofs.Common.{subst, arith}
 use Rattle.std.proofs.lemmas.Bool.{ne_eqb}
 use Rattle.cnode_ops.specs.Listed.{Lists}
 use Rattle.model.specs.Capabilities.Orders.{next_in}
 use Rattle.model.specs.Capabilities.Slots.{Slots, capability_at, is_empty, is_full}
 use Rattle.model.specs.declared.capabilities.Cap.{Cap}
-use Rattle.model.specs.declared.capabilities.Cap.TheVariants.{Empty, Untyped, Endpoint, Notification, CNode, Frame, PageTable, Tcb, RootTable, InterruptControl, InterruptHandler}
+use Rattle.model.specs.declared.capabilities.Cap.TheVariants.{Empty, Untyped, Endpoint, Notification, CNode, Frame, PageTable, Tcb, RootTable, InterruptControl}
+use Rattle.model.specs.declared.capabilities.Cap.TheVariants.{InterruptHandler}
 use Rattle.model.specs.Shared.Lists.{times_in}
 use Rattle.model.proofs.Orders.{after-behind, behind, behind-step, first-none, first-some, times-behind}
 
@@ -36,7 +38,8 @@ module _ (list : List ℕ) (member : ℕ → Bool) (lists : Lists list member) w
       omega (arith, ap length (behind-step list at slot found.0 once found.1), ap length found.1)
 
   -- a slot that does not pass is passed by
-  pub behind-next : (test : ℕ → Bool) (at : Option ℕ) (slot : ℕ) → AreBehind list member test at → Some slot ≡ next_in list at → test slot ≡ false → AreBehind list member test (Some slot)
+  pub behind-next : (test : ℕ → Bool) (at : Option ℕ) (slot : ℕ) → AreBehind list member test at → Some slot ≡ next_in list at → test slot ≡ false →
+      AreBehind list member test (Some slot)
   behind-next test at slot before is fails listed y inside passes =
       let found = first-some _ slot (sym (after-behind list at) ∙ sym is) in
       let other : slot ≢ y = λ same. absurd (let clash : false ≡ true = sym fails ∙ ap test same ∙ passes in cc) in
@@ -45,7 +48,8 @@ module _ (list : List ℕ) (member : ℕ → Bool) (lists : Lists list member) w
       subst (λ (l : List ℕ). 1 ≤ times_in l y) (sym (behind-step list at slot found.0 once found.1)) less
 
   -- none passes where nothing is left
-  pub none-left : (test : ℕ → Bool) (at : Option ℕ) → AreBehind list member test at → None ≡ next_in list at → (slot : ℕ) → member slot ≡ true → test slot ≡ false
+  pub none-left : (test : ℕ → Bool) (at : Option ℕ) → AreBehind list member test at → None ≡ next_in list at → (slot : ℕ) → member slot ≡ true →
+      test slot ≡ false
   none-left test at before is slot inside =
       let empty : behind list at ≡ [] = first-none _ (sym (after-behind list at) ∙ sym is) in
       elim (test slot) as (λ b. test slot ≡ b → b ≡ false) [
@@ -53,7 +57,8 @@ module _ (list : List ℕ) (member : ℕ → Bool) (lists : Lists list member) w
         | false ↦ λ fails. refl
       ] refl
 
-  pub none-passes : (test : ℕ → Bool) (at : Option ℕ) → AreBehind list member test at → None ≡ next_in list at → ((slot : ℕ) → test slot ≡ true → member slot ≡ true) → (slot : ℕ) → test slot ≡ false
+  pub none-passes : (test : ℕ → Bool) (at : Option ℕ) → AreBehind list member test at → None ≡ next_in list at →
+      ((slot : ℕ) → test slot ≡ true → member slot ≡ true) → (slot : ℕ) → test slot ≡ false
   none-passes test at before is inside slot = elim (test slot) as (λ b. test slot ≡ b → b ≡ false) [
     | true ↦ λ passes. absurd (let clash : true ≡ false = sym passes ∙ none-left test at before is slot (inside slot passes) in cc)
     | false ↦ λ fails. refl

@@ -24,11 +24,13 @@ open-put : (slots : Slots) (slot : ℕ) (made : Cap) (parent : Option ℕ) (s : 
 open-put slots slot made parent s is_open =
     elim (s == slot) as (λ b. IsSome (if b then Some (record { capability = made; parent = parent }) else slots s)) [ true ↦ refl | false ↦ is_open ]
 
-pub nodes-put : (slots : Slots) (slot : ℕ) (made : Cap) (parent : Option ℕ) → CNodesAreOpen slots → HasOpenSlots slots made → CNodesAreOpen (inserted slots slot made parent)
+pub nodes-put : (slots : Slots) (slot : ℕ) (made : Cap) (parent : Option ℕ) → CNodesAreOpen slots → HasOpenSlots slots made →
+    CNodesAreOpen (inserted slots slot made parent)
 nodes-put slots slot made parent nodes here = record {
   nodes = λ s. record {
     each = λ offset radix guard index is less. open-put slots slot made parent (offset / 16 + index) (
-        elim (s == slot) as (λ b. capability_of (if b then Some (record { capability = made; parent = parent }) else slots s) ≡ CNode offset radix guard → IsOpen slots (offset / 16 + index)) [
+        elim (s == slot) as (λ b. capability_of (if b then Some (record { capability = made; parent = parent }) else slots s) ≡ CNode offset radix guard →
+        IsOpen slots (offset / 16 + index)) [
           | true ↦ λ e. here.each offset radix guard index e less
           | false ↦ λ e. (nodes.nodes s).each offset radix guard index e less
         ] is);
@@ -55,18 +57,21 @@ pub nodes-moved : (slots : Slots) (from to : ℕ) → IsOpen slots from → CNod
 nodes-moved slots from to source nodes = record {
   nodes = λ s. record {
     each = λ offset radix guard index is less. open-moved slots from to (offset / 16 + index) source (
-        elim (s == from) as (λ b. capability_of (if b then Some empty_entry else (if s == to then slots from else option_map (adopted from (Some to)) (slots s))) ≡ CNode offset radix guard → IsOpen slots (offset / 16 + index)) [
+        elim (s == from) as (λ b. capability_of (if b then Some empty_entry else
+        (if s == to then slots from else option_map (adopted from (Some to)) (slots s))) ≡ CNode offset radix guard → IsOpen slots (offset / 16 + index)) [
           | true ↦ λ e. absurd (cc)
-          | false ↦ λ e. elim (s == to) as (λ b. capability_of (if b then slots from else option_map (adopted from (Some to)) (slots s)) ≡ CNode offset radix guard → IsOpen slots (offset / 16 + index)) [
-            | true ↦ λ f. (nodes.nodes from).each offset radix guard index f less
-            | false ↦ λ f. (nodes.nodes s).each offset radix guard index (sym (capability-adopted from (Some to) (slots s)) ∙ f) less
-          ] e
+          | false ↦ λ e. elim (s == to) as (λ b. capability_of (if b then slots from else option_map (adopted from (Some to)) (slots s)) ≡ CNode offset radix
+              guard → IsOpen slots (offset / 16 + index)) [
+                | true ↦ λ f. (nodes.nodes from).each offset radix guard index f less
+                | false ↦ λ f. (nodes.nodes s).each offset radix guard index (sym (capability-adopted from (Some to) (slots s)) ∙ f) less
+              ] e
         ] is);
   };
 }
 
 -- and changed there
-pub nodes-mutated : (slots : Slots) (from to : ℕ) (made : Cap) (parent : Option ℕ) → IsOpen slots from → CNodesAreOpen slots → HasOpenSlots slots made → CNodesAreOpen (inserted (relocated slots from to) to made parent)
+pub nodes-mutated : (slots : Slots) (from to : ℕ) (made : Cap) (parent : Option ℕ) → IsOpen slots from → CNodesAreOpen slots → HasOpenSlots slots made →
+    CNodesAreOpen (inserted (relocated slots from to) to made parent)
 nodes-mutated slots from to made parent source nodes here =
     nodes-put (relocated slots from to) to made parent (nodes-moved slots from to source nodes) (record {
       each = λ offset radix guard index is less. open-moved slots from to (offset / 16 + index) source (here.each offset radix guard index is less);

@@ -11,7 +11,8 @@ pub no-line : (lines : LineSet) → lines.bits ≡ 0 → (line : ℕ) → has_li
 no-line lines zero_is line = ap (λ word. bit_at word (line % 64) == 1) zero_is ∙ ap (λ bit. bit == 1) (bit_at-zero (line % 64))
 
 -- a word with one bit more
-pub line-with : (old new : LineSet) (line : ℕ) → bit_at new.bits (line % 64) ≡ 1 → ((i : ℕ) → i < 64 → i ≢ line % 64 → bit_at new.bits i ≡ bit_at old.bits i) → line < 64
+pub line-with : (old new : LineSet) (line : ℕ) → bit_at new.bits (line % 64) ≡ 1 → ((i : ℕ) → i < 64 → i ≢ line % 64 → bit_at new.bits i ≡ bit_at old.bits i) →
+    line < 64
     → (other : ℕ) → other < 64 → has_line new other ≡ (has_line old other || line == other)
 line-with old new line own others near other few = elim (eqb_tells line other) [
   | inl here ↦
@@ -23,7 +24,8 @@ line-with old new line own others near other few = elim (eqb_tells line other) [
       ∙ sym (ap (λ b. has_line old other || b) apart.0 ∙ or-false (has_line old other))
 ]
 
-module _ (old new : LineSet) (at : ℕ) (is_wanted : Bool) (next : (other : ℕ) → other < 64 → has_line new other ≡ (has_line old other || is_wanted && at == other))
+module _ (old new : LineSet) (at : ℕ) (is_wanted : Bool) (next : (other : ℕ) → other < 64 →
+    has_line new other ≡ (has_line old other || is_wanted && at == other))
     (rest : (line : ℕ) → at ≤ line → line < 64 → has_line old line ≡ false) where
   -- another line is one of them if it was
   other-line : (line : ℕ) → line < 64 → at ≢ line → has_line new line ≡ has_line old line
@@ -46,17 +48,20 @@ module _ (old new : LineSet) (at : ℕ) (is_wanted : Bool) (next : (other : ℕ)
       and-true true = refl
       and-true false = refl
 
-pub line-before : (old new : LineSet) (at : ℕ) (is_wanted : Bool) (lost : ℕ → Bool) → at < 64 → ((other : ℕ) → other < 64 → has_line new other ≡ (has_line old other || is_wanted && at == other))
+pub line-before : (old new : LineSet) (at : ℕ) (is_wanted : Bool) (lost : ℕ → Bool) → at < 64 →
+    ((other : ℕ) → other < 64 → has_line new other ≡ (has_line old other || is_wanted && at == other))
     → is_wanted ≡ lost at → ((line : ℕ) → line < at → has_line old line ≡ lost line) → ((line : ℕ) → at ≤ line → line < 64 → has_line old line ≡ false)
     → (line : ℕ) → line < at + 1 → has_line new line ≡ lost line
 line-before old new at is_wanted lost near next is told rest line before = elim (eqb_tells at line) [
   | inl here ↦ ap (λ (n : ℕ). has_line new n) (sym here.1) ∙ line-here old new at is_wanted next rest near ∙ is ∙ ap lost here.1
   | inr away ↦
       other-line old new at is_wanted next rest line (omega (arith, before, near)) away.1
-      ∙ told line (let less : line < at = elim (eqb_tells line at) [ inl same ↦ absurd (away.1 (sym same.1)) | inr apart ↦ omega (arith, before, apart.1) ] in less)
+      ∙ told line (let less : line < at = elim (eqb_tells line at) [ inl same ↦ absurd (away.1 (sym same.1)) | inr apart ↦ omega (arith, before, apart.1) ] in
+      less)
 ]
 
-pub line-after : (old new : LineSet) (at : ℕ) (is_wanted : Bool) → ((other : ℕ) → other < 64 → has_line new other ≡ (has_line old other || is_wanted && at == other))
+pub line-after : (old new : LineSet) (at : ℕ) (is_wanted : Bool) →
+    ((other : ℕ) → other < 64 → has_line new other ≡ (has_line old other || is_wanted && at == other))
     → ((line : ℕ) → at ≤ line → line < 64 → has_line old line ≡ false) → (line : ℕ) → at + 1 ≤ line → line < 64 → has_line new line ≡ false
 line-after old new at is_wanted next rest line behind few =
     other-line old new at is_wanted next rest line few (λ same. absurd (omega (arith, same, behind))) ∙ rest line (omega (arith, behind)) few

@@ -9,11 +9,13 @@ use Rattle.model.specs.Capabilities.Slots.{IsDerivation, IsFull, IsOpen, Slots, 
 use Rattle.model.specs.Kernel.Removal.{SlotSet, emptied, some_inside, some_outside, takes_last}
 use Rattle.model.specs.Kernel.State.{State, binding_slot, slot_numbers}
 use Rattle.model.specs.declared.capabilities.Cap.{Cap}
-use Rattle.model.specs.declared.capabilities.Cap.TheVariants.{Empty, Untyped, Endpoint, Notification, CNode, Frame, PageTable, Tcb, RootTable, InterruptControl, InterruptHandler}
+use Rattle.model.specs.declared.capabilities.Cap.TheVariants.{Empty, Untyped, Endpoint, Notification, CNode, Frame, PageTable, Tcb, RootTable, InterruptControl}
+use Rattle.model.specs.declared.capabilities.Cap.TheVariants.{InterruptHandler}
 use Rattle.model.specs.declared.slot_entries.Entry.{Entry}
 use Rattle.model.proofs.SlotChanges.{capability_of}
 use Rattle.removal_laws.specs.Steps.{IsReady, alone, bindings_from, joined, unmapped_at}
-use Rattle.removal_laws.proofs.Laws.{bool-iff, both, capability-out, found, found-at, found-or, found-same, found-where, join, kept-test, lines-done, ready-emptied, there-in, unmapped-itself}
+use Rattle.removal_laws.proofs.Laws.{bool-iff, both, capability-out, found, found-at, found-or, found-same, found-where, join, kept-test, lines-done}
+use Rattle.removal_laws.proofs.Laws.{ready-emptied, there-in, unmapped-itself}
 use Rattle.cnode_ops.specs.Lines.{LinesGone, handles, has_line}
 use Rattle.cnode_ops.specs.Sets.{set_of}
 use Rattle.cnode_ops.specs.declared.lines.LineSet.{LineSet}
@@ -148,7 +150,8 @@ later-or false false false = refl
 
 -- what goes with a slot is known from what it held
 pub gone-next : (s w now : State) (gone new : LineSet) (x : ℕ) (held : Cap) → LinesGone s w gone → IsReady w → IsFull w.slots x → now ≡ emptied w (alone x)
-    → held ≡ capability_at (unmapped_at w.slots x) x → ((line : ℕ) → line < 64 → has_line new line ≡ (has_line gone line || is_handler_of line held)) → LinesGone s now new
+    → held ≡ capability_at (unmapped_at w.slots x) x → ((line : ℕ) → line < 64 → has_line new line ≡ (has_line gone line || is_handler_of line held)) →
+    LinesGone s now new
 unfolding none
 gone-next s w now gone new x held so_far ready full is held_is noted = λ line few.
     let test : Bool = is_handler_of line held in
@@ -174,7 +177,8 @@ gone-next s w now gone new x held so_far ready full is held_is noted = λ line f
 -- ---- bindings
 
 -- of no lines none is emptied
-pub bindings-none : (s : State) (lines : LineSet) → ((line : ℕ) → has_line lines line ≡ false) → IsDerivation s.slots → emptied s (bindings_from s (λ line. has_line lines line) 0) ≡ s
+pub bindings-none : (s : State) (lines : LineSet) → ((line : ℕ) → has_line lines line ≡ false) → IsDerivation s.slots →
+    emptied s (bindings_from s (λ line. has_line lines line) 0) ≡ s
 bindings-none s lines none_is tree =
     (λ i. emptied s (bindings_from s (λ line. none_is line i) 0))
     ∙ (λ i. emptied s (λ y. (no-binding s 0 y ∙ sym (no-binding s 64 y)) i))

@@ -1,12 +1,14 @@
 -- The slots that names lead to are open where all CNodes have their slots.
-use Rattle.std.proofs.Common.{ℕ, zero, suc, ◌≡◌, ◌∙◌, is_some, ◌==◌, ◌+◌, ◌-◌, ◌/◌, ◌%◌, ◌^◌, ◌<◌, ◌&&◌, ◌||◌, Bool, true, false, not, Option, Some, None, Result, Ok, Err, refl, sym, ap, subst, arith}
+use Rattle.std.proofs.Common.{ℕ, zero, suc, ◌≡◌, ◌∙◌, is_some, ◌==◌, ◌+◌, ◌-◌, ◌/◌, ◌%◌, ◌^◌, ◌<◌, ◌&&◌, ◌||◌, Bool, true, false, not, Option, Some, None}
+use Rattle.std.proofs.Common.{Result, Ok, Err, refl, sym, ap, subst, arith}
 use Rattle.std.specs.Prelude.{if◌then◌else◌, nat_le, nat_lt}
 use Rattle.std.proofs.lemmas.Nat.{pow_pos}
 use Rattle.model.specs.Capabilities.Lookup.{go_on, is_cnode, lookup, lookup_within, resolve}
 use Rattle.model.specs.Capabilities.Slots.{IsDerivation, IsOpen, Slots, capability_at, empty_entry, is_empty}
 use Rattle.model.specs.Kernel.Arguments.{◌>>=◌, argument_slot, check, destination_slot, whole}
 use Rattle.model.specs.declared.capabilities.Cap.{Cap}
-use Rattle.model.specs.declared.capabilities.Cap.TheVariants.{Empty, Untyped, Endpoint, Notification, CNode, Frame, PageTable, Tcb, RootTable, InterruptControl, InterruptHandler}
+use Rattle.model.specs.declared.capabilities.Cap.TheVariants.{Empty, Untyped, Endpoint, Notification, CNode, Frame, PageTable, Tcb, RootTable, InterruptControl}
+use Rattle.model.specs.declared.capabilities.Cap.TheVariants.{InterruptHandler}
 use Rattle.model.specs.declared.errors.KError.{KError}
 use Rattle.model.specs.declared.errors.KError.TheVariants.{DeleteFirst, FailedLookup, RangeError}
 use Rattle.model.specs.declared.invocations.SlotName.{SlotName}
@@ -19,7 +21,8 @@ use Rattle.cnode_ops.specs.Nodes.{CNodesAreOpen, HasOpenSlots}
 -- ---- one CNode
 
 -- what is answered after three tests is answered at the end
-third-index : (a b c : Bool) (e f g : LookupFailure) (index rest bound : ℕ) (place : ℕ × ℕ) → index < bound → (if a then Err e else if b then Err f else if c then Err g else Ok (index, rest)) ≡ Ok place → place.0 < bound
+third-index : (a b c : Bool) (e f g : LookupFailure) (index rest bound : ℕ) (place : ℕ × ℕ) → index < bound →
+    (if a then Err e else if b then Err f else if c then Err g else Ok (index, rest)) ≡ Ok place → place.0 < bound
 third-index true b c e f g index rest bound place less is = absurd (cc)
 third-index false true c e f g index rest bound place less is = absurd (cc)
 third-index false false true e f g index rest bound place less is = absurd (cc)
@@ -31,21 +34,27 @@ resolved-index radix guard_word address left place is =
     let size = guard_word % 2 ^ 5 in
     let rest = left - (size + radix) in
     let positive = pow_pos radix in
-    third-index (nat_lt left size) (not (address / 2 ^ (left - size) % 2 ^ size == guard_word / 2 ^ 5)) (nat_lt left (size + radix)) (GuardMismatch left) (GuardMismatch left) (DepthMismatch left)
+    third-index (nat_lt left size) (not (address / 2 ^ (left - size) % 2 ^ size == guard_word / 2 ^ 5)) (nat_lt left (size + radix)) (GuardMismatch left)
+    (GuardMismatch left) (DepthMismatch left)
     (address / 2 ^ rest % 2 ^ radix) rest (2 ^ radix) place (omega (arith, positive)) is
 
 -- after a CNode the lookup ends at an open slot, or goes on
-step-open : (slots : Slots) (offset : ℕ) (next : Cap → ℕ → Result (ℕ × ℕ) LookupFailure) (place : Result (ℕ × ℕ) LookupFailure) (found : ℕ × ℕ) → CNodesAreOpen slots → ((p : ℕ × ℕ) → place ≡ Ok p → IsOpen slots (offset / 16 + p.0)) → ((held : Cap) (rest : ℕ) → HasOpenSlots slots held → next held rest ≡ Ok found → IsOpen slots found.0) → go_on slots offset next place ≡ Ok found → IsOpen slots found.0
+step-open : (slots : Slots) (offset : ℕ) (next : Cap → ℕ → Result (ℕ × ℕ) LookupFailure) (place : Result (ℕ × ℕ) LookupFailure) (found : ℕ × ℕ) →
+    CNodesAreOpen slots → ((p : ℕ × ℕ) → place ≡ Ok p → IsOpen slots (offset / 16 + p.0)) →
+    ((held : Cap) (rest : ℕ) → HasOpenSlots slots held → next held rest ≡ Ok found → IsOpen slots found.0) → go_on slots offset next place ≡ Ok found →
+    IsOpen slots found.0
 step-open slots offset next (Err failure) found nodes inside on is = absurd (cc)
 step-open slots offset next (Ok p) found nodes inside on is =
-    elim (p.1 == 0 || not (is_cnode (capability_at slots (offset / 16 + p.0)))) as (λ b. (if b then Ok (offset / 16 + p.0, p.1) else next (capability_at slots (offset / 16 + p.0)) p.1) ≡ Ok found → IsOpen slots found.0) [
+    elim (p.1 == 0 || not (is_cnode (capability_at slots (offset / 16 + p.0))))
+    as (λ b. (if b then Ok (offset / 16 + p.0, p.1) else next (capability_at slots (offset / 16 + p.0)) p.1) ≡ Ok found → IsOpen slots found.0) [
       | true ↦ λ e. let same : (offset / 16 + p.0, p.1) ≡ found = cc in subst (λ (f : ℕ × ℕ). IsOpen slots f.0) same (inside p refl)
       | false ↦ λ e. on _ _ (nodes.nodes (offset / 16 + p.0)) e
     ] is
 
 -- ---- the whole lookup
 
-lookup-open : (n : ℕ) (slots : Slots) (root : Cap) (address left : ℕ) (found : ℕ × ℕ) → CNodesAreOpen slots → HasOpenSlots slots root → lookup_within n slots root address left ≡ Ok found → IsOpen slots found.0
+lookup-open : (n : ℕ) (slots : Slots) (root : Cap) (address left : ℕ) (found : ℕ × ℕ) → CNodesAreOpen slots → HasOpenSlots slots root →
+    lookup_within n slots root address left ≡ Ok found → IsOpen slots found.0
 unfolding lookup_within
 lookup-open zero slots root address left found nodes here is = absurd (cc)
 lookup-open (suc n) slots Empty address left found nodes here is = absurd (cc)
@@ -65,7 +74,8 @@ lookup-open (suc n) slots (InterruptHandler _) address left found nodes here is 
 
 -- ---- names
 
-whole-open : (slots : Slots) (answer : Result (ℕ × ℕ) LookupFailure) (slot : ℕ) → ((found : ℕ × ℕ) → answer ≡ Ok found → IsOpen slots found.0) → whole answer ≡ Ok slot → IsOpen slots slot
+whole-open : (slots : Slots) (answer : Result (ℕ × ℕ) LookupFailure) (slot : ℕ) → ((found : ℕ × ℕ) → answer ≡ Ok found → IsOpen slots found.0) →
+    whole answer ≡ Ok slot → IsOpen slots slot
 whole-open slots (Err failure) slot is_open is = absurd (cc)
 whole-open slots (Ok found) slot is_open is =
     elim (found.1 == 0) as (λ b. (if b then Ok found.0 else Err FailedLookup) ≡ Ok slot → IsOpen slots slot) [
@@ -73,14 +83,17 @@ whole-open slots (Ok found) slot is_open is =
       | false ↦ λ e. absurd (cc)
     ] is
 
-checked-open : (slots : Slots) (test : Bool) (answer : Result ℕ KError) (slot : ℕ) → (answer ≡ Ok slot → IsOpen slots slot) → (check test RangeError >>= λ _. answer) ≡ Ok slot → IsOpen slots slot
+checked-open : (slots : Slots) (test : Bool) (answer : Result ℕ KError) (slot : ℕ) → (answer ≡ Ok slot → IsOpen slots slot) →
+    (check test RangeError >>= λ _. answer) ≡ Ok slot → IsOpen slots slot
 checked-open slots true answer slot is_open is = is_open is
 checked-open slots false answer slot is_open is = absurd (cc)
 
-argument-open : (slots : Slots) (root : Cap) (name : SlotName) (slot : ℕ) → CNodesAreOpen slots → HasOpenSlots slots root → argument_slot slots root name ≡ Ok slot → IsOpen slots slot
+argument-open : (slots : Slots) (root : Cap) (name : SlotName) (slot : ℕ) → CNodesAreOpen slots → HasOpenSlots slots root →
+    argument_slot slots root name ≡ Ok slot → IsOpen slots slot
 argument-open slots root name slot nodes here is =
     checked-open slots (nat_lt 0 name.depth && nat_le name.depth 32) _ slot
-    (whole-open slots (lookup slots root name.address name.depth) slot (λ found e. lookup-open (suc name.depth) slots root name.address name.depth found nodes here e)) is
+    (whole-open slots (lookup slots root name.address name.depth) slot
+    (λ found e. lookup-open (suc name.depth) slots root name.address name.depth found nodes here e)) is
 
 -- a destination is an argument slot that holds nothing
 abbrev empty_slot : Bool → ℕ → Result ℕ KError
@@ -90,7 +103,8 @@ empty-checked : (empty : Bool) (found slot : ℕ) → empty_slot empty found ≡
 empty-checked true found slot is = (cc, refl)
 empty-checked false found slot is = absurd (cc)
 
-destination-parts : (slots : Slots) (answer : Result ℕ KError) (slot : ℕ) → (answer >>= λ found. empty_slot (is_empty (capability_at slots found)) found) ≡ Ok slot → (answer ≡ Ok slot) × (is_empty (capability_at slots slot) ≡ true)
+destination-parts : (slots : Slots) (answer : Result ℕ KError) (slot : ℕ) →
+    (answer >>= λ found. empty_slot (is_empty (capability_at slots found)) found) ≡ Ok slot → (answer ≡ Ok slot) × (is_empty (capability_at slots slot) ≡ true)
 destination-parts slots (Err e) slot is = absurd (cc)
 destination-parts slots (Ok found) slot is =
     let parts = empty-checked (is_empty (capability_at slots found)) found slot is in
@@ -99,8 +113,10 @@ destination-parts slots (Ok found) slot is =
       ap (λ (x : ℕ). is_empty (capability_at slots x)) (sym parts.0) ∙ parts.1,
     )
 
-pub destination-open : (slots : Slots) (node : Cap) (name : SlotName) (slot : ℕ) → CNodesAreOpen slots → HasOpenSlots slots node → destination_slot slots node name ≡ Ok slot → IsOpen slots slot
-destination-open slots node name slot nodes here is = argument-open slots node name slot nodes here (destination-parts slots (argument_slot slots node name) slot is).0
+pub destination-open : (slots : Slots) (node : Cap) (name : SlotName) (slot : ℕ) → CNodesAreOpen slots → HasOpenSlots slots node →
+    destination_slot slots node name ≡ Ok slot → IsOpen slots slot
+destination-open slots node name slot nodes here is = argument-open slots node name slot nodes here
+    (destination-parts slots (argument_slot slots node name) slot is).0
 
 -- ---- empty slots
 
@@ -118,22 +134,26 @@ empty-capability InterruptControl is = absurd (cc)
 empty-capability (InterruptHandler _) is = absurd (cc)
 
 -- an entry without a capability has no parent
-orphan : (slots : Slots) (slot : ℕ) (parent : Option ℕ) → IsDerivation slots → slots slot ≡ Some (record { capability = Empty; parent = parent }) → parent ≡ None
+orphan : (slots : Slots) (slot : ℕ) (parent : Option ℕ) → IsDerivation slots → slots slot ≡ Some (record { capability = Empty; parent = parent }) →
+    parent ≡ None
 orphan slots slot None tree is = refl
 orphan slots slot (Some p) tree is =
     let full : not (is_empty (capability_of (slots slot))) ≡ true = tree.child_full slot p (ap parent_of is) in
     let clash : false ≡ true = sym (ap (λ (o : Option Entry). not (is_empty (capability_of o))) is) ∙ full in
     absurd (cc)
 
-pub open-empty : (slots : Slots) (slot : ℕ) → IsDerivation slots → IsOpen slots slot → is_empty (capability_at slots slot) ≡ true → slots slot ≡ Some empty_entry
+pub open-empty : (slots : Slots) (slot : ℕ) → IsDerivation slots → IsOpen slots slot → is_empty (capability_at slots slot) ≡ true →
+    slots slot ≡ Some empty_entry
 open-empty slots slot tree is_open empty =
     elim (slots slot) as (λ o. slots slot ≡ o → slots slot ≡ Some empty_entry) [
       | None ↦ λ is. absurd (let clash : false ≡ true = sym (ap is_some is) ∙ is_open in cc)
       | Some held ↦ λ is.
           let bare : held.capability ≡ Empty = empty-capability held.capability (ap (λ (o : Option Entry). is_empty (capability_of o)) (sym is) ∙ empty) in
-          let split : slots slot ≡ Some (record { capability = Empty; parent = held.parent }) = is ∙ ap (λ (c : Cap). Some (record { capability = c; parent = held.parent })) bare in
+          let split : slots slot ≡ Some (record { capability = Empty; parent = held.parent }) = is
+          ∙ ap (λ (c : Cap). Some (record { capability = c; parent = held.parent })) bare in
           split ∙ ap (λ (p : Option ℕ). Some (record { capability = Empty; parent = p })) (orphan slots slot held.parent tree split)
     ] refl
 
-pub destination-free : (slots : Slots) (node : Cap) (name : SlotName) (slot : ℕ) → IsDerivation slots → IsOpen slots slot → destination_slot slots node name ≡ Ok slot → slots slot ≡ Some empty_entry
+pub destination-free : (slots : Slots) (node : Cap) (name : SlotName) (slot : ℕ) → IsDerivation slots → IsOpen slots slot →
+    destination_slot slots node name ≡ Ok slot → slots slot ≡ Some empty_entry
 destination-free slots node name slot tree is_open is = open-empty slots slot tree is_open (destination-parts slots (argument_slot slots node name) slot is).1

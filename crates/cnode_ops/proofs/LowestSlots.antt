@@ -15,7 +15,8 @@ pub below-below : (slots : Slots) (root middle slot : ℕ) → IsDerivation slot
     → is_descendant slots root slot ≡ true
 below-below slots root middle slot tree above below =
     test-from_descendant slots root slot tree
-    (through slots root middle slot (descendant-from_test (depth_of slots middle) slots root middle above) (descendant-from_test (depth_of slots slot) slots middle slot below))
+    (through slots root middle slot (descendant-from_test (depth_of slots middle) slots root middle above)
+    (descendant-from_test (depth_of slots slot) slots middle slot below))
 
 same-slot : (o p : ℕ) → Some o ≡ Some p → o ≡ p
 same-slot o p is = ap (λ (n : Option ℕ). option_map_or (λ m. m) n 0) is
@@ -27,7 +28,8 @@ above-descends slots root slot parent tree is apart (deeper _ p own above) =
     ap (is_descendant slots root) (same-slot parent p (sym is ∙ own)) ∙ test-from_descendant slots root p tree above
 
 -- the slot that one below a root is derived from is below it too, or the root
-pub parent-below : (slots : Slots) (set : Removed) (root slot parent : ℕ) → IsDerivation slots → set ≡ Below root → parent_at slots slot ≡ Some parent → parent ≢ root
+pub parent-below : (slots : Slots) (set : Removed) (root slot parent : ℕ) → IsDerivation slots → set ≡ Below root → parent_at slots slot ≡ Some parent →
+    parent ≢ root
     → set_of slots set slot ≡ true → set_of slots set parent ≡ true
 parent-below slots set root slot parent tree which is apart member =
     ap (λ s. set_of slots s parent) which

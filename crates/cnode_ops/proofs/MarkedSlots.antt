@@ -1,5 +1,6 @@
 -- Marks of slots.
-use Rattle.std.proofs.Common.{ℕ, ◌≡◌, ◌≢◌, ◌∙◌, ◌==◌, ◌/◌, ◌%◌, ◌&&◌, inl, inr, Bool, true, false, not, Option, Some, None, List, replicate, refl, sym, ap, arith}
+use Rattle.std.proofs.Common.{ℕ, ◌≡◌, ◌≢◌, ◌∙◌, ◌==◌, ◌/◌, ◌%◌, ◌&&◌, inl, inr, Bool, true, false, not, Option, Some, None, List, replicate, refl, sym, ap}
+use Rattle.std.proofs.Common.{arith}
 use Rattle.std.specs.Int.{bit_at}
 use Rattle.std.proofs.lemmas.Bool.{cases_lt}
 use Rattle.std.proofs.lemmas.Bool.Decides.{eqb_tells}
@@ -39,7 +40,8 @@ not-true true is = refl
 not-true false is = absurd (let clash : true ≡ false = is in cc)
 
 pub marked-next : (list : List ℕ) (member : ℕ → Bool) (lists : Lists list member) (old new : List ℕ) (at : Option ℕ) (slot : ℕ) → AreMarked list member old at
-    → Some slot ≡ next_in list at → member slot ≡ true → is_marked new slot ≡ true → ((s : ℕ) → s ≢ slot → is_marked new s ≡ is_marked old s) → AreMarked list member new (Some slot)
+    → Some slot ≡ next_in list at → member slot ≡ true → is_marked new slot ≡ true → ((s : ℕ) → s ≢ slot → is_marked new s ≡ is_marked old s) →
+    AreMarked list member new (Some slot)
 marked-next list member lists old new at slot before next is own others = record {
   marked = λ s yes. elim (eqb_tells s slot) [
     | inl here ↦ ap member here.1 ∙ is
@@ -52,13 +54,15 @@ marked-next list member lists old new at slot before next is own others = record
       ]) next (ap not own);
 }
 
-pub marked-all : (list : List ℕ) (member : ℕ → Bool) (lists : Lists list member) (words : List ℕ) (at : Option ℕ) → AreMarked list member words at → None ≡ next_in list at
+pub marked-all : (list : List ℕ) (member : ℕ → Bool) (lists : Lists list member) (words : List ℕ) (at : Option ℕ) → AreMarked list member words at →
+    None ≡ next_in list at
     → (slot : ℕ) → is_marked words slot ≡ member slot
 marked-all list member lists words at are none slot = bool-iff (is_marked words slot) (member slot) (are.marked slot)
     (λ inside. not-true (is_marked words slot) (none-left list member lists (λ s. not (is_marked words s)) at are.rest none slot inside))
 
 -- what is full and not marked stays
-pub unmarked-stays : (slots : Slots) (set : Removed) (words : List ℕ) → ((slot : ℕ) → is_marked words slot ≡ goes slots set slot) → (slot : ℕ) → is_unmarked slots words slot ≡ stays slots set slot
+pub unmarked-stays : (slots : Slots) (set : Removed) (words : List ℕ) → ((slot : ℕ) → is_marked words slot ≡ goes slots set slot) → (slot : ℕ) →
+    is_unmarked slots words slot ≡ stays slots set slot
 unmarked-stays slots set words marked slot =
     ap (λ b. is_full slots slot && not b) (marked slot)
     ∙ elim (is_full slots slot) as (λ b. (b && not (b && set_of slots set slot)) ≡ (b && not (set_of slots set slot))) [ true ↦ refl | false ↦ refl ]

@@ -5,12 +5,14 @@ use Rattle.std.proofs.lemmas.Bool.Decides.{nat_tests}
 use Rattle.model.proofs.SlotChanges.{capability_of, entry-other, entry-same, full-not-empty, full-not-none}
 use Rattle.model.specs.Capabilities.CapabilityKinds.{carries_messages, guard_fits, is_guard_word, object_of, with_payload}
 use Rattle.model.specs.Capabilities.CapabilityWords.{IsCapability, IsGuardWord}
-use Rattle.model.specs.Capabilities.Slots.{IsFull, SameOutside, Slots, adopted, capability_at, empty_entry, is_empty, recapped, relocated, with_entry, with_parent}
+use Rattle.model.specs.Capabilities.Slots.{IsFull, SameOutside, Slots, adopted, capability_at, empty_entry, is_empty, recapped, relocated, with_entry}
+use Rattle.model.specs.Capabilities.Slots.{with_parent}
 use Rattle.model.specs.Kernel.Arguments.{◌>>=◌, Call, check}
 use Rattle.model.specs.Kernel.CNodeCalls.{mutate}
 use Rattle.model.specs.Kernel.State.{State, with_slots}
 use Rattle.model.specs.declared.capabilities.Cap.{Cap}
-use Rattle.model.specs.declared.capabilities.Cap.TheVariants.{Empty, Untyped, Endpoint, Notification, CNode, Frame, PageTable, Tcb, RootTable, InterruptControl, InterruptHandler}
+use Rattle.model.specs.declared.capabilities.Cap.TheVariants.{Empty, Untyped, Endpoint, Notification, CNode, Frame, PageTable, Tcb, RootTable, InterruptControl}
+use Rattle.model.specs.declared.capabilities.Cap.TheVariants.{InterruptHandler}
 use Rattle.model.specs.declared.errors.KError.{KError}
 use Rattle.model.specs.declared.errors.KError.TheVariants.{IllegalOperation}
 use Rattle.model.specs.declared.invocations.SlotName.{SlotName}
@@ -25,7 +27,8 @@ use Rattle.slots.specs.Kin.{object_at}
 guard_word : (radix word : ℕ) → is_guard_word radix word ≡ true → IsGuardWord radix word
 guard_word radix word fits = grind (arith, nat_tests)
 
-payload-valid : (held : Cap) (payload : ℕ) → IsCapability held → not (carries_messages held) ≡ true → guard_fits held payload ≡ true → IsCapability (with_payload held payload)
+payload-valid : (held : Cap) (payload : ℕ) → IsCapability held → not (carries_messages held) ≡ true → guard_fits held payload ≡ true →
+    IsCapability (with_payload held payload)
 payload-valid Empty payload valid silent guards = valid
 payload-valid (Untyped offset bits watermark) payload valid silent guards = valid
 payload-valid (Endpoint offset r old) payload valid silent guards = absurd (cc)
@@ -49,7 +52,8 @@ pub full-moved : (slots : Slots) (from to : ℕ) → IsFull slots from → slots
 full-moved slots from to full empty =
     let moved = with_parent slots from (Some to) in
     let other : to ≢ from = λ e. full-not-empty slots from to full empty (sym e) in
-    ap (λ o. not (is_empty (capability_of o))) (entry-other (with_entry moved to (slots from)) from (Some empty_entry) to other ∙ entry-same moved to (slots from)) ∙ full
+    ap (λ o. not (is_empty (capability_of o))) (entry-other (with_entry moved to (slots from)) from (Some empty_entry) to other
+    ∙ entry-same moved to (slots from)) ∙ full
 
 -- what was moved names what it named
 pub object-moved : (slots now : Slots) (from to : ℕ) (made held : Cap) → IsFull slots from → slots to ≡ Some empty_entry → now ≡ relocated slots from to
@@ -59,7 +63,8 @@ object-moved slots now from to made held full empty is same held_is =
     let other : to ≢ from = λ e. full-not-empty slots from to full empty (sym e) in
     same ∙ ap object_of held_is
     ∙ sym (ap (λ (f : Slots). object_at f to) is
-    ∙ ap (λ o. object_of (capability_of o)) (entry-other (with_entry moved to (slots from)) from (Some empty_entry) to other ∙ entry-same moved to (slots from)))
+    ∙ ap (λ o. object_of (capability_of o)) (entry-other (with_entry moved to (slots from)) from (Some empty_entry) to other
+    ∙ entry-same moved to (slots from)))
 
 closed-moved : (slots : Slots) (from to s : ℕ) → IsFull slots from → slots to ≡ Some empty_entry → slots s ≡ None → relocated slots from to s ≡ None
 closed-moved slots from to s full empty closed =
@@ -78,13 +83,15 @@ outside-moved slots from to old between new full empty first second = record {
 
 -- ---- the call
 
-mutated-checks : (silent guards : Bool) (made : Cap) (next : Cap → Result State KError) → (check silent IllegalOperation >>= λ _. check guards IllegalOperation >>= λ _. next made)
+mutated-checks : (silent guards : Bool) (made : Cap) (next : Cap → Result State KError) →
+    (check silent IllegalOperation >>= λ _. check guards IllegalOperation >>= λ _. next made)
     ≡ ((check silent IllegalOperation >>= λ _. check guards IllegalOperation >>= λ _. Ok made) >>= next)
 mutated-checks false guards made next = refl
 mutated-checks true false made next = refl
 mutated-checks true true made next = refl
 
-module _ (s : State) (slots : Slots) (call : Call) (root node : Cap) (destination source : SlotName) (payload : ℕ) (same_root : call.root ≡ root) (same_node : call.capability ≡ node) where
+module _ (s : State) (slots : Slots) (call : Call) (root node : Cap) (destination source : SlotName) (payload : ℕ) (same_root : call.root ≡ root)
+    (same_node : call.capability ≡ node) where
   abbrev put : ℕ → ℕ → Cap → Result State KError
   put to from made = Ok (with_slots s (recapped (relocated slots from to) to made))
 
@@ -94,12 +101,15 @@ module _ (s : State) (slots : Slots) (call : Call) (root node : Cap) (destinatio
       >>= λ _. put to from (with_payload (capability_at slots from) payload)
 
   -- what a mutation of the source gives, or its error
-  pub mutate-gives : (to from : ℕ) (mutated : Result Cap KError) → named_slots slots root node destination source ≡ Ok (to, from) → mutation_of (capability_at slots from) payload ≡ mutated
+  pub mutate-gives : (to from : ℕ) (mutated : Result Cap KError) → named_slots slots root node destination source ≡ Ok (to, from) →
+      mutation_of (capability_at slots from) payload ≡ mutated
       → mutate (with_slots s slots) call destination source payload ≡ (mutated >>= put to from)
   mutate-gives to from mutated named is =
       behind-names slots call root node destination source behind same_root same_node to from named
-      ∙ mutated-checks (not (carries_messages (capability_at slots from))) (guard_fits (capability_at slots from) payload) (with_payload (capability_at slots from) payload) (put to from)
+      ∙ mutated-checks (not (carries_messages (capability_at slots from))) (guard_fits (capability_at slots from) payload)
+      (with_payload (capability_at slots from) payload) (put to from)
       ∙ ap (λ (r : Result Cap KError). r >>= put to from) is
 
-  pub mutate-unnamed : (error : KError) → named_slots slots root node destination source ≡ Err error → mutate (with_slots s slots) call destination source payload ≡ Err error
+  pub mutate-unnamed : (error : KError) → named_slots slots root node destination source ≡ Err error →
+      mutate (with_slots s slots) call destination source payload ≡ Err error
   mutate-unnamed error refused = names-refused slots call root node destination source behind same_root same_node error refused

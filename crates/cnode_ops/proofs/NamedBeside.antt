@@ -21,20 +21,23 @@ same-named o p is = ap (λ (n : Option ℕ). option_map_or (λ m. m) n 0) is
 
 module _ (slots : Slots) (size : ℕ) (near : (slot : ℕ) → IsOpen slots slot → slot < size) where
   -- a slot that stays names the object
-  found : (set : Removed) (offset other : ℕ) → object_at slots other ≡ Some offset → set_of slots set other ≡ false → is_named_beside slots size set offset ≡ true
+  found : (set : Removed) (offset other : ℕ) → object_at slots other ≡ Some offset → set_of slots set other ≡ false →
+      is_named_beside slots size set offset ≡ true
   found set offset other names beside =
       let named : names_object offset (capability_at slots other) ≡ true = so-named (object_at slots other) offset names in
       let full : is_full slots other ≡ true = passes-full slots (names_object offset) refl other named in
       let here : other < 0 + size = omega (arith, near other (full-open slots other full)) in
       some-at 0 size other (λ slot. names_object offset (capability_at slots slot) && stays slots set slot) (omega arith) here
-      (join (names_object offset (capability_at slots other)) (stays slots set other) named (join (is_full slots other) (not (set_of slots set other)) full (ap not beside)))
+      (join (names_object offset (capability_at slots other)) (stays slots set other) named
+      (join (is_full slots other) (not (set_of slots set other)) full (ap not beside)))
 
   not-so : (b : Bool) → not b ≡ true → b ≡ false
   not-so false is = refl
   not-so true is = absurd (let clash : false ≡ true = is in cc)
 
   -- what is found stays and names it
-  told : (set : Removed) (offset : ℕ) → is_named_beside slots size set offset ≡ true → (other : ℕ) × (object_at slots other ≡ Some offset) × (set_of slots set other ≡ false)
+  told : (set : Removed) (offset : ℕ) → is_named_beside slots size set offset ≡ true → (other : ℕ) × (object_at slots other ≡ Some offset)
+      × (set_of slots set other ≡ false)
   told set offset is =
       let at = some-where 0 size (λ slot. names_object offset (capability_at slots slot) && stays slots set slot) is in
       let parts = both (names_object offset (capability_at slots at.0)) (stays slots set at.0) at.3 in
@@ -84,7 +87,8 @@ module _ (slots : Slots) (size : ℕ) (near : (slot : ℕ) → IsOpen slots slot
       (λ here. of-one only slot offset result here names shared alone) going
 
   pub below-beside : (set : Removed) (root slot offset : ℕ) (result : Bool) → set ≡ Below root → object_at slots slot ≡ Some offset
-      → (result ≡ true → IsSharedBeside slots root slot) → (result ≡ false → IsSharedBeside slots root slot → ⊥) → result ≡ is_named_beside slots size set offset
+      → (result ≡ true → IsSharedBeside slots root slot) → (result ≡ false → IsSharedBeside slots root slot → ⊥) →
+      result ≡ is_named_beside slots size set offset
   below-beside set root slot offset result which names shared alone =
       subst (λ (s : Removed). result ≡ is_named_beside slots size s offset) (sym which)
       (decided result (is_named_beside slots size (Below root) offset)

@@ -7,7 +7,8 @@ use Rattle.model.specs.Kernel.Removal.{slot_count}
 use Rattle.model.specs.Kernel.Retype.{NewObject, NewThread, NewEndpoint, NewNotification, NewCNode, NewFrame, NewPageTable, NewRootTable}
 use Rattle.model.specs.Kernel.Soundness.{IsSound, of_boot_area, of_object}
 use Rattle.model.specs.declared.capabilities.Cap.TheVariants.{CNode}
-use Rattle.model.specs.Kernel.State.{State, Object, ThreadObject, EndpointObject, NotificationObject, CNodeObject, FrameObject, PageTableObject, RootTableObject}
+use Rattle.model.specs.Kernel.State.{State, Object, ThreadObject, EndpointObject, NotificationObject, CNodeObject, FrameObject, PageTableObject}
+use Rattle.model.specs.Kernel.State.{RootTableObject}
 
 abbrev Kinds : Type 0
 Kinds = Option NewObject
@@ -26,7 +27,8 @@ pub sound-nodes : (s : State) → IsSound s → CNodesAreOpen s.slots
 sound-nodes s sound = record {
   nodes = λ slot. record {
     each = λ offset radix guard index is less.
-        let count : slot_count (s.objects offset) ≡ 2 ^ radix = node-count (s.objects offset) radix (sound.memory.named slot (NewCNode radix) offset (ap object_named is)) in
+        let count : slot_count (s.objects offset) ≡ 2 ^ radix =
+        node-count (s.objects offset) radix (sound.memory.named slot (NewCNode radix) offset (ap object_named is)) in
         (sound.slots.there (offset / 16 + index)).1
         (of_object offset (bounds-within (offset / 16) (slot_count (s.objects offset)) (offset / 16 + index) (omega arith)
         (subst (λ (n : ℕ). offset / 16 + index < offset / 16 + n) (sym count) (omega (arith, less)))));

@@ -1,5 +1,6 @@
 -- What is placed is in the unused part of untyped memory.
-use Rattle.std.proofs.Common.{ℕ, ◌≡◌, ◌∙◌, ◌+◌, ◌-◌, ◌*◌, ◌/◌, ◌%◌, ◌^◌, ◌<◌, ◌≤◌, inl, inr, true, false, nat_le, if◌then◌else◌, Option, Some, None, Result, Ok, Err, pow_pos, refl, sym, ap, arith}
+use Rattle.std.proofs.Common.{ℕ, ◌≡◌, ◌∙◌, ◌+◌, ◌-◌, ◌*◌, ◌/◌, ◌%◌, ◌^◌, ◌<◌, ◌≤◌, inl, inr, true, false, nat_le, if◌then◌else◌, Option, Some, None, Result, Ok}
+use Rattle.std.proofs.Common.{Err, pow_pos, refl, sym, ap, arith}
 use Rattle.std.proofs.Math.Nat.{add-mul-mod_self_right, mul-le-mul_right}
 use Rattle.std.proofs.Math.Pow.{mod-mod-pow, pow_mono}
 use Rattle.std.proofs.lemmas.Bool.{cases_lt, leb-true}
@@ -39,7 +40,8 @@ multiple : (offset bits smaller : ℕ) → smaller ≤ bits → offset % 2 ^ bit
 multiple offset bits smaller less is =
     let all : bits - smaller + smaller ≡ bits = omega (arith, less) in
     let positive = pow_pos smaller in
-    sym (mod-mod-pow offset (bits - smaller) smaller) ∙ ap (λ (n : ℕ). offset % 2 ^ n % 2 ^ smaller) all ∙ ap (λ (n : ℕ). n % 2 ^ smaller) is ∙ omega (arith, positive)
+    sym (mod-mod-pow offset (bits - smaller) smaller) ∙ ap (λ (n : ℕ). offset % 2 ^ n % 2 ^ smaller) all ∙ ap (λ (n : ℕ). n % 2 ^ smaller) is
+    ∙ omega (arith, positive)
 
 one-fits : (size count limit : ℕ) → 1 ≤ count → count * size ≤ limit → size ≤ limit
 one-fits size count limit some less = let one : 1 * size ≤ count * size = mul-le-mul_right size some in omega (arith, one, less)

@@ -1,5 +1,6 @@
 -- What is asked of the slots of a sound state is what the definition of a removal asks, whose set has bindings too.
-use Rattle.std.proofs.Common.{ℕ, ◌≡◌, ◌≢◌, ◌∙◌, ◌==◌, ◌+◌, ◌/◌, ◌^◌, ◌<◌, ◌&&◌, ◌||◌, inl, inr, Bool, true, false, not, Option, Some, None, is_some, option_map, get_or, refl, sym, ap, subst, arith}
+use Rattle.std.proofs.Common.{ℕ, ◌≡◌, ◌≢◌, ◌∙◌, ◌==◌, ◌+◌, ◌/◌, ◌^◌, ◌<◌, ◌&&◌, ◌||◌, inl, inr, Bool, true, false, not, Option, Some, None, is_some, option_map}
+use Rattle.std.proofs.Common.{get_or, refl, sym, ap, subst, arith}
 use Rattle.std.specs.Option.{option_map_or}
 use Rattle.std.specs.List.{range_with_len}
 use Rattle.std.proofs.Math.Bool.{and-false, and-true, or-false}
@@ -8,7 +9,8 @@ use Rattle.std.proofs.lemmas.Bool.Decides.{eqb_tells}
 use Rattle.std.proofs.lemmas.List.Folds.{list_any_none}
 use Rattle.std.proofs.lemmas.List.FromFn.{get_or-range_with_len, length-range_with_len}
 use Rattle.model.specs.declared.capabilities.Cap.{Cap}
-use Rattle.model.specs.declared.capabilities.Cap.TheVariants.{Empty, Untyped, Endpoint, Notification, CNode, Frame, PageTable, Tcb, RootTable, InterruptControl, InterruptHandler}
+use Rattle.model.specs.declared.capabilities.Cap.TheVariants.{Empty, Untyped, Endpoint, Notification, CNode, Frame, PageTable, Tcb, RootTable, InterruptControl}
+use Rattle.model.specs.declared.capabilities.Cap.TheVariants.{InterruptHandler}
 use Rattle.model.specs.Capabilities.CapabilityKinds.{is_handler_of, names_object, object_of}
 use Rattle.model.specs.Capabilities.Slots.{IsFull, IsOpen, Slots, capability_at, is_empty, is_full}
 use Rattle.model.specs.Kernel.Interrupts.{signal_of}
@@ -16,7 +18,8 @@ use Rattle.model.specs.Kernel.Kinds.{Names, kind_of, object_named}
 use Rattle.model.specs.Kernel.Removal.{SlotSet, ends_filled, is_slot_of, slot_count, some_inside, some_outside, takes_last, wants_revoke_first, with_bindings}
 use Rattle.model.specs.Kernel.Retype.{NewObject, NewUntyped, NewThread, NewEndpoint, NewNotification, NewCNode, NewFrame, NewPageTable, NewRootTable}
 use Rattle.model.specs.Kernel.Soundness.{IsSound}
-use Rattle.model.specs.Kernel.State.{State, Object, ThreadObject, EndpointObject, NotificationObject, CNodeObject, FrameObject, PageTableObject, RootTableObject, binding_slot, slot_numbers}
+use Rattle.model.specs.Kernel.State.{State, Object, ThreadObject, EndpointObject, NotificationObject, CNodeObject, FrameObject, PageTableObject}
+use Rattle.model.specs.Kernel.State.{RootTableObject, binding_slot, slot_numbers}
 use Rattle.model.proofs.Ancestors.{full-open}
 use Rattle.removal_laws.proofs.Laws.{behind-boot, bool-iff, both, bounds-within, found, found-at, found-where, holder, join, within-bounds}
 use Rattle.cnode_ops.specs.Refusals.{is_left_filled, is_named_beside, refuses, some_slot, stays}
@@ -134,7 +137,8 @@ module _ (s : State) (sound : IsSound s) (set : Removed) (near : (y : ℕ) → I
   -- what holds another capability to an object than to a notification is no binding
   object-unbound : (y o : ℕ) (k : NewObject) → Names k o (capability_at s.slots y) → k ≢ NewNotification → NoBinding y
   object-unbound y o k is other line few at =
-      let there : object_named (capability_at s.slots (binding_slot s line)) ≡ Some (k, o) = ap (λ (n : ℕ). object_named (capability_at s.slots n)) (sym at) ∙ is in
+      let there : object_named (capability_at s.slots (binding_slot s line)) ≡ Some (k, o) = ap (λ (n : ℕ). object_named (capability_at s.slots n)) (sym at)
+      ∙ is in
       let full : IsFull s.slots (binding_slot s line) = ap not (named-full (capability_at s.slots (binding_slot s line)) k o there) in
       absurd (other (bound-kind (capability_at s.slots (binding_slot s line)) k o (sound.slots.bindings line few full) there))
 
@@ -175,19 +179,21 @@ module _ (s : State) (sound : IsSound s) (set : Removed) (near : (y : ℕ) → I
   -- every capability to the object is no binding
   beside-same : (y o : ℕ) (k : NewObject) → Names k o (capability_at s.slots y) → k ≢ NewNotification → (z : ℕ)
       → (not (all z) && names_object o (capability_at s.slots z)) ≡ (names_object o (capability_at s.slots z) && stays s.slots set z)
-  beside-same y o k is other z = elim (names_object o (capability_at s.slots z)) as (λ b. names_object o (capability_at s.slots z) ≡ b → (not (all z) && b) ≡ (b && stays s.slots set z)) [
-    | false ↦ λ none. and-false (not (all z))
-    | true ↦ λ some.
-        let named = named-object (capability_at s.slots z) o some in
-        let there : Some named.0 ≡ Some k = sym (sound.memory.named z named.0 o named.1) ∙ sound.memory.named y k o is in
-        let kind : named.0 ≡ k = ap (λ (p : Option NewObject). option_map_or (λ q. q) p NewFrame) there in
-        let apart : named.0 ≢ NewNotification = λ same. other (sym kind ∙ same) in
-        and-true (not (all z))
-        ∙ ap not (unbound z (object-unbound z o named.0 named.1 apart))
-        ∙ sym (ap (λ b. b && not (own z)) (ap not (named-full (capability_at s.slots z) named.0 o named.1)))
-  ] refl
+  beside-same y o k is other z = elim (names_object o (capability_at s.slots z))
+      as (λ b. names_object o (capability_at s.slots z) ≡ b → (not (all z) && b) ≡ (b && stays s.slots set z)) [
+        | false ↦ λ none. and-false (not (all z))
+        | true ↦ λ some.
+            let named = named-object (capability_at s.slots z) o some in
+            let there : Some named.0 ≡ Some k = sym (sound.memory.named z named.0 o named.1) ∙ sound.memory.named y k o is in
+            let kind : named.0 ≡ k = ap (λ (p : Option NewObject). option_map_or (λ q. q) p NewFrame) there in
+            let apart : named.0 ≢ NewNotification = λ same. other (sym kind ∙ same) in
+            and-true (not (all z))
+            ∙ ap not (unbound z (object-unbound z o named.0 named.1 apart))
+            ∙ sym (ap (λ b. b && not (own z)) (ap not (named-full (capability_at s.slots z) named.0 o named.1)))
+      ] refl
 
-  named-same : (y o : ℕ) (k : NewObject) → Names k o (capability_at s.slots y) → k ≢ NewNotification → some_outside s all (names_object o) ≡ is_named_beside s.slots size set o
+  named-same : (y o : ℕ) (k : NewObject) → Names k o (capability_at s.slots y) → k ≢ NewNotification →
+      some_outside s all (names_object o) ≡ is_named_beside s.slots size set o
   named-same y o k is other =
       (λ i. found s.memory_bits (λ z. beside-same y o k is other z i)) ∙ found-some s.memory_bits _
 
@@ -201,18 +207,22 @@ module _ (s : State) (sound : IsSound s) (set : Removed) (near : (y : ℕ) → I
   swap false true i is = sym (ap (λ b. (b && true) && true) is)
 
   -- a capability of the set to a CNode or a thread
-  with-slots : (y o : ℕ) (k : NewObject) (count : ℕ) → y < size → Names k o (capability_at s.slots y) → names_object o (capability_at s.slots y) ≡ true → k ≢ NewNotification → slots_of_kind k ≡ count
+  with-slots : (y o : ℕ) (k : NewObject) (count : ℕ) → y < size → Names k o (capability_at s.slots y) → names_object o (capability_at s.slots y) ≡ true →
+      k ≢ NewNotification → slots_of_kind k ≡ count
       → (own y && (filled o count && not (is_named_beside s.slots size set o))) ≡ (all y && ends_filled s all o)
-  with-slots y o k count less is names other many = elim (own y) as (λ b. own y ≡ b → (b && (filled o count && not (is_named_beside s.slots size set o))) ≡ (all y && ends_filled s all o)) [
-    | false ↦ λ out. sym (ap (λ b. b && ends_filled s all o) (unbound y (object-unbound y o k is other) ∙ out))
-    | true ↦ λ member.
-        let in_all : all y ≡ true = unbound y (object-unbound y o k is other) ∙ member in
-        let inside : some_inside s all (names_object o) ≡ true = found-at s.memory_bits y (λ z. all z && names_object o (capability_at s.slots z)) less (join (all y) _ in_all names) in
-        swap (is_named_beside s.slots size set o) (filled o count) (some_inside s all (names_object o)) inside
-        ∙ ap (λ b. (some_inside s all (names_object o) && not b) && filled o count) (sym (named-same y o k is other))
-        ∙ ap (λ b. (some_inside s all (names_object o) && not (some_outside s all (names_object o))) && b) (filled-there o count (count-named y o k is ∙ many))
-        ∙ sym (ap (λ b. b && ends_filled s all o) in_all)
-  ] refl
+  with-slots y o k count less is names other many =
+      elim (own y) as (λ b. own y ≡ b → (b && (filled o count && not (is_named_beside s.slots size set o))) ≡ (all y && ends_filled s all o)) [
+        | false ↦ λ out. sym (ap (λ b. b && ends_filled s all o) (unbound y (object-unbound y o k is other) ∙ out))
+        | true ↦ λ member.
+            let in_all : all y ≡ true = unbound y (object-unbound y o k is other) ∙ member in
+            let inside : some_inside s all (names_object o) ≡ true =
+            found-at s.memory_bits y (λ z. all z && names_object o (capability_at s.slots z)) less (join (all y) _ in_all names) in
+            swap (is_named_beside s.slots size set o) (filled o count) (some_inside s all (names_object o)) inside
+            ∙ ap (λ b. (some_inside s all (names_object o) && not b) && filled o count) (sym (named-same y o k is other))
+            ∙ ap (λ b. (some_inside s all (names_object o) && not (some_outside s all (names_object o))) && b)
+            (filled-there o count (count-named y o k is ∙ many))
+            ∙ sym (ap (λ b. b && ends_filled s all o) in_all)
+      ] refl
 
   -- one to another object
   without-slots : (y o : ℕ) (k : NewObject) → Names k o (capability_at s.slots y) → slots_of_kind k ≡ 0
@@ -221,7 +231,8 @@ module _ (s : State) (sound : IsSound s) (set : Removed) (near : (y : ℕ) → I
       let empty : filled o 0 ≡ false = no-slots (o / 16) (stays s.slots set) in
       ap (λ b. own y && (b && not (is_named_beside s.slots size set o))) empty
       ∙ and-false (own y)
-      ∙ sym (ap (λ b. all y && (takes_last s all (names_object o) && b)) (sym (filled-there o 0 (count-named y o k is ∙ none)) ∙ empty) ∙ ap (λ b. all y && b) (and-false (takes_last s all (names_object o))) ∙ and-false (all y))
+      ∙ sym (ap (λ b. all y && (takes_last s all (names_object o) && b)) (sym (filled-there o 0 (count-named y o k is ∙ none)) ∙ empty)
+      ∙ ap (λ b. all y && b) (and-false (takes_last s all (names_object o))) ∙ and-false (all y))
 
   at-slot : (y : ℕ) → y < size → (c : Cap) → capability_at s.slots y ≡ c
       → ((not (is_empty c) && own y) && is_left_filled s.slots size set c) ≡ (all y && option_map_or (ends_filled s all) (object_of c) false)
@@ -234,7 +245,8 @@ module _ (s : State) (sound : IsSound s) (set : Removed) (near : (y : ℕ) → I
   at-slot y less (Frame f r m) is = without-slots y f NewFrame (ap object_named is) refl
   at-slot y less (PageTable f m) is = without-slots y f NewPageTable (ap object_named is) refl
   at-slot y less (RootTable f) is = without-slots y f NewRootTable (ap object_named is) refl
-  at-slot y less (CNode f radix g) is = with-slots y f (NewCNode radix) (2 ^ radix) less (ap object_named is) (ap (names_object f) is ∙ eq-eqb f f refl) (λ clash. absurd cc) refl
+  at-slot y less (CNode f radix g) is = with-slots y f (NewCNode radix) (2 ^ radix) less (ap object_named is) (ap (names_object f) is ∙ eq-eqb f f refl)
+      (λ clash. absurd cc) refl
   at-slot y less (Tcb f) is = with-slots y f NewThread 2 less (ap object_named is) (ap (names_object f) is ∙ eq-eqb f f refl) (λ clash. absurd cc) refl
 
   some-same : (first count : ℕ) (a b : ℕ → Bool) → ((y : ℕ) → y < first + count → a y ≡ b y) → some_slot first count a ≡ some_slot first count b
@@ -249,7 +261,8 @@ module _ (s : State) (sound : IsSound s) (set : Removed) (near : (y : ℕ) → I
 
 -- the answer of one who asks a store
 pub refused-answer : (s : State) (set : Removed) (slots : Slots) (bytes : ℕ) (answer : Bool) → ((y : ℕ) → IsOpen slots y → y < bytes / 16)
-    → some_slot 0 (bytes / 16) (refuses slots (bytes / 16) set) ≡ answer → s.slots ≡ slots → IsSound s → 2 ^ s.memory_bits ≡ bytes → answer ≡ wants_revoke_first s (with_bindings s (set_of s.slots set))
+    → some_slot 0 (bytes / 16) (refuses slots (bytes / 16) set) ≡ answer → s.slots ≡ slots → IsSound s → 2 ^ s.memory_bits ≡ bytes →
+    answer ≡ wants_revoke_first s (with_bindings s (set_of s.slots set))
 refused-answer s set slots bytes answer near is has sound memory =
     let size : bytes / 16 ≡ 2 ^ s.memory_bits / 16 = omega (arith, memory) in
     sym is

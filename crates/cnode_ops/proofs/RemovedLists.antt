@@ -11,7 +11,8 @@ use Rattle.cnode_ops.specs.Sets.{listed_in}
 use Rattle.cnode_ops.specs.declared.sets.Removed.TheVariants.{Below}
 
 -- all that is derived from a slot
-pub below-listed : (slots : Slots) (order : List ℕ) (root : ℕ) → IsDerivation slots → IsOrderOf order slots → Lists (listed_in order slots (Below root)) (goes slots (Below root))
+pub below-listed : (slots : Slots) (order : List ℕ) (root : ℕ) → IsDerivation slots → IsOrderOf order slots →
+    Lists (listed_in order slots (Below root)) (goes slots (Below root))
 below-listed slots order root tree lists slot =
     descendants-once order slots root slot tree lists
     ∙ ap (λ b. if b then 1 else 0) (elim (is_descendant slots root slot) as (λ b. is_descendant slots root slot ≡ b → b ≡ (is_full slots slot && b)) [

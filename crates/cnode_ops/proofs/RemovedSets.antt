@@ -49,7 +49,8 @@ module _ (w one two : State) (slots : Slots) (set : Removed) (lines : ℕ → Bo
 
   left : two ≡ emptied w (with_bindings w (set_of w.slots set))
   left = both-loops w one two (set_of w.slots set) (λ line. lines line) ran.shape
-      (subst (λ (n : Slots). (more : SlotSet) → ((slot : ℕ) → more slot ≡ true → IsOpen n slot) → emptied w (joined (set_of n set) more) ≡ emptied one more) same ran.taken)
+      (subst (λ (n : Slots). (more : SlotSet) → ((slot : ℕ) → more slot ≡ true → IsOpen n slot) → emptied w (joined (set_of n set) more) ≡ emptied one more)
+      same ran.taken)
       ran.last lines_open ran.bound
 
   pub loops-may-settle : MaySettle two

@@ -10,7 +10,8 @@ use Rattle.model.specs.declared.errors.KError.{KError}
 use Rattle.model.specs.declared.invocations.CNodeCall.TheVariants.{Delete, Revoke}
 use Rattle.model.specs.declared.invocations.SlotName.{SlotName}
 
-module _ (s : State) (slots : Slots) (made : Call) (node : Cap) (name : SlotName) (found : Result ℕ KError) (has : s.slots ≡ slots) (same : made.capability ≡ node) (is : argument_slot slots node name ≡ found) where
+module _ (s : State) (slots : Slots) (made : Call) (node : Cap) (name : SlotName) (found : Result ℕ KError) (has : s.slots ≡ slots)
+    (same : made.capability ≡ node) (is : argument_slot slots node name ≡ found) where
   found-there : argument_slot s.slots made.capability name ≡ found
   found-there = ap (λ (t : Slots). argument_slot t made.capability name) has ∙ ap (λ (n : Cap). argument_slot slots n name) same ∙ is
 

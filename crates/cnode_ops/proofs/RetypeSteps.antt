@@ -24,7 +24,8 @@ Answer = Result State KError
 
 type-first : (o : Option NewObject) (rest : NewObject → Answer)
     → (wanted o InvalidArgument >>= λ kind. check (is_large_enough kind) InvalidArgument >>= λ _. check (is_small_enough kind) RangeError >>= λ _. rest kind)
-    ≡ ((wanted o InvalidArgument >>= λ kind. check (is_large_enough kind) InvalidArgument >>= λ _. check (is_small_enough kind) RangeError >>= λ _. Ok kind) >>= rest)
+    ≡ ((wanted o InvalidArgument >>= λ kind. check (is_large_enough kind) InvalidArgument >>= λ _. check (is_small_enough kind) RangeError >>= λ _. Ok kind)
+    >>= rest)
 type-first None rest = refl
 type-first (Some kind) rest =
     elim (is_large_enough kind) as (λ a. (check a InvalidArgument >>= λ _. check (is_small_enough kind) RangeError >>= λ _. rest kind)
@@ -64,7 +65,8 @@ place-first (Some place) offset rest = refl
 -- a child may hang below a slot that is not of the greatest depth
 room-passed : (depth : ℕ) (nothing : Unit {0}) → check (nat_lt depth 255) IllegalOperation ≡ Ok nothing → depth < 255
 room-passed depth nothing passed =
-    ltb-true depth 255 (elim (nat_lt depth 255) as (λ b. check b IllegalOperation ≡ Ok nothing → b ≡ true) [ true ↦ λ is. refl | false ↦ λ is. absurd (cc) ] passed)
+    ltb-true depth 255 (elim (nat_lt depth 255) as (λ b. check b IllegalOperation ≡ Ok nothing → b ≡ true) [ true ↦ λ is. refl | false ↦ λ is. absurd (cc) ]
+    passed)
 
 pub child-room : (slots : Slots) (slot : ℕ) (nothing : Unit {0}) → may_have_child slots slot ≡ Ok nothing → depth_of slots slot < 255
 child-room slots slot nothing passed = room-passed (depth_of slots slot) nothing passed
@@ -74,7 +76,8 @@ child-room slots slot nothing passed = room-passed (depth_of slots slot) nothing
 module _ (s : State) (slots : Slots) (root : Cap) (slot : ℕ) (memory : UntypedMemory) (call : RetypeCall) where
   abbrev pub made : NewObject → ℕ → ℕ → ℕ → State
   made kind first place mark =
-      with_new (with_slots s (recapped slots slot (Untyped memory.offset memory.bits mark))) (record { kind = kind; first = place; count = call.count }) first slot
+      with_new (with_slots s (recapped slots slot (Untyped memory.offset memory.bits mark))) (record { kind = kind; first = place; count = call.count }) first
+      slot
 
   abbrev from_place : NewObject → ℕ → Answer
   from_place kind first = places memory kind call.count >>= λ place. Ok (made kind first place.0 place.1)
@@ -101,7 +104,8 @@ module _ (s : State) (root : Cap) (slot : ℕ) (memory : UntypedMemory) (call : 
 
   window-group : (kind : NewObject) (held : Cap)
       → (wanted (cnode_of held) FailedLookup >>= λ n. check (has_slots n.radix call.index call.count) RangeError >>= λ _.
-      check (not (any_full s.slots (slot_of n.offset call.index) call.count)) DeleteFirst >>= λ _. from_child s s.slots root slot memory call kind (slot_of n.offset call.index))
+      check (not (any_full s.slots (slot_of n.offset call.index) call.count)) DeleteFirst >>= λ _.
+      from_child s s.slots root slot memory call kind (slot_of n.offset call.index))
       ≡ from_window s s.slots root slot memory call kind held
   window-group kind held =
       window-first (cnode_of held) (λ n. has_slots n.radix call.index call.count) (λ n. any_full s.slots (slot_of n.offset call.index) call.count)
@@ -158,8 +162,10 @@ module _ (s : State) (slots : Slots) (root : Cap) (slot : ℕ) (memory : Untyped
           derived : retype s root slot memory call ≡ from_place s slots root slot memory call kind first
           derived = opened ∙ goes-on (may_have_child slots slot) (λ _. from_place s slots root slot memory call kind first) u four
 
-          pub place-refused : (error : KError) → ◌≡◌ {A = Result (ℕ × ℕ) KError} (Err error) (places memory kind call.count) → retype s root slot memory call ≡ Err error
-          place-refused error is = derived ∙ stops (places memory kind call.count) (λ place. Ok (made s slots root slot memory call kind first place.0 place.1)) error is
+          pub place-refused : (error : KError) → ◌≡◌ {A = Result (ℕ × ℕ) KError} (Err error) (places memory kind call.count) →
+              retype s root slot memory call ≡ Err error
+          place-refused error is = derived ∙ stops (places memory kind call.count) (λ place. Ok (made s slots root slot memory call kind first place.0 place.1))
+              error is
 
           pub retype-gives : (place mark : ℕ) → ◌≡◌ {A = Result (ℕ × ℕ) KError} (Ok (place, mark)) (places memory kind call.count)
               → retype s root slot memory call ≡ Ok (made s slots root slot memory call kind first place mark)

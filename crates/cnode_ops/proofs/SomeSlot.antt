@@ -21,7 +21,8 @@ some-none first count test none = list_any_none test (range_with_len first count
     let few : k < count = omega (arith, less, length-range_with_len first count) in
     ap test (get_or-range_with_len first count k d few) ∙ none k few)
 
-pub some-where : (first count : ℕ) (test : ℕ → Bool) → some_slot first count test ≡ true → (slot : ℕ) × (first ≤ slot) × (slot < first + count) × (test slot ≡ true)
+pub some-where : (first count : ℕ) (test : ℕ → Bool) → some_slot first count test ≡ true → (slot : ℕ) × (first ≤ slot) × (slot < first + count)
+    × (test slot ≡ true)
 unfolding some_slot
 some-where first count test some =
     let place = Any-from_list_any test (range_with_len first count) some in

@@ -22,13 +22,15 @@ so-named o offset is = ap (λ o. option_map_or (λ named. named == offset) o fal
 
 left-other : (slots : Slots) (gone s : ℕ) → s ≢ gone → capability_at (spliced slots gone) s ≡ capability_at slots s
 left-other slots gone s off =
-    ap capability_of (entry-other (with_parent slots gone (parent_at slots gone)) gone (Some empty_entry) s off) ∙ capability-adopted gone (parent_at slots gone) (slots s)
+    ap capability_of (entry-other (with_parent slots gone (parent_at slots gone)) gone (Some empty_entry) s off)
+    ∙ capability-adopted gone (parent_at slots gone) (slots s)
 
 left-gone : (slots : Slots) (gone : ℕ) → object_at (spliced slots gone) gone ≡ None
 left-gone slots gone = ap (λ e. object_of (capability_of e)) (entry-same (with_parent slots gone (parent_at slots gone)) gone (Some empty_entry))
 
 -- what is shared before is named afterwards, and what is not is named no more
-pub still-named : (before slots after : Slots) (slot : ℕ) (removed : Cap) (still : Bool) → slots ≡ before → removed ≡ capability_at before slot → after ≡ spliced before slot
+pub still-named : (before slots after : Slots) (slot : ℕ) (removed : Cap) (still : Bool) → slots ≡ before → removed ≡ capability_at before slot →
+    after ≡ spliced before slot
     → (still ≡ true → IsShared slots slot) → (still ≡ false → IsShared slots slot → ⊥) → IsNamedStill after removed still
 still-named before slots after slot removed still same removed_is after_is shared alone = record {
   some = λ yes offset names.
@@ -41,9 +43,11 @@ still-named before slots after slot removed still same removed_is after_is share
       elim (names_object offset (capability_at after s)) as (λ b. names_object offset (capability_at after s) ≡ b → b ≡ false) [
         | false ↦ λ is. refl
         | true ↦ λ is.
-            let named : object_at (spliced before slot) s ≡ Some offset = ap (λ (f : Slots). object_at f s) (sym after_is) ∙ named-so (object_at after s) offset is in
+            let named : object_at (spliced before slot) s ≡ Some offset = ap (λ (f : Slots). object_at f s) (sym after_is)
+            ∙ named-so (object_at after s) offset is in
             absurd (elim (eqb_tells s slot) [
-              | inl here ↦ (let clash : None ≡ Some offset = sym (left-gone before slot) ∙ ap (object_at (spliced before slot)) (sym here.1) ∙ named in absurd cc)
+              | inl here ↦ (let clash : None ≡ Some offset = sym (left-gone before slot) ∙ ap (object_at (spliced before slot)) (sym here.1) ∙ named in
+                  absurd cc)
               | inr off ↦ alone no (subst (λ (f : Slots). IsShared f slot) (sym same) (record {
                 offset = offset;
                 own = ap object_of (sym removed_is) ∙ names;

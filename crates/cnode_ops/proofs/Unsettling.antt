@@ -1,5 +1,6 @@
 -- What is left to settle, from one step of a removal to the next.
-use Rattle.std.proofs.Common.{ℕ, suc, ◌≡◌, ◌≢◌, ◌∙◌, ◌==◌, ◌+◌, ◌*◌, ◌-◌, ◌/◌, ◌^◌, ◌<◌, ◌≤◌, ◌&&◌, ◌||◌, inl, inr, Bool, true, false, not, nat_le, nat_lt, if◌then◌else◌, Option, Some, None, is_some, option_map, List, [], max, min, slice_index, refl, sym, ap, subst, arith}
+use Rattle.std.proofs.Common.{ℕ, suc, ◌≡◌, ◌≢◌, ◌∙◌, ◌==◌, ◌+◌, ◌*◌, ◌-◌, ◌/◌, ◌^◌, ◌<◌, ◌≤◌, ◌&&◌, ◌||◌, inl, inr, Bool, true, false, not, nat_le, nat_lt}
+use Rattle.std.proofs.Common.{if◌then◌else◌, Option, Some, None, is_some, option_map, List, [], max, min, slice_index, refl, sym, ap, subst, arith}
 use Rattle.std.specs.Option.{option_map_or}
 use Rattle.std.specs.List.{list_any}
 use Rattle.std.proofs.Math.Bool.{and-false, or-true}
@@ -15,12 +16,14 @@ use Rattle.model.specs.Capabilities.Slots.{IsOpen, Slots, capability_at}
 use Rattle.model.specs.Kernel.Removal.{SlotSet, emptied, ends, ends_filled, is_ending_thread, is_slot_of, slot_count, some_outside}
 use Rattle.model.specs.Kernel.Scheduling.{without_threads}
 use Rattle.model.specs.Kernel.Soundness.{HasSlot, IsSound, of_boot_area, of_object, waiting_at}
-use Rattle.model.specs.Kernel.State.{State, Object, ThreadObject, EndpointObject, NotificationObject, CNodeObject, FrameObject, PageTableObject, RootTableObject, boot_area_slots, slots_of, with_slots}
+use Rattle.model.specs.Kernel.State.{State, Object, ThreadObject, EndpointObject, NotificationObject, CNodeObject, FrameObject, PageTableObject}
+use Rattle.model.specs.Kernel.State.{RootTableObject, boot_area_slots, slots_of, with_slots}
 use Rattle.model.specs.declared.capabilities.Cap.{Cap}
 use Rattle.model.specs.declared.slot_entries.Entry.{Entry}
 use Rattle.removal_laws.specs.Finishing.{MaySettle, has_slot, slots_from, without_strays}
 use Rattle.removal_laws.specs.Steps.{ended, ends_thread, object_ended, slots_ended}
-use Rattle.removal_laws.proofs.Laws.{IsPassed, both, bounds-within, found-at, found-none, found-where, holder, holder-aligned, in-memory, join, may-settle, open-near, or-cases, within-bounds}
+use Rattle.removal_laws.proofs.Laws.{IsPassed, both, bounds-within, found-at, found-none, found-where, holder, holder-aligned, in-memory, join, may-settle}
+use Rattle.removal_laws.proofs.Laws.{open-near, or-cases, within-bounds}
 
 -- ---- steps that end nothing
 
@@ -69,10 +72,11 @@ module _ (s : State) (offset : ℕ) (slots_now : Slots) where
   after = with_slots (object_ended s offset) slots_now
 
   count-after : (other : ℕ) → slot_count (after.objects other) ≡ (if offset == other then 0 else slot_count (s.objects other))
-  count-after other = elim (offset == other) as (λ b. slot_count (if b then None else option_map (without_threads (ends_thread s offset)) (s.objects other)) ≡ (if b then 0 else slot_count (s.objects other))) [
-    | true ↦ refl
-    | false ↦ count-threads (ends_thread s offset) (s.objects other)
-  ]
+  count-after other = elim (offset == other) as (λ b. slot_count (if b then None else option_map (without_threads (ends_thread s offset)) (s.objects other))
+      ≡ (if b then 0 else slot_count (s.objects other))) [
+        | true ↦ refl
+        | false ↦ count-threads (ends_thread s offset) (s.objects other)
+      ]
 
   -- who still has slots has as many as before, and is another
   left-over : (other : ℕ) → slot_count (after.objects other) ≢ 0 → (slot_count (after.objects other) ≡ slot_count (s.objects other)) × (offset ≢ other)
@@ -111,15 +115,17 @@ module _ (s : State) (offset : ℕ) (slots_now : Slots) where
 
   -- a slot loses its object only if that is the one which ended
   lost : ObjectsLie s → (slot : ℕ) → has_slot s slot ≡ true → has_slot after slot ≡ false → (n : ℕ) × (offset ≡ 16 * n) × (is_slot_of s (16 * n) slot ≡ true)
-  lost lie slot had_one has_none = elim (or-cases (nat_lt slot (boot_area_slots s.boot_radix)) (list_any (λ n. is_slot_of s (16 * n) slot) (slots_of s)) had_one) [
-    | inl early ↦ absurd (let clash : true ≡ false = sym (ap (λ b. b || list_any (λ n. is_slot_of after (16 * n) slot) (slots_of s)) early) ∙ has_none in cc)
-    | inr inner ↦
-        let owner = found-where s.memory_bits (λ n. is_slot_of s (16 * n) slot) inner in
-        elim (eqb_tells offset (16 * owner.0)) [
-          | inl here ↦ (owner.0, here.1, owner.1)
-          | inr away ↦ absurd (let clash : true ≡ false = sym (still-there owner.0 away.1 owner.1) ∙ has_none in cc)
-        ]
-  ]
+  lost lie slot had_one has_none =
+      elim (or-cases (nat_lt slot (boot_area_slots s.boot_radix)) (list_any (λ n. is_slot_of s (16 * n) slot) (slots_of s)) had_one) [
+        | inl early ↦ absurd (let clash : true ≡ false = sym (ap (λ b. b || list_any (λ n. is_slot_of after (16 * n) slot) (slots_of s)) early) ∙ has_none in
+            cc)
+        | inr inner ↦
+            let owner = found-where s.memory_bits (λ n. is_slot_of s (16 * n) slot) inner in
+            elim (eqb_tells offset (16 * owner.0)) [
+              | inl here ↦ (owner.0, here.1, owner.1)
+              | inr away ↦ absurd (let clash : true ≡ false = sym (still-there owner.0 away.1 owner.1) ∙ has_none in cc)
+            ]
+      ]
     where
       still-there : (n : ℕ) → offset ≢ 16 * n → is_slot_of s (16 * n) slot ≡ true → has_slot after slot ≡ true
       still-there n other is =
@@ -139,7 +145,8 @@ module _ (s : State) (offset : ℕ) (slots_now : Slots) where
     | false ↦ λ _. refl
   ] refl
 
-  covers-none : (slots : Slots) (left : Unsettled) (waits : Bool) → (waits ≡ false → waiting_at (s.objects offset) ≡ []) → slot_count (s.objects offset) ≡ 0 → Covers slots s left
+  covers-none : (slots : Slots) (left : Unsettled) (waits : Bool) → (waits ≡ false → waiting_at (s.objects offset) ≡ []) → slot_count (s.objects offset) ≡ 0 →
+      Covers slots s left
       → Covers slots after (with_waiting left waits)
   covers-none slots left waits nobody_waits none covers = record {
     lie = lie-after covers.lie;
@@ -154,13 +161,16 @@ module _ (s : State) (offset : ℕ) (slots_now : Slots) where
 
   -- a block that has one of the slots of an object starts there at the latest, and no block starts later than before
   touched : (first last block : ℕ) → first / 16384 ≤ block → block ≤ last / 16384 → (nat_le (first / 16384) block && nat_lt block (last / 16384 + 1)) ≡ true
-  touched first last block low high = join (nat_le (first / 16384) block) _ (le-leb (first / 16384) block low) (le-leb (suc block) (last / 16384 + 1) (omega (arith, high)))
+  touched first last block low high = join (nat_le (first / 16384) block) _ (le-leb (first / 16384) block low)
+      (le-leb (suc block) (last / 16384 + 1) (omega (arith, high)))
 
   earlier : (start first last block : ℕ) → start_with start first last block ≤ start
-  earlier start first last block = elim (nat_le (first / 16384) block && nat_lt block (last / 16384 + 1)) as (λ b. (if b then min start (max first (16384 * block)) else start) ≤ start) [ true ↦ omega arith | false ↦ omega arith ]
+  earlier start first last block = elim (nat_le (first / 16384) block && nat_lt block (last / 16384 + 1))
+      as (λ b. (if b then min start (max first (16384 * block)) else start) ≤ start) [ true ↦ omega arith | false ↦ omega arith ]
 
   -- and one with slots leaves these as strays
-  module _ (slots : Slots) (left new : Unsettled) (first count : ℕ) (place : offset ≡ 16 * first) (is : slots_from s first ≡ count) (some : count ≢ 0) (more : IsWithSlots left first count new)
+  module _ (slots : Slots) (left new : Unsettled) (first count : ℕ) (place : offset ≡ 16 * first) (is : slots_from s first ≡ count) (some : count ≢ 0)
+      (more : IsWithSlots left first count new)
       (covers : Covers slots s left) where
     abbrev last : ℕ
     last = first + (count - 1)
@@ -182,8 +192,19 @@ module _ (s : State) (offset : ℕ) (slots_now : Slots) where
           let own = own-slot slot had_one has_none in
           let here = more.starts_are (slot / 16384) in
           let touches = touched first last (slot / 16384) (omega (arith, own.0)) (omega (arith, own.1, some)) in
-          omega (arith, here, ap (λ b. if b then min (slice_index left.starts (slot / 16384)) (max first (16384 * (slot / 16384))) else slice_index left.starts (slot / 16384)) touches, own.0)
-      | false ↦ λ none. omega (arith, covers.noted slot opens none, more.starts_are (slot / 16384), earlier (slice_index left.starts (slot / 16384)) first last (slot / 16384))
+          omega (
+            arith,
+            here,
+            ap (λ b. if b then min (slice_index left.starts (slot / 16384)) (max first (16384 * (slot / 16384))) else
+                slice_index left.starts (slot / 16384)) touches,
+            own.0,
+          )
+      | false ↦ λ none. omega (
+        arith,
+        covers.noted slot opens none,
+        more.starts_are (slot / 16384),
+        earlier (slice_index left.starts (slot / 16384)) first last (slot / 16384),
+      )
     ] refl
 
     -- no object that is left reaches over a slot of these, or over the first of a block
@@ -199,7 +220,8 @@ module _ (s : State) (offset : ℕ) (slots_now : Slots) where
       ]
     ]
 
-    starts-more : (block n : ℕ) → block < 64 → slice_index new.starts block < 16384 * block + 16384 → n < slice_index new.starts block → n + slots_from after n ≤ slice_index new.starts block
+    starts-more : (block n : ℕ) → block < 64 → slice_index new.starts block < 16384 * block + 16384 → n < slice_index new.starts block →
+        n + slots_from after n ≤ slice_index new.starts block
     starts-more block n few early less =
         let was : ℕ = slice_index left.starts block in
         let here = more.starts_are block in
@@ -209,19 +231,32 @@ module _ (s : State) (offset : ℕ) (slots_now : Slots) where
               let same : slice_index new.starts block ≡ was = here ∙ ap (λ b. if b then min was (max first (16384 * block)) else was) out in
               omega (arith, covers.starts block n few (omega (arith, early, same)) (omega (arith, less, same)), at-most n, same)
           | true ↦ λ touches.
-              let same : slice_index new.starts block ≡ min was (max first (16384 * block)) = here ∙ ap (λ b. if b then min was (max first (16384 * block)) else was) touches in
+              let same : slice_index new.starts block ≡ min was (max first (16384 * block)) = here
+              ∙ ap (λ b. if b then min was (max first (16384 * block)) else was) touches in
               let parts = both (nat_le (first / 16384) block) _ touches in
               let high : block ≤ last / 16384 = elim (leb_tells (suc block) (last / 16384 + 1)) [
                 | inl low ↦ omega (arith, low.1)
                 | inr late ↦ absurd (let clash : false ≡ true = sym late.0 ∙ parts.1 in cc)
               ] in
               elim (leb_tells was (max first (16384 * block))) [
-                | inl old ↦ omega (arith, covers.starts block n few (omega (arith, early, same, old.1)) (omega (arith, less, same, old.1)), at-most n, same, old.1)
-                | inr own ↦ omega (arith, apart-from n (max first (16384 * block)) (omega (arith, less, same, own.1)) (omega arith) (omega (arith, high)), same, own.1)
+                | inl old ↦ omega (
+                  arith,
+                  covers.starts block n few (omega (arith, early, same, old.1)) (omega (arith, less, same, old.1)),
+                  at-most n,
+                  same,
+                  old.1,
+                )
+                | inr own ↦ omega (
+                  arith,
+                  apart-from n (max first (16384 * block)) (omega (arith, less, same, own.1)) (omega arith) (omega (arith, high)),
+                  same,
+                  own.1,
+                )
               ]
         ] refl
 
-  covers-more : (slots : Slots) (left new : Unsettled) (waits : Bool) (first count : ℕ) → (waits ≡ false → waiting_at (s.objects offset) ≡ []) → offset ≡ 16 * first → slots_from s first ≡ count
+  covers-more : (slots : Slots) (left new : Unsettled) (waits : Bool) (first count : ℕ) → (waits ≡ false → waiting_at (s.objects offset) ≡ []) →
+      offset ≡ 16 * first → slots_from s first ≡ count
       → count ≢ 0 → IsWithSlots left first count new → Covers slots s left → Covers slots after (with_waiting new waits)
   covers-more slots left new waits first count nobody_waits place is some more covers = record {
     lie = lie-after covers.lie;
@@ -234,7 +269,8 @@ module _ (s : State) (offset : ℕ) (slots_now : Slots) where
     reach = λ n less. elim (eqb_tells (slots_from after n) 0) [
       | inl none ↦ omega (arith, none.1, less)
       | inr living ↦
-          let apart = covers.lie.apart n first (omega (arith, less, more.first_is)) (had (16 * n) living.1) (there slots left new first count place is some more covers) in
+          let apart = covers.lie.apart n first (omega (arith, less, more.first_is)) (had (16 * n) living.1)
+          (there slots left new first count place is some more covers) in
           let before = covers.reach n (omega (arith, less, more.first_is)) in
           omega (arith, apart, before, at-most n, more.first_is)
     ];
@@ -242,7 +278,8 @@ module _ (s : State) (offset : ℕ) (slots_now : Slots) where
     starts = starts-more slots left new first count place is some more covers;
     boot = omega (arith, covers.boot, covers.lie.boot first (there slots left new first count place is some more covers), more.first_is);
     inside = omega (arith, covers.inside, covers.lie.inside first (there slots left new first count place is some more covers), is, more.end_is);
-    waiters = subst (λ b. WaitersAreNoted after (b || waits)) (sym more.waited_is) (waiters-after s offset slots_now left.waited waits nobody_waits covers.waiters);
+    waiters = subst (λ b. WaitersAreNoted after (b || waits)) (sym more.waited_is)
+        (waiters-after s offset slots_now left.waited waits nobody_waits covers.waiters);
   }
 
 -- where an object starts that has slots
@@ -258,7 +295,8 @@ noted-fits s offset count lie is some =
     let size : 2 ^ s.memory_bits ≤ 2 ^ 24 = pow_mono lie.few in
     omega (arith, fits, same, size)
 
-notes-after : (s : State) (offset count : ℕ) (waits : Bool) (slots_now : Slots) (left new : Unsettled) → slot_count (s.objects offset) ≡ count → (waits ≡ false → waiting_at (s.objects offset) ≡ [])
+notes-after : (s : State) (offset count : ℕ) (waits : Bool) (slots_now : Slots) (left new : Unsettled) → slot_count (s.objects offset) ≡ count →
+    (waits ≡ false → waiting_at (s.objects offset) ≡ [])
     → (count ≡ 0 → new ≡ left) → (count ≢ 0 → IsWithSlots left (offset / 16) count new)
     → Notes s left (with_slots (object_ended s offset) slots_now) (with_waiting new waits)
 notes-after s offset count waits slots_now left new is nobody_waits unnoted noted = record {
@@ -269,13 +307,16 @@ notes-after s offset count waits slots_now left new is nobody_waits unnoted note
         (covers-none s offset slots_now slots left waits nobody_waits (is ∙ none.1) covers)
     | inr some ↦
         let place = place-of s offset count covers.lie is some.1 in
-        covers-more s offset slots_now slots left new waits (offset / 16) count nobody_waits place (ap (λ (o : ℕ). slot_count (s.objects o)) (sym place) ∙ is) some.1 (noted some.1) covers
+        covers-more s offset slots_now slots left new waits (offset / 16) count nobody_waits place (ap (λ (o : ℕ). slot_count (s.objects o)) (sym place) ∙ is)
+        some.1 (noted some.1) covers
   ];
 }
 
 -- what `end` leaves
-pub notes-ended : (s t : State) (removed : Cap) (offset count : ℕ) (waits : Bool) (left new last : Unsettled) → object_of removed ≡ Some offset → count ≡ slot_count (s.objects offset)
-    → (waits ≡ false → waiting_at (s.objects offset) ≡ []) → t ≡ ended s removed → (count ≡ 0 → new ≡ left) → (count ≢ 0 → IsWithSlots left (offset / 16) count new)
+pub notes-ended : (s t : State) (removed : Cap) (offset count : ℕ) (waits : Bool) (left new last : Unsettled) → object_of removed ≡ Some offset →
+    count ≡ slot_count (s.objects offset)
+    → (waits ≡ false → waiting_at (s.objects offset) ≡ []) → t ≡ ended s removed → (count ≡ 0 → new ≡ left) →
+    (count ≢ 0 → IsWithSlots left (offset / 16) count new)
     → last ≡ with_waiting new waits → Notes s left t last
 notes-ended s t removed offset count waits left new last object is nobody_waits ends unnoted noted last_is =
     let whole : t ≡ with_slots (object_ended s offset) (slots_ended removed s.slots) =
@@ -293,7 +334,8 @@ module _ (s : State) (sound : IsSound s) where
 
   -- what is open belongs to something
   none-stray : (slot : ℕ) → HasSlot s slot → has_slot s slot ≡ true
-  none-stray slot (of_boot_area early) = ap (λ b. b || list_any (λ n. is_slot_of s (16 * n) slot) (slots_of s)) (le-leb (suc slot) (boot_area_slots s.boot_radix) early)
+  none-stray slot (of_boot_area early) = ap (λ b. b || list_any (λ n. is_slot_of s (16 * n) slot) (slots_of s))
+      (le-leb (suc slot) (boot_area_slots s.boot_radix) early)
   none-stray slot (of_object o inner) =
       let h = holder s sound o slot inner in
       let whole : 16 * (o / 16) ≡ o = omega (arith, holder-aligned s sound o slot h) in
@@ -306,11 +348,13 @@ module _ (s : State) (sound : IsSound s) where
   nobody _ = false
 
   ends-none : (o : ℕ) → ends s nobody o ≡ false
-  ends-none o = ap (λ b. b && not (some_outside s nobody (names_object o))) (found-none s.memory_bits (λ slot. nobody slot && names_object o (capability_at s.slots slot)) (λ slot. refl))
+  ends-none o = ap (λ b. b && not (some_outside s nobody (names_object o)))
+      (found-none s.memory_bits (λ slot. nobody slot && names_object o (capability_at s.slots slot)) (λ slot. refl))
 
   count-none : (o : ℕ) → slot_count ((emptied s nobody).objects o) ≡ slot_count (s.objects o)
   count-none o =
-      ap (λ b. slot_count (if b then None else option_map (without_threads (is_ending_thread s nobody)) (s.objects o))) (ends-none o) ∙ count-threads (is_ending_thread s nobody) (s.objects o)
+      ap (λ b. slot_count (if b then None else option_map (without_threads (is_ending_thread s nobody)) (s.objects o))) (ends-none o)
+      ∙ count-threads (is_ending_thread s nobody) (s.objects o)
 
   may : MaySettle (emptied s nobody)
   may = may-settle s sound nobody (λ y is. absurd (let clash : false ≡ true = is in cc))
@@ -332,16 +376,19 @@ module _ (s : State) (sound : IsSound s) where
   covers-first slots count same is = record {
     lie = sound-lie;
     strays = λ slot opens none.
-        absurd (let clash : true ≡ false = sym (none-stray slot ((sound.slots.there slot).0 (subst (λ (n : Slots). IsOpen n slot) (sym same) opens))) ∙ none in cc);
+        absurd (let clash : true ≡ false = sym (none-stray slot ((sound.slots.there slot).0 (subst (λ (n : Slots). IsOpen n slot) (sym same) opens))) ∙ none in
+        cc);
     reach = λ n less. elim (eqb_tells (slots_from s n) 0) [
       | inl none ↦ omega (arith, none.1, less)
       | inr some ↦ omega (arith, sound-lie.inside n some.1, is)
     ];
     noted = λ slot opens none.
-        absurd (let clash : true ≡ false = sym (none-stray slot ((sound.slots.there slot).0 (subst (λ (n : Slots). IsOpen n slot) (sym same) opens))) ∙ none in cc);
+        absurd (let clash : true ≡ false = sym (none-stray slot ((sound.slots.there slot).0 (subst (λ (n : Slots). IsOpen n slot) (sym same) opens))) ∙ none in
+        cc);
     starts = λ block n few early less. absurd (omega (arith, early, few, get_or-replicate {A = ℕ} 64 block 1048576 0 few));
     boot =
-        let last = open-near s sound (boot_area_slots s.boot_radix - 1) ((sound.slots.there (boot_area_slots s.boot_radix - 1)).1 (of_boot_area (omega arith))) in
+        let last = open-near s sound (boot_area_slots s.boot_radix - 1)
+        ((sound.slots.there (boot_area_slots s.boot_radix - 1)).1 (of_boot_area (omega arith))) in
         omega (arith, last, is);
     inside = omega arith;
     waiters = waiters-first s sound;
@@ -385,13 +432,14 @@ module _ (s : State) (left : Unsettled) (covers : Covers s.slots s left) where
       rest : (y : ℕ) → (if nat_lt y at && not (has_slot s y) then None else s.slots y) ≡ (if not (has_slot s y) then None else s.slots y)
       rest y = elim (leb_tells (suc y) at) [
         | inl low ↦ ap (λ b. if b && not (has_slot s y) then None else s.slots y) low.0
-        | inr high ↦ ap (λ b. if b && not (has_slot s y) then None else s.slots y) high.0 ∙ elim (has_slot s y) as (λ h. has_slot s y ≡ h → s.slots y ≡ (if not h then None else s.slots y)) [
-          | true ↦ λ has. refl
-          | false ↦ λ none. elim (s.slots y) as (λ o. s.slots y ≡ o → o ≡ None) [
-            | None ↦ λ nothing_there. refl
-            | Some h ↦ λ some. absurd (omega (arith, high.1, late, (covers.strays y (ap is_some some) none).1))
-          ] refl
-        ] refl
+        | inr high ↦ ap (λ b. if b && not (has_slot s y) then None else s.slots y) high.0
+            ∙ elim (has_slot s y) as (λ h. has_slot s y ≡ h → s.slots y ≡ (if not h then None else s.slots y)) [
+              | true ↦ λ has. refl
+              | false ↦ λ none. elim (s.slots y) as (λ o. s.slots y ≡ o → o ≡ None) [
+                | None ↦ λ nothing_there. refl
+                | Some h ↦ λ some. absurd (omega (arith, high.1, late, (covers.strays y (ap is_some some) none).1))
+              ] refl
+            ] refl
       ]
 
   -- blocks are passed by that have nothing to be closed before the start of the next one
@@ -445,7 +493,8 @@ lands-least starts at next stays = omega arith
 lands-least starts at next (jumps block start few is early least none) = least
 
 -- the first block that has a start, from the one of a slot on
-pub lands-next : (starts : List ℕ) (at block next : ℕ) → block < 64 → slice_index starts block < 16384 * block + 16384 → next ≡ max (slice_index starts block) at
+pub lands-next : (starts : List ℕ) (at block next : ℕ) → block < 64 → slice_index starts block < 16384 * block + 16384 →
+    next ≡ max (slice_index starts block) at
     → ((slot : ℕ) → at ≤ slot → slot < 16384 * block → slot < start_at starts slot) → Lands starts at next
 lands-next starts at block next few early is none = elim (leb_tells (slice_index starts block) at) [
   | inl low ↦ subst (λ (n : ℕ). Lands starts at n) (let same : at ≡ next = omega (arith, low.1, is) in same) stays
@@ -459,7 +508,8 @@ lands-next starts at block next few early is none = elim (leb_tells (slice_index
 ]
 
 -- what is left covers the open slots that no step closed
-pub covers-now : (s : State) (slots now : Slots) (left : Unsettled) → ((slot : ℕ) → IsOpen now slot → IsOpen slots slot) → Covers slots s left → Covers now s left
+pub covers-now : (s : State) (slots now : Slots) (left : Unsettled) → ((slot : ℕ) → IsOpen now slot → IsOpen slots slot) → Covers slots s left →
+    Covers now s left
 covers-now s slots now left opens covers = record {
   lie = covers.lie;
   strays = λ slot is. covers.strays slot (opens slot is);

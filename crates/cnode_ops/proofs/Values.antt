@@ -4,7 +4,8 @@ use Rattle.model.specs.Capabilities.CapabilityKinds.{badge_fits, carries_message
 use Rattle.model.specs.Capabilities.Slots.{is_empty}
 use Rattle.model.specs.Kernel.Arguments.{◌>>=◌, check}
 use Rattle.model.specs.declared.capabilities.Cap.{Cap}
-use Rattle.model.specs.declared.capabilities.Cap.TheVariants.{Empty, Untyped, Endpoint, Notification, CNode, Frame, PageTable, Tcb, RootTable, InterruptControl, InterruptHandler}
+use Rattle.model.specs.declared.capabilities.Cap.TheVariants.{Empty, Untyped, Endpoint, Notification, CNode, Frame, PageTable, Tcb, RootTable, InterruptControl}
+use Rattle.model.specs.declared.capabilities.Cap.TheVariants.{InterruptHandler}
 use Rattle.model.specs.declared.errors.KError.{KError}
 use Rattle.model.specs.declared.errors.KError.TheVariants.{IllegalOperation, RangeError}
 use Rattle.derivation.specs.cap_copies.Copies.{copy_of, minted_copy_of, mutation_of}
@@ -108,7 +109,8 @@ node-copied (RootTable _) word offset radix guard is = is
 node-copied InterruptControl word offset radix guard is = is
 node-copied (InterruptHandler _) word offset radix guard is = is
 
-node-payload : (held : Cap) (payload offset radix guard : ℕ) → with_payload held payload ≡ CNode offset radix guard → (old : ℕ) × (held ≡ CNode offset radix old)
+node-payload : (held : Cap) (payload offset radix guard : ℕ) → with_payload held payload ≡ CNode offset radix guard → (old : ℕ)
+    × (held ≡ CNode offset radix old)
 node-payload Empty payload offset radix guard is = (guard, is)
 node-payload (Untyped _ _ _) payload offset radix guard is = (guard, is)
 node-payload (Endpoint _ _ _) payload offset radix guard is = absurd (cc)

@@ -7,7 +7,8 @@ use Rattle.cnode_ops.specs.Sets.{set_of}
 use Rattle.cnode_ops.specs.declared.refusals.OwnSlots.{OwnSlots}
 use Rattle.cnode_ops.specs.declared.sets.Removed.{Removed}
 use Rattle.model.specs.declared.capabilities.Cap.{Cap}
-use Rattle.model.specs.declared.capabilities.Cap.TheVariants.{Empty, Untyped, Endpoint, Notification, CNode, Frame, PageTable, Tcb, RootTable, InterruptControl, InterruptHandler}
+use Rattle.model.specs.declared.capabilities.Cap.TheVariants.{Empty, Untyped, Endpoint, Notification, CNode, Frame, PageTable, Tcb, RootTable, InterruptControl}
+use Rattle.model.specs.declared.capabilities.Cap.TheVariants.{InterruptHandler}
 use Rattle.model.specs.Capabilities.CapabilityKinds.{names_object, object_of}
 use Rattle.model.specs.Capabilities.Slots.{IsOpen, Slots, capability_at, is_full}
 
@@ -47,7 +48,8 @@ slots_named (InterruptHandler irq_line) = 0
 -- the object that a capability names has a full slot that stays, and no slot that stays names it
 abbrev pub is_left_filled : Slots → ℕ → Removed → Cap → Bool
 is_left_filled slots count set capability =
-    option_map_or (λ offset. some_slot (offset / 16) (slots_named capability) (stays slots set) && not (is_named_beside slots count set offset)) (object_of capability) false
+    option_map_or (λ offset. some_slot (offset / 16) (slots_named capability) (stays slots set) && not (is_named_beside slots count set offset))
+    (object_of capability) false
 
 -- the slots of the object that a capability names: none, where a slot that stays names it too
 abbrev pub own_slots : Slots → ℕ → Removed → Cap → OwnSlots

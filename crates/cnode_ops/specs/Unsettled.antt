@@ -1,6 +1,7 @@
 -- What objects that ended leave to settle.
 -- seL4 Reference Manual, "Deletion, Revocation, and Recycling".
-use Rattle.std.specs.Prelude.{ℕ, ◌≡◌, ◌≢◌, ◌+◌, ◌-◌, ◌*◌, ◌%◌, ◌/◌, ◌^◌, ◌<◌, ◌≤◌, ◌&&◌, ◌||◌, nat_le, nat_lt, Bool, true, false, is_some, List, max, min, replicate, slice_index, if◌then◌else◌}
+use Rattle.std.specs.Prelude.{ℕ, ◌≡◌, ◌≢◌, ◌+◌, ◌-◌, ◌*◌, ◌%◌, ◌/◌, ◌^◌, ◌<◌, ◌≤◌, ◌&&◌, ◌||◌, nat_le, nat_lt, Bool, true, false, is_some, List, max, min}
+use Rattle.std.specs.Prelude.{replicate, slice_index, if◌then◌else◌}
 use Rattle.cnode_ops.specs.declared.settling.Unsettled.{Unsettled}
 use Rattle.model.specs.Capabilities.Slots.{IsOpen, Slots}
 use Rattle.model.specs.Kernel.Removal.{slot_count}

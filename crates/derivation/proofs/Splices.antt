@@ -10,7 +10,8 @@ use Rattle.model.proofs.Depths.{adopted_parent, depth-own_parent}
 pub parent-gone : (slots : Slots) (gone : ℕ) → parent_at (spliced slots gone) gone ≡ None
 parent-gone slots gone = ap parent_of (entry-same (with_parent slots gone (parent_at slots gone)) gone (Some empty_entry))
 
-parent-spliced : (slots : Slots) (gone slot : ℕ) → slot ≢ gone → parent_at (spliced slots gone) slot ≡ adopted_parent gone (parent_at slots gone) (parent_at slots slot)
+parent-spliced : (slots : Slots) (gone slot : ℕ) → slot ≢ gone →
+    parent_at (spliced slots gone) slot ≡ adopted_parent gone (parent_at slots gone) (parent_at slots slot)
 parent-spliced slots gone slot other =
     ap parent_of (entry-other (with_parent slots gone (parent_at slots gone)) gone (Some empty_entry) slot other)
     ∙ parent-adopted gone (parent_at slots gone) (slots slot)
@@ -21,13 +22,16 @@ old-parent slots gone slot parent is =
     elim (eqb_tells slot gone) [
       | inl here ↦ absurd (let clash : None ≡ Some parent = sym (parent-gone slots gone) ∙ ap (parent_at (spliced slots gone)) (sym here.1) ∙ is in cc)
       | inr other ↦ elim (parent_at slots slot) as (λ o. parent_at slots slot ≡ o → Descendant slots parent slot) [
-        | None ↦ λ none. absurd (let clash : None ≡ Some parent = ap (adopted_parent gone (parent_at slots gone)) (sym none) ∙ sym (parent-spliced slots gone slot other.1) ∙ is in cc)
+        | None ↦ λ none. absurd (let clash : None ≡ Some parent = ap (adopted_parent gone (parent_at slots gone)) (sym none)
+            ∙ sym (parent-spliced slots gone slot other.1) ∙ is in cc)
         | Some p ↦ λ some. elim (eqb_tells p gone) [
           | inl was ↦
-              let moved : parent_at slots gone ≡ Some parent = ap (λ b. if b then parent_at slots gone else Some p) (sym was.0) ∙ ap (adopted_parent gone (parent_at slots gone)) (sym some) ∙ sym (parent-spliced slots gone slot other.1) ∙ is in
+              let moved : parent_at slots gone ≡ Some parent = ap (λ b. if b then parent_at slots gone else Some p) (sym was.0)
+              ∙ ap (adopted_parent gone (parent_at slots gone)) (sym some) ∙ sym (parent-spliced slots gone slot other.1) ∙ is in
               deeper slot gone (some ∙ ap (λ q. Some q) was.1) (child gone moved)
           | inr stays ↦
-              let same : Some p ≡ Some parent = ap (λ b. if b then parent_at slots gone else Some p) (sym stays.0) ∙ ap (adopted_parent gone (parent_at slots gone)) (sym some) ∙ sym (parent-spliced slots gone slot other.1) ∙ is in
+              let same : Some p ≡ Some parent = ap (λ b. if b then parent_at slots gone else Some p) (sym stays.0)
+              ∙ ap (adopted_parent gone (parent_at slots gone)) (sym some) ∙ sym (parent-spliced slots gone slot other.1) ∙ is in
               child slot (some ∙ same)
         ]
       ] refl
@@ -45,11 +49,13 @@ descendant-before slots gone root slot (deeper _ parent is above) =
     descendant-through slots root parent slot (old-parent slots gone slot parent is) (descendant-before slots gone root parent above)
 
 -- the new parent of a slot whose parent stays, and of a child of the slot that is gone
-kept-parent : (slots : Slots) (gone slot parent : ℕ) → slot ≢ gone → parent_at slots slot ≡ Some parent → (parent == gone) ≡ false → parent_at (spliced slots gone) slot ≡ Some parent
+kept-parent : (slots : Slots) (gone slot parent : ℕ) → slot ≢ gone → parent_at slots slot ≡ Some parent → (parent == gone) ≡ false →
+    parent_at (spliced slots gone) slot ≡ Some parent
 kept-parent slots gone slot parent other is stays =
     parent-spliced slots gone slot other ∙ ap (adopted_parent gone (parent_at slots gone)) is ∙ ap (λ b. if b then parent_at slots gone else Some parent) stays
 
-moved-parent : (slots : Slots) (gone slot parent : ℕ) → slot ≢ gone → parent_at slots slot ≡ Some parent → (parent == gone) ≡ true → parent_at (spliced slots gone) slot ≡ parent_at slots gone
+moved-parent : (slots : Slots) (gone slot parent : ℕ) → slot ≢ gone → parent_at slots slot ≡ Some parent → (parent == gone) ≡ true →
+    parent_at (spliced slots gone) slot ≡ parent_at slots gone
 moved-parent slots gone slot parent other is was =
     parent-spliced slots gone slot other ∙ ap (adopted_parent gone (parent_at slots gone)) is ∙ ap (λ b. if b then parent_at slots gone else Some parent) was
 
@@ -76,11 +82,13 @@ still-descends slots gone root slot tree apart (deeper _ parent is above) =
       ]),
       (λ here heir moved.
           let up : parent_at slots gone ≡ Some parent = ap (parent_at slots) (sym here) ∙ is in
-          let not_own : parent ≢ gone = λ same. absurd (omega (arith, depth-own_parent 256 (parent_at slots) gone (up ∙ ap (λ p. Some p) same), tree.shallow gone)) in
+          let not_own : parent ≢ gone = λ same.
+          absurd (omega (arith, depth-own_parent 256 (parent_at slots) gone (up ∙ ap (λ p. Some p) same), tree.shallow gone)) in
           deeper heir parent (moved ∙ up) (more.0 not_own)),
     )
 
-pub descendant-after : (slots : Slots) (gone root slot : ℕ) → IsDerivation slots → root ≢ gone → slot ≢ gone → Descendant slots root slot → Descendant (spliced slots gone) root slot
+pub descendant-after : (slots : Slots) (gone root slot : ℕ) → IsDerivation slots → root ≢ gone → slot ≢ gone → Descendant slots root slot →
+    Descendant (spliced slots gone) root slot
 unfolding StillDescends
 descendant-after slots gone root slot tree apart other below =
     let still : (slot ≢ gone → Descendant (spliced slots gone) root slot)

@@ -10,7 +10,8 @@ use Rattle.model.specs.Kernel.Retype.{NewEndpoint, NewObject}
 use Rattle.model.specs.Kernel.Soundness.{IsSound}
 use Rattle.model.specs.Kernel.State.{State, cspace_slot, thread_at}
 use Rattle.model.specs.declared.capabilities.Cap.{Cap}
-use Rattle.model.specs.declared.capabilities.Cap.TheVariants.{Empty, Untyped, Endpoint, Notification, CNode, Frame, PageTable, Tcb, RootTable, InterruptControl, InterruptHandler}
+use Rattle.model.specs.declared.capabilities.Cap.TheVariants.{Empty, Untyped, Endpoint, Notification, CNode, Frame, PageTable, Tcb, RootTable, InterruptControl}
+use Rattle.model.specs.declared.capabilities.Cap.TheVariants.{InterruptHandler}
 use Rattle.model.specs.declared.lookup_failures.LookupFailure.{LookupFailure}
 
 abbrev endpoint_named : ℕ → Option (NewObject × ℕ)
@@ -45,4 +46,5 @@ module _ (s : State) (sound : IsSound s) (h : Handler) where
 
   pub handler-there : (thread : ℕ) → handler s thread ≡ Some h → kind_at s h.endpoint ≡ Some NewEndpoint
   handler-there thread is =
-      by-address ((thread_at s thread).fault_address == 0) (called_slot s.slots (capability_at s.slots (cspace_slot thread)) (thread_at s thread).fault_address) is
+      by-address ((thread_at s thread).fault_address == 0) (called_slot s.slots (capability_at s.slots (cspace_slot thread)) (thread_at s thread).fault_address)
+      is

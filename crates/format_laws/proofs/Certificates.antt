@@ -6,7 +6,9 @@ use Rattle.std.specs.Int.{w64}
 use mir.Val.{bits}
 use Rattle.std.proofs.lemmas.Bool.{and_parts, leb-true, ltb-true}
 use Rattle.model.specs.Images.Format.{field, fits_signed, number}
-use Rattle.model.specs.Images.Image.{Image, StateRecord, Thread, anything, between, image_with, is_constant, record_format, record_header_format, records_format, sections_format, slots_format, term_format, terms_format, thread_format, thread_header_format, below, whole_image, words_format}
+use Rattle.model.specs.Images.Image.{Image, StateRecord, Thread, anything, between, image_with, is_constant, record_format, record_header_format}
+use Rattle.model.specs.Images.Image.{records_format, sections_format, slots_format, term_format, terms_format, thread_format, thread_header_format, below}
+use Rattle.model.specs.Images.Image.{whole_image, words_format}
 use Rattle.model.specs.declared.entries.RecordHeader.{RecordHeader}
 use Rattle.model.specs.declared.entries.ThreadHeader.{ThreadHeader}
 use Rattle.format_laws.specs.Fitting.{CertificateFits, RecordFits}
@@ -74,8 +76,10 @@ certificate-fits objects t is =
       budget = header.2;
       words = many-length (λ _. field anything) (λ _. 0) 0 t.header.words t.words c.0;
       records = many-length each (λ r. r.header.point + 1) 0 t.header.records t.records c.1;
-      each = λ k r at. let one = many-each each (λ r. r.header.point + 1) 0 t.header.records t.records c.1 k r at in (record-fits objects t.header.words one.0 r one.1).0;
-      points_rise = many-rises each (λ r. r.header.point + 1) (λ r. r.header.point) (λ l r fits. (record-fits objects t.header.words l r fits).1) (λ r. refl) 0 t.header.records t.records c.1;
+      each = λ k r at. let one = many-each each (λ r. r.header.point + 1) 0 t.header.records t.records c.1 k r at in
+          (record-fits objects t.header.words one.0 r one.1).0;
+      points_rise = many-rises each (λ r. r.header.point + 1) (λ r. r.header.point) (λ l r fits. (record-fits objects t.header.words l r fits).1) (λ r. refl) 0
+          t.header.records t.records c.1;
     }
 
 pub certificates-fit : (image : Image) (k : ℕ) (t : Thread) → whole_image.fits image ≡ true → slice_get image.threads k ≡ Some t → CertificateFits t

@@ -12,7 +12,8 @@ use Rattle.model.specs.declared.entries.ThreadHeader.{ThreadHeader}
 use Rattle.model.specs.declared.entries.UntypedEntry.{UntypedEntry}
 use Rattle.format_laws.specs.Fitting.{CapabilityFits, FrameFits, HeaderFits, InterruptFits, ObjectFits, TableFits, ThreadFits, UntypedFits}
 use Rattle.format_laws.proofs.FormatFits.{field-between, field-parts}
-use Rattle.model.specs.Images.Image.{Image, Thread, anything, below, between, capability_format, frame_format, header_format, interrupt_format, magic, object_format, pair_key, size_fits, slots_format, table_format, thread_format, thread_header_format, untyped_format}
+use Rattle.model.specs.Images.Image.{Image, Thread, anything, below, between, capability_format, frame_format, header_format, interrupt_format, magic}
+use Rattle.model.specs.Images.Image.{object_format, pair_key, size_fits, slots_format, table_format, thread_format, thread_header_format, untyped_format}
 use Rattle.model.specs.Images.Format.{both, field, number_or}
 use Rattle.model.specs.declared.refusals.Refusal.TheVariants.{Magic, Version}
 use Rattle.std.specs.Int.{w32}
@@ -79,14 +80,16 @@ capability-fits image least c is =
       record {
         cnode = ltb-true c.cnode image.header.objects (field-parts (below image.header.objects) c.cnode a.0).1;
         index = index.0;
-        source = ltb-true c.source (image.header.objects + image.header.interrupts) (field-parts (below (image.header.objects + image.header.interrupts)) c.source d.0).1;
+        source = ltb-true c.source (image.header.objects + image.header.interrupts)
+            (field-parts (below (image.header.objects + image.header.interrupts)) c.source d.0).1;
         rights = (field-parts anything c.rights e.0).0;
         payload = (field-parts anything c.payload e.1).0;
       },
       leb-true least (pair_key c.cnode c.index) index.1,
     )
 
-pub interrupt-fits : (image : Image) (least : ℕ) (i : InterruptEntry) → (interrupt_format image.header.objects least).fits i ≡ true → InterruptFits image i × (least ≤ i.line)
+pub interrupt-fits : (image : Image) (least : ℕ) (i : InterruptEntry) → (interrupt_format image.header.objects least).fits i ≡ true → InterruptFits image i
+    × (least ≤ i.line)
 unfolding interrupt_format
 interrupt-fits image least i is =
     let a = and_parts _ _ is in
@@ -100,7 +103,8 @@ interrupt-fits image least i is =
       line.0,
     )
 
-pub table-fits : (image : Image) (least : ℕ) (t : TableEntry) → (table_format image.header.objects least).fits t ≡ true → TableFits image t × (least ≤ pair_key t.root t.address)
+pub table-fits : (image : Image) (least : ℕ) (t : TableEntry) → (table_format image.header.objects least).fits t ≡ true → TableFits image t
+    × (least ≤ pair_key t.root t.address)
 unfolding table_format
 table-fits image least t is =
     let a = and_parts _ _ is in
@@ -114,7 +118,8 @@ table-fits image least t is =
       leb-true least (pair_key t.root t.address) address.1,
     )
 
-pub frame-fits : (image : Image) (least : ℕ) (f : FrameEntry) → (frame_format image.header.objects least).fits f ≡ true → FrameFits image f × (least ≤ pair_key f.root f.address)
+pub frame-fits : (image : Image) (least : ℕ) (f : FrameEntry) → (frame_format image.header.objects least).fits f ≡ true → FrameFits image f
+    × (least ≤ pair_key f.root f.address)
 unfolding frame_format
 frame-fits image least f is =
     let a = and_parts _ _ is in
@@ -152,6 +157,7 @@ header-of-thread image t is =
       base = (field-parts anything t.base k.0).0;
     }
 
-pub thread-fits : (image : Image) (t : Thread) → (thread_format (slots_format image.header.objects) image.header.objects).fits t ≡ true → ThreadFits image t.header
+pub thread-fits : (image : Image) (t : Thread) → (thread_format (slots_format image.header.objects) image.header.objects).fits t ≡ true →
+    ThreadFits image t.header
 unfolding thread_format
 thread-fits image t is = header-of-thread image t.header (and_parts _ _ is).0

@@ -6,12 +6,14 @@ use Rattle.std.proofs.lemmas.Option.{same_Some, none-some}
 use Rattle.model.specs.Images.Format.{Format, field, many_fit}
 use Rattle.model.specs.Images.Image.{between}
 
-pub many-length : {A : Type 0} (format : ℕ → Format A) (next : A → ℕ) (least count : ℕ) (xs : List A) → many_fit format next least count xs ≡ true → length xs ≡ count
+pub many-length : {A : Type 0} (format : ℕ → Format A) (next : A → ℕ) (least count : ℕ) (xs : List A) → many_fit format next least count xs ≡ true →
+    length xs ≡ count
 unfolding many_fit
 many-length format next least zero [] is = refl
 many-length format next least zero (x ∷ xs) is = absurd (let clash : false ≡ true = is in cc)
 many-length format next least (suc n) [] is = absurd (let clash : false ≡ true = is in cc)
-many-length format next least (suc n) (x ∷ xs) is = ap suc (many-length format next (next x) n xs (and_parts ((format least).fits x) (many_fit format next (next x) n xs) is).1)
+many-length format next least (suc n) (x ∷ xs) is =
+    ap suc (many-length format next (next x) n xs (and_parts ((format least).fits x) (many_fit format next (next x) n xs) is).1)
 
 -- each entry fits with some least key
 pub many-each : {A : Type 0} (format : ℕ → Format A) (next : A → ℕ) (least count : ℕ) (xs : List A) → many_fit format next least count xs ≡ true
@@ -24,7 +26,8 @@ many-each format next least (suc n) (y ∷ ys) is zero x at =
 many-each format next least (suc n) (y ∷ ys) is (suc k) x at =
     many-each format next (next y) n ys (and_parts ((format least).fits y) (many_fit format next (next y) n ys) is).1 k x at
 
-module _ {A : Type 0} (format : ℕ → Format A) (next key : A → ℕ) (bound : (l : ℕ) (x : A) → (format l).fits x ≡ true → l ≤ key x) (step : (x : A) → next x ≡ key x + 1) where
+module _ {A : Type 0} (format : ℕ → Format A) (next key : A → ℕ) (bound : (l : ℕ) (x : A) → (format l).fits x ≡ true → l ≤ key x)
+    (step : (x : A) → next x ≡ key x + 1) where
   -- no key is below the least
   many-above : (least count : ℕ) (xs : List A) → many_fit format next least count xs ≡ true → (k : ℕ) (x : A) → slice_get xs k ≡ Some x → least ≤ key x
   unfolding many_fit

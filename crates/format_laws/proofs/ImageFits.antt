@@ -2,7 +2,8 @@
 use Rattle.std.proofs.Common.{◌≡◌, ◌+◌, true, refl}
 use Rattle.std.proofs.lemmas.Bool.{and_parts}
 use Rattle.format_laws.proofs.FormatFits.{many-each, many-length, many-rises}
-use Rattle.model.specs.Images.Image.{Image, capability_format, frame_format, image_with, interrupt_format, object_format, pair_key, sections_format, slots_format, table_format, thread_format, untyped_format, whole_image}
+use Rattle.model.specs.Images.Image.{Image, capability_format, frame_format, image_with, interrupt_format, object_format, pair_key, sections_format}
+use Rattle.model.specs.Images.Image.{slots_format, table_format, thread_format, untyped_format, whole_image}
 use Rattle.format_laws.specs.Fitting.{IsFitting}
 use Rattle.format_laws.proofs.EntryFits.{capability-fits, frame-fits, header-fits, interrupt-fits, object-fits, table-fits, thread-fits, untyped-fits}
 
@@ -35,13 +36,21 @@ is-fitting image is =
       threads = many-length (λ _. threads) (λ _. 0) 0 h.threads image.threads whole.1;
       untyped = λ k u at. untyped-fits u (many-each (λ _. untyped_format) (λ _. 0) 0 h.untypeds image.untypeds b.0 k u at).1;
       object = λ k o at. let one = many-each objects (λ o. o.untyped) 0 h.objects image.objects c.0 k o at in object-fits image one.0 o one.1;
-      capability = λ k x at. let one = many-each capabilities (λ x. pair_key x.cnode x.index + 1) 0 h.capabilities image.capabilities d.0 k x at in (capability-fits image one.0 x one.1).0;
-      interrupt = λ k x at. let one = many-each interrupts (λ x. x.line + 1) 0 h.interrupts image.interrupts e.0 k x at in (interrupt-fits image one.0 x one.1).0;
-      table = λ k x at. let one = many-each tables (λ x. pair_key x.root x.address + 1) 0 h.tables image.tables f.0 k x at in (table-fits image one.0 x one.1).0;
-      frame = λ k x at. let one = many-each frames (λ x. pair_key x.root x.address + 1) 0 h.frames image.frames g.0 k x at in (frame-fits image one.0 x one.1).0;
+      capability = λ k x at. let one = many-each capabilities (λ x. pair_key x.cnode x.index + 1) 0 h.capabilities image.capabilities d.0 k x at in
+          (capability-fits image one.0 x one.1).0;
+      interrupt = λ k x at. let one = many-each interrupts (λ x. x.line + 1) 0 h.interrupts image.interrupts e.0 k x at in
+          (interrupt-fits image one.0 x one.1).0;
+      table = λ k x at. let one = many-each tables (λ x. pair_key x.root x.address + 1) 0 h.tables image.tables f.0 k x at in
+          (table-fits image one.0 x one.1).0;
+      frame = λ k x at. let one = many-each frames (λ x. pair_key x.root x.address + 1) 0 h.frames image.frames g.0 k x at in
+          (frame-fits image one.0 x one.1).0;
       thread = λ k t at. thread-fits image t (many-each (λ _. threads) (λ _. 0) 0 h.threads image.threads whole.1 k t at).1;
-      slots_rise = many-rises capabilities (λ x. pair_key x.cnode x.index + 1) (λ x. pair_key x.cnode x.index) (λ l x fits. (capability-fits image l x fits).1) (λ x. refl) 0 h.capabilities image.capabilities d.0;
-      lines_rise = many-rises interrupts (λ x. x.line + 1) (λ x. x.line) (λ l x fits. (interrupt-fits image l x fits).1) (λ x. refl) 0 h.interrupts image.interrupts e.0;
-      regions_rise = many-rises tables (λ x. pair_key x.root x.address + 1) (λ x. pair_key x.root x.address) (λ l x fits. (table-fits image l x fits).1) (λ x. refl) 0 h.tables image.tables f.0;
-      pages_rise = many-rises frames (λ x. pair_key x.root x.address + 1) (λ x. pair_key x.root x.address) (λ l x fits. (frame-fits image l x fits).1) (λ x. refl) 0 h.frames image.frames g.0;
+      slots_rise = many-rises capabilities (λ x. pair_key x.cnode x.index + 1) (λ x. pair_key x.cnode x.index) (λ l x fits. (capability-fits image l x fits).1)
+          (λ x. refl) 0 h.capabilities image.capabilities d.0;
+      lines_rise = many-rises interrupts (λ x. x.line + 1) (λ x. x.line) (λ l x fits. (interrupt-fits image l x fits).1) (λ x. refl) 0 h.interrupts
+          image.interrupts e.0;
+      regions_rise = many-rises tables (λ x. pair_key x.root x.address + 1) (λ x. pair_key x.root x.address) (λ l x fits. (table-fits image l x fits).1)
+          (λ x. refl) 0 h.tables image.tables f.0;
+      pages_rise = many-rises frames (λ x. pair_key x.root x.address + 1) (λ x. pair_key x.root x.address) (λ l x fits. (frame-fits image l x fits).1)
+          (λ x. refl) 0 h.frames image.frames g.0;
     }

@@ -18,11 +18,13 @@ header-spelled : (h : ImageHeader) → words_bytes (image_numbers h) ++ words_by
 unfolding header_format
 header-spelled h = refl
 
-pub header-appended : {T E : Type 0} (r : Result T E) (new mid old numbers counts : List ℕ) (h : ImageHeader) → IfOk r (λ _. new ≡ mid ++ words_bytes counts) → mid ≡ old ++ words_bytes numbers
+pub header-appended : {T E : Type 0} (r : Result T E) (new mid old numbers counts : List ℕ) (h : ImageHeader) → IfOk r (λ _. new ≡ mid ++ words_bytes counts) →
+    mid ≡ old ++ words_bytes numbers
     → numbers ≡ image_numbers h → counts ≡ image_counts h → IfOk r (λ _. new ≡ old ++ header_format.spelling h)
 header-appended r new mid old numbers counts h last before same same' =
     appended r new mid old (words_bytes numbers) (words_bytes counts) (header_format.spelling h) last before
-    (ap (λ (l : List ℕ). words_bytes l ++ words_bytes counts) same ∙ ap (λ (l : List ℕ). words_bytes (image_numbers h) ++ words_bytes l) same' ∙ header-spelled h)
+    (ap (λ (l : List ℕ). words_bytes l ++ words_bytes counts) same ∙ ap (λ (l : List ℕ). words_bytes (image_numbers h) ++ words_bytes l) same'
+    ∙ header-spelled h)
 
 abbrev record_counts : RecordHeader → List ℕ
 record_counts h = h.ranges ∷ h.slots ∷ h.terms ∷ []
@@ -58,12 +60,15 @@ thread_counts h = h.registers ∷ h.words ∷ h.records ∷ []
 abbrev thread_parts : List ℕ → ℕ → List ℕ → List ℕ → List ℕ
 thread_parts numbers budget addresses counts = ((words_bytes numbers ++ to_le_bytes w64 budget) ++ words_bytes addresses) ++ words_bytes counts
 
-thread-header-spelled : (h : ThreadHeader) → thread_parts (thread_numbers h) h.budget (thread_addresses h) (thread_counts h) ≡ (thread_header_format 0).spelling h
+thread-header-spelled : (h : ThreadHeader) → thread_parts (thread_numbers h) h.budget (thread_addresses h) (thread_counts h) ≡ (thread_header_format 0).spelling
+    h
 unfolding thread_header_format
 thread-header-spelled h = refl
 
-pub thread-header-appended : {T E : Type 0} (r : Result T E) (new third second first old numbers : List ℕ) (budget : ℕ) (addresses counts : List ℕ) (h : ThreadHeader)
-    → IfOk r (λ _. new ≡ third ++ words_bytes counts) → third ≡ second ++ words_bytes addresses → second ≡ first ++ to_le_bytes w64 budget → first ≡ old ++ words_bytes numbers
+pub thread-header-appended : {T E : Type 0} (r : Result T E) (new third second first old numbers : List ℕ) (budget : ℕ) (addresses counts : List ℕ)
+    (h : ThreadHeader)
+    → IfOk r (λ _. new ≡ third ++ words_bytes counts) → third ≡ second ++ words_bytes addresses → second ≡ first ++ to_le_bytes w64 budget → first ≡ old
+    ++ words_bytes numbers
     → numbers ≡ thread_numbers h → budget ≡ h.budget → addresses ≡ thread_addresses h → counts ≡ thread_counts h
     → IfOk r (λ _. new ≡ old ++ (thread_header_format 0).spelling h)
 thread-header-appended r new third second first old numbers budget addresses counts h last behind before start p q s t =

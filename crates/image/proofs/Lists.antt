@@ -1,5 +1,6 @@
 -- Lists of entries: whether they fit, as a loop tests it, and how they are spelled.
-use Rattle.std.proofs.Common.{◌≡◌, ℕ, suc, ◌-◌, ◌+◌, ◌^◌, ◌<◌, ◌≤◌, Bool, true, false, cond, ◌&&◌, ltb, List, [], ◌∷◌, ◌++◌, length, get_or, drop, take, Option, Some, None, refl, sym, ap, ◌∙◌, arith, drop-cons, take_all, append_assoc, Result, Ok, Err, IfOk}
+use Rattle.std.proofs.Common.{◌≡◌, ℕ, suc, ◌-◌, ◌+◌, ◌^◌, ◌<◌, ◌≤◌, Bool, true, false, cond, ◌&&◌, ltb, List, [], ◌∷◌, ◌++◌, length, get_or, drop, take, Option}
+use Rattle.std.proofs.Common.{Some, None, refl, sym, ap, ◌∙◌, arith, drop-cons, take_all, append_assoc, Result, Ok, Err, IfOk}
 use Rattle.std.proofs.Math.ListN.{drop_of_length-le}
 use Rattle.std.proofs.Math.Seq.{take-suc}
 use Rattle.std.proofs.lemmas.List.{flat_map_more}
@@ -32,7 +33,8 @@ fit-split format next least xs i x lt here =
     rw (count, drop-cons xs i x lt, ← here, ← one) refl
 
 -- the test of the rest after an entry that fits
-pub fit-more : {A : Type 0} (format : ℕ → Format A) (next : A → ℕ) (least : ℕ) (xs : List A) (i : ℕ) (x : A) (found : ℕ) (total : Bool) → i < length xs → x ≡ get_or xs i x
+pub fit-more : {A : Type 0} (format : ℕ → Format A) (next : A → ℕ) (least : ℕ) (xs : List A) (i : ℕ) (x : A) (found : ℕ) (total : Bool) → i < length xs →
+    x ≡ get_or xs i x
     → Some found ≡ next_if ((format least).fits x) (next x) → many_fit format next least (length xs - i) (drop i xs) ≡ total
     → many_fit format next found (length xs - (i + 1)) (drop (i + 1) xs) ≡ total
 fit-more format next least xs i x found total lt here h so_far =
@@ -41,7 +43,8 @@ fit-more format next least xs i x found total lt here h so_far =
     ap rest p.1 ∙ sym (ap (λ (b : Bool). b && rest (next x)) p.0) ∙ sym (fit-split format next least xs i x lt here) ∙ so_far
 
 -- an entry that does not fit
-pub fit-refused : {A : Type 0} (format : ℕ → Format A) (next : A → ℕ) (least : ℕ) (xs : List A) (i : ℕ) (x : A) (total : Bool) → i < length xs → x ≡ get_or xs i x
+pub fit-refused : {A : Type 0} (format : ℕ → Format A) (next : A → ℕ) (least : ℕ) (xs : List A) (i : ℕ) (x : A) (total : Bool) → i < length xs →
+    x ≡ get_or xs i x
     → None ≡ next_if ((format least).fits x) (next x) → many_fit format next least (length xs - i) (drop i xs) ≡ total → false ≡ total
 fit-refused format next least xs i x total lt here h so_far =
     sym (ap (λ (b : Bool). b && many_fit format next (next x) (length xs - (i + 1)) (drop (i + 1) xs)) (refused ((format least).fits x) (next x) h))
@@ -91,7 +94,8 @@ words-fit (x ∷ xs) small =
 
 -- ---- what is appended in several steps
 
-pub appended : {T E : Type 0} (r : Result T E) (new mid old a b whole : List ℕ) → IfOk r (λ _. new ≡ mid ++ b) → mid ≡ old ++ a → a ++ b ≡ whole → IfOk r (λ _. new ≡ old ++ whole)
+pub appended : {T E : Type 0} (r : Result T E) (new mid old a b whole : List ℕ) → IfOk r (λ _. new ≡ mid ++ b) → mid ≡ old ++ a → a ++ b ≡ whole →
+    IfOk r (λ _. new ≡ old ++ whole)
 appended (Ok x) new mid old a b whole last before same = last ∙ ap (λ (l : List ℕ). l ++ b) before ∙ append_assoc old a b ∙ ap (λ (l : List ℕ). old ++ l) same
 appended (Err e) new mid old a b whole last before same = tt
 

@@ -9,7 +9,10 @@ use Rattle.model.specs.declared.entries.InterruptEntry.{InterruptEntry}
 use Rattle.model.specs.declared.entries.TableEntry.{TableEntry}
 use Rattle.model.specs.declared.entries.FrameEntry.{FrameEntry}
 use Rattle.model.specs.Images.Format.{field, many_spelling}
-use Rattle.model.specs.Images.Image.{ImageContent, StateRecord, Thread, Image, anything, pair_key, header_format, untyped_format, object_format, capability_format, interrupt_format, table_format, frame_format, content_format, thread_header_format, register_format, range_format, slot_format, term_format, slots_format, record_header_format, ranges_format, terms_format, record_format, registers_format, words_format, records_format, thread_format, sections_format, image_with, whole_image}
+use Rattle.model.specs.Images.Image.{ImageContent, StateRecord, Thread, Image, anything, pair_key, header_format, untyped_format, object_format}
+use Rattle.model.specs.Images.Image.{capability_format, interrupt_format, table_format, frame_format, content_format, thread_header_format, register_format}
+use Rattle.model.specs.Images.Image.{range_format, slot_format, term_format, slots_format, record_header_format, ranges_format, terms_format, record_format}
+use Rattle.model.specs.Images.Image.{registers_format, words_format, records_format, thread_format, sections_format, image_with, whole_image}
 use Rattle.image.specs.Spellings.{words_bytes, content_bytes, record_bytes, thread_bytes, image_bytes}
 use Rattle.image.proofs.Lists.{spelled-each}
 
@@ -24,7 +27,8 @@ unfolding content_format
 content-law objects least c =
     ap (λ (l : List ℕ). to_le_bytes w32 c.header.frame ++ (to_le_bytes w32 c.header.words ++ l)) (words-law c.words)
 
-record-header-law : (objects words least : ℕ) (r : StateRecord) → (record_header_format (slots_format objects) words least).spelling r.header ≡ (record_header_format (slots_format 0) 0 0).spelling r.header
+record-header-law : (objects words least : ℕ) (r : StateRecord) →
+    (record_header_format (slots_format objects) words least).spelling r.header ≡ (record_header_format (slots_format 0) 0 0).spelling r.header
 unfolding record_header_format
 record-header-law objects words least r = refl
 
@@ -57,7 +61,8 @@ program-law : (t : Thread) → (words_format t.header.words).spelling t.words �
 unfolding words_format
 program-law t = words-law t.words
 
-records-law : (objects : ℕ) (t : Thread) → (records_format (slots_format objects) t.header.words t.header.records).spelling t.records ≡ flat_map record_bytes t.records
+records-law : (objects : ℕ) (t : Thread) → (records_format (slots_format objects) t.header.words t.header.records).spelling t.records ≡ flat_map record_bytes
+    t.records
 unfolding records_format
 records-law objects t = spelled-each (record_format (slots_format objects) t.header.words) _ record_bytes (record-law objects t.header.words) 0 t.records
 
@@ -73,19 +78,23 @@ objects-law : (untypeds : ℕ) (xs : List ObjectEntry) → many_spelling (object
 unfolding object_format
 objects-law untypeds xs = spelled-each (object_format untypeds) _ (object_format 0 0).spelling (λ k x. refl) 0 xs
 
-capabilities-law : (objects interrupts : ℕ) (xs : List CapabilityEntry) → many_spelling (capability_format objects interrupts) (λ e. pair_key e.cnode e.index + 1) 0 xs ≡ flat_map (capability_format 0 0 0).spelling xs
+capabilities-law : (objects interrupts : ℕ) (xs : List CapabilityEntry) →
+    many_spelling (capability_format objects interrupts) (λ e. pair_key e.cnode e.index + 1) 0 xs ≡ flat_map (capability_format 0 0 0).spelling xs
 unfolding capability_format
 capabilities-law objects interrupts xs = spelled-each (capability_format objects interrupts) _ (capability_format 0 0 0).spelling (λ k x. refl) 0 xs
 
-interrupts-law : (objects : ℕ) (xs : List InterruptEntry) → many_spelling (interrupt_format objects) (λ e. e.line + 1) 0 xs ≡ flat_map (interrupt_format 0 0).spelling xs
+interrupts-law : (objects : ℕ) (xs : List InterruptEntry) → many_spelling (interrupt_format objects) (λ e. e.line + 1) 0 xs ≡ flat_map
+    (interrupt_format 0 0).spelling xs
 unfolding interrupt_format
 interrupts-law objects xs = spelled-each (interrupt_format objects) _ (interrupt_format 0 0).spelling (λ k x. refl) 0 xs
 
-tables-law : (objects : ℕ) (xs : List TableEntry) → many_spelling (table_format objects) (λ e. pair_key e.root e.address + 1) 0 xs ≡ flat_map (table_format 0 0).spelling xs
+tables-law : (objects : ℕ) (xs : List TableEntry) → many_spelling (table_format objects) (λ e. pair_key e.root e.address + 1) 0 xs ≡ flat_map
+    (table_format 0 0).spelling xs
 unfolding table_format
 tables-law objects xs = spelled-each (table_format objects) _ (table_format 0 0).spelling (λ k x. refl) 0 xs
 
-frames-law : (objects : ℕ) (xs : List FrameEntry) → many_spelling (frame_format objects) (λ e. pair_key e.root e.address + 1) 0 xs ≡ flat_map (frame_format 0 0).spelling xs
+frames-law : (objects : ℕ) (xs : List FrameEntry) → many_spelling (frame_format objects) (λ e. pair_key e.root e.address + 1) 0 xs ≡ flat_map
+    (frame_format 0 0).spelling xs
 unfolding frame_format
 frames-law objects xs = spelled-each (frame_format objects) _ (frame_format 0 0).spelling (λ k x. refl) 0 xs
 

@@ -3,7 +3,9 @@
 use Rattle.std.specs.Prelude.{ℕ, List, ◌++◌}
 use Rattle.std.specs.Int.{w32, to_le_bytes}
 use Rattle.std.specs.List.{flat_map}
-use Rattle.model.specs.Images.Image.{ImageContent, StateRecord, Thread, Image, header_format, untyped_format, object_format, capability_format, interrupt_format, table_format, frame_format, thread_header_format, register_format, range_format, slot_format, term_format, slots_format, record_header_format}
+use Rattle.model.specs.Images.Image.{ImageContent, StateRecord, Thread, Image, header_format, untyped_format, object_format, capability_format}
+use Rattle.model.specs.Images.Image.{interrupt_format, table_format, frame_format, thread_header_format, register_format, range_format, slot_format}
+use Rattle.model.specs.Images.Image.{term_format, slots_format, record_header_format}
 
 abbrev pub words_bytes : List ℕ → List ℕ
 words_bytes words = flat_map (to_le_bytes w32) words
@@ -18,7 +20,8 @@ record_bytes r =
 
 abbrev pub thread_bytes : Thread → List ℕ
 thread_bytes t =
-    (thread_header_format 0).spelling t.header ++ (flat_map (register_format 0).spelling t.registers ++ (words_bytes t.words ++ flat_map record_bytes t.records))
+    (thread_header_format 0).spelling t.header
+    ++ (flat_map (register_format 0).spelling t.registers ++ (words_bytes t.words ++ flat_map record_bytes t.records))
 
 -- untypeds, objects, capabilities and interrupts
 abbrev pub object_bytes : Image → List ℕ

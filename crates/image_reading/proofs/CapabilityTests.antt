@@ -4,10 +4,12 @@ use Rattle.std.proofs.lemmas.Bool.{and_parts, eqb-true, ltb-true, leb-true}
 use Rattle.std.proofs.lemmas.Bool.Decides.{nat_tests}
 use Rattle.std.specs.Option.{option_map_or}
 use Rattle.model.specs.declared.capabilities.Cap.{Cap}
-use Rattle.model.specs.declared.capabilities.Cap.TheVariants.{Empty, Untyped, Endpoint, Notification, CNode, Frame, PageTable, Tcb, RootTable, InterruptControl, InterruptHandler}
+use Rattle.model.specs.declared.capabilities.Cap.TheVariants.{Empty, Untyped, Endpoint, Notification, CNode, Frame, PageTable, Tcb, RootTable, InterruptControl}
+use Rattle.model.specs.declared.capabilities.Cap.TheVariants.{InterruptHandler}
 use Rattle.model.specs.declared.capabilities.FrameMapping.{FrameMapping}
 use Rattle.model.specs.declared.capabilities.TableMapping.{TableMapping}
-use Rattle.model.specs.Capabilities.CapabilityFields.{are_endpoint_rights, are_mapping_rights, is_badge, is_capability, is_frame_mapping, is_place, is_table_mapping}
+use Rattle.model.specs.Capabilities.CapabilityFields.{are_endpoint_rights, are_mapping_rights, is_badge, is_capability, is_frame_mapping, is_place}
+use Rattle.model.specs.Capabilities.CapabilityFields.{is_table_mapping}
 use Rattle.model.specs.Capabilities.CapabilityKinds.{is_guard_word}
 use Rattle.model.specs.Capabilities.CapabilityWords.{AreEndpointRights, AreMappingRights, IsCapability, IsFrameMapping, IsGuardWord, IsPlace, IsTableMapping}
 
@@ -122,15 +124,20 @@ pub decides-test : (c : Cap) → IsCapability c → is_capability c ≡ true
 unfolding is_capability
 decides-test Empty h = refl
 decides-test (Untyped offset bits watermark) h =
-    all-four (is_place offset bits) (nat_le 4 bits) (nat_le bits 24) (nat_le watermark (2 ^ bits)) (is-place offset bits h.0) (at-most 4 bits h.1) (at-most bits 24 h.2) (at-most watermark (2 ^ bits) h.3)
+    all-four (is_place offset bits) (nat_le 4 bits) (nat_le bits 24) (nat_le watermark (2 ^ bits)) (is-place offset bits h.0) (at-most 4 bits h.1)
+    (at-most bits 24 h.2) (at-most watermark (2 ^ bits) h.3)
 decides-test (Endpoint offset r badge) h =
-    all-three (is_place offset 4) (are_endpoint_rights r.0) (is_badge badge) (is-place offset 4 h.0) (eqb-both (bit_and r.0 11) r.0 h.1) (less-than badge (2 ^ 28) h.2)
+    all-three (is_place offset 4) (are_endpoint_rights r.0) (is_badge badge) (is-place offset 4 h.0) (eqb-both (bit_and r.0 11) r.0 h.1)
+    (less-than badge (2 ^ 28) h.2)
 decides-test (Notification offset r badge) h =
-    all-three (is_place offset 4) (are_endpoint_rights r.0) (is_badge badge) (is-place offset 4 h.0) (eqb-both (bit_and r.0 11) r.0 h.1) (less-than badge (2 ^ 28) h.2)
+    all-three (is_place offset 4) (are_endpoint_rights r.0) (is_badge badge) (is-place offset 4 h.0) (eqb-both (bit_and r.0 11) r.0 h.1)
+    (less-than badge (2 ^ 28) h.2)
 decides-test (CNode offset radix guard) h =
-    all-four (is_place offset (radix + 4)) (nat_le 1 radix) (nat_le radix 14) (is_guard_word radix guard) (is-place offset (radix + 4) h.0) (at-most 1 radix h.1) (at-most radix 14 h.2) (is-guard radix guard h.3)
+    all-four (is_place offset (radix + 4)) (nat_le 1 radix) (nat_le radix 14) (is_guard_word radix guard) (is-place offset (radix + 4) h.0)
+    (at-most 1 radix h.1) (at-most radix 14 h.2) (is-guard radix guard h.3)
 decides-test (Frame offset r mapping) h =
-    all-three (is_place offset 12) (nat_lt r.0 4) (option_map_or is_frame_mapping mapping true) (is-place offset 12 h.0) (less-than r.0 4 h.1) (frame-maybe mapping h.2)
+    all-three (is_place offset 12) (nat_lt r.0 4) (option_map_or is_frame_mapping mapping true) (is-place offset 12 h.0) (less-than r.0 4 h.1)
+    (frame-maybe mapping h.2)
 decides-test (PageTable offset mapping) h =
     both (is_place offset 12) (option_map_or is_table_mapping mapping true) (is-place offset 12 h.0) (table-maybe mapping h.1)
 decides-test (Tcb offset) h = is-place offset 9 h

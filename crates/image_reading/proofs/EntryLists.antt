@@ -1,5 +1,6 @@
 -- Reading entries one after the other, as a loop does.
-use Rattle.std.proofs.Common.{◌≡◌, ℕ, zero, suc, ◌-◌, ◌+◌, ◌*◌, ◌<◌, ◌≤◌, true, false, is_ok, Some, None, List, [], ◌∷◌, length, slice_get, Result, Ok, Err, refl, sym, ap, subst, ◌∙◌, arith}
+use Rattle.std.proofs.Common.{◌≡◌, ℕ, zero, suc, ◌-◌, ◌+◌, ◌*◌, ◌<◌, ◌≤◌, true, false, is_ok, Some, None, List, [], ◌∷◌, length, slice_get, Result, Ok, Err}
+use Rattle.std.proofs.Common.{refl, sym, ap, subst, ◌∙◌, arith}
 use Rattle.std.proofs.Math.Nat.{mul-suc}
 use Rattle.model.specs.declared.refusals.Refusal.{Refusal}
 use Rattle.model.specs.Images.Format.{Format, ◌>>=◌, end_of, values_of, many_read}
@@ -11,7 +12,8 @@ end_of-put x (Ok xs) = refl
 end_of-put x (Err e) = refl
 
 -- where the rest ends after one more entry is where it ended before
-pub end_of-more : {A : Type 0} (format : ℕ → Format A) (next : A → ℕ) (least count i : ℕ) (bytes : List ℕ) (at : ℕ) (x : A × ℕ) (total : Result ℕ Refusal) → i < count
+pub end_of-more : {A : Type 0} (format : ℕ → Format A) (next : A → ℕ) (least count i : ℕ) (bytes : List ℕ) (at : ℕ) (x : A × ℕ) (total : Result ℕ Refusal) →
+    i < count
     → Ok x ≡ (format least).reads bytes at → end_of (many_read format next least (count - i) bytes at) ≡ total
     → end_of (many_read format next (next x.0) (count - (i + 1)) bytes x.1) ≡ total
 unfolding many_read
@@ -22,7 +24,8 @@ end_of-more format next least count i bytes at x total lt e so_far =
     sym one ∙ so_far
 
 -- an entry that is refused refuses the whole
-pub end_of-refused : {A : Type 0} (format : ℕ → Format A) (next : A → ℕ) (least count i : ℕ) (bytes : List ℕ) (at : ℕ) (refusal : Refusal) (total : Result ℕ Refusal) → i < count
+pub end_of-refused : {A : Type 0} (format : ℕ → Format A) (next : A → ℕ) (least count i : ℕ) (bytes : List ℕ) (at : ℕ) (refusal : Refusal)
+    (total : Result ℕ Refusal) → i < count
     → Err refusal ≡ (format least).reads bytes at → end_of (many_read format next least (count - i) bytes at) ≡ total → Err refusal ≡ total
 unfolding many_read
 end_of-refused format next least count i bytes at refusal total lt e so_far =
@@ -50,7 +53,8 @@ refused_from_end (Err d) e h = let k : e ≡ d = cc in rw k refl
 
 -- ---- entries one by one, where all of them can be read
 
-pub values_of-none : {A : Type 0} (format : ℕ → Format A) (next : A → ℕ) (least left : ℕ) (bytes : List ℕ) (at : ℕ) → left ≡ 0 → values_of (many_read format next least left bytes at) ≡ []
+pub values_of-none : {A : Type 0} (format : ℕ → Format A) (next : A → ℕ) (least left : ℕ) (bytes : List ℕ) (at : ℕ) → left ≡ 0 →
+    values_of (many_read format next least left bytes at) ≡ []
 unfolding many_read
 values_of-none format next least left bytes at e = rw e refl
 
@@ -61,12 +65,14 @@ pub record FirstOf {A : Type 0} (format : ℕ → Format A) (next : A → ℕ) (
 abbrev pub ok_put : {A : Type 0} → A → List A × ℕ → Result (List A × ℕ) Refusal
 ok_put x xs = Ok (x ∷ xs.0, xs.1)
 
-first_from : {A : Type 0} (x : A) (r : Result (List A × ℕ) Refusal) → is_ok (r >>= λ xs. ok_put x xs) ≡ true → (is_ok r ≡ true) × (values_of (r >>= λ xs. ok_put x xs) ≡ x ∷ values_of r)
+first_from : {A : Type 0} (x : A) (r : Result (List A × ℕ) Refusal) → is_ok (r >>= λ xs. ok_put x xs) ≡ true → (is_ok r ≡ true)
+    × (values_of (r >>= λ xs. ok_put x xs) ≡ x ∷ values_of r)
 first_from x (Ok xs) h = (refl, refl)
 first_from x (Err e) h = absurd cc
 
 pub first_of : {A : Type 0} (format : ℕ → Format A) (next : A → ℕ) (least left n : ℕ) (bytes : List ℕ) (at : ℕ) (x : A) (after : ℕ) → left ≡ suc n
-    → is_ok (many_read format next least left bytes at) ≡ true → Ok (x, after) ≡ (format least).reads bytes at → FirstOf format next least left n bytes at x after
+    → is_ok (many_read format next least left bytes at) ≡ true → Ok (x, after) ≡ (format least).reads bytes at →
+    FirstOf format next least left n bytes at x after
 unfolding many_read
 first_of format next least left n bytes at x after k h e =
     let all : many_read format next least left bytes at ≡ (many_read format next (next x) n bytes after >>= λ xs. ok_put x xs) = rw (k, ← e) refl in
@@ -100,10 +106,12 @@ module _ {A : Type 0} (format : ℕ → Format A) (next : A → ℕ) (size : ℕ
     within : at + size ≤ length bytes
     rest : many_read format next (next entry) n bytes (at + size) ≡ Ok (others, e)
 
-  first_entry : (n least : ℕ) (bytes : List ℕ) (at : ℕ) (xs : List A) (e : ℕ) → many_read format next least (suc n) bytes at ≡ Ok (xs, e) → FirstEntry n bytes at xs e
+  first_entry : (n least : ℕ) (bytes : List ℕ) (at : ℕ) (xs : List A) (e : ℕ) → many_read format next least (suc n) bytes at ≡ Ok (xs, e) →
+      FirstEntry n bytes at xs e
   unfolding many_read
   first_entry n least bytes at xs e h =
-      let p = bind_ok ((format least).reads bytes at) (λ first. many_read format next (next first.0) n bytes first.1 >>= λ others. Ok (first.0 ∷ others.0, others.1)) (xs, e) h in
+      let p = bind_ok ((format least).reads bytes at) (λ first. many_read format next (next first.0) n bytes first.1 >>= λ others.
+      Ok (first.0 ∷ others.0, others.1)) (xs, e) h in
       let x : A = p.0.0 in
       let s = (sized least).reads bytes at x p.0.1 p.1 in
       let q = bind_ok (many_read format next (next x) n bytes p.0.1) (λ others. Ok (x ∷ others.0, others.1)) (xs, e) p.2 in
@@ -115,10 +123,12 @@ module _ {A : Type 0} (format : ℕ → Format A) (next : A → ℕ) (size : ℕ
         all = ap (λ (y : List A × ℕ). y.0) both;
         reads = subst (λ (k : ℕ). (format 0).reads bytes at ≡ Ok (x, k)) s.0 s.2;
         within = omega (arith, s.0, s.1);
-        rest = subst (λ (k : ℕ). many_read format next (next x) n bytes k ≡ Ok (q.0.0, e)) s.0 (subst (λ (k : ℕ). many_read format next (next x) n bytes p.0.1 ≡ Ok (q.0.0, k)) end-is q.1);
+        rest = subst (λ (k : ℕ). many_read format next (next x) n bytes k ≡ Ok (q.0.0, e)) s.0
+            (subst (λ (k : ℕ). many_read format next (next x) n bytes p.0.1 ≡ Ok (q.0.0, k)) end-is q.1);
       }
 
-  pub entry_found : (count i least : ℕ) (bytes : List ℕ) (at : ℕ) (xs : List A) (e : ℕ) → i < count → many_read format next least count bytes at ≡ Ok (xs, e) → EntryFound (format 0) size xs i bytes at
+  pub entry_found : (count i least : ℕ) (bytes : List ℕ) (at : ℕ) (xs : List A) (e : ℕ) → i < count → many_read format next least count bytes at ≡ Ok (xs, e) →
+      EntryFound (format 0) size xs i bytes at
   entry_found zero i least bytes at xs e lt h = absurd (omega arith)
   entry_found (suc n) zero least bytes at xs e lt h =
       let f = first_entry n least bytes at xs e h in
@@ -145,30 +155,37 @@ pub all_read : {A : Type 0} (r : Result (List A × ℕ) Refusal) → is_ok (end_
 all_read (Ok x) h = (x.1, refl)
 all_read (Err d) h = absurd cc
 
-pub read_is : {A : Type 0} (format : Format A) (bytes : List ℕ) (at : ℕ) (x : A) (after : ℕ) (y : A × ℕ) → format.reads bytes at ≡ Ok (x, after) → Ok y ≡ format.reads bytes at → y.0 ≡ x
+pub read_is : {A : Type 0} (format : Format A) (bytes : List ℕ) (at : ℕ) (x : A) (after : ℕ) (y : A × ℕ) → format.reads bytes at ≡ Ok (x, after) →
+    Ok y ≡ format.reads bytes at → y.0 ≡ x
 read_is {A} format bytes at x after y h k = ap (λ (p : A × ℕ). p.0) (ok_is y (x, after) (k ∙ h))
 
 refused_or_read : {A : Type 0} (r : Result (A × ℕ) Refusal) (refusal : Refusal) (y : A × ℕ) → r ≡ Err refusal → r ≡ Ok y → ⊥
 refused_or_read r refusal y h k = absurd cc
 
-pub read_not_refused : {A : Type 0} (format : Format A) (bytes : List ℕ) (at : ℕ) (x : A) (after : ℕ) (refusal : Refusal) → format.reads bytes at ≡ Ok (x, after) → Err refusal ≡ format.reads bytes at → ⊥
+pub read_not_refused : {A : Type 0} (format : Format A) (bytes : List ℕ) (at : ℕ) (x : A) (after : ℕ) (refusal : Refusal) →
+    format.reads bytes at ≡ Ok (x, after) → Err refusal ≡ format.reads bytes at → ⊥
 read_not_refused format bytes at x after refusal h k = refused_or_read (format.reads bytes at) refusal (x, after) (sym k) h
 
 -- ---- how many entries there are
 
-many_length : {A : Type 0} (format : ℕ → Format A) (next : A → ℕ) (count least : ℕ) (bytes : List ℕ) (at : ℕ) (xs : List A) (e : ℕ) → many_read format next least count bytes at ≡ Ok (xs, e) → length xs ≡ count
+many_length : {A : Type 0} (format : ℕ → Format A) (next : A → ℕ) (count least : ℕ) (bytes : List ℕ) (at : ℕ) (xs : List A) (e : ℕ) →
+    many_read format next least count bytes at ≡ Ok (xs, e) → length xs ≡ count
 unfolding many_read
 many_length {A} format next zero least bytes at xs e h = ap (λ (y : List A × ℕ). length y.0) (sym (ok_is ([], at) (xs, e) h))
 many_length {A} format next (suc n) least bytes at xs e h =
-    let p = bind_ok ((format least).reads bytes at) (λ first. many_read format next (next first.0) n bytes first.1 >>= λ others. Ok (first.0 ∷ others.0, others.1)) (xs, e) h in
+    let p = bind_ok ((format least).reads bytes at) (λ first. many_read format next (next first.0) n bytes first.1 >>= λ others.
+    Ok (first.0 ∷ others.0, others.1)) (xs, e) h in
     let q = bind_ok (many_read format next (next p.0.0) n bytes p.0.1) (λ others. Ok (p.0.0 ∷ others.0, others.1)) (xs, e) p.2 in
     let rest = many_length format next n (next p.0.0) bytes p.0.1 q.0.0 q.0.1 q.1 in
     let all = ap (λ (y : List A × ℕ). length y.0) (ok_is (p.0.0 ∷ q.0.0, q.0.1) (xs, e) q.2) in
     omega (arith, rest, all)
 
-pub list_length : {A : Type 0} (format : ℕ → Format A) (next : A → ℕ) (least count : ℕ) (bytes : List ℕ) (at : ℕ) → is_ok (end_of (many_read format next least count bytes at)) ≡ true
+pub list_length : {A : Type 0} (format : ℕ → Format A) (next : A → ℕ) (least count : ℕ) (bytes : List ℕ) (at : ℕ) →
+    is_ok (end_of (many_read format next least count bytes at)) ≡ true
     → length (values_of (many_read format next least count bytes at)) ≡ count
-list_length format next least count bytes at h = let all = all_read (many_read format next least count bytes at) h in many_length format next count least bytes at (values_of (many_read format next least count bytes at)) all.0 all.1
+list_length format next least count bytes at h = let all = all_read (many_read format next least count bytes at) h in
+    many_length format next count least bytes at (values_of (many_read format next least count bytes at))
+    all.0 all.1
 
 pub not_past : {A : Type 0} (xs : List A) (i : ℕ) → i < length xs → None ≡ slice_get xs i → ⊥
 not_past [] i lt h = absurd (omega arith)

@@ -1,8 +1,10 @@
 -- What is read is spelled so, and what is spelled so is read: a law of each format, from its parts.
-use Rattle.std.proofs.Common.{◌≡◌, ℕ, zero, suc, ◌+◌, ◌-◌, ◌^◌, ◌<◌, ◌≤◌, Bool, true, false, cond, ltb, ◌&&◌, List, [], ◌∷◌, ◌++◌, length, get_or, take, drop, Result, Ok, Err, refl, sym, ap, subst, ◌∙◌, append_assoc, arith, inl, inr}
+use Rattle.std.proofs.Common.{◌≡◌, ℕ, zero, suc, ◌+◌, ◌-◌, ◌^◌, ◌<◌, ◌≤◌, Bool, true, false, cond, ltb, ◌&&◌, List, [], ◌∷◌, ◌++◌, length, get_or, take, drop}
+use Rattle.std.proofs.Common.{Result, Ok, Err, refl, sym, ap, subst, ◌∙◌, append_assoc, arith, inl, inr}
 use Rattle.std.specs.Int.{Width, w32, w64, byte_len, from_le_bytes, to_le_bytes}
 use Rattle.std.proofs.lemmas.Bool.{cases_lt, ltb-true, ltb-false, lt-ltb, le-ltb, and_parts, and_from}
-use Rattle.std.proofs.lemmas.List.{take_at, drop_at, drop-drop, take-append-drop, length-append, length-take, length-drop, get_or-drop, get_or-take, get_or_past}
+use Rattle.std.proofs.lemmas.List.{take_at, drop_at, drop-drop, take-append-drop, length-append, length-take, length-drop, get_or-drop, get_or-take}
+use Rattle.std.proofs.lemmas.List.{get_or_past}
 use Rattle.std.proofs.lemmas.Nat.{le_bytes_4, le_bytes_8, from_le_bytes-to_le_bytes_4, from_le_bytes-to_le_bytes_8}
 use Rattle.std.proofs.lemmas.Int.{to_z-of_z, of_z-to_z}
 use Rattle.std.specs.Prelude.{ℤ, pos, negsuc}
@@ -10,7 +12,8 @@ use Rattle.std.specs.Int.{cast_signed, cast_unsigned}
 use mir.Val.{bits, hbits, SFits}
 use Rattle.model.specs.declared.refusals.Refusal.{Refusal}
 use Rattle.model.specs.declared.refusals.Refusal.TheVariants.{Limit}
-use Rattle.model.specs.Images.Format.{Format, ◌>>=◌, number_at, number_or, number, fits_signed, signed, both, named, many_read, many_spelling, many_fit, ordered}
+use Rattle.model.specs.Images.Format.{Format, ◌>>=◌, number_at, number_or, number, fits_signed, signed, both, named, many_read, many_spelling, many_fit}
+use Rattle.model.specs.Images.Format.{ordered}
 
 abbrev pub IsBytes : List ℕ → Type 0
 IsBytes bytes = (i : ℕ) → get_or bytes i 0 < 256
@@ -55,7 +58,8 @@ pub record Taken {A : Type 0} (format : Format A) (bytes : List ℕ) (at : ℕ) 
   pub within : after ≤ length bytes
 
 pub record IsLawful {A : Type 0} (format : Format A) : Type 0 where
-  pub takes : (bytes : List ℕ) (at : ℕ) (x : A) (after : ℕ) → IsBytes bytes → at ≤ length bytes → format.reads bytes at ≡ Ok (x, after) → Taken format bytes at x after
+  pub takes : (bytes : List ℕ) (at : ℕ) (x : A) (after : ℕ) → IsBytes bytes → at ≤ length bytes → format.reads bytes at ≡ Ok (x, after) →
+      Taken format bytes at x after
   pub again : (bytes : List ℕ) (at : ℕ) (x : A) (rest : List ℕ) → at ≤ length bytes → format.fits x ≡ true → drop at bytes ≡ format.spelling x ++ rest
       → format.reads bytes at ≡ Ok (x, at + length (format.spelling x))
 
@@ -112,12 +116,14 @@ number_takes refusal w test wide bytes at x after fits le e =
     }
 
 number_again : (refusal : ℕ → Refusal) (w : Width) (test : ℕ → Bool) → IsWide w → (bytes : List ℕ) (at : ℕ) (x : ℕ) (rest : List ℕ) → at ≤ length bytes
-    → (number_or refusal w test).fits x ≡ true → drop at bytes ≡ to_le_bytes w x ++ rest → (number_or refusal w test).reads bytes at ≡ Ok (x, at + length (to_le_bytes w x))
+    → (number_or refusal w test).fits x ≡ true → drop at bytes ≡ to_le_bytes w x ++ rest →
+    (number_or refusal w test).reads bytes at ≡ Ok (x, at + length (to_le_bytes w x))
 number_again refusal w test wide bytes at x rest le fits h =
     let parts = and_parts (ltb x (2 ^ bits w)) (test x) fits in
     let small : x < 2 ^ bits w = ltb-true x (2 ^ bits w) parts.0 in
     let len : length (to_le_bytes w x) ≡ byte_len w = wide.len x in
-    let long : ltb (length bytes - at) (byte_len w) ≡ false = le-ltb _ _ (omega (arith, length-drop at bytes, ap (λ (t : List ℕ). length t) h, length-append (to_le_bytes w x) rest)) in
+    let long : ltb (length bytes - at) (byte_len w) ≡ false =
+    le-ltb _ _ (omega (arith, length-drop at bytes, ap (λ (t : List ℕ). length t) h, length-append (to_le_bytes w x) rest)) in
     let part : take (byte_len w) (drop at bytes) ≡ to_le_bytes w x = rw h (take_at (to_le_bytes w x) rest (byte_len w) len) in
     let number-is : number_at w bytes at ≡ x = rw part (wide.again x small) in
     rw (long, number-is, parts.1, len) refl
@@ -136,7 +142,8 @@ fitting : (w : Width) (z : ℤ) → fits_signed w z ≡ true → SFits w z
 fitting w (pos n) h = record { sfits = ltb-true n (2 ^ hbits w) h }
 fitting w (negsuc n) h = record { sfits = ltb-true n (2 ^ hbits w) h }
 
-made_from : (w : Width) (n : ℕ) → 2 ^ bits w ≡ 2 ^ hbits w + 2 ^ hbits w → n < 2 ^ bits w → (b : Bool) → ltb n (2 ^ hbits w) ≡ b → fits_signed w (cond b (pos n) (negsuc (2 ^ bits w - suc n))) ≡ true
+made_from : (w : Width) (n : ℕ) → 2 ^ bits w ≡ 2 ^ hbits w + 2 ^ hbits w → n < 2 ^ bits w → (b : Bool) → ltb n (2 ^ hbits w) ≡ b →
+    fits_signed w (cond b (pos n) (negsuc (2 ^ bits w - suc n))) ≡ true
 made_from w n half lt true e = e
 made_from w n half lt false e = lt-ltb (2 ^ bits w - suc n) (2 ^ hbits w) (omega (arith, ltb-false n (2 ^ hbits w) e))
 
@@ -176,7 +183,8 @@ signed_takes w test wide whole bytes at x after fits le e =
     subst (λ (p : ℤ × ℕ). Taken (signed w test) bytes at p.0 p.1) (ok_is (cast_signed w n, b.0.1) (x, after) b.2) found
 
 signed_again : (w : Width) (test : ℤ → Bool) → IsWide w → IsSignedWide w → (bytes : List ℕ) (at : ℕ) (x : ℤ) (rest : List ℕ) → at ≤ length bytes
-    → (signed w test).fits x ≡ true → drop at bytes ≡ (signed w test).spelling x ++ rest → (signed w test).reads bytes at ≡ Ok (x, at + length ((signed w test).spelling x))
+    → (signed w test).fits x ≡ true → drop at bytes ≡ (signed w test).spelling x ++ rest →
+    (signed w test).reads bytes at ≡ Ok (x, at + length ((signed w test).spelling x))
 signed_again w test wide whole bytes at x rest le fits h =
     let parts = and_parts (fits_signed w x) (test x) fits in
     let back : cast_signed w (cast_unsigned w x) ≡ x = whole.back x parts.0 in
@@ -192,7 +200,8 @@ signed_law w test wide whole = record { takes = signed_takes w test wide whole; 
 
 -- ---- one after the other
 
-both_takes : {A B : Type 0} (first : Format A) (second : A → Format B) → IsLawful first → ((a : A) → IsLawful (second a)) → (bytes : List ℕ) (at : ℕ) (x : A × B) (after : ℕ) → IsBytes bytes → at ≤ length bytes
+both_takes : {A B : Type 0} (first : Format A) (second : A → Format B) → IsLawful first → ((a : A) → IsLawful (second a)) →
+    (bytes : List ℕ) (at : ℕ) (x : A × B) (after : ℕ) → IsBytes bytes → at ≤ length bytes
     → (both first second).reads bytes at ≡ Ok (x, after) → Taken (both first second) bytes at x after
 both_takes {A} {B} first second l m bytes at x after fits le e =
     let p = bind_ok (first.reads bytes at) (λ a. (second a.0).reads bytes a.1 >>= λ b. Ok ((a.0, b.0), b.1)) (x, after) e in
@@ -211,8 +220,10 @@ both_takes {A} {B} first second l m bytes at x after fits le e =
     } in
     subst (λ (y : (A × B) × ℕ). Taken (both first second) bytes at y.0 y.1) (ok_is ((a, b), q.0.1) (x, after) q.2) found
 
-both_again : {A B : Type 0} (first : Format A) (second : A → Format B) → IsLawful first → ((a : A) → IsLawful (second a)) → (bytes : List ℕ) (at : ℕ) (x : A × B) (rest : List ℕ) → at ≤ length bytes
-    → (both first second).fits x ≡ true → drop at bytes ≡ (both first second).spelling x ++ rest → (both first second).reads bytes at ≡ Ok (x, at + length ((both first second).spelling x))
+both_again : {A B : Type 0} (first : Format A) (second : A → Format B) → IsLawful first → ((a : A) → IsLawful (second a)) →
+    (bytes : List ℕ) (at : ℕ) (x : A × B) (rest : List ℕ) → at ≤ length bytes
+    → (both first second).fits x ≡ true → drop at bytes ≡ (both first second).spelling x ++ rest →
+    (both first second).reads bytes at ≡ Ok (x, at + length ((both first second).spelling x))
 both_again first second l m bytes at x rest le fits h =
     let s : List ℕ = first.spelling x.0 in
     let s' : List ℕ = (second x.0).spelling x.1 in
@@ -228,7 +239,8 @@ both_law first second l m = record { takes = both_takes first second l m; again 
 
 -- ---- other names
 
-named_takes : {A B : Type 0} (to : A → B) (from : B → A) (format : Format A) → ((x : A) → format.fits x ≡ true → from (to x) ≡ x) → IsLawful format → (bytes : List ℕ) (at : ℕ) (y : B) (after : ℕ) → IsBytes bytes → at ≤ length bytes
+named_takes : {A B : Type 0} (to : A → B) (from : B → A) (format : Format A) → ((x : A) → format.fits x ≡ true → from (to x) ≡ x) → IsLawful format →
+    (bytes : List ℕ) (at : ℕ) (y : B) (after : ℕ) → IsBytes bytes → at ≤ length bytes
     → (named to from format).reads bytes at ≡ Ok (y, after) → Taken (named to from format) bytes at y after
 named_takes {A} {B} to from format there l bytes at y after fits le e =
     let p = bind_ok (format.reads bytes at) (λ x. Ok (to x.0, x.1)) (y, after) e in
@@ -243,24 +255,29 @@ named_takes {A} {B} to from format there l bytes at y after fits le e =
     } in
     subst (λ (z : B × ℕ). Taken (named to from format) bytes at z.0 z.1) (ok_is (to x, p.0.1) (y, after) p.2) found
 
-named_again : {A B : Type 0} (to : A → B) (from : B → A) (format : Format A) → ((y : B) → to (from y) ≡ y) → IsLawful format → (bytes : List ℕ) (at : ℕ) (y : B) (rest : List ℕ) → at ≤ length bytes
-    → (named to from format).fits y ≡ true → drop at bytes ≡ (named to from format).spelling y ++ rest → (named to from format).reads bytes at ≡ Ok (y, at + length ((named to from format).spelling y))
+named_again : {A B : Type 0} (to : A → B) (from : B → A) (format : Format A) → ((y : B) → to (from y) ≡ y) → IsLawful format →
+    (bytes : List ℕ) (at : ℕ) (y : B) (rest : List ℕ) → at ≤ length bytes
+    → (named to from format).fits y ≡ true → drop at bytes ≡ (named to from format).spelling y ++ rest →
+    (named to from format).reads bytes at ≡ Ok (y, at + length ((named to from format).spelling y))
 named_again to from format back l bytes at y rest le fits h =
     rw (l.again bytes at (from y) rest le fits h, back y) refl
 
-pub named_law : {A B : Type 0} (to : A → B) (from : B → A) (format : Format A) → ((x : A) → format.fits x ≡ true → from (to x) ≡ x) → ((y : B) → to (from y) ≡ y) → IsLawful format → IsLawful (named to from format)
+pub named_law : {A B : Type 0} (to : A → B) (from : B → A) (format : Format A) → ((x : A) → format.fits x ≡ true → from (to x) ≡ x) →
+    ((y : B) → to (from y) ≡ y) → IsLawful format → IsLawful (named to from format)
 named_law to from format there back l = record { takes = named_takes to from format there l; again = named_again to from format back l }
 
 -- ---- many in an order
 
-many_takes : {A : Type 0} (format : ℕ → Format A) (next : A → ℕ) → ((k : ℕ) → IsLawful (format k)) → (count least : ℕ) (bytes : List ℕ) (at : ℕ) (xs : List A) (after : ℕ) → IsBytes bytes → at ≤ length bytes
+many_takes : {A : Type 0} (format : ℕ → Format A) (next : A → ℕ) → ((k : ℕ) → IsLawful (format k)) →
+    (count least : ℕ) (bytes : List ℕ) (at : ℕ) (xs : List A) (after : ℕ) → IsBytes bytes → at ≤ length bytes
     → many_read format next least count bytes at ≡ Ok (xs, after) → Taken (ordered least format next count) bytes at xs after
 unfolding many_read many_spelling many_fit
 many_takes {A} format next l zero least bytes at xs after fits le e =
     subst (λ (y : List A × ℕ). Taken (ordered least format next zero) bytes at y.0 y.1) (ok_is ([], at) (xs, after) e)
     (record { fits = refl; spelled = refl; end = omega arith; within = le })
 many_takes {A} format next l (suc n) least bytes at xs after fits le e =
-    let p = bind_ok ((format least).reads bytes at) (λ first. many_read format next (next first.0) n bytes first.1 >>= λ others. Ok (first.0 ∷ others.0, others.1)) (xs, after) e in
+    let p = bind_ok ((format least).reads bytes at) (λ first. many_read format next (next first.0) n bytes first.1 >>= λ others.
+    Ok (first.0 ∷ others.0, others.1)) (xs, after) e in
     let x : A = p.0.0 in
     let t = (l least).takes bytes at x p.0.1 fits le p.1 in
     let q = bind_ok (many_read format next (next x) n bytes p.0.1) (λ others. Ok (x ∷ others.0, others.1)) (xs, after) p.2 in
@@ -276,8 +293,10 @@ many_takes {A} format next l (suc n) least bytes at xs after fits le e =
     } in
     subst (λ (y : List A × ℕ). Taken (ordered least format next (suc n)) bytes at y.0 y.1) (ok_is (x ∷ ys, q.0.1) (xs, after) q.2) found
 
-many_again : {A : Type 0} (format : ℕ → Format A) (next : A → ℕ) → ((k : ℕ) → IsLawful (format k)) → (count least : ℕ) (bytes : List ℕ) (at : ℕ) (xs : List A) (rest : List ℕ) → at ≤ length bytes
-    → many_fit format next least count xs ≡ true → drop at bytes ≡ many_spelling format next least xs ++ rest → many_read format next least count bytes at ≡ Ok (xs, at + length (many_spelling format next least xs))
+many_again : {A : Type 0} (format : ℕ → Format A) (next : A → ℕ) → ((k : ℕ) → IsLawful (format k)) →
+    (count least : ℕ) (bytes : List ℕ) (at : ℕ) (xs : List A) (rest : List ℕ) → at ≤ length bytes
+    → many_fit format next least count xs ≡ true → drop at bytes ≡ many_spelling format next least xs ++ rest →
+    many_read format next least count bytes at ≡ Ok (xs, at + length (many_spelling format next least xs))
 unfolding many_read many_spelling many_fit
 many_again format next l zero least bytes at [] rest le fits h = let here : at ≡ at + 0 = omega arith in ap (λ (k : ℕ). Ok ([], k)) here
 many_again format next l zero least bytes at (x ∷ xs) rest le fits h = absurd cc
@@ -288,9 +307,11 @@ many_again format next l (suc n) least bytes at (x ∷ xs) rest le fits h =
     let parts = and_parts ((format least).fits x) (many_fit format next (next x) n xs) fits in
     let here : drop at bytes ≡ s ++ (s' ++ rest) = h ∙ append_assoc s s' rest in
     let r = (l least).again bytes at x (s' ++ rest) le parts.0 here in
-    let r' = many_again format next l n (next x) bytes (at + length s) xs rest (behind_within bytes at s (s' ++ rest) le here) parts.1 (behind bytes at s (s' ++ rest) here) in
+    let r' = many_again format next l n (next x) bytes (at + length s) xs rest (behind_within bytes at s (s' ++ rest) le here) parts.1
+    (behind bytes at s (s' ++ rest) here) in
     let end : at + length s + length s' ≡ at + length (s ++ s') = omega (arith, length-append s s') in
     rw (r, r', end) refl
 
-pub ordered_law : {A : Type 0} (least : ℕ) (format : ℕ → Format A) (next : A → ℕ) (count : ℕ) → ((k : ℕ) → IsLawful (format k)) → IsLawful (ordered least format next count)
+pub ordered_law : {A : Type 0} (least : ℕ) (format : ℕ → Format A) (next : A → ℕ) (count : ℕ) → ((k : ℕ) → IsLawful (format k)) →
+    IsLawful (ordered least format next count)
 ordered_law least format next count l = record { takes = many_takes format next l count least; again = many_again format next l count least }

@@ -1,5 +1,6 @@
 -- Each range that is read has a value: its low end is not above its high end.
-use Rattle.std.proofs.Common.{◌≡◌, ℕ, zero, suc, ◌+◌, ◌-◌, ◌^◌, ◌≤◌, Bool, true, false, ltb, ◌&&◌, ◌||◌, All, List, [], ◌∷◌, length, is_ok, Result, Ok, Err, refl, sym, ap, subst, ◌∙◌, arith}
+use Rattle.std.proofs.Common.{◌≡◌, ℕ, zero, suc, ◌+◌, ◌-◌, ◌^◌, ◌≤◌, Bool, true, false, ltb, ◌&&◌, ◌||◌, All, List, [], ◌∷◌, length, is_ok, Result, Ok, Err}
+use Rattle.std.proofs.Common.{refl, sym, ap, subst, ◌∙◌, arith}
 use Rattle.std.specs.Int.{w32, byte_len}
 use Rattle.std.specs.Prelude.{nat_le, nat_lt}
 use Rattle.std.proofs.lemmas.Bool.{and_parts, leb-true}
@@ -42,20 +43,24 @@ range_read least bytes at e h =
     ap (λ (p : ℕ × ℕ). entry_of (first.0.0, p)) pair ∙ ap entry_of triple ∙ whole in
     subst (λ (x : RangeEntry). x.low ≤ x.high) is least_first
 
-ranges_read : (count least : ℕ) (bytes : List ℕ) (at : ℕ) (xs : List RangeEntry) (e : ℕ) → many_read range_format (λ x. x.register + 1) least count bytes at ≡ Ok (xs, e)
+ranges_read : (count least : ℕ) (bytes : List ℕ) (at : ℕ) (xs : List RangeEntry) (e : ℕ) →
+    many_read range_format (λ x. x.register + 1) least count bytes at ≡ Ok (xs, e)
     → All (λ x. x.low ≤ x.high) xs
 unfolding many_read
 ranges_read zero least bytes at xs e h =
-    subst (λ (ys : List RangeEntry). All (λ x. x.low ≤ x.high) ys) (ap (λ (y : List RangeEntry × ℕ). y.0) (ok_is ([], at) (xs, e) h)) (All-nil (λ (x : RangeEntry). x.low ≤ x.high))
+    subst (λ (ys : List RangeEntry). All (λ x. x.low ≤ x.high) ys) (ap (λ (y : List RangeEntry × ℕ). y.0) (ok_is ([], at) (xs, e) h))
+    (All-nil (λ (x : RangeEntry). x.low ≤ x.high))
 ranges_read (suc n) least bytes at xs e h =
-    let p = bind_ok ((range_format least).reads bytes at) (λ first. many_read range_format (λ x. x.register + 1) (first.0.register + 1) n bytes first.1 >>= λ others. Ok (first.0 ∷ others.0, others.1)) (xs, e) h in
+    let p = bind_ok ((range_format least).reads bytes at) (λ first. many_read range_format (λ x. x.register + 1) (first.0.register + 1) n bytes first.1
+    >>= λ others. Ok (first.0 ∷ others.0, others.1)) (xs, e) h in
     let q = bind_ok (many_read range_format (λ x. x.register + 1) (p.0.0.register + 1) n bytes p.0.1) (λ others. Ok (p.0.0 ∷ others.0, others.1)) (xs, e) p.2 in
     let rest = ranges_read n (p.0.0.register + 1) bytes p.0.1 q.0.0 q.0.1 q.1 in
     subst (λ (ys : List RangeEntry). All (λ x. x.low ≤ x.high) ys) (ap (λ (y : List RangeEntry × ℕ). y.0) (ok_is (p.0.0 ∷ q.0.0, q.0.1) (xs, e) q.2))
     (All-cons (λ (x : RangeEntry). x.low ≤ x.high) p.0.0 q.0.0 (range_read least bytes at p.0 p.1) rest)
 
 -- of the ranges that a record lists
-pub listed_ranges : (count : ℕ) (bytes : List ℕ) (at : ℕ) → is_ok (end_of ((ranges_format count).reads bytes at)) ≡ true → All (λ x. x.low ≤ x.high) (values_of ((ranges_format count).reads bytes at))
+pub listed_ranges : (count : ℕ) (bytes : List ℕ) (at : ℕ) → is_ok (end_of ((ranges_format count).reads bytes at)) ≡ true →
+    All (λ x. x.low ≤ x.high) (values_of ((ranges_format count).reads bytes at))
 unfolding ranges_format
 listed_ranges count bytes at h =
     let all = all_read (many_read range_format (λ x. x.register + 1) 1 count bytes at) h in

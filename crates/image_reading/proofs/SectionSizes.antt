@@ -4,7 +4,8 @@ use Rattle.std.specs.Int.{w32}
 use Rattle.std.proofs.lemmas.Bool.{and_parts, le-leb, ltb-false}
 use Rattle.model.specs.declared.refusals.Refusal.TheVariants.{Limit}
 use Rattle.model.specs.Images.Format.{Format, ◌>>=◌, number_at, field, both, named}
-use Rattle.model.specs.Images.Image.{anything, below, between, capability_format, frame_format, interrupt_format, object_format, pair_key, size_fits, table_format, untyped_format}
+use Rattle.model.specs.Images.Image.{anything, below, between, capability_format, frame_format, interrupt_format, object_format, pair_key, size_fits}
+use Rattle.model.specs.Images.Image.{table_format, untyped_format}
 use Rattle.image_reading.specs.Sizes.{HasSize}
 use Rattle.image_reading.proofs.FormatLaws.{bind_ok, guard_ok, test_ok, ok_is}
 
@@ -23,7 +24,8 @@ field_size test loose looser = record {
 same_field : (test : ℕ → Bool) → HasSize 4 (field test) (field test)
 same_field test = field_size test test (λ n h. h)
 
-both_size : {A B : Type 0} (m n : ℕ) (first first' : Format A) (second second' : A → Format B) → HasSize m first first' → ((a : A) → HasSize n (second a) (second' a)) → HasSize (m + n) (both first second) (both first' second')
+both_size : {A B : Type 0} (m n : ℕ) (first first' : Format A) (second second' : A → Format B) → HasSize m first first' →
+    ((a : A) → HasSize n (second a) (second' a)) → HasSize (m + n) (both first second) (both first' second')
 both_size {A} {B} m n first first' second second' one other = record {
   reads = λ bytes at x after e.
       let p = bind_ok (first.reads bytes at) (λ a. (second a.0).reads bytes a.1 >>= λ b. Ok ((a.0, b.0), b.1)) (x, after) e in
@@ -36,7 +38,8 @@ both_size {A} {B} m n first first' second second' one other = record {
       (omega (arith, h.0, k.0, end), omega (arith, k.1, end), rw (h.2, k.2) q.2);
 }
 
-named_size : {A B : Type 0} (m : ℕ) (to : A → B) (from : B → A) (format loose : Format A) → HasSize m format loose → HasSize m (named to from format) (named to from loose)
+named_size : {A B : Type 0} (m : ℕ) (to : A → B) (from : B → A) (format loose : Format A) → HasSize m format loose →
+    HasSize m (named to from format) (named to from loose)
 named_size {A} {B} m to from format loose one = record {
   reads = λ bytes at y after e.
       let p = bind_ok (format.reads bytes at) (λ x. Ok (to x.0, x.1)) (y, after) e in
@@ -60,7 +63,8 @@ untyped_size = named_size 8 _ _ _ _ (both_size 4 4 _ _ _ _ (same_field anything)
 pub object_entry_size : (untypeds least : ℕ) → HasSize 12 (object_format untypeds least) (object_format untypeds 0)
 unfolding object_format
 object_entry_size untypeds least = named_size 12 _ _ _ _
-    (both_size 4 8 _ _ _ _ (field_size (λ n. leb least n && ltb n untypeds) (λ n. leb 0 n && ltb n untypeds) (λ n h. and-from-0 (leb least n) (ltb n untypeds) n h)) (λ (a : ℕ).
+    (both_size 4 8 _ _ _ _ (field_size (λ n. leb least n && ltb n untypeds) (λ n. leb 0 n && ltb n untypeds)
+    (λ n h. and-from-0 (leb least n) (ltb n untypeds) n h)) (λ (a : ℕ).
     both_size 4 4 _ _ _ _ (same_field (between 1 8)) (λ (kind : ℕ).
     same_field (size_fits kind))))
 
@@ -68,7 +72,8 @@ pub capability_size : (objects interrupts least : ℕ) → HasSize 20 (capabilit
 unfolding capability_format
 capability_size objects interrupts least = named_size 20 _ _ _ _
     (both_size 4 16 _ _ _ _ (same_field (below objects)) (λ (cnode : ℕ).
-    both_size 4 12 _ _ _ _ (field_size (λ index. leb least (pair_key cnode index)) (λ index. leb 0 (pair_key cnode index)) (λ index h. from-0 (pair_key cnode index))) (λ (a : ℕ).
+    both_size 4 12 _ _ _ _ (field_size (λ index. leb least (pair_key cnode index)) (λ index. leb 0 (pair_key cnode index))
+    (λ index h. from-0 (pair_key cnode index))) (λ (a : ℕ).
     both_size 4 8 _ _ _ _ (same_field (below (objects + interrupts))) (λ (b : ℕ).
     both_size 4 4 _ _ _ _ (same_field anything) (λ (c : ℕ).
     same_field anything)))))
@@ -84,13 +89,15 @@ pub table_size : (objects least : ℕ) → HasSize 12 (table_format objects leas
 unfolding table_format
 table_size objects least = named_size 12 _ _ _ _
     (both_size 4 8 _ _ _ _ (same_field (below objects)) (λ (root : ℕ).
-    both_size 4 4 _ _ _ _ (field_size (λ address. leb least (pair_key root address)) (λ address. leb 0 (pair_key root address)) (λ address h. from-0 (pair_key root address))) (λ (a : ℕ).
+    both_size 4 4 _ _ _ _ (field_size (λ address. leb least (pair_key root address)) (λ address. leb 0 (pair_key root address))
+    (λ address h. from-0 (pair_key root address))) (λ (a : ℕ).
     same_field (below objects))))
 
 pub frame_size : (objects least : ℕ) → HasSize 16 (frame_format objects least) (frame_format objects 0)
 unfolding frame_format
 frame_size objects least = named_size 16 _ _ _ _
     (both_size 4 12 _ _ _ _ (same_field (below objects)) (λ (root : ℕ).
-    both_size 4 8 _ _ _ _ (field_size (λ address. leb least (pair_key root address)) (λ address. leb 0 (pair_key root address)) (λ address h. from-0 (pair_key root address))) (λ (a : ℕ).
+    both_size 4 8 _ _ _ _ (field_size (λ address. leb least (pair_key root address)) (λ address. leb 0 (pair_key root address))
+    (λ address h. from-0 (pair_key root address))) (λ (a : ℕ).
     both_size 4 4 _ _ _ _ (same_field (below objects)) (λ (b : ℕ).
     same_field (between 0 7)))))

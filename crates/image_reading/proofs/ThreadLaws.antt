@@ -8,7 +8,9 @@ use Rattle.model.specs.declared.entries.RegisterEntry.{RegisterEntry}
 use Rattle.model.specs.declared.entries.SlotEntry.{SlotEntry}
 use Rattle.model.specs.declared.refusals.Refusal.TheVariants.{Limit}
 use Rattle.model.specs.Images.Format.{field}
-use Rattle.model.specs.Images.Image.{SlotFormat, anything, below, between, not_zero, is_constant, register_format, range_format, term_format, record_header_format, ranges_format, terms_format, record_format, registers_format, words_format, records_format, thread_header_format, thread_format}
+use Rattle.model.specs.Images.Image.{SlotFormat, anything, below, between, not_zero, is_constant, register_format, range_format, term_format}
+use Rattle.model.specs.Images.Image.{record_header_format, ranges_format, terms_format, record_format, registers_format, words_format, records_format}
+use Rattle.model.specs.Images.Image.{thread_header_format, thread_format}
 use Rattle.image_reading.proofs.FormatLaws.{IsLawful, number_law, both_law, named_law, ordered_law, signed_law, wide32, wide64, signed_wide32, signed_wide64}
 
 pub field_law : (test : ℕ → Bool) → IsLawful (field test)

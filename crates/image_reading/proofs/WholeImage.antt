@@ -1,5 +1,6 @@
 -- The format of images is lawful: an image has one spelling, and bytes spell one image.
-use Rattle.std.proofs.Common.{◌≡◌, ℕ, ◌+◌, ◌^◌, ◌-◌, true, false, min, ltb, leb, ◌&&◌, ◌||◌, eqb, List, [], ◌++◌, length, drop, Result, Ok, Err, refl, sym, ap, subst, ◌∙◌, inl, inr, arith}
+use Rattle.std.proofs.Common.{◌≡◌, ℕ, ◌+◌, ◌^◌, ◌-◌, true, false, min, ltb, leb, ◌&&◌, ◌||◌, eqb, List, [], ◌++◌, length, drop, Result, Ok, Err, refl, sym, ap}
+use Rattle.std.proofs.Common.{subst, ◌∙◌, inl, inr, arith}
 use Rattle.std.specs.Int.{w32}
 use Rattle.std.specs.Prelude.{is_some, if◌then◌else◌}
 use Rattle.std.proofs.lemmas.Bool.{and_parts, cases_lt, eqb-true, le-ltb, ltb-false}
@@ -16,7 +17,9 @@ use Rattle.model.specs.declared.refusals.Refusal.TheVariants.{Magic, Version, Tr
 use Rattle.model.specs.Shared.Bytes.{AreBytes}
 use Rattle.model.specs.Capabilities.CapabilityFields.{unpacked}
 use Rattle.model.specs.Images.Format.{IsSpelling, reading}
-use Rattle.model.specs.Images.Image.{Image, Sections, anything, below, between, capability_format, content_format, frame_format, header_fields, header_format, image_with, interrupt_format, magic, names_parent, no_parent, object_format, pair_key, sections_format, size_fits, slot_format, slots_format, table_format, untyped_format, whole_image, words_format}
+use Rattle.model.specs.Images.Image.{Image, Sections, anything, below, between, capability_format, content_format, frame_format, header_fields, header_format}
+use Rattle.model.specs.Images.Image.{image_with, interrupt_format, magic, names_parent, no_parent, object_format, pair_key, sections_format, size_fits}
+use Rattle.model.specs.Images.Image.{slot_format, slots_format, table_format, untyped_format, whole_image, words_format}
 use Rattle.image_reading.proofs.FormatLaws.{IsBytes, IsLawful, bind_ok, guard_ok, ok_is, number_law, both_law, named_law, ordered_law, wide32}
 use Rattle.image_reading.proofs.ThreadLaws.{AreLawful, field_law, thread_law, words_law}
 
@@ -114,10 +117,14 @@ sections_law =
     both_law _ _ header_law (λ (header : ImageHeader).
     both_law _ _ (ordered_law 0 (λ _. untyped_format) (λ _. 0) header.untypeds (λ k. untyped_law)) (λ (a : List UntypedEntry).
     both_law _ _ (ordered_law 0 (object_format header.untypeds) (λ e. e.untyped) header.objects (object_law header.untypeds)) (λ (b : List ObjectEntry).
-    both_law _ _ (ordered_law 0 (capability_format header.objects header.interrupts) (λ e. pair_key e.cnode e.index + 1) header.capabilities (capability_law header.objects header.interrupts)) (λ (c : List CapabilityEntry).
-    both_law _ _ (ordered_law 0 (interrupt_format header.objects) (λ e. e.line + 1) header.interrupts (interrupt_law header.objects)) (λ (d : List InterruptEntry).
-    both_law _ _ (ordered_law 0 (table_format header.objects) (λ e. pair_key e.root e.address + 1) header.tables (table_law header.objects)) (λ (e : List TableEntry).
-    both_law _ _ (ordered_law 0 (frame_format header.objects) (λ e. pair_key e.root e.address + 1) header.frames (frame_law header.objects)) (λ (f : List FrameEntry).
+    both_law _ _ (ordered_law 0 (capability_format header.objects header.interrupts) (λ e. pair_key e.cnode e.index + 1) header.capabilities
+    (capability_law header.objects header.interrupts)) (λ (c : List CapabilityEntry).
+    both_law _ _ (ordered_law 0 (interrupt_format header.objects) (λ e. e.line + 1) header.interrupts (interrupt_law header.objects))
+    (λ (d : List InterruptEntry).
+    both_law _ _ (ordered_law 0 (table_format header.objects) (λ e. pair_key e.root e.address + 1) header.tables (table_law header.objects))
+    (λ (e : List TableEntry).
+    both_law _ _ (ordered_law 0 (frame_format header.objects) (λ e. pair_key e.root e.address + 1) header.frames (frame_law header.objects))
+    (λ (f : List FrameEntry).
     ordered_law 0 (content_format header.objects) (λ c. c.header.frame + 1) header.contents (content_law header.objects))))))))
 
 pub image_law : IsLawful whole_image
@@ -162,7 +169,8 @@ reading-spelled bytes image fits h =
     let is : found ≡ image = ok_is found image end.1 in
     let taken = image_law.takes bytes 0 found at fits (omega arith) b.1 in
     let rest : drop at bytes ≡ [] = drop_all at bytes (ltb-false at (length bytes) end.0) in
-    let text : bytes ≡ whole_image.spelling found = taken.spelled ∙ ap (λ (r : List ℕ). whole_image.spelling found ++ r) rest ∙ append-nil (whole_image.spelling found) in
+    let text : bytes ≡ whole_image.spelling found = taken.spelled ∙ ap (λ (r : List ℕ). whole_image.spelling found ++ r) rest
+    ∙ append-nil (whole_image.spelling found) in
     subst (λ (i : Image). IsSpelling whole_image bytes i) is (record { fits = taken.fits; spelled = text })
 
 pub bytes-fit : (bytes : List ℕ) → AreBytes bytes → IsBytes bytes

@@ -3,8 +3,10 @@ use Rattle.std.proofs.Common.{sym, ◌≡◌, ℕ, ◌+◌, List, true, is_ok, R
 use Rattle.model.specs.declared.entries.ImageHeader.{ImageHeader}
 use Rattle.model.specs.declared.refusals.Refusal.{Refusal}
 use Rattle.model.specs.Images.Format.{end_of}
-use Rattle.model.specs.Images.Image.{capability_format, content_format, frame_format, header_format, image_with, interrupt_format, object_format, pair_key, sections_format, slots_format, table_format, thread_format, untyped_format, whole_image}
-use Rattle.image_reading.specs.Sections.{AreSections, HasCounts, capabilities_format, contents_format, frames_format, interrupts_format, objects_format, sections_image, tables_format, threads_format, untypeds_format}
+use Rattle.model.specs.Images.Image.{capability_format, content_format, frame_format, header_format, image_with, interrupt_format, object_format, pair_key}
+use Rattle.model.specs.Images.Image.{sections_format, slots_format, table_format, thread_format, untyped_format, whole_image}
+use Rattle.image_reading.specs.Sections.{AreSections, HasCounts, capabilities_format, contents_format, frames_format, interrupts_format, objects_format}
+use Rattle.image_reading.specs.Sections.{sections_image, tables_format, threads_format, untypeds_format}
 use Rattle.image_reading.proofs.FormatLaws.{IsBytes}
 use Rattle.image_reading.proofs.WholeImage.{image_law}
 use Rattle.image_reading.proofs.EntryLists.{list_length, read_from_end}
@@ -24,7 +26,8 @@ module _ (bytes : List ℕ) (h : ImageHeader) (untypeds objects capabilities int
     (contents_end : Ok threads ≡ end_of ((contents_format h).reads bytes contents))
     (threads_end : Ok after ≡ end_of ((threads_format h).reads bytes threads)) where
   pub all-read : whole_image.reads bytes 0 ≡ Ok (sections_image bytes h untypeds objects capabilities interrupts tables frames contents threads, after)
-  unfolding image_with sections_format untypeds_format objects_format capabilities_format interrupts_format tables_format frames_format contents_format threads_format
+  unfolding image_with sections_format untypeds_format objects_format capabilities_format interrupts_format tables_format frames_format contents_format
+      threads_format
   all-read =
       let a = read_from_end ((untypeds_format h).reads bytes untypeds) objects untypeds_end in
       let b = read_from_end ((objects_format h).reads bytes objects) capabilities objects_end in
@@ -37,18 +40,21 @@ module _ (bytes : List ℕ) (h : ImageHeader) (untypeds objects capabilities int
       rw (← header, a, b, c, d, e, f, g, i) refl
 
   pub all-fit : IsBytes bytes → whole_image.fits (sections_image bytes h untypeds objects capabilities interrupts tables frames contents threads) ≡ true
-  all-fit fits = (image_law.takes bytes 0 (sections_image bytes h untypeds objects capabilities interrupts tables frames contents threads) after fits (omega arith) all-read).fits
+  all-fit fits = (image_law.takes bytes 0 (sections_image bytes h untypeds objects capabilities interrupts tables frames contents threads) after fits
+      (omega arith) all-read).fits
 
 ok-of : (r : Result ℕ Refusal) (e : ℕ) → r ≡ Ok e → is_ok r ≡ true
 ok-of r e h = ends-well r e (sym h)
 
-pub counted : (bytes : List ℕ) (h : ImageHeader) (untypeds objects capabilities interrupts tables frames contents threads : ℕ) → AreSections bytes h untypeds objects capabilities interrupts tables frames contents threads
+pub counted : (bytes : List ℕ) (h : ImageHeader) (untypeds objects capabilities interrupts tables frames contents threads : ℕ) →
+    AreSections bytes h untypeds objects capabilities interrupts tables frames contents threads
     → HasCounts (sections_image bytes h untypeds objects capabilities interrupts tables frames contents threads)
 unfolding untypeds_format objects_format capabilities_format interrupts_format tables_format frames_format contents_format threads_format
 counted bytes h untypeds objects capabilities interrupts tables frames contents threads s = record {
   untypeds = list_length (λ _. untyped_format) (λ _. 0) 0 h.untypeds bytes untypeds (ok-of _ _ s.untypeds_end);
   objects = list_length (object_format h.untypeds) (λ e. e.untyped) 0 h.objects bytes objects (ok-of _ _ s.objects_end);
-  capabilities = list_length (capability_format h.objects h.interrupts) (λ e. pair_key e.cnode e.index + 1) 0 h.capabilities bytes capabilities (ok-of _ _ s.capabilities_end);
+  capabilities = list_length (capability_format h.objects h.interrupts) (λ e. pair_key e.cnode e.index + 1) 0 h.capabilities bytes capabilities
+      (ok-of _ _ s.capabilities_end);
   interrupts = list_length (interrupt_format h.objects) (λ e. e.line + 1) 0 h.interrupts bytes interrupts (ok-of _ _ s.interrupts_end);
   tables = list_length (table_format h.objects) (λ e. pair_key e.root e.address + 1) 0 h.tables bytes tables (ok-of _ _ s.tables_end);
   frames = list_length (frame_format h.objects) (λ e. pair_key e.root e.address + 1) 0 h.frames bytes frames (ok-of _ _ s.frames_end);

@@ -1,10 +1,12 @@
 -- Two words are read back as the capability that they spell.
-use Rattle.std.proofs.Common.{ℕ, ◌≡◌, ◌&&◌, Bool, true, false, nat_eq, if◌then◌else◌, is_some, Option, Some, None, List, [], ◌∷◌, get_or, refl, sym, ◌∙◌, ap, subst, arith}
+use Rattle.std.proofs.Common.{ℕ, ◌≡◌, ◌&&◌, Bool, true, false, nat_eq, if◌then◌else◌, is_some, Option, Some, None, List, [], ◌∷◌, get_or, refl, sym, ◌∙◌, ap}
+use Rattle.std.proofs.Common.{subst, arith}
 use Rattle.std.specs.Prelude.{IfSome}
 use Rattle.std.proofs.lemmas.Bool.{and_parts, eqb-true}
 use Rattle.std.proofs.lemmas.Bool.Decides.{nat_tests}
 use Rattle.model.specs.declared.capabilities.Cap.{Cap}
-use Rattle.model.specs.declared.capabilities.Cap.TheVariants.{Empty, Untyped, Endpoint, Notification, CNode, Frame, PageTable, Tcb, RootTable, InterruptControl, InterruptHandler}
+use Rattle.model.specs.declared.capabilities.Cap.TheVariants.{Empty, Untyped, Endpoint, Notification, CNode, Frame, PageTable, Tcb, RootTable, InterruptControl}
+use Rattle.model.specs.declared.capabilities.Cap.TheVariants.{InterruptHandler}
 use Rattle.model.specs.Capabilities.CapabilityFields.{fields_of, is_capability, same_words, unpacked, unpacked_as}
 use Rattle.model.specs.Capabilities.CapabilityWords.{IsCapability, words_of}
 use Rattle.model.proofs.FieldsLemmas.{fields-words}
@@ -44,7 +46,8 @@ unfolding unpacked
 words-back c valid =
     let head = get_or (words_of c) 0 0 in
     let word = get_or (words_of c) 1 0 in
-    let own : same_words (words_of c) (head ∷ word ∷ []) ≡ true = subst (λ (l : List ℕ). same_words l (head ∷ word ∷ []) ≡ true) (sym (two-words c)) (same-pair head word) in
+    let own : same_words (words_of c) (head ∷ word ∷ []) ≡ true =
+    subst (λ (l : List ℕ). same_words l (head ∷ word ∷ []) ≡ true) (sym (two-words c)) (same-pair head word) in
     ap (λ (f : Cap). unpacked_as f head word) (fields-words c valid)
     ∙ ap (λ (b : Bool). if b && same_words (words_of c) (head ∷ word ∷ []) then Some c else None) (decides-test c valid)
     ∙ ap (λ (b : Bool). if b then Some c else None) own
@@ -65,11 +68,13 @@ words-only head word c is =
 
 -- An answer that is the capability of two words, if they are one's, says whether they are.
 pub unpacked-is : (head word : ℕ) (answer : Option Cap) → IfSome answer (λ capability. IsCapability capability × (head ∷ word ∷ [] ≡ words_of capability))
-    → ((capability : Cap) → IsCapability capability → head ∷ word ∷ [] ≡ words_of capability → answer ≡ Some capability) → is_some answer ≡ is_some (unpacked head word)
+    → ((capability : Cap) → IsCapability capability → head ∷ word ∷ [] ≡ words_of capability → answer ≡ Some capability) →
+    is_some answer ≡ is_some (unpacked head word)
 unpacked-is head word (Some c) found only =
     let first : get_or (words_of c) 0 0 ≡ head = ap (λ (l : List ℕ). get_or l 0 0) (sym found.1) in
     let second : get_or (words_of c) 1 0 ≡ word = ap (λ (l : List ℕ). get_or l 1 0) (sym found.1) in
-    let e : unpacked head word ≡ Some c = subst (λ (n : ℕ). unpacked head n ≡ Some c) second (subst (λ (n : ℕ). unpacked n (get_or (words_of c) 1 0) ≡ Some c) first (words-back c found.0)) in
+    let e : unpacked head word ≡ Some c = subst (λ (n : ℕ). unpacked head n ≡ Some c) second
+    (subst (λ (n : ℕ). unpacked n (get_or (words_of c) 1 0) ≡ Some c) first (words-back c found.0)) in
     ap (λ (o : Option Cap). is_some o) (sym e)
 unpacked-is head word None found only =
     elim (unpacked head word) as (λ o. unpacked head word ≡ o → false ≡ is_some o) [

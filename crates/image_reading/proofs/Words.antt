@@ -1,5 +1,6 @@
 -- The words of a program, one by one.
-use Rattle.std.proofs.Common.{◌≡◌, ℕ, zero, suc, ◌+◌, ◌-◌, ◌*◌, ◌<◌, ◌≤◌, true, false, is_ok, ltb, List, [], ◌∷◌, ◌++◌, length, take, drop, get_or, Result, Ok, Err, refl, sym, ap, subst, ◌∙◌, arith}
+use Rattle.std.proofs.Common.{◌≡◌, ℕ, zero, suc, ◌+◌, ◌-◌, ◌*◌, ◌<◌, ◌≤◌, true, false, is_ok, ltb, List, [], ◌∷◌, ◌++◌, length, take, drop, get_or, Result, Ok}
+use Rattle.std.proofs.Common.{Err, refl, sym, ap, subst, ◌∙◌, arith}
 use Rattle.std.specs.Int.{w32, to_le_bytes}
 use Rattle.std.proofs.lemmas.Bool.{ltb-false, le-ltb}
 use Rattle.model.specs.declared.refusals.Refusal.{Refusal}
@@ -63,21 +64,25 @@ word_found (suc n) (suc j) bytes at xs e lt h =
     record { value = rw (← p.all) (f.value ∙ ap (number_at w32 bytes) there); within = omega (arith, f.within) }
 
 -- a word of a program whose words can all be read
-pub word_in : (count i : ℕ) (bytes : List ℕ) (at : ℕ) → i < count → is_ok (end_of ((words_format count).reads bytes at)) ≡ true → WordFound (values_of ((words_format count).reads bytes at)) i bytes at
+pub word_in : (count i : ℕ) (bytes : List ℕ) (at : ℕ) → i < count → is_ok (end_of ((words_format count).reads bytes at)) ≡ true →
+    WordFound (values_of ((words_format count).reads bytes at)) i bytes at
 unfolding words_format
-word_in count i bytes at lt h = let all = all_read (words_read count bytes at) h in word_found count i bytes at (values_of (words_read count bytes at)) all.0 lt all.1
+word_in count i bytes at lt h = let all = all_read (words_read count bytes at) h in
+    word_found count i bytes at (values_of (words_read count bytes at)) all.0 lt all.1
 
 not_both : {A : Type 0} (r : Result A Refusal) (e : Refusal) (x : A) → r ≡ Err e → r ≡ Ok x → ⊥
 not_both r e x h h' = absurd cc
 
 pub not_refused : (bytes : List ℕ) (at : ℕ) (refusal : Refusal) → at + 4 ≤ length bytes → Err refusal ≡ (field anything).reads bytes at → ⊥
-not_refused bytes at refusal within h = not_both ((field anything).reads bytes at) refusal (number_at w32 bytes at, at + 4) (sym h) (read_within bytes at within)
+not_refused bytes at refusal within h = not_both ((field anything).reads bytes at) refusal (number_at w32 bytes at, at + 4) (sym h)
+    (read_within bytes at within)
 
 pub read_as : (bytes : List ℕ) (at : ℕ) (x : ℕ × ℕ) → at + 4 ≤ length bytes → Ok x ≡ (field anything).reads bytes at → x.0 ≡ number_at w32 bytes at
 read_as bytes at x within h = ap (λ (p : ℕ × ℕ). p.0) (ok_is x (number_at w32 bytes at, at + 4) (h ∙ read_within bytes at within))
 
 -- the bytes that words were read from
-words_are : (count : ℕ) (bytes : List ℕ) (at : ℕ) (xs : List ℕ) (e : ℕ) → IsBytes bytes → words_read count bytes at ≡ Ok (xs, e) → take (4 * count) (drop at bytes) ≡ bytes_of xs
+words_are : (count : ℕ) (bytes : List ℕ) (at : ℕ) (xs : List ℕ) (e : ℕ) → IsBytes bytes → words_read count bytes at ≡ Ok (xs, e) →
+    take (4 * count) (drop at bytes) ≡ bytes_of xs
 unfolding many_read
 words_are zero bytes at xs e fits h = ap (λ (l : List ℕ × ℕ). bytes_of l.0) (ok_is ([], at) (xs, e) h)
 words_are (suc n) bytes at xs e fits h =
@@ -94,4 +99,5 @@ words_are (suc n) bytes at xs e fits h =
 pub words_taken : (count : ℕ) (bytes : List ℕ) (at : ℕ) → IsBytes bytes → is_ok (end_of ((words_format count).reads bytes at)) ≡ true
     → take (4 * count) (drop at bytes) ≡ bytes_of (values_of ((words_format count).reads bytes at))
 unfolding words_format
-words_taken count bytes at fits h = let all = all_read (words_read count bytes at) h in words_are count bytes at (values_of (words_read count bytes at)) all.0 fits all.1
+words_taken count bytes at fits h = let all = all_read (words_read count bytes at) h in
+    words_are count bytes at (values_of (words_read count bytes at)) all.0 fits all.1

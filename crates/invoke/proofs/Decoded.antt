@@ -18,12 +18,16 @@ checked plain count found = do
   _ ← check (nat_le listed.count count) TruncatedMessage
   Ok listed.call
 
-formed : (plain : Bool) (words : List ℕ) (found : Option CallForm) → ((check plain TruncatedMessage >>= λ _. wanted found IllegalOperation >>= λ form. check (nat_le form.count (length words)) TruncatedMessage >>= λ _. Ok form) >>= λ form. Ok (form.call words)) ≡ checked plain (length words) (listed_call words found)
+formed : (plain : Bool) (words : List ℕ) (found : Option CallForm) →
+    ((check plain TruncatedMessage >>= λ _. wanted found IllegalOperation >>= λ form. check (nat_le form.count (length words)) TruncatedMessage >>= λ _.
+    Ok form) >>= λ form. Ok (form.call words)) ≡ checked plain (length words) (listed_call words found)
 formed false words found = refl
 formed true words None = refl
 formed true words (Some form) =
-    elim (nat_le form.count (length words)) as (λ b. ((check b TruncatedMessage >>= λ _. Ok form) >>= λ found. Ok (found.call words)) ≡ (check b TruncatedMessage >>= λ _. Ok (form.call words))) [ true ↦ refl | false ↦ refl ]
+    elim (nat_le form.count (length words)) as (λ b. ((check b TruncatedMessage >>= λ _. Ok form) >>= λ found. Ok (found.call words))
+    ≡ (check b TruncatedMessage >>= λ _. Ok (form.call words))) [ true ↦ refl | false ↦ refl ]
 
-pub decoded : (capability : Cap) (label extra : ℕ) (words : List ℕ) → decode capability label extra words ≡ checked (extra == 0) (length words) (listed_call words (form_of capability label))
+pub decoded : (capability : Cap) (label extra : ℕ) (words : List ℕ) →
+    decode capability label extra words ≡ checked (extra == 0) (length words) (listed_call words (form_of capability label))
 unfolding decode
 decoded capability label extra words = formed (extra == 0) words (form_of capability label)

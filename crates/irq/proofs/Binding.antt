@@ -1,5 +1,6 @@
 -- A line is bound to a notification, in place of what it was bound to.
-use Rattle.std.proofs.Common.{ℕ, ◌≡◌, ◌∙◌, ◌==◌, ◌<◌, ◌^◌, ◌+◌, Bool, true, false, not, nat_lt, Some, None, List, Result, Ok, Err, if◌then◌else◌, refl, sym, ap, subst}
+use Rattle.std.proofs.Common.{ℕ, ◌≡◌, ◌∙◌, ◌==◌, ◌<◌, ◌^◌, ◌+◌, Bool, true, false, not, nat_lt, Some, None, List, Result, Ok, Err, if◌then◌else◌, refl, sym, ap}
+use Rattle.std.proofs.Common.{subst}
 use Rattle.kernel_invariant.specs.Wholeness.{Agreed, IsWhole}
 use Rattle.irq.proofs.Left.{Child, child-state, child-whole}
 use Rattle.irq.specs.Handlers.{bound_source}
@@ -18,7 +19,8 @@ use Rattle.model.specs.declared.errors.KError.TheVariants.{IllegalOperation, Inv
 use Rattle.model.specs.declared.invocations.SlotName.{SlotName}
 use Rattle.objects.specs.Tables.{Tables, state_of}
 use Rattle.slots.specs.Kin.{object_at}
-use Rattle.soundness.proofs.Laws.{Binds, bind-sound, bindable, check-passes, deleted-leaves, empty-open, line-empty, line-open, passes-both, room-below, room-still, source-plain, source-same}
+use Rattle.soundness.proofs.Laws.{Binds, bind-sound, bindable, check-passes, deleted-leaves, empty-open, line-empty, line-open, passes-both, room-below}
+use Rattle.soundness.proofs.Laws.{room-still, source-plain, source-same}
 use Rattle.soundness.specs.Calls.{IsRoot, boot}
 
 -- ---- the checks, and then the slots

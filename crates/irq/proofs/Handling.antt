@@ -72,7 +72,8 @@ module _ (o : Tables) (slots : Slots) (memory : List ℕ) (root : Cap) (slot lin
 
   pub handler-refused : Agrees s memory → (error : KError) → Err error ≡ place_of → (call : Call) → call.root ≡ root → call.slot ≡ slot
       → get_handler s call line name ≡ Err error
-  handler-refused agrees error is call at here = any-call call at here ∙ handler-by agrees ∙ ap (λ (r : Result ℕ KError). r >>= λ place. Ok (made place)) (sym is)
+  handler-refused agrees error is call at here = any-call call at here ∙ handler-by agrees
+      ∙ ap (λ (r : Result ℕ KError). r >>= λ place. Ok (made place)) (sym is)
 
   pub handler-passes : Agrees s memory → (place : ℕ) → place_of ≡ Ok place → get_handler s call_of line name ≡ Ok (made place)
   handler-passes agrees place is = handler-by agrees ∙ ap (λ (r : Result ℕ KError). r >>= λ at. Ok (made at)) is
@@ -101,7 +102,8 @@ module _ (o : Tables) (slots : Slots) (memory : List ℕ) (root : Cap) (slot lin
       }
 
   -- what the insertion leaves
-  module _ (now : Slots) (new : List ℕ) (place : ℕ) (whole : IsWhole o slots memory) (is_root : IsRoot s root) (control : capability_at slots slot ≡ InterruptControl)
+  module _ (now : Slots) (new : List ℕ) (place : ℕ) (whole : IsWhole o slots memory) (is_root : IsRoot s root)
+      (control : capability_at slots slot ≡ InterruptControl)
       (same : SameOutside slots memory new) (passes : Ok place ≡ place_of) (is : now ≡ inserted slots place (InterruptHandler line) (Some slot)) where
     child : Child slots place slot (InterruptHandler line)
     child =

@@ -17,7 +17,8 @@ use Rattle.objects.specs.Tables.{Tables, state_of}
 use Rattle.soundness.proofs.Laws.{deleted-sound, is_single}
 
 -- a removal, or nothing where it is refused
-pub removed-whole : {A : Type 0} {T : Type 0} (slots_of : T → Slots) (memory_of : T → List ℕ) (store now : T) (o then : Tables) (slot : ℕ) (result : Result A KError)
+pub removed-whole : {A : Type 0} {T : Type 0} (slots_of : T → Slots) (memory_of : T → List ℕ) (store now : T) (o then : Tables) (slot : ℕ)
+    (result : Result A KError)
     → IsWhole o (slots_of store) (memory_of store)
     → GivesState (delete (state_of o (slots_of store) (memory_of store)) slot) result (state_of then (slots_of now) (memory_of now))
     → OnErr result (now ≡ store) → OnErr result (then ≡ o) → Agreed then (slots_of now) (memory_of now)

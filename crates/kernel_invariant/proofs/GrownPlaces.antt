@@ -1,5 +1,6 @@
 -- What one new object and its capability add to a state, and that they add it in the object's own memory.
-use Rattle.std.proofs.Common.{ℕ, ◌≡◌, ◌≢◌, ◌∙◌, ◌==◌, ◌&&◌, ◌+◌, ◌*◌, ◌-◌, ◌/◌, ◌%◌, ◌^◌, ◌<◌, ◌≤◌, ◌⊎◌, inl, inr, Bool, true, false, if◌then◌else◌, Option, Some, option_map, refl, sym, ap, subst, arith}
+use Rattle.std.proofs.Common.{ℕ, ◌≡◌, ◌≢◌, ◌∙◌, ◌==◌, ◌&&◌, ◌+◌, ◌*◌, ◌-◌, ◌/◌, ◌%◌, ◌^◌, ◌<◌, ◌≤◌, ◌⊎◌, inl, inr, Bool, true, false, if◌then◌else◌, Option}
+use Rattle.std.proofs.Common.{Some, option_map, refl, sym, ap, subst, arith}
 use Rattle.std.specs.Option.{option_map_or}
 use Rattle.std.proofs.lemmas.Bool.{leb-true}
 use Rattle.std.proofs.lemmas.Bool.Decides.{eqb_tells}
@@ -7,7 +8,8 @@ use Rattle.std.proofs.lemmas.Nat.{mod-pow-add, pow-add}
 use Rattle.model.specs.Capabilities.Slots.{Slots, empty_entry, inserted, is_within}
 use Rattle.model.specs.Kernel.Kinds.{kind_at, kind_of}
 use Rattle.model.specs.Kernel.Removal.{slot_count}
-use Rattle.model.specs.Kernel.Retype.{NewObject, NewUntyped, NewThread, NewEndpoint, NewNotification, NewCNode, NewFrame, NewPageTable, NewRootTable, first_capability, is_frame, is_large_enough, object, object_bits, some_new, with_new_slots}
+use Rattle.model.specs.Kernel.Retype.{NewObject, NewUntyped, NewThread, NewEndpoint, NewNotification, NewCNode, NewFrame, NewPageTable, NewRootTable}
+use Rattle.model.specs.Kernel.Retype.{first_capability, is_frame, is_large_enough, object, object_bits, some_new, with_new_slots}
 use Rattle.model.specs.Kernel.State.{Object, State}
 use Rattle.model.specs.declared.slot_entries.Entry.{Entry}
 use Rattle.model.proofs.SlotChanges.{bounds-within, within-bounds}
@@ -122,14 +124,16 @@ module _ (t : State) (kind : NewObject) (place slot parent : ℕ) where
               | inl was ↦ inl was
               | inr now ↦ inr (sym here.1, now)
             ]
-        | inr apart ↦ inl (subst (λ b. option_map kind_of (if b then option_map_or Some (object kind) (t.objects offset) else t.objects offset) ≡ Some k) (at ∙ apart.0) is)
+        | inr apart ↦ inl (subst (λ b. option_map kind_of (if b then option_map_or Some (object kind) (t.objects offset) else t.objects offset) ≡ Some k)
+            (at ∙ apart.0) is)
       ]
 
   -- a byte is as it was, or it lies in the new object, which is a frame
   pub byte-after : (p : ℕ) → (after.bytes p ≡ t.bytes p) ⊎ ((is_frame kind ≡ true) × (place ≤ p) × (p < place + 2 ^ object_bits kind))
   byte-after p =
       let test : Bool = is_frame kind && is_within place (1 * 2 ^ object_bits kind) p in
-      elim test as (λ b. test ≡ b → ((if b then Some 0 else t.bytes p) ≡ t.bytes p) ⊎ ((is_frame kind ≡ true) × (place ≤ p) × (p < place + 2 ^ object_bits kind))) [
+      elim test as (λ b. test ≡ b → ((if b then Some 0 else t.bytes p) ≡ t.bytes p) ⊎
+      ((is_frame kind ≡ true) × (place ≤ p) × (p < place + 2 ^ object_bits kind))) [
         | true ↦ λ is.
             let parts = both (is_frame kind) (is_within place (1 * 2 ^ object_bits kind) p) is in
             let bounds = within-bounds place (1 * 2 ^ object_bits kind) p parts.1 in
@@ -165,7 +169,8 @@ module _ (t : State) (kind : NewObject) (place slot parent : ℕ) where
   slots-after = λ i s. slot-after s i
 
   -- a slot is as it was, or it lies in the object's memory
-  pub slot-wider : place % 16 ≡ 0 → (y : ℕ) → (wider y ≡ t.slots y) ⊎ ((place ≤ 16 * y) × (16 * y + 16 ≤ place + 2 ^ object_bits kind) × (0 < slot_count (object kind)))
+  pub slot-wider : place % 16 ≡ 0 → (y : ℕ) → (wider y ≡ t.slots y) ⊎
+      ((place ≤ 16 * y) × (16 * y + 16 ≤ place + 2 ^ object_bits kind) × (0 < slot_count (object kind)))
   slot-wider multiple y =
       let count : ℕ = slot_count (object kind) in
       elim (is_within (place / 16) count y) as (λ b. is_within (place / 16) count y ≡ b

@@ -4,11 +4,13 @@ use Rattle.std.specs.Prelude.{IsSome}
 use Rattle.std.specs.Option.{option_map_or}
 use Rattle.std.proofs.lemmas.Bool.Decides.{eqb_tells}
 use Rattle.model.specs.Capabilities.CapabilityKinds.{unmapped}
-use Rattle.model.specs.Capabilities.Slots.{IsOpen, Slots, adopted, capability_at, closed, empty_entry, is_within, parent_at, recapped, spliced, with_entry, with_parent}
+use Rattle.model.specs.Capabilities.Slots.{IsOpen, Slots, adopted, capability_at, closed, empty_entry, is_within, parent_at, recapped, spliced, with_entry}
+use Rattle.model.specs.Capabilities.Slots.{with_parent}
 use Rattle.model.proofs.SlotChanges.{capability-adopted}
 use Rattle.model.specs.Kernel.MappingCalls.{lies_in_region, without_region, without_table}
 use Rattle.model.specs.declared.capabilities.Cap.{Cap}
-use Rattle.model.specs.declared.capabilities.Cap.TheVariants.{Empty, Untyped, Endpoint, Notification, CNode, Frame, PageTable, Tcb, RootTable, InterruptControl, InterruptHandler}
+use Rattle.model.specs.declared.capabilities.Cap.TheVariants.{Empty, Untyped, Endpoint, Notification, CNode, Frame, PageTable, Tcb, RootTable, InterruptControl}
+use Rattle.model.specs.declared.capabilities.Cap.TheVariants.{InterruptHandler}
 use Rattle.model.specs.declared.capabilities.FrameMapping.{FrameMapping}
 use Rattle.model.specs.declared.rights.Rights.{Rights}
 use Rattle.model.specs.declared.capabilities.TableMapping.{TableMapping}
@@ -96,7 +98,8 @@ one-entry slots slot held none less = record {
 }
 
 -- each slot's entry is changed by itself
-each-entry : (slots : Slots) (change : Entry → Entry) → ((held : Entry) (table : ℕ) → NamesTable (change held).capability table → NamesTable held.capability table)
+each-entry : (slots : Slots) (change : Entry → Entry) →
+    ((held : Entry) (table : ℕ) → NamesTable (change held).capability table → NamesTable held.capability table)
     → Lessened slots (λ y. option_map change (slots y))
 each-entry slots change less = record {
   closed = λ y is. ap (option_map change) is;
@@ -121,7 +124,8 @@ less-unused slots slot is_open = less-recapped slots slot (unused (capability_at
 pub less-spliced : (slots : Slots) (slot : ℕ) → IsOpen slots slot → Lessened slots (spliced slots slot)
 less-spliced slots slot is_open =
     let children : Lessened slots (with_parent slots slot (parent_at slots slot)) =
-    each-entry slots (adopted slot (parent_at slots slot)) (λ held table names. subst (λ (c : Cap). NamesTable c table) (capability-adopted slot (parent_at slots slot) (Some held)) names) in
+    each-entry slots (adopted slot (parent_at slots slot)) (λ held table names.
+    subst (λ (c : Cap). NamesTable c table) (capability-adopted slot (parent_at slots slot) (Some held)) names) in
     less-then slots (with_parent slots slot (parent_at slots slot)) (spliced slots slot) children
     (one-entry (with_parent slots slot (parent_at slots slot)) slot (Some empty_entry)
     (λ is. absurd (open-some slots slot is_open (none-mapped (slots slot) (adopted slot (parent_at slots slot)) is))) (λ table names. absurd names))
@@ -129,10 +133,11 @@ less-spliced slots slot is_open =
 pub less-closed : (slots : Slots) (slot : ℕ) → Lessened slots (closed slots slot 1)
 less-closed slots slot = record {
   closed = λ y is. elim (is_within slot 1 y) as (λ b. (if b then None else slots y) ≡ None) [ true ↦ refl | false ↦ is ];
-  names = λ y table. elim (is_within slot 1 y) as (λ b. NamesTable (capability_of (if b then None else slots y)) table → NamesTable (capability_at slots y) table) [
-    | true ↦ λ names. absurd names
-    | false ↦ λ names. names
-  ];
+  names = λ y table. elim (is_within slot 1 y) as (λ b. NamesTable (capability_of (if b then None else slots y)) table →
+      NamesTable (capability_at slots y) table) [
+        | true ↦ λ names. absurd names
+        | false ↦ λ names. names
+      ];
 }
 
 -- mappings in a region, or under a root table
@@ -141,16 +146,20 @@ names-if true c table names = names-unmapped c table names
 names-if false c table names = names
 
 pub less-region : (slots : Slots) (region : TableMapping) → Lessened slots (without_region slots region)
-less-region slots region = each-entry slots (without_table region) (λ held table names. names-if (lies_in_region region held.capability) held.capability table names)
+less-region slots region = each-entry slots (without_table region)
+    (λ held table names. names-if (lies_in_region region held.capability) held.capability table names)
 
 pub less-root : (slots : Slots) (root : ℕ) → Lessened slots (without_root root slots)
 less-root slots root = each-entry slots (uprooted root) (λ held table names. names-if (is_under root held.capability) held.capability table names)
 
-held-unmapped : (slots : Slots) (slot : ℕ) (c d : Cap) → c ≡ capability_at slots slot → unmapped c ≡ d → IsOpen slots slot → Lessened slots (recapped slots slot d)
+held-unmapped : (slots : Slots) (slot : ℕ) (c d : Cap) → c ≡ capability_at slots slot → unmapped c ≡ d → IsOpen slots slot →
+    Lessened slots (recapped slots slot d)
 held-unmapped slots slot c d is none is_open =
-    less-recapped slots slot d is_open (λ table names. subst (λ (x : Cap). NamesTable x table) is (names-unmapped c table (subst (λ (x : Cap). NamesTable x table) (sym none) names)))
+    less-recapped slots slot d is_open (λ table names. subst (λ (x : Cap). NamesTable x table) is
+    (names-unmapped c table (subst (λ (x : Cap). NamesTable x table) (sym none) names)))
 
-less-slots_unmapped : (slots : Slots) (slot : ℕ) (c : Cap) → c ≡ capability_at slots slot → (c ≢ Empty → IsOpen slots slot) → Lessened slots (slots_unmapped slots slot c)
+less-slots_unmapped : (slots : Slots) (slot : ℕ) (c : Cap) → c ≡ capability_at slots slot → (c ≢ Empty → IsOpen slots slot) →
+    Lessened slots (slots_unmapped slots slot c)
 less-slots_unmapped slots slot (Frame f r m) is opens =
     held-unmapped slots slot (Frame f r m) (Frame f r None) is (frame-unmapped f r m) (opens (λ same. let clash : Frame f r m ≡ Empty = same in cc))
 less-slots_unmapped slots slot (PageTable t (Some m)) is opens =

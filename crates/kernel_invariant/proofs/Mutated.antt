@@ -8,7 +8,8 @@ use Rattle.model.specs.Capabilities.CapabilityKinds.{carries_messages, with_payl
 use Rattle.model.specs.Capabilities.CapabilityWords.{IsCapability}
 use Rattle.model.specs.Capabilities.Slots.{SameOutside, Slots, capability_at, empty_entry, parent_at, recapped, relocated}
 use Rattle.model.specs.declared.capabilities.Cap.{Cap}
-use Rattle.model.specs.declared.capabilities.Cap.TheVariants.{Empty, Untyped, Endpoint, Notification, CNode, Frame, PageTable, Tcb, RootTable, InterruptControl, InterruptHandler}
+use Rattle.model.specs.declared.capabilities.Cap.TheVariants.{Empty, Untyped, Endpoint, Notification, CNode, Frame, PageTable, Tcb, RootTable, InterruptControl}
+use Rattle.model.specs.declared.capabilities.Cap.TheVariants.{InterruptHandler}
 use Rattle.model.specs.declared.slot_entries.Entry.{Entry}
 use Rattle.objects.specs.Tables.{Tables, state_of}
 use Rattle.vspace.proofs.Laws.{agree-changed, agree-moved, agree-outside}
@@ -49,9 +50,11 @@ guarded-names (InterruptHandler a) payload table names = names
 
 module _ (slots : Slots) (memory : List ℕ) (slot payload : ℕ) (e : Entry) (is : slots slot ≡ Some e) (agree : TablesAgree slots memory) where
   kept-tables : (c : Cap) → capability_at slots slot ≡ c → TablesAgree (recapped slots slot c) memory
-  kept-tables c same = subst (λ (k : Cap). TablesAgree (recapped slots slot k) memory) same (subst (λ (n : Slots). TablesAgree n memory) (sym (recap-same slots slot e is)) agree)
+  kept-tables c same = subst (λ (k : Cap). TablesAgree (recapped slots slot k) memory) same
+      (subst (λ (n : Slots). TablesAgree n memory) (sym (recap-same slots slot e is)) agree)
 
-  guarded-tables : (c : Cap) → capability_at slots slot ≡ c → carries_messages c ≡ false → IsCapability (with_payload c payload) → TablesAgree (recapped slots slot (with_payload c payload)) memory
+  guarded-tables : (c : Cap) → capability_at slots slot ≡ c → carries_messages c ≡ false → IsCapability (with_payload c payload) →
+      TablesAgree (recapped slots slot (with_payload c payload)) memory
   guarded-tables (CNode a r g) same silent valid =
       agree-changed slots memory slot (CNode a r payload) agree (is-open slots slot e is) (subst (λ (k : Cap). IsWithoutTables k) (sym same) tt) tt valid
   guarded-tables (Endpoint a r b) same silent valid = absurd (let clash : true ≡ false = silent in cc)
@@ -74,7 +77,8 @@ moved-here slots from to apart = elim (eqb_tells to from) [
   ]
 ]
 
-module _ (o : Tables) (slots : Slots) (old new : List ℕ) (from to payload : ℕ) (e : Entry) (from_held : slots from ≡ Some e) (empty : slots to ≡ Some empty_entry) (apart : from ≢ to) where
+module _ (o : Tables) (slots : Slots) (old new : List ℕ) (from to payload : ℕ) (e : Entry) (from_held : slots from ≡ Some e)
+    (empty : slots to ≡ Some empty_entry) (apart : from ≢ to) where
   abbrev moved : Slots
   moved = relocated slots from to
 
@@ -86,14 +90,17 @@ module _ (o : Tables) (slots : Slots) (old new : List ℕ) (from to payload : �
 
   pub mutate-closes : (x : ℕ) → slots x ≡ None → recapped moved to made x ≡ None
   mutate-closes x none =
-      put-closes moved to made (parent_at moved to) (is-open moved to e here) x (moved-closes slots from to (is-open slots from e from_held) (is-open slots to empty_entry empty) x none)
+      put-closes moved to made (parent_at moved to) (is-open moved to e here) x
+      (moved-closes slots from to (is-open slots from e from_held) (is-open slots to empty_entry empty) x none)
 
   pub mutate-agrees : Agreed o slots old → SameOutside slots old new → carries_messages (capability_at slots from) ≡ false → IsCapability made
       → Agreed o (recapped moved to made) new
   unfolding state_of
   mutate-agrees agrees same silent valid =
-      let now = agree-moved slots new from to (agree-outside slots old new agrees.0.tables same) apart (is-open slots from e from_held) (is-open slots to empty_entry empty) (ap capability_of empty) in
+      let now = agree-moved slots new from to (agree-outside slots old new agrees.0.tables same) apart (is-open slots from e from_held)
+      (is-open slots to empty_entry empty) (ap capability_of empty) in
       let held : capability_at moved to ≡ capability_at slots from = ap capability_of (moved-here slots from to apart) in
-      changed-agrees o slots (recapped moved to made) old new agrees same mutate-closes (guarded-tables moved new to payload e here now (capability_at slots from) held silent valid)
+      changed-agrees o slots (recapped moved to made) old new agrees same mutate-closes
+      (guarded-tables moved new to payload e here now (capability_at slots from) held silent valid)
       (λ table named. moved-named slots from to table (put-named moved to made (parent_at moved to) table
       (λ names. (to, subst (λ (k : Cap). NamesTable k table) (sym held) (guarded-names (capability_at slots from) payload table names))) named))

@@ -14,7 +14,8 @@ use Rattle.model.specs.Kernel.Retype.{NewObject, NewPageTable, NewRootTable, obj
 use Rattle.model.specs.Kernel.Soundness.{IsSound}
 use Rattle.model.specs.Kernel.State.{State, with_slots}
 use Rattle.model.specs.declared.capabilities.Cap.{Cap}
-use Rattle.model.specs.declared.capabilities.Cap.TheVariants.{Empty, Untyped, Endpoint, Notification, CNode, Frame, PageTable, Tcb, RootTable, InterruptControl, InterruptHandler}
+use Rattle.model.specs.declared.capabilities.Cap.TheVariants.{Empty, Untyped, Endpoint, Notification, CNode, Frame, PageTable, Tcb, RootTable, InterruptControl}
+use Rattle.model.specs.declared.capabilities.Cap.TheVariants.{InterruptHandler}
 use Rattle.soundness.proofs.Laws.{unused-free}
 use Rattle.soundness.specs.Unused.{IsFree}
 use Rattle.vspace.proofs.Laws.{agree-changed, agree-outside}
@@ -30,8 +31,10 @@ stands-at : (s : State) (kind : NewObject) (table at : ℕ) → table ≡ at →
 stands-at s kind table at same is size = (kind, ap (kind_at s) same ∙ is, size)
 
 table-stands : (s : State) (slot table : ℕ) (c : Cap) → IsSound s → capability_at s.slots slot ≡ c → NamesTable c table → TableStands s table
-table-stands s slot table (RootTable root) sound held named = stands-at s NewRootTable table root named (sound.memory.named slot NewRootTable root (ap object_named held)) refl
-table-stands s slot table (PageTable t None) sound held named = stands-at s NewPageTable table t named (sound.memory.named slot NewPageTable t (ap object_named held)) refl
+table-stands s slot table (RootTable root) sound held named =
+    stands-at s NewRootTable table root named (sound.memory.named slot NewRootTable root (ap object_named held)) refl
+table-stands s slot table (PageTable t None) sound held named =
+    stands-at s NewPageTable table t named (sound.memory.named slot NewPageTable t (ap object_named held)) refl
 table-stands s slot table (PageTable t (Some m)) sound held named = elim named [
   | inl own ↦ stands-at s NewPageTable table t own (sound.memory.named slot NewPageTable t (ap object_named held)) refl
   | inr above ↦ stands-at s NewRootTable table m.root above (sound.mappings.table_root slot m (ap table_mapping held)) refl
@@ -60,7 +63,8 @@ tables-elsewhere s from to table sound free named =
     ]
 
 -- a part of free memory is free, and stays so where slots are only closed
-pub free-part : (s : State) (now : Slots) (from to first last : ℕ) → IsFree s from to → from ≤ first → last ≤ to → ((slot : ℕ) → s.slots slot ≡ None → now slot ≡ None)
+pub free-part : (s : State) (now : Slots) (from to first last : ℕ) → IsFree s from to → from ≤ first → last ≤ to →
+    ((slot : ℕ) → s.slots slot ≡ None → now slot ≡ None)
     → IsFree (with_slots s now) first last
 free-part s now from to first last free low high closed = record {
   objects = λ offset kind is. elim (free.objects offset kind is) [
@@ -72,7 +76,8 @@ free-part s now from to first last free low high closed = record {
 }
 
 -- untyped memory names no table, so another watermark changes little
-module _ (s : State) (old new : List ℕ) (parent offset bits used watermark : ℕ) (sound : IsSound s) (memory : capability_at s.slots parent ≡ Untyped offset bits used)
+module _ (s : State) (old new : List ℕ) (parent offset bits used watermark : ℕ) (sound : IsSound s)
+    (memory : capability_at s.slots parent ≡ Untyped offset bits used)
     (fits : watermark ≤ 2 ^ bits) (agrees : Agrees s old) (same : SameOutside s.slots old new) where
   abbrev marked : Cap
   marked = Untyped offset bits watermark
@@ -84,7 +89,8 @@ module _ (s : State) (old new : List ℕ) (parent offset bits used watermark : �
   marked-less = less-recapped s.slots parent marked parent-open (λ table names. absurd names)
 
   marked-valid : IsCapability marked
-  marked-valid = let was : IsCapability (Untyped offset bits used) = subst IsCapability memory (sound.slots.derivation.valid parent) in (was.0, was.1, was.2, fits)
+  marked-valid = let was : IsCapability (Untyped offset bits used) = subst IsCapability memory (sound.slots.derivation.valid parent) in
+      (was.0, was.1, was.2, fits)
 
   marked-tables : TablesAgree (recapped s.slots parent marked) new
   marked-tables =
@@ -93,13 +99,15 @@ module _ (s : State) (old new : List ℕ) (parent offset bits used watermark : �
 
   marked-agrees : Agrees (with_slots s (recapped s.slots parent marked)) new
   marked-agrees =
-      agrees-less s (with_slots s (recapped s.slots parent marked)) old new agrees marked-tables refl same.size marked-less (λ place none. none) (λ at kind is. is)
+      agrees-less s (with_slots s (recapped s.slots parent marked)) old new agrees marked-tables refl same.size marked-less (λ place none. none)
+      (λ at kind is. is)
 
   pub growing-marked : (first to : ℕ) → offset + used ≤ first → to ≤ offset + watermark → Growing (with_slots s (recapped s.slots parent marked)) new first to
   growing-marked first to behind below =
       let unused = unused-free s sound parent offset bits used memory in
       let end = unused.inside in
-      let free : IsFree s first to = free-part s s.slots (offset + used) (offset + 2 ^ bits) first to unused.free behind (omega (arith, below, fits)) (λ slot none. none) in
+      let free : IsFree s first to = free-part s s.slots (offset + used) (offset + 2 ^ bits) first to unused.free behind (omega (arith, below, fits))
+      (λ slot none. none) in
       record {
         agrees = marked-agrees;
         free = free-part s (recapped s.slots parent marked) first to first to free (omega arith) (omega arith) marked-less.closed;
@@ -107,7 +115,8 @@ module _ (s : State) (old new : List ℕ) (parent offset bits used watermark : �
         inside = omega (arith, below, fits, end);
       }
 
-pub growing-base : (s : State) (old new : List ℕ) (parent offset bits used watermark first to : ℕ) → IsSound s → capability_at s.slots parent ≡ Untyped offset bits used
+pub growing-base : (s : State) (old new : List ℕ) (parent offset bits used watermark first to : ℕ) → IsSound s →
+    capability_at s.slots parent ≡ Untyped offset bits used
     → offset + used ≤ first → to ≤ offset + watermark → watermark ≤ 2 ^ bits → Agrees s old → SameOutside s.slots old new
     → Growing (with_slots s (recapped s.slots parent (Untyped offset bits watermark))) new first to
 growing-base s old new parent offset bits used watermark first to sound memory behind below fits agrees same =

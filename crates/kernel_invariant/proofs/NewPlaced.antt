@@ -1,5 +1,6 @@
 -- What one object more makes of the state: its record, its bytes and its capability.
-use Rattle.std.proofs.Common.{ℕ, ◌≡◌, ◌≢◌, ◌∙◌, ◌==◌, ◌&&◌, ◌+◌, ◌*◌, ◌-◌, ◌%◌, ◌^◌, ◌<◌, ◌≤◌, inl, inr, true, false, if◌then◌else◌, Option, Some, List, refl, sym, ap, arith}
+use Rattle.std.proofs.Common.{ℕ, ◌≡◌, ◌≢◌, ◌∙◌, ◌==◌, ◌&&◌, ◌+◌, ◌*◌, ◌-◌, ◌%◌, ◌^◌, ◌<◌, ◌≤◌, inl, inr, true, false, if◌then◌else◌, Option, Some, List, refl}
+use Rattle.std.proofs.Common.{sym, ap, arith}
 use Rattle.std.specs.Prelude.{slice_index}
 use Rattle.std.specs.Option.{option_map_or}
 use Rattle.std.proofs.lemmas.Bool.Decides.{eqb_tells}
@@ -9,7 +10,8 @@ use Rattle.model.proofs.SlotChanges.{bounds-within, within-bounds}
 use Rattle.model.specs.Capabilities.Slots.{Slots, inserted, is_within}
 use Rattle.model.specs.Kernel.AddressSpaces.{page_size}
 use Rattle.model.specs.Kernel.Kinds.{frame_around, kind_of}
-use Rattle.model.specs.Kernel.Retype.{NewObject, NewUntyped, first_capability, object, place_of_new, some_new, with_first_capabilities, with_new_bytes, with_new_objects, with_new_slots}
+use Rattle.model.specs.Kernel.Retype.{NewObject, NewUntyped, first_capability, object, place_of_new, some_new, with_first_capabilities, with_new_bytes}
+use Rattle.model.specs.Kernel.Retype.{with_new_objects, with_new_slots}
 use Rattle.model.specs.Kernel.State.{Object, State, put, with_slots}
 use Rattle.model.specs.declared.slot_entries.Entry.{Entry}
 use Rattle.objects.specs.Changes.{begun, is_frame_kind}
@@ -70,7 +72,8 @@ object-placed : (k : Kind) (place : ℕ) (objects : ℕ → Option Object) (othe
     → put objects place (Some (new_object k)) other ≡ with_new_objects (alone (kind_of (new_object k)) place) objects other
 object-placed k place objects other =
     ap (λ b. if b then Some (new_object k) else objects other) (swapped other place ∙ sym (some-alone (kind_of (new_object k)) place (λ at. at == other)))
-    ∙ ap (λ (o : Option Object). if some_new (alone (kind_of (new_object k)) place) (λ at. at == other) then option_map_or Some o (objects other) else objects other) (sym (new-is k))
+    ∙ ap (λ (o : Option Object). if some_new (alone (kind_of (new_object k)) place) (λ at. at == other) then option_map_or Some o (objects other) else
+    objects other) (sym (new-is k))
 
 -- ---- the bytes
 
@@ -115,10 +118,11 @@ placed-object s k place slot parent room now made aligned zero slots = λ i. rec
 }
 
 same-object : (place : ℕ) (bits : ℕ) (objects : ℕ → Option Object) (other : ℕ) → objects other ≡ with_new_objects (alone (NewUntyped bits) place) objects other
-same-object place bits objects other = elim (some_new (alone (NewUntyped bits) place) (λ at. at == other)) as (λ b. objects other ≡ (if b then objects other else objects other)) [
-  | true ↦ refl
-  | false ↦ refl
-]
+same-object place bits objects other = elim (some_new (alone (NewUntyped bits) place) (λ at. at == other))
+    as (λ b. objects other ≡ (if b then objects other else objects other)) [
+      | true ↦ refl
+      | false ↦ refl
+    ]
 
 pub placed-untyped : (s : State) (bits place slot parent : ℕ) (now : Slots)
     → now ≡ with_first_capabilities (alone (NewUntyped bits) place) slot parent (with_new_slots (alone (NewUntyped bits) place) s.slots)

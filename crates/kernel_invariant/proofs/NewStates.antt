@@ -1,5 +1,6 @@
 -- The state once one object was made: its room, its record, and its capability.
-use Rattle.std.proofs.Common.{ℕ, ◌≡◌, ◌∙◌, ◌+◌, ◌*◌, ◌-◌, ◌/◌, ◌%◌, ◌^◌, ◌<◌, ◌≤◌, ◌⊎◌, inl, inr, true, false, if◌then◌else◌, Option, Some, None, IsSome, List, pow_pos, refl, sym, ap, subst, arith}
+use Rattle.std.proofs.Common.{ℕ, ◌≡◌, ◌∙◌, ◌+◌, ◌*◌, ◌-◌, ◌/◌, ◌%◌, ◌^◌, ◌<◌, ◌≤◌, ◌⊎◌, inl, inr, true, false, if◌then◌else◌, Option, Some, None, IsSome, List}
+use Rattle.std.proofs.Common.{pow_pos, refl, sym, ap, subst, arith}
 use Rattle.std.proofs.lemmas.Bool.{cases_lt, leb-true}
 use Rattle.std.proofs.lemmas.Nat.{mod-pow-add, pow-add}
 use Rattle.kernel_invariant.proofs.RoomsMade.{slots-alone}
@@ -10,7 +11,8 @@ use Rattle.model.proofs.SlotChanges.{within-bounds}
 use Rattle.model.specs.Capabilities.Slots.{IsOpen, Slots, empty_entry, is_within}
 use Rattle.model.specs.Kernel.Kinds.{kind_of}
 use Rattle.model.specs.Kernel.Removal.{slot_count}
-use Rattle.model.specs.Kernel.Retype.{NewObject, NewUntyped, NewThread, NewEndpoint, NewNotification, NewCNode, NewFrame, NewPageTable, NewRootTable, is_large_enough, is_small_enough, object, object_bits}
+use Rattle.model.specs.Kernel.Retype.{NewObject, NewUntyped, NewThread, NewEndpoint, NewNotification, NewCNode, NewFrame, NewPageTable, NewRootTable}
+use Rattle.model.specs.Kernel.Retype.{is_large_enough, is_small_enough, object, object_bits}
 use Rattle.model.specs.Kernel.State.{State, with_slots}
 use Rattle.model.specs.declared.slot_entries.Entry.{Entry}
 use Rattle.objects.proofs.Laws.{follows-kept, not-open, stands-kept}
@@ -131,7 +133,8 @@ module _ (o : Tables) (slots room : Slots) (old made : List ℕ) (kind : NewObje
   opened-before : (other : ℕ) → IsOpen room (other / 16) → IsOpen s.slots (other / 16) ⊎ ((place ≤ other) × (other < place + 16 * slot_count (object kind)))
   opened-before other is_open =
       elim (is_within (place / 16) (slot_count (object kind)) (other / 16)) as (λ b. is_within (place / 16) (slot_count (object kind)) (other / 16) ≡ b
-      → IsSome (if b then Some empty_entry else slots (other / 16)) → IsOpen s.slots (other / 16) ⊎ ((place ≤ other) × (other < place + 16 * slot_count (object kind)))) [
+      → IsSome (if b then Some empty_entry else slots (other / 16)) →
+      IsOpen s.slots (other / 16) ⊎ ((place ≤ other) × (other < place + 16 * slot_count (object kind)))) [
         | true ↦ λ is here.
             let bounds = within-bounds (place / 16) (slot_count (object kind)) (other / 16) is in
             let low = bounds.0 in
@@ -182,5 +185,6 @@ module _ (o : Tables) (slots room : Slots) (old made : List ℕ) (kind : NewObje
         | inr its ↦ let high = its.1 in let bytes = slots-bytes kind plain in omega (arith, from, high, bytes)
       ]);
       frames = λ other from below. growing.free.bytes other from (omega (arith, below, fits));
-      records = λ other from below held. elim (record-elsewhere other held) [ inl before ↦ omega (arith, before, from) | inr behind ↦ omega (arith, behind, below) ];
+      records = λ other from below held. elim (record-elsewhere other held)
+          [ inl before ↦ omega (arith, before, from) | inr behind ↦ omega (arith, behind, below) ];
     })

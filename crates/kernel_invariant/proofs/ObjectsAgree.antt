@@ -22,7 +22,8 @@ of_slots-law o slots memory = refl
 pub of_memory-law : (o : Tables) (slots : Slots) (memory : List ℕ) → Agreed o slots memory → 2 ^ (state_of o slots memory).memory_bits ≡ length memory
 of_memory-law o slots memory agreed = agreed.0.size
 
-pub slots-law : (o : Tables) (slots now : Slots) (old new : List ℕ) → Standing o slots old → SameOutside slots old new → state_of o now new ≡ with_slots (state_of o slots old) now
+pub slots-law : (o : Tables) (slots now : Slots) (old new : List ℕ) → Standing o slots old → SameOutside slots old new →
+    state_of o now new ≡ with_slots (state_of o slots old) now
 slots-law o slots now old new stands same = follows o slots old new now stands same
 
 pub follows-law : (o : Tables) (slots now : Slots) (old new : List ℕ) → Agreed o slots old → SameOutside slots old new
@@ -52,7 +53,8 @@ agree_closed-law o slots memory slot agreed empty =
 
 pub agree_bytes-law : (o : Tables) (slots : Slots) (old new : List ℕ) → Agreed o slots old → SameOutside slots old new → Agreed o slots new
 agree_bytes-law o slots old new agreed same =
-    unmapped-agrees o slots slots old new agreed (beside slots old new same) (agree-outside slots old new (own-tables o slots old agreed) same) (less-same slots)
+    unmapped-agrees o slots slots old new agreed (beside slots old new same) (agree-outside slots old new (own-tables o slots old agreed) same)
+    (less-same slots)
 
 pub agree_without-law : (o : Tables) (slots : Slots) (memory : List ℕ) (slot : ℕ) → Agreed o slots memory → IsFull slots slot
     → unmapped (capability_at slots slot) ≡ capability_at slots slot → Agreed o (spliced slots slot) memory

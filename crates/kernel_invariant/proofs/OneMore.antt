@@ -1,5 +1,6 @@
 -- Objects one after another: so many and one more are the next number of them.
-use Rattle.std.proofs.Common.{ℕ, ◌≡◌, ◌∙◌, ◌==◌, ◌&&◌, ◌||◌, ◌+◌, ◌-◌, ◌*◌, ◌^◌, ◌<◌, ◌≤◌, ◌⊎◌, inl, inr, Bool, true, false, if◌then◌else◌, Option, Some, None, [], ◌∷◌, map, refl, sym, ap, arith}
+use Rattle.std.proofs.Common.{ℕ, ◌≡◌, ◌∙◌, ◌==◌, ◌&&◌, ◌||◌, ◌+◌, ◌-◌, ◌*◌, ◌^◌, ◌<◌, ◌≤◌, ◌⊎◌, inl, inr, Bool, true, false, if◌then◌else◌, Option, Some, None}
+use Rattle.std.proofs.Common.{[], ◌∷◌, map, refl, sym, ap, arith}
 use Rattle.std.specs.Option.{option_map_or}
 use Rattle.std.specs.List.{list_any, range_with_len}
 use Rattle.std.proofs.lemmas.Bool.{cases_lt}
@@ -9,7 +10,8 @@ use Rattle.kernel_invariant.specs.Growing.{one_placed}
 use Rattle.model.proofs.SlotChanges.{bounds-within, within-bounds}
 use Rattle.model.specs.Capabilities.Slots.{empty_entry, is_within}
 use Rattle.model.specs.Kernel.Removal.{slot_count}
-use Rattle.model.specs.Kernel.Retype.{NewObject, NewObjects, first_capability, is_frame, object, object_bits, place_of_new, some_new, with_first_capabilities, with_new, with_new_bytes, with_new_objects, with_new_slots}
+use Rattle.model.specs.Kernel.Retype.{NewObject, NewObjects, first_capability, is_frame, object, object_bits, place_of_new, some_new, with_first_capabilities}
+use Rattle.model.specs.Kernel.Retype.{with_new, with_new_bytes, with_new_objects, with_new_slots}
 use Rattle.model.specs.Kernel.State.{Object, State, slot_of}
 use Rattle.model.specs.declared.slot_entries.Entry.{Entry}
 
@@ -30,7 +32,8 @@ within-joined : (first a b whole x : ℕ) → whole ≡ a + b → is_within firs
 within-joined first a b whole x is = elim (cases_lt x first) [
   | inl before ↦
       outside-within first whole x (inl before)
-      ∙ sym (ap (λ (t : Bool). t || is_within (first + a) b x) (outside-within first a x (inl before)) ∙ outside-within (first + a) b x (inl (omega (arith, before))))
+      ∙ sym (ap (λ (t : Bool). t || is_within (first + a) b x) (outside-within first a x (inl before))
+      ∙ outside-within (first + a) b x (inl (omega (arith, before))))
   | inr from ↦ elim (cases_lt x (first + a)) [
     | inl early ↦
         bounds-within first whole x from (omega (arith, early, is))
@@ -162,7 +165,8 @@ module _ (t : State) (kind : NewObject) (first i window parent : ℕ) where
       ap (λ (b : Bool). if b then one else (if some_new more (has_slot y) then Some empty_entry else was)) (within-joined window i 1 (i + 1) y refl)
       ∙ ap (λ (b : Bool). if early || late then one else (if b then Some empty_entry else was)) (some-more kind first i (has_slot y))
       ∙ slot-cases early late (some_new many (has_slot y)) (has_slot y next) one other (Some empty_entry) was (same-entry y) free
-      ∙ ap (λ (b : Bool). if late then other else (if b then Some empty_entry else (if early then one else (if some_new many (has_slot y) then Some empty_entry else was))))
+      ∙ ap (λ (b : Bool). if late then other else
+      (if b then Some empty_entry else (if early then one else (if some_new many (has_slot y) then Some empty_entry else was))))
       (sym (some-one kind next (has_slot y)))
 
   one-more-objects : (o : ℕ) → with_new_objects more t.objects o ≡ with_new_objects single before.objects o
@@ -172,7 +176,8 @@ module _ (t : State) (kind : NewObject) (first i window parent : ℕ) where
       let some : Bool = some_new many (λ at. at == o) in
       ap (λ (b : Bool). if b then option_map_or Some new was else was) (some-more kind first i (λ at. at == o))
       ∙ object-cases some (next == o) new was
-      ∙ ap (λ (b : Bool). if b then option_map_or Some new (if some then option_map_or Some new was else was) else (if some then option_map_or Some new was else was))
+      ∙ ap (λ (b : Bool). if b then option_map_or Some new (if some then option_map_or Some new was else was) else
+      (if some then option_map_or Some new was else was))
       (sym (some-one kind next (λ at. at == o)))
 
   one-more-bytes : (p : ℕ) → with_new_bytes more t.bytes p ≡ with_new_bytes single before.bytes p
@@ -204,7 +209,8 @@ module _ (t : State) (kind : NewObject) (first window parent : ℕ) where
   none-slots : (y : ℕ) → with_first_capabilities none window parent (with_new_slots none t.slots) y ≡ t.slots y
   none-slots y =
       let first_one : Option Entry = Some (record { capability = first_capability kind (place_of_new none (y - window)); parent = Some parent }) in
-      ap (λ (b : Bool). if b then first_one else t.slots y) (outside-within window 0 y (elim (cases_lt y window) [ inl low ↦ inl low | inr high ↦ inr (omega (arith, high)) ]))
+      ap (λ (b : Bool). if b then first_one else t.slots y)
+      (outside-within window 0 y (elim (cases_lt y window) [ inl low ↦ inl low | inr high ↦ inr (omega (arith, high)) ]))
 
   none-bytes : (p : ℕ) → with_new_bytes none t.bytes p ≡ t.bytes p
   none-bytes p =

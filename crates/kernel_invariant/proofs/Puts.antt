@@ -12,7 +12,8 @@ use Rattle.model.specs.Capabilities.Slots.{IsOpen, SameOutside, Slots, adopted, 
 use Rattle.model.specs.Kernel.Kinds.{object_named}
 use Rattle.model.specs.Kernel.State.{State}
 use Rattle.model.specs.declared.capabilities.Cap.{Cap}
-use Rattle.model.specs.declared.capabilities.Cap.TheVariants.{Empty, Untyped, Endpoint, Notification, CNode, Frame, PageTable, Tcb, RootTable, InterruptControl, InterruptHandler}
+use Rattle.model.specs.declared.capabilities.Cap.TheVariants.{Empty, Untyped, Endpoint, Notification, CNode, Frame, PageTable, Tcb, RootTable, InterruptControl}
+use Rattle.model.specs.declared.capabilities.Cap.TheVariants.{InterruptHandler}
 use Rattle.model.specs.declared.slot_entries.Entry.{Entry}
 use Rattle.objects.specs.Tables.{Tables, state_of}
 use Rattle.removal_laws.proofs.Laws.{root-kind}
@@ -55,7 +56,8 @@ not-closed slots slot is_open none = let clash : false ≡ true = subst (λ (x :
 
 -- ---- a capability comes into an empty slot
 
-pub put-closes : (slots : Slots) (slot : ℕ) (made : Cap) (parent : Option ℕ) → IsOpen slots slot → (x : ℕ) → slots x ≡ None → inserted slots slot made parent x ≡ None
+pub put-closes : (slots : Slots) (slot : ℕ) (made : Cap) (parent : Option ℕ) → IsOpen slots slot → (x : ℕ) → slots x ≡ None →
+    inserted slots slot made parent x ≡ None
 put-closes slots slot made parent is_open x none = elim (eqb_tells x slot) [
   | inl here ↦ absurd (not-closed slots slot is_open (ap slots (sym here.1) ∙ none))
   | inr apart ↦ ap (λ b. if b then Some (record { capability = made; parent = parent }) else slots x) apart.0 ∙ none
@@ -113,7 +115,8 @@ copy-named slots source InterruptControl table single object names = absurd name
 copy-named slots source (InterruptHandler a) table single object names = absurd names
 
 pub copy-agrees : (o : Tables) (slots : Slots) (old new : List ℕ) (slot source : ℕ) (made : Cap) → Agreed o slots old → SameOutside slots old new
-    → slots slot ≡ Some empty_entry → IsCapability made → is_single made ≡ false → frame_mapping made ≡ None → object_named made ≡ object_named (capability_at slots source)
+    → slots slot ≡ Some empty_entry → IsCapability made → is_single made ≡ false → frame_mapping made ≡ None →
+    object_named made ≡ object_named (capability_at slots source)
     → Agreed o (inserted slots slot made (Some source)) new
 copy-agrees o slots old new slot source made agrees same empty valid single plain object =
     put-agrees o slots old new slot made (Some source) agrees same empty (copy-may slots new source made valid single plain object)
@@ -129,7 +132,8 @@ moved-closes slots from to from_open to_open x none = elim (eqb_tells x from) [
   | inl here ↦ absurd (not-closed slots from from_open (ap slots (sym here.1) ∙ none))
   | inr apart ↦ elim (eqb_tells x to) [
     | inl here ↦ absurd (not-closed slots to to_open (ap slots (sym here.1) ∙ none))
-    | inr other ↦ ap (λ b. moved_entry slots from to x b (x == to)) apart.0 ∙ ap (moved_entry slots from to x false) other.0 ∙ ap (option_map (adopted from (Some to))) none
+    | inr other ↦ ap (λ b. moved_entry slots from to x b (x == to)) apart.0 ∙ ap (moved_entry slots from to x false) other.0
+        ∙ ap (option_map (adopted from (Some to))) none
   ]
 ]
 
@@ -142,7 +146,11 @@ moved-named slots from to table named =
           let outside : held false (named.0 == to) = subst (λ a. held a (named.0 == to)) apart.0 named.1 in
           elim (eqb_tells named.0 to) [
             | inl here ↦ (from, subst (held false) here.0 outside)
-            | inr other ↦ (named.0, subst (λ (c : Cap). NamesTable c table) (capability-adopted from (Some to) (slots named.0)) (subst (held false) other.0 outside))
+            | inr other ↦ (
+              named.0,
+              subst (λ (c : Cap). NamesTable c table) (capability-adopted from (Some to) (slots named.0))
+                  (subst (held false) other.0 outside),
+            )
           ]
     ]
 

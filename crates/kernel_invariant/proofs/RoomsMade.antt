@@ -1,5 +1,6 @@
 -- The room that opening slots or zeroing a page makes.
-use Rattle.std.proofs.Common.{ℕ, ◌≡◌, ◌∙◌, ◌&&◌, ◌||◌, ◌+◌, ◌*◌, ◌-◌, ◌/◌, ◌^◌, ◌≤◌, inl, inr, Bool, true, false, if◌then◌else◌, Some, List, length, replicate, refl, sym, ap, arith}
+use Rattle.std.proofs.Common.{ℕ, ◌≡◌, ◌∙◌, ◌&&◌, ◌||◌, ◌+◌, ◌*◌, ◌-◌, ◌/◌, ◌^◌, ◌≤◌, inl, inr, Bool, true, false, if◌then◌else◌, Some, List, length, replicate}
+use Rattle.std.proofs.Common.{refl, sym, ap, arith}
 use Rattle.std.specs.Prelude.{nat_le, nat_lt, slice_index}
 use Rattle.std.proofs.lemmas.Bool.{le-ltb, leb-true}
 use Rattle.std.proofs.lemmas.List.{get_or-replicate, length-replicate}
@@ -44,7 +45,8 @@ no-slots kind place slots none = λ i slot.
     (slots-alone kind place slot slots ∙ ap (λ b. if b then Some empty_entry else slots slot)
     (ap (λ (n : ℕ). is_within (place / 16) n slot) none ∙ never-within (place / 16) slot)) i
 
-pub slots-opened : (kind : NewObject) (place count : ℕ) (slots : Slots) → slot_count (object kind) ≡ count → with_new_slots (alone kind place) slots ≡ opened slots (place / 16) count
+pub slots-opened : (kind : NewObject) (place count : ℕ) (slots : Slots) → slot_count (object kind) ≡ count →
+    with_new_slots (alone kind place) slots ≡ opened slots (place / 16) count
 slots-opened kind place count slots is = λ i slot.
     (slots-alone kind place slot slots ∙ ap (λ (n : ℕ). if is_within (place / 16) n slot then Some empty_entry else slots slot) is) i
 

@@ -1,5 +1,6 @@
 -- What a removal does to objects and mappings leaves them in agreement.
-use Rattle.std.proofs.Common.{ℕ, ◌≡◌, ◌∙◌, ◌==◌, ◌+◌, ◌-◌, ◌/◌, ◌%◌, inl, inr, Bool, true, false, if◌then◌else◌, Option, Some, None, option_map, List, [], ◌∷◌, IsSome, filter, fold, refl, sym, ap, subst, arith}
+use Rattle.std.proofs.Common.{ℕ, ◌≡◌, ◌∙◌, ◌==◌, ◌+◌, ◌-◌, ◌/◌, ◌%◌, inl, inr, Bool, true, false, if◌then◌else◌, Option, Some, None, option_map, List, [], ◌∷◌}
+use Rattle.std.proofs.Common.{IsSome, filter, fold, refl, sym, ap, subst, arith}
 use Rattle.std.specs.Prelude.{All}
 use Rattle.std.specs.Option.{option_map_or}
 use Rattle.std.proofs.lemmas.Bool.{cases_lt}
@@ -11,7 +12,8 @@ use Rattle.model.specs.Kernel.Kinds.{kind_at, kind_of}
 use Rattle.model.specs.Kernel.Removal.{thread_places}
 use Rattle.model.specs.Kernel.Retype.{NewObject, NewThread}
 use Rattle.model.specs.Kernel.Scheduling.{full_slice, wake, without_threads}
-use Rattle.model.specs.Kernel.State.{Object, Runnable, State, ThreadObject, EndpointObject, NotificationObject, CNodeObject, FrameObject, PageTableObject, RootTableObject, as_thread, put, thread_at, with_slots}
+use Rattle.model.specs.Kernel.State.{Object, Runnable, State, ThreadObject, EndpointObject, NotificationObject, CNodeObject, FrameObject, PageTableObject}
+use Rattle.model.specs.Kernel.State.{RootTableObject, as_thread, put, thread_at, with_slots}
 use Rattle.model.specs.declared.capabilities.Cap.TheVariants.{RootTable}
 use Rattle.model.specs.declared.slot_entries.Entry.{Entry}
 use Rattle.kernel_invariant.proofs.Agreeing.{agrees-less}
@@ -52,7 +54,8 @@ module _ (s : State) (memory : List ℕ) (agrees : Agrees s memory) (place byte 
   ]
 
 -- nor does a table lie where the record of an object does
-record-table : (s : State) (memory : List ℕ) → Agrees s memory → (place : ℕ) → IsInRecord s.objects place → (table : ℕ) → IsNamedTable s.slots table → IsBeside place table
+record-table : (s : State) (memory : List ℕ) → Agrees s memory → (place : ℕ) → IsInRecord s.objects place → (table : ℕ) → IsNamedTable s.slots table →
+    IsBeside place table
 record-table s memory agrees place held table named = elim (cases_lt place table) [
   | inl before ↦ inl before
   | inr from ↦
@@ -77,7 +80,8 @@ module _ (o : Tables) (slots now : Slots) (old new : List ℕ) (agreed : Agreed 
   same-kept = record {
     size = same.size;
     frames = λ place byte is. same.bytes place (no-slot before old agreed.0 place byte is) (no-table before old agreed.0 place byte is);
-    records = λ place held. same.bytes place (not-open slots (place / 16) (λ is_open. agreed.1.fits.records place is_open held)) (record-table before old agreed.0 place held);
+    records = λ place held. same.bytes place (not-open slots (place / 16) (λ is_open. agreed.1.fits.records place is_open held))
+        (record-table before old agreed.0 place held);
   }
 
   pub unmapped-state : state_of o now new ≡ with_slots before now
@@ -127,7 +131,8 @@ ended-agrees s offset old new agrees same =
 
 -- ---- threads that wake
 
-stranded-kind : (o : Option Object) (s : State) → option_map_or (λ t. waits_nowhere s t.status) (as_thread o) false ≡ true → option_map kind_of o ≡ Some NewThread
+stranded-kind : (o : Option Object) (s : State) → option_map_or (λ t. waits_nowhere s t.status) (as_thread o) false ≡ true →
+    option_map kind_of o ≡ Some NewThread
 stranded-kind (Some (ThreadObject t)) s is = refl
 stranded-kind None s is = absurd (let clash : false ≡ true = is in cc)
 stranded-kind (Some (EndpointObject e)) s is = absurd (let clash : false ≡ true = is in cc)
@@ -140,7 +145,8 @@ stranded-kind (Some RootTableObject) s is = absurd (let clash : false ≡ true =
 kind-put : (objects : ℕ → Option Object) (place : ℕ) (value : Object) (other : ℕ) → option_map kind_of (objects place) ≡ Some (kind_of value)
     → option_map kind_of (put objects place (Some value) other) ≡ option_map kind_of (objects other)
 kind-put objects place value other there = elim (eqb_tells other place) [
-  | inl here ↦ ap (λ b. option_map kind_of (if b then Some value else objects other)) here.0 ∙ sym (ap (λ (n : ℕ). option_map kind_of (objects n)) here.1 ∙ there)
+  | inl here ↦ ap (λ b. option_map kind_of (if b then Some value else objects other)) here.0
+      ∙ sym (ap (λ (n : ℕ). option_map kind_of (objects n)) here.1 ∙ there)
   | inr apart ↦ ap (λ b. option_map kind_of (if b then Some value else objects other)) apart.0
 ]
 
@@ -155,7 +161,8 @@ woken-all : (s : State) (places : List ℕ) → All (λ place. kind_at s place �
 woken-all s [] threads = record { slots = refl; bytes = refl; bits = refl; kinds = λ offset. refl }
 woken-all s (place ∷ rest) threads =
     let first = All-head (λ (x : ℕ). kind_at s x ≡ Some NewThread) place rest threads in
-    let kinds : (x : ℕ) → kind_at (wake s place) x ≡ kind_at s x = λ x. kind-put s.objects place (ThreadObject (record (thread_at s place) { status = Runnable; slice = full_slice })) x first in
+    let kinds : (x : ℕ) → kind_at (wake s place) x ≡ kind_at s x = λ x.
+    kind-put s.objects place (ThreadObject (record (thread_at s place) { status = Runnable; slice = full_slice })) x first in
     let more = woken-all (wake s place) rest
     (All-weaker (λ (x : ℕ). kind_at s x ≡ Some NewThread) (λ (x : ℕ). kind_at (wake s place) x ≡ Some NewThread) (λ x is. kinds x ∙ is) rest
     (All-tail (λ (x : ℕ). kind_at s x ≡ Some NewThread) place rest threads)) in
@@ -166,7 +173,8 @@ woken-agrees s old new agrees same =
     let threads = woken-all s (filter (is_stranded s) (thread_places s))
     (All-weaker (λ (x : ℕ). is_stranded s x ≡ true) (λ (x : ℕ). kind_at s x ≡ Some NewThread) (λ x is. stranded-kind (s.objects x) s is)
     (filter (is_stranded s) (thread_places s)) (filter_passes (is_stranded s) (thread_places s))) in
-    agrees-less s (woken s) old new agrees (subst (λ (x : Slots). TablesAgree x new) (sym threads.slots) (tables-beside s old new agrees (elsewhere s old new same))) threads.bits same.size
+    agrees-less s (woken s) old new agrees (subst (λ (x : Slots). TablesAgree x new) (sym threads.slots)
+    (tables-beside s old new agrees (elsewhere s old new same))) threads.bits same.size
     (subst (λ (x : Slots). Lessened s.slots x) (sym threads.slots) (less-same s.slots))
     (λ place none. ap (λ (f : ℕ → Option ℕ). f place) threads.bytes ∙ none) (λ offset kind is. sym (threads.kinds offset) ∙ is)
 

@@ -14,7 +14,8 @@ use Rattle.objects.specs.Tables.{Tables, state_of}
 use Rattle.vspace.specs.Tables.{TablesAgree}
 
 pub whole-kept : (o n : Tables) (slots now : Slots) (old new : List ℕ) → IsWhole o slots old → IsSound (state_of n now new) → now ≡ slots
-    → (state_of n now new).memory_bits ≡ (state_of o slots old).memory_bits → SameObjects (state_of o slots old) (state_of n now new) old new → Standing n now new → IsWhole n now new
+    → (state_of n now new).memory_bits ≡ (state_of o slots old).memory_bits → SameObjects (state_of o slots old) (state_of n now new) old new →
+    Standing n now new → IsWhole n now new
 unfolding state_of
 whole-kept o n slots now old new whole after same_slots bits same stands =
     let s = state_of o slots old in

@@ -1,5 +1,6 @@
 -- The empty machine: its slots are open and empty, and nothing else is there.
-use Rattle.std.proofs.Common.{ℕ, ◌≡◌, ◌∙◌, zero-add, ◌+◌, ◌*◌, ◌%◌, ◌^◌, ◌≤◌, ◌&&◌, Bool, true, false, if◌then◌else◌, nat_le, nat_lt, Option, Some, None, List, length, refl, sym, ap, subst, arith}
+use Rattle.std.proofs.Common.{ℕ, ◌≡◌, ◌∙◌, zero-add, ◌+◌, ◌*◌, ◌%◌, ◌^◌, ◌≤◌, ◌&&◌, Bool, true, false, if◌then◌else◌, nat_le, nat_lt, Option, Some, None, List}
+use Rattle.std.proofs.Common.{length, refl, sym, ap, subst, arith}
 use Rattle.std.specs.Option.{option_map_or}
 use Rattle.std.proofs.Math.Pow.{pow_mono}
 use Rattle.std.proofs.lemmas.Bool.{le-leb}
@@ -46,7 +47,8 @@ pub boot-agrees : (bits radix : ℕ) (memory : List ℕ) → 2 ^ bits ≡ length
 unfolding boot_area
 boot-agrees bits radix memory size = bare-agrees (boot_area bits radix) memory (λ slot. empty-at (nat_lt slot (boot_area_slots radix))) (λ place. refl) size
 
-pub boot-whole : (bits radix : ℕ) (o : Tables) (slots : Slots) (memory : List ℕ) → 16 ≤ bits → bits ≤ 24 → 1 ≤ radix → radix ≤ 14 → radix + 5 ≤ bits → 2 ^ bits ≡ length memory
+pub boot-whole : (bits radix : ℕ) (o : Tables) (slots : Slots) (memory : List ℕ) → 16 ≤ bits → bits ≤ 24 → 1 ≤ radix → radix ≤ 14 → radix + 5 ≤ bits →
+    2 ^ bits ≡ length memory
     → state_of o slots memory ≡ boot_area bits radix → Standing o slots memory → IsWhole o slots memory
 boot-whole bits radix o slots memory least most low high room size is stands = record {
   sound = subst IsSound (sym is) (fresh-sound bits radix least most low high room);
@@ -64,4 +66,5 @@ pub fresh-state : (bits radix : ℕ) (o : Tables) (slots now : Slots) (memory : 
     → state_of o now memory ≡ boot_area bits radix
 fresh-state bits radix o slots now memory few stands none first at is =
     stands now memory
-    ∙ same-slots bits radix now (is ∙ ap (λ (n : ℕ). opened slots n (1 * 2 ^ radix % 2 ^ 32 + 64)) at ∙ ap (opened slots 0) (boot-count radix few) ∙ opened-slots slots bits radix none)
+    ∙ same-slots bits radix now (is ∙ ap (λ (n : ℕ). opened slots n (1 * 2 ^ radix % 2 ^ 32 + 64)) at ∙ ap (opened slots 0) (boot-count radix few)
+    ∙ opened-slots slots bits radix none)

@@ -21,7 +21,8 @@ module _ (s : State) where
   table-slots = elim (eqb_tells (16 * 2 ^ s.boot_radix) 0) [
     | inl none ↦ let some = pow_pos s.boot_radix in absurd (omega (arith, some, none.1))
     | inr some ↦
-        ap (λ b. if b then 2 ^ s.boot_radix else if 16 * 2 ^ s.boot_radix == 16 * 2 ^ s.boot_radix then 64 else slot_count (s.objects (16 * 2 ^ s.boot_radix))) some.0
+        ap (λ b. if b then 2 ^ s.boot_radix else if 16 * 2 ^ s.boot_radix == 16 * 2 ^ s.boot_radix then 64 else slot_count (s.objects (16 * 2 ^ s.boot_radix)))
+        some.0
         ∙ elim (eqb_tells (16 * 2 ^ s.boot_radix) (16 * 2 ^ s.boot_radix)) [
           | inl same ↦ ap (λ b. if b then 64 else slot_count (s.objects (16 * 2 ^ s.boot_radix))) same.0
           | inr apart ↦ absurd (apart.1 refl)
@@ -41,7 +42,8 @@ module _ (s : State) where
 
 -- where none of the places before has a slot, it is one of the boot CNode
 pub in-boot-cnode : (o : Tables) (slots : Slots) (memory : List ℕ) (number : ℕ) → IsSound (state_of o slots memory) → HasSlot (state_of o slots memory) number
-    → ((index : ℕ) → index < number → slots_of_holder (state_of o slots memory) (16 * (number - index)) ≤ index) → number < 2 ^ (state_of o slots memory).boot_radix
+    → ((index : ℕ) → index < number → slots_of_holder (state_of o slots memory) (16 * (number - index)) ≤ index) →
+    number < 2 ^ (state_of o slots memory).boot_radix
 in-boot-cnode o slots memory number sound (of_boot_area less) none =
     let s = state_of o slots memory in
     elim (cases_lt number (2 ^ s.boot_radix)) [
@@ -50,7 +52,8 @@ in-boot-cnode o slots memory number sound (of_boot_area less) none =
           let some = pow_pos s.boot_radix in
           let first : number - (number - 2 ^ s.boot_radix) ≡ 2 ^ s.boot_radix = omega (arith, outside) in
           let empty = none (number - 2 ^ s.boot_radix) (omega (arith, outside, some)) in
-          let full : 64 ≤ number - 2 ^ s.boot_radix = subst (λ (n : ℕ). n ≤ number - 2 ^ s.boot_radix) (ap (λ (n : ℕ). slots_of_holder s (16 * n)) first ∙ table-slots s) empty in
+          let full : 64 ≤ number - 2 ^ s.boot_radix = subst (λ (n : ℕ). n ≤ number - 2 ^ s.boot_radix)
+          (ap (λ (n : ℕ). slots_of_holder s (16 * n)) first ∙ table-slots s) empty in
           absurd (omega (arith, less, outside, full))
     ]
 in-boot-cnode o slots memory number sound (of_object offset is) none =
@@ -68,7 +71,8 @@ in-boot-cnode o slots memory number sound (of_object offset is) none =
     absurd (omega (arith, low, high, full))
 
 -- the slot that another was derived from has a holder
-pub parent-held : (o : Tables) (slots : Slots) (memory : List ℕ) (number parent : ℕ) (held : Entry) → IsSound (state_of o slots memory) → slots number ≡ Some held
+pub parent-held : (o : Tables) (slots : Slots) (memory : List ℕ) (number parent : ℕ) (held : Entry) → IsSound (state_of o slots memory) →
+    slots number ≡ Some held
     → held.parent ≡ Some parent → HasSlot (state_of o slots memory) parent
 unfolding state_of
 parent-held o slots memory number parent held sound is above =
@@ -76,7 +80,8 @@ parent-held o slots memory number parent held sound is above =
     (full-open slots parent (sound.slots.derivation.parent_full number parent (ap (λ e. option_map_or (λ (h : Entry). h.parent) e None) is ∙ above)))
 
 -- what is so many slots after the first of a holder, which has so many
-pub slot-inside : (o : Tables) (slots : Slots) (memory : List ℕ) (holder index count : ℕ) → count ≡ slots_of_holder (state_of o slots memory) holder → index < count
+pub slot-inside : (o : Tables) (slots : Slots) (memory : List ℕ) (holder index count : ℕ) → count ≡ slots_of_holder (state_of o slots memory) holder →
+    index < count
     → slots (holder / 16 + index) ≡ slot_in (state_of o slots memory) holder index
 unfolding state_of
 slot-inside o slots memory holder index count many less =

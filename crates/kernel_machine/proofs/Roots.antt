@@ -1,5 +1,6 @@
 -- A capability without a parent comes into an empty boot slot.
-use Rattle.std.proofs.Common.{ℕ, ◌≡◌, ◌∙◌, ◌^◌, ◌<◌, ◌&&◌, Bool, true, false, not, nat_lt, if◌then◌else◌, Option, Some, None, IsSome, List, refl, sym, ap, subst}
+use Rattle.std.proofs.Common.{ℕ, ◌≡◌, ◌∙◌, ◌^◌, ◌<◌, ◌&&◌, Bool, true, false, not, nat_lt, if◌then◌else◌, Option, Some, None, IsSome, List, refl, sym, ap}
+use Rattle.std.proofs.Common.{subst}
 use Rattle.std.proofs.lemmas.Bool.{and_parts, ltb-true, not-true}
 use Rattle.kernel_invariant.proofs.Laws.{follows-law, put-agrees, put-closes}
 use Rattle.kernel_invariant.specs.Wholeness.{Agreed}
@@ -9,7 +10,8 @@ use Rattle.model.specs.Kernel.Setup.{put_in_boot_slot}
 use Rattle.model.specs.Kernel.Soundness.{IsSound}
 use Rattle.model.specs.Kernel.State.{State, with_slots}
 use Rattle.model.specs.declared.capabilities.Cap.{Cap}
-use Rattle.model.specs.declared.capabilities.Cap.TheVariants.{Empty, Untyped, Endpoint, Notification, CNode, Frame, PageTable, Tcb, RootTable, InterruptControl, InterruptHandler}
+use Rattle.model.specs.declared.capabilities.Cap.TheVariants.{Empty, Untyped, Endpoint, Notification, CNode, Frame, PageTable, Tcb, RootTable, InterruptControl}
+use Rattle.model.specs.declared.capabilities.Cap.TheVariants.{InterruptHandler}
 use Rattle.model.specs.declared.slot_entries.Entry.{Entry}
 use Rattle.objects.specs.Tables.{Tables, state_of}
 use Rattle.soundness.proofs.Laws.{empty-open, of_boot_cnode, plain-open}
@@ -54,7 +56,8 @@ module _ (o : Tables) (slots : Slots) (old : List ℕ) (count index : ℕ) (capa
   pub put-refused : free ≡ false → put_in_boot_slot (state_of o slots old) index capability ≡ None
   put-refused is = put-tested ∙ ap chosen is
 
-  pub put-passed : free ≡ true → put_in_boot_slot (state_of o slots old) index capability ≡ Some (with_slots (state_of o slots old) (inserted slots index capability None))
+  pub put-passed : free ≡ true → put_in_boot_slot (state_of o slots old) index capability ≡ Some
+      (with_slots (state_of o slots old) (inserted slots index capability None))
   put-passed is = put-tested ∙ ap chosen is
 
   pub put-empty : IsSound (state_of o slots old) → free ≡ true → slots index ≡ Some empty_entry
@@ -62,7 +65,8 @@ module _ (o : Tables) (slots : Slots) (old : List ℕ) (count index : ℕ) (capa
   put-empty sound is =
       let parts = and_parts (nat_lt index count) (not (is_full slots index)) (sym tells ∙ is) in
       let few : index < 2 ^ (state_of o slots old).boot_radix = subst (λ (n : ℕ). index < n) many (ltb-true index count parts.0) in
-      empty-open slots index sound.slots.derivation (plain-open (state_of o slots old) sound.slots index (of_boot_cnode few)) (not-true (is_full slots index) parts.1)
+      empty-open slots index sound.slots.derivation (plain-open (state_of o slots old) sound.slots index (of_boot_cnode few))
+      (not-true (is_full slots index) parts.1)
 
 -- what is left then
 module _ (o : Tables) (slots now : Slots) (old new : List ℕ) (index : ℕ) (capability : Cap) (agreed : Agreed o slots old) (same : SameOutside slots old new)
@@ -78,4 +82,5 @@ module _ (o : Tables) (slots now : Slots) (old new : List ℕ) (index : ℕ) (ca
   pub root-agrees : IsWithoutTables capability → IsCapability capability → Agreed o now new
   root-agrees plain valid =
       subst (λ (n : Slots). Agreed o n new) (sym is)
-      (put-agrees o slots old new index capability None agreed same empty (plain-may slots new capability plain valid) (λ table names. plain-named slots capability table plain names))
+      (put-agrees o slots old new index capability None agreed same empty (plain-may slots new capability plain valid)
+      (λ table names. plain-named slots capability table plain names))

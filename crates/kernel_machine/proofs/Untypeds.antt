@@ -1,5 +1,6 @@
 -- Untyped memory is put where the test of the code says that it may lie.
-use Rattle.std.proofs.Common.{ℕ, ◌≡◌, ◌∙◌, ◌+◌, ◌/◌, ◌%◌, ◌^◌, ◌≤◌, ◌==◌, ◌&&◌, Bool, true, false, not, nat_le, if◌then◌else◌, None, List, length, sym, ap, subst, arith}
+use Rattle.std.proofs.Common.{ℕ, ◌≡◌, ◌∙◌, ◌+◌, ◌/◌, ◌%◌, ◌^◌, ◌≤◌, ◌==◌, ◌&&◌, Bool, true, false, not, nat_le, if◌then◌else◌, None, List, length, sym, ap}
+use Rattle.std.proofs.Common.{subst, arith}
 use Rattle.std.proofs.Math.Pow.{pow_mono}
 use Rattle.std.proofs.lemmas.Bool.{and_parts, eqb-true, leb-true}
 use Rattle.std.proofs.lemmas.Nat.{pow_pos}
@@ -23,12 +24,15 @@ abbrev tested : Slots → ℕ → ℕ → ℕ → ℕ → Bool
 tested slots offset bits size first = is_piece size offset bits && nat_le first offset && not (reaches_behind slots (size / 16) offset)
 
 pub may-tested : (o : Tables) (slots : Slots) (memory : List ℕ) (offset bits first : ℕ) → Agrees (state_of o slots memory) memory
-    → first ≡ boot_area_end (state_of o slots memory).boot_radix → may_be_untyped (state_of o slots memory) offset bits ≡ tested slots offset bits (length memory) first
+    → first ≡ boot_area_end (state_of o slots memory).boot_radix →
+    may_be_untyped (state_of o slots memory) offset bits ≡ tested slots offset bits (length memory) first
 unfolding state_of some_slot slot_numbers
 may-tested o slots memory offset bits first agrees at =
-    ap (λ (n : ℕ). tested slots offset bits n (boot_area_end (state_of o slots memory).boot_radix)) agrees.size ∙ ap (tested slots offset bits (length memory)) (sym at)
+    ap (λ (n : ℕ). tested slots offset bits n (boot_area_end (state_of o slots memory).boot_radix)) agrees.size
+    ∙ ap (tested slots offset bits (length memory)) (sym at)
 
-pub untyped-put : (s : State) (index offset bits : ℕ) → may_be_untyped s offset bits ≡ true → put_untyped s index offset bits ≡ put_in_boot_slot s index (Untyped offset bits 0)
+pub untyped-put : (s : State) (index offset bits : ℕ) → may_be_untyped s offset bits ≡ true →
+    put_untyped s index offset bits ≡ put_in_boot_slot s index (Untyped offset bits 0)
 unfolding put_untyped
 untyped-put s index offset bits is = ap (λ b. if b then put_in_boot_slot s index (Untyped offset bits 0) else None) is
 
@@ -36,7 +40,8 @@ pub untyped-none : (s : State) (index offset bits : ℕ) → may_be_untyped s of
 unfolding put_untyped
 untyped-none s index offset bits is = ap (λ b. if b then put_in_boot_slot s index (Untyped offset bits 0) else None) is
 
-pub untyped-valid : (slots : Slots) (size first offset bits : ℕ) → size ≤ 2 ^ 24 → tested slots offset bits size first ≡ true → IsCapability (Untyped offset bits 0)
+pub untyped-valid : (slots : Slots) (size first offset bits : ℕ) → size ≤ 2 ^ 24 → tested slots offset bits size first ≡ true →
+    IsCapability (Untyped offset bits 0)
 untyped-valid slots size first offset bits most is =
     let all = and_parts (is_piece size offset bits && nat_le first offset) (not (reaches_behind slots (size / 16) offset)) is in
     let piece = and_parts (is_piece size offset bits) (nat_le first offset) all.0 in

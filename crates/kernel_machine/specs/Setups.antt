@@ -1,6 +1,7 @@
 -- The parts of the kernel, and the state that they represent.
 -- seL4 Reference Manual, "System Bootstrapping".
-use Rattle.std.specs.Prelude.{ℕ, ◌≡◌, ◌+◌, ◌*◌, ◌%◌, ◌^◌, ◌==◌, ◌<◌, ◌&&◌, nat_le, nat_lt, Bool, true, false, if◌then◌else◌, Option, Some, None, option_map, slice_index}
+use Rattle.std.specs.Prelude.{ℕ, ◌≡◌, ◌+◌, ◌*◌, ◌%◌, ◌^◌, ◌==◌, ◌<◌, ◌&&◌, nat_le, nat_lt, Bool, true, false, if◌then◌else◌, Option, Some, None, option_map}
+use Rattle.std.specs.Prelude.{slice_index}
 use Rattle.cnode_ops.specs.Refusals.{some_slot}
 use Rattle.kernel_machine.specs.Stores.{Store, bytes_of, slots_of}
 use Rattle.objects.specs.Lives as lives

@@ -16,7 +16,8 @@ no_step s = refl
 
 -- the trace of what is left begins with the label of the next event
 pub next_label : (s after : State) (label : Label) (all : List Event) (done : ℕ) (event : Event)
-    → after ≡ (step s event).0 → label ≡ (step s event).1 → drop done all ≡ event ∷ drop (done + 1) all → trace s (drop done all) ≡ label ∷ trace after (drop (done + 1) all)
+    → after ≡ (step s event).0 → label ≡ (step s event).1 → drop done all ≡ event ∷ drop (done + 1) all →
+    trace s (drop done all) ≡ label ∷ trace after (drop (done + 1) all)
 next_label s after label all done event is_after is_label is =
     let rest = drop (done + 1) all in
     ap (λ (events : List Event). trace s events) is ∙ one_step s event rest

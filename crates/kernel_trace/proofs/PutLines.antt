@@ -1,5 +1,6 @@
 -- Putting the lines of a trace, one after another.
-use Rattle.std.proofs.Common.{◌≡◌, ◌∙◌, inl, inr, ℕ, zero, suc, ◌+◌, ◌-◌, ◌<◌, ◌^◌, List, [], ◌∷◌, ◌++◌, length, take, drop, Option, Result, Ok, Err, refl, sym, ap, subst, append_assoc, arith}
+use Rattle.std.proofs.Common.{◌≡◌, ◌∙◌, inl, inr, ℕ, zero, suc, ◌+◌, ◌-◌, ◌<◌, ◌^◌, List, [], ◌∷◌, ◌++◌, length, take, drop, Option, Result, Ok, Err, refl, sym}
+use Rattle.std.proofs.Common.{ap, subst, append_assoc, arith}
 use Rattle.std.specs.Prelude.{OnErr, min, slice_index_or}
 use Rattle.std.proofs.Math.Nat.{min-eq_left, min-eq_right}
 use Rattle.std.proofs.lemmas.Bool.{cases_lt}
@@ -31,12 +32,14 @@ beginning (y ∷ ys) zs (suc count) =
     let rest = beginning ys zs count in
     record { of_both = suc rest.of_both; same = ap (λ (t : List ℕ). y ∷ t) rest.same }
 
-pub begins_more : (old mid new : Option (List ℕ)) (whole printed piece rest : List ℕ) → whole ≡ printed ++ (piece ++ rest) → Grows old mid printed → GrowsByBeginning mid new piece → GrowsByBeginning old new whole
+pub begins_more : (old mid new : Option (List ℕ)) (whole printed piece rest : List ℕ) → whole ≡ printed ++ (piece ++ rest) → Grows old mid printed →
+    GrowsByBeginning mid new piece → GrowsByBeginning old new whole
 begins_more old mid new whole printed piece rest is grown begun =
     let count : ℕ = begun.0 in
     let both = beginning piece rest count in
     let same : take (length printed + both.of_both) whole ≡ printed ++ take count piece =
-    ap (λ (t : List ℕ). take (length printed + both.of_both) t) is ∙ take-behind printed (piece ++ rest) both.of_both ∙ ap (λ (t : List ℕ). printed ++ t) both.same in
+    ap (λ (t : List ℕ). take (length printed + both.of_both) t) is ∙ take-behind printed (piece ++ rest) both.of_both
+    ∙ ap (λ (t : List ℕ). printed ++ t) both.same in
     (length printed + both.of_both, subst (λ (t : List ℕ). Grows old new t) (sym same) (Grows-then old mid new printed (take count piece) grown begun.1))
 
 -- ---- the lines so far
@@ -61,7 +64,8 @@ pub one_held : (labels : List Label) (old : Option (List ℕ)) (next rest : List
 one_held labels old next rest label held more new put is holds =
     let same : lines_of labels ≡ put.printed ++ ((held ++ ended label) ++ lines_of rest) =
     put.whole ∙ ap (λ (ls : List Label). put.printed ++ (held ++ lines_of ls)) is
-    ∙ ap (λ (t : List ℕ). put.printed ++ (held ++ t)) (lines-step label rest) ∙ sym (ap (λ (t : List ℕ). put.printed ++ t) (append_assoc held (ended label) (lines_of rest))) in
+    ∙ ap (λ (t : List ℕ). put.printed ++ (held ++ t)) (lines-step label rest)
+    ∙ sym (ap (λ (t : List ℕ). put.printed ++ t) (append_assoc held (ended label) (lines_of rest))) in
     record { printed = put.printed; whole = same ∙ ap (λ (t : List ℕ). put.printed ++ (t ++ lines_of rest)) (sym holds); grown = put.grown }
 
 -- a front of what was held is put

@@ -9,7 +9,8 @@ use Rattle.model.specs.Acceptance.Measures.{Form, Measure, constant_form, substi
 use Rattle.measure.specs.Sums.{coefficient_sum, constant_sum}
 
 coefficient-from : (value_of : ℕ → Form) (variable : ℕ) (start : Form) (terms : List TermEntry)
-    → (fold (λ f t. sum_form f (times_form t.coefficient (value_of t.register))) start terms).coefficient variable ≡ coefficient_sum value_of variable (start.coefficient variable) terms
+    → (fold (λ f t. sum_form f (times_form t.coefficient (value_of t.register))) start terms).coefficient variable ≡ coefficient_sum value_of variable
+    (start.coefficient variable) terms
 coefficient-from value_of variable start [] = refl
 coefficient-from value_of variable start (t ∷ ts) = coefficient-from value_of variable (sum_form start (times_form t.coefficient (value_of t.register))) ts
 
@@ -18,7 +19,8 @@ constant-from : (value_of : ℕ → Form) (start : Form) (terms : List TermEntry
 constant-from value_of start [] = refl
 constant-from value_of start (t ∷ ts) = constant-from value_of (sum_form start (times_form t.coefficient (value_of t.register))) ts
 
-pub coefficient-is : (m : Measure) (value_of : ℕ → Form) (variable : ℕ) → (substituted m value_of).coefficient variable ≡ coefficient_sum value_of variable (pos 0) m.terms
+pub coefficient-is : (m : Measure) (value_of : ℕ → Form) (variable : ℕ) →
+    (substituted m value_of).coefficient variable ≡ coefficient_sum value_of variable (pos 0) m.terms
 unfolding substituted
 coefficient-is m value_of variable = coefficient-from value_of variable (constant_form m.constant) m.terms
 
@@ -34,12 +36,15 @@ sum_more term n =
 
 -- one more term
 pub constant-more : (value_of : ℕ → Form) (start : ℤ) (terms : List TermEntry) (i : ℕ) (d : TermEntry) → i < length terms
-    → constant_sum value_of start (take (i + 1) terms) ≡ constant_sum value_of start (take i terms) +ℤ ((get_or terms i d).coefficient *ℤ (value_of (get_or terms i d).register).constant)
+    → constant_sum value_of start (take (i + 1) terms) ≡ constant_sum value_of start (take i terms) +ℤ
+    ((get_or terms i d).coefficient *ℤ (value_of (get_or terms i d).register).constant)
 constant-more value_of start terms i d less = fold_more (λ (z : ℤ) (t : TermEntry). z +ℤ (t.coefficient *ℤ (value_of t.register).constant)) start terms i d less
 
 pub coefficient-more : (value_of : ℕ → Form) (variable : ℕ) (start : ℤ) (terms : List TermEntry) (i : ℕ) (d : TermEntry) → i < length terms
-    → coefficient_sum value_of variable start (take (i + 1) terms) ≡ coefficient_sum value_of variable start (take i terms) +ℤ ((get_or terms i d).coefficient *ℤ (value_of (get_or terms i d).register).coefficient variable)
-coefficient-more value_of variable start terms i d less = fold_more (λ (z : ℤ) (t : TermEntry). z +ℤ (t.coefficient *ℤ (value_of t.register).coefficient variable)) start terms i d less
+    → coefficient_sum value_of variable start (take (i + 1) terms) ≡ coefficient_sum value_of variable start (take i terms) +ℤ
+    ((get_or terms i d).coefficient *ℤ (value_of (get_or terms i d).register).coefficient variable)
+coefficient-more value_of variable start terms i d less =
+    fold_more (λ (z : ℤ) (t : TermEntry). z +ℤ (t.coefficient *ℤ (value_of t.register).coefficient variable)) start terms i d less
 
 -- where no variable counts
 pub sum-none : (term : ℕ → ℤ) (n : ℕ) → ((v : ℕ) → v < n → term v ≡ pos 0) → sum_of (map term (range_with_len 0 n)) ≡ pos 0

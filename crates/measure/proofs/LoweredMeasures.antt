@@ -1,11 +1,14 @@
 -- A measure that is lowered by 1 falls, where none of its registers is written; a whole budget stays within itself.
-use Rattle.std.proofs.Common.{ℕ, ◌≡◌, ◌∙◌, ◌==◌, ◌||◌, Bool, true, false, inl, inr, if◌then◌else◌, Option, Some, None, option_to_list, List, [], ◌∷◌, fold, nat_le, ℤ, pos, negsuc, ◌+ℤ◌, ◌-ℤ◌, ◌*ℤ◌, int_le, int_lt, ap, refl, sym, arith}
+use Rattle.std.proofs.Common.{ℕ, ◌≡◌, ◌∙◌, ◌==◌, ◌||◌, Bool, true, false, inl, inr, if◌then◌else◌, Option, Some, None, option_to_list, List, [], ◌∷◌, fold}
+use Rattle.std.proofs.Common.{nat_le, ℤ, pos, negsuc, ◌+ℤ◌, ◌-ℤ◌, ◌*ℤ◌, int_le, int_lt, ap, refl, sym, arith}
 use Rattle.std.proofs.lemmas.Bool.{or_parts}
 use Rattle.std.proofs.lemmas.Bool.Decides.{eqb_tells, nat_tests}
 use Rattle.std.proofs.lemmas.Int.{ints}
 use Rattle.std.specs.List.{list_any}
 use Rattle.std.specs.Option.{option_map_or}
-use Rattle.model.specs.Acceptance.Measures.{Form, Measure, behind_form, call_form, constant_form, difference_form, exact_sum, falls, fresh, greatest, greatest_on, greatest_term, has_term, is_register, lowered, other_value, range_at, stays_below, substituted, sum_form, times_form, variable_form}
+use Rattle.model.specs.Acceptance.Measures.{Form, Measure, behind_form, call_form, constant_form, difference_form, exact_sum, falls, fresh, greatest}
+use Rattle.model.specs.Acceptance.Measures.{greatest_on, greatest_term, has_term, is_register, lowered, other_value, range_at, stays_below, substituted}
+use Rattle.model.specs.Acceptance.Measures.{sum_form, times_form, variable_form}
 use Rattle.model.specs.Acceptance.RangeRules.{destination}
 use Rattle.model.specs.declared.entries.TermEntry.{TermEntry}
 use Rattle.model.specs.declared.instructions.Instr.{Instr}
@@ -53,7 +56,8 @@ first-unwritten t rest (x ∷ more) none =
 abbrev Leaves : List Register → (ℕ → Form) → Type 0
 Leaves written value_of = (register : ℕ) → is_written written register ≡ false → value_of register ≡ variable_form register
 
-same-forms : (written : List Register) (value_of : ℕ → Form) (start : Form) (terms : List TermEntry) → Leaves written value_of → are_written terms written ≡ false
+same-forms : (written : List Register) (value_of : ℕ → Form) (start : Form) (terms : List TermEntry) → Leaves written value_of →
+    are_written terms written ≡ false
     → fold (added value_of) start terms ≡ fold (added variable_form) start terms
 same-forms written value_of start [] leaves none = refl
 same-forms written value_of start (t ∷ rest) leaves none =
@@ -96,7 +100,8 @@ change m = difference_form (substituted (lowered m (pos 1)) variable_form) (subs
 
 change-constant : (m : Measure) → (change m).constant ≡ negsuc 0
 change-constant m =
-    ap (λ (z : ℤ). z +ℤ (negsuc 0 *ℤ (substituted m variable_form).constant)) (constant-is (lowered m (pos 1)) variable_form ∙ no-constant (m.constant -ℤ pos 1) m.terms)
+    ap (λ (z : ℤ). z +ℤ (negsuc 0 *ℤ (substituted m variable_form).constant))
+    (constant-is (lowered m (pos 1)) variable_form ∙ no-constant (m.constant -ℤ pos 1) m.terms)
     ∙ ap (λ (z : ℤ). (m.constant -ℤ pos 1) +ℤ (negsuc 0 *ℤ z)) (constant-is m variable_form ∙ no-constant m.constant m.terms)
     ∙ one-less m.constant
 
@@ -107,7 +112,8 @@ change-coefficient m v =
     ∙ ap (λ (z : ℤ). sum +ℤ (negsuc 0 *ℤ z)) (coefficient-is m variable_form v)
     ∙ less-itself sum
 
-unwritten-falls : (m : Measure) (written : List Register) (value_of : ℕ → Form) (before behind : List Range) → Leaves written value_of → are_written m.terms written ≡ false
+unwritten-falls : (m : Measure) (written : List Register) (value_of : ℕ → Form) (before behind : List Range) → Leaves written value_of →
+    are_written m.terms written ≡ false
     → falls m (lowered m (pos 1)) value_of before behind ≡ true
 unfolding falls substituted
 unwritten-falls m written value_of before behind leaves none =
@@ -117,7 +123,8 @@ unwritten-falls m written value_of before behind leaves none =
 
 -- ---- after an instruction, and after a call
 
-of-destination : (written : Option Register) (value : ℕ → Form) → Leaves (option_to_list written) (λ register. if is_register written register then value register else variable_form register)
+of-destination : (written : Option Register) (value : ℕ → Form) →
+    Leaves (option_to_list written) (λ register. if is_register written register then value register else variable_form register)
 of-destination None value register none = refl
 of-destination (Some x) value register none = ap (λ (b : Bool). if b then value register else variable_form register) (or_parts (x.0 == register) false none).0
 
@@ -136,14 +143,16 @@ lowered-falls m instr before behind none =
 pub falls-behind-call : (m : Measure) (written : List Register) (before behind : List Range) → list_any (λ x. has_term m x.0) written ≡ false
     → falls m (lowered m (pos 1)) (call_form written) before behind ≡ true
 falls-behind-call m written before behind none =
-    unwritten-falls m written (call_form written) before behind (λ register left. ap (λ (b : Bool). variable_form (if b then fresh register else register)) left) none
+    unwritten-falls m written (call_form written) before behind (λ register left.
+    ap (λ (b : Bool). variable_form (if b then fresh register else register)) left) none
 
 -- ---- a budget is not above itself
 
 not-above : (n : ℕ) → nat_le n n ≡ true
 not-above n = grind (arith, nat_tests)
 
-pub budget-stays : (budget : ℕ) (value_of : ℕ → Form) (before behind : List Range) → stays_below budget (record { constant = pos budget; terms = [] }) value_of before behind ≡ true
+pub budget-stays : (budget : ℕ) (value_of : ℕ → Form) (before behind : List Range) →
+    stays_below budget (record { constant = pos budget; terms = [] }) value_of before behind ≡ true
 unfolding stays_below substituted
 budget-stays budget value_of before behind =
     ap (λ (z : ℤ). int_le z (pos budget)) (greatest-none before behind (constant_form (pos budget)) (λ variable. refl)) ∙ not-above budget

@@ -6,7 +6,8 @@ use Rattle.model.specs.Acceptance.Measures.{Measure, constant_form, measured, re
 use Rattle.model.specs.Machine.ProgramMemory.{RegisterFile, read}
 use Rattle.measure.proofs.LinearSums.{constant-is}
 
-from-start : (value : TermEntry → ℤ) (start more : ℤ) (terms : List TermEntry) → fold (λ z t. z +ℤ value t) (start +ℤ more) terms ≡ start +ℤ fold (λ n m. n +ℤ m) more (map value terms)
+from-start : (value : TermEntry → ℤ) (start more : ℤ) (terms : List TermEntry) →
+    fold (λ z t. z +ℤ value t) (start +ℤ more) terms ≡ start +ℤ fold (λ n m. n +ℤ m) more (map value terms)
 from-start value start more [] = refl
 from-start value start more (t ∷ rest) =
     ap (λ (z : ℤ). fold (λ z t. z +ℤ value t) z rest) (+ℤ_assoc start more (value t)) ∙ from-start value start (more +ℤ value t) rest

@@ -19,8 +19,10 @@ pub constant-step : (value_of : ℕ → Form) (start : ℤ) (terms : List TermEn
 constant-step value_of start terms i d s p less few is small next size =
     let room : 2 ^ 64 + i * 2 ^ 96 + 2 ^ 94 + 1 ≤ 2 ^ 64 + (i + 1) * 2 ^ 96 = omega arith in
     let kept = stored w128 s p (2 ^ 64 + i * 2 ^ 96) (2 ^ 94) (2 ^ 64 + (i + 1) * 2 ^ 96) small size room (omega (arith, less, few)) in (
-      kept ∙ ap (λ (z : ℤ). z +ℤ p) is ∙ ap (λ (z : ℤ). constant_sum value_of start (take i terms) +ℤ z) next ∙ sym (constant-more value_of start terms i d less),
-      subst (λ (z : ℤ). IsSmall (2 ^ 64 + (i + 1) * 2 ^ 96) z) (sym kept) (sum-small s p (2 ^ 64 + i * 2 ^ 96) (2 ^ 94) (2 ^ 64 + (i + 1) * 2 ^ 96) small size room),
+      kept ∙ ap (λ (z : ℤ). z +ℤ p) is ∙ ap (λ (z : ℤ). constant_sum value_of start (take i terms) +ℤ z) next
+          ∙ sym (constant-more value_of start terms i d less),
+      subst (λ (z : ℤ). IsSmall (2 ^ 64 + (i + 1) * 2 ^ 96) z) (sym kept)
+          (sum-small s p (2 ^ 64 + i * 2 ^ 96) (2 ^ 94) (2 ^ 64 + (i + 1) * 2 ^ 96) small size room),
     )
 
 pub coefficient-step : (value_of : ℕ → Form) (variable : ℕ) (terms : List TermEntry) (i : ℕ) (d : TermEntry) (s p : ℤ) → i < length terms → length terms ≤ 4
@@ -31,11 +33,13 @@ pub coefficient-step : (value_of : ℕ → Form) (variable : ℕ) (terms : List 
 coefficient-step value_of variable terms i d s p less few is small next size =
     let room : i * 2 ^ 39 + 2 ^ 38 + 1 ≤ (i + 1) * 2 ^ 39 = omega arith in
     let kept = stored w64 s p (i * 2 ^ 39) (2 ^ 38) ((i + 1) * 2 ^ 39) small size room (omega (arith, less, few)) in (
-      kept ∙ ap (λ (z : ℤ). z +ℤ p) is ∙ ap (λ (z : ℤ). coefficient_sum value_of variable (pos 0) (take i terms) +ℤ z) next ∙ sym (coefficient-more value_of variable (pos 0) terms i d less),
+      kept ∙ ap (λ (z : ℤ). z +ℤ p) is ∙ ap (λ (z : ℤ). coefficient_sum value_of variable (pos 0) (take i terms) +ℤ z) next
+          ∙ sym (coefficient-more value_of variable (pos 0) terms i d less),
       subst (λ (z : ℤ). IsSmall ((i + 1) * 2 ^ 39) z) (sym kept) (sum-small s p (i * 2 ^ 39) (2 ^ 38) ((i + 1) * 2 ^ 39) small size room),
     )
 
-pub variable-step : (term : ℕ → ℤ) (v : ℕ) (s p : ℤ) → v < 64 → s ≡ sum_of (map term (range_with_len 0 v)) → IsSmall (v * 2 ^ 97) s → p ≡ term v → IsSmall (2 ^ 96) p
+pub variable-step : (term : ℕ → ℤ) (v : ℕ) (s p : ℤ) → v < 64 → s ≡ sum_of (map term (range_with_len 0 v)) → IsSmall (v * 2 ^ 97) s → p ≡ term v →
+    IsSmall (2 ^ 96) p
     → (to_z w128 (of_z w128 (s +ℤ to_z w128 (of_z w128 p))) ≡ sum_of (map term (range_with_len 0 (v + 1))))
     × IsSmall ((v + 1) * 2 ^ 97) (to_z w128 (of_z w128 (s +ℤ to_z w128 (of_z w128 p))))
 variable-step term v s p less is small next size =
@@ -61,7 +65,8 @@ coefficient-end m value_of variable terms i s are all is =
     ∙ ap (λ (ts : List TermEntry). coefficient_sum value_of variable (pos 0) ts) (take_all i terms all ∙ are)
     ∙ sym (coefficient-is m value_of variable)
 
-pub variables-end : (term : ℕ → ℤ) (v n : ℕ) (k s constant : ℤ) → v ≡ n → n ≤ 64 → k ≡ constant → IsSmall (2 ^ 100) k → s ≡ sum_of (map term (range_with_len 0 v)) → IsSmall (v * 2 ^ 97) s
+pub variables-end : (term : ℕ → ℤ) (v n : ℕ) (k s constant : ℤ) → v ≡ n → n ≤ 64 → k ≡ constant → IsSmall (2 ^ 100) k →
+    s ≡ sum_of (map term (range_with_len 0 v)) → IsSmall (v * 2 ^ 97) s
     → to_z w128 (of_z w128 (to_z w128 (of_z w128 k) +ℤ s)) ≡ constant +ℤ sum_of (map term (range_with_len 0 n))
 variables-end term v n k s constant end few is small sum size =
     stored-first w128 k s (2 ^ 100) (v * 2 ^ 97) (2 ^ 105) small size (omega (arith, end, few)) (omega arith)
@@ -69,7 +74,8 @@ variables-end term v n k s constant end few is small sum size =
     ∙ ap (λ (z : ℤ). constant +ℤ z) (sum ∙ ap (λ (count : ℕ). sum_of (map term (range_with_len 0 count))) end)
 
 -- of a form that counts no variable
-pub variables-none : (term : ℕ → ℤ) (n : ℕ) (k constant : ℤ) → k ≡ constant → ((v : ℕ) → v < n → term v ≡ pos 0) → k ≡ constant +ℤ sum_of (map term (range_with_len 0 n))
+pub variables-none : (term : ℕ → ℤ) (n : ℕ) (k constant : ℤ) → k ≡ constant → ((v : ℕ) → v < n → term v ≡ pos 0) →
+    k ≡ constant +ℤ sum_of (map term (range_with_len 0 n))
 variables-none term n k constant is none = is ∙ sym (+ℤ_idr constant) ∙ ap (λ (z : ℤ). constant +ℤ z) (sym (sum-none term n none))
 
 pub nothing-times : (n : ℕ) → pos 0 *ℤ pos n ≡ pos 0

@@ -1,5 +1,6 @@
 -- The test of descent and the relation are one.
-use Rattle.std.proofs.Common.{ℕ, zero, suc, ◌≡◌, ◌∙◌, ◌==◌, ◌||◌, ◌+◌, ◌<◌, ◌≤◌, inl, inr, true, false, not, if◌then◌else◌, List, IfSome, IsTrue, Option, Some, None, is_some, add-one, refl, sym, ap, arith}
+use Rattle.std.proofs.Common.{ℕ, zero, suc, ◌≡◌, ◌∙◌, ◌==◌, ◌||◌, ◌+◌, ◌<◌, ◌≤◌, inl, inr, true, false, not, if◌then◌else◌, List, IfSome, IsTrue, Option, Some}
+use Rattle.std.proofs.Common.{None, is_some, add-one, refl, sym, ap, arith}
 use Rattle.std.specs.Option.{option_map_or}
 use Rattle.std.proofs.Math.Bool.{or-true}
 use Rattle.std.proofs.lemmas.Bool.{eq-eqb}
@@ -19,7 +20,8 @@ unfolding descends_within
 descends-none zero parents root slot is = refl
 descends-none (suc n) parents root slot is = ap (λ o. option_map_or (λ p. p == root || descends_within n parents root p) o false) is
 
-pub descends-some : (n : ℕ) (parents : Parents) (root slot parent : ℕ) → parents slot ≡ Some parent → descends_within (suc n) parents root slot ≡ (parent == root || descends_within n parents root parent)
+pub descends-some : (n : ℕ) (parents : Parents) (root slot parent : ℕ) → parents slot ≡ Some parent →
+    descends_within (suc n) parents root slot ≡ (parent == root || descends_within n parents root parent)
 unfolding descends_within
 descends-some n parents root slot parent is = ap (λ o. option_map_or (λ p. p == root || descends_within n parents root p) o false) is
 
@@ -27,11 +29,13 @@ pub descends-zero : (parents : Parents) (root slot : ℕ) → descends_within ze
 unfolding descends_within
 descends-zero parents root slot = refl
 
-pub descends-root : (n : ℕ) (parents : Parents) (root slot parent : ℕ) → parents slot ≡ Some parent → parent ≡ root → descends_within (suc n) parents root slot ≡ true
+pub descends-root : (n : ℕ) (parents : Parents) (root slot parent : ℕ) → parents slot ≡ Some parent → parent ≡ root →
+    descends_within (suc n) parents root slot ≡ true
 descends-root n parents root slot parent is same =
     descends-some n parents root slot parent is ∙ ap (λ b. b || descends_within n parents root parent) (eq-eqb parent root same)
 
-pub descends-on : (n : ℕ) (parents : Parents) (root slot parent : ℕ) → parents slot ≡ Some parent → (parent == root) ≡ false → descends_within (suc n) parents root slot ≡ descends_within n parents root parent
+pub descends-on : (n : ℕ) (parents : Parents) (root slot parent : ℕ) → parents slot ≡ Some parent → (parent == root) ≡ false →
+    descends_within (suc n) parents root slot ≡ descends_within n parents root parent
 descends-on n parents root slot parent is other =
     descends-some n parents root slot parent is ∙ ap (λ b. b || descends_within n parents root parent) other
 
@@ -43,12 +47,14 @@ descendant-from_test (suc n) slots root slot test =
       | None ↦ λ is. absurd (let clash : false ≡ true = sym (descends-none (suc n) (parent_at slots) root slot is) ∙ test in cc)
       | Some parent ↦ λ is. elim (eqb_tells parent root) [
         | inl here ↦ child slot (is ∙ ap (λ p. Some p) here.1)
-        | inr other ↦ deeper slot parent is (descendant-from_test n slots root parent (sym (descends-on n (parent_at slots) root slot parent is other.0) ∙ test))
+        | inr other ↦ deeper slot parent is (descendant-from_test n slots root parent
+            (sym (descends-on n (parent_at slots) root slot parent is other.0) ∙ test))
       ]
     ] refl
 
 -- a slot that is found and passes the test descends
-pub found-descends : (slots : Slots) (root : ℕ) (found : Option ℕ) → IfSome found (λ slot. IsTrue (is_descendant slots root slot)) → IfSome found (Descendant slots root)
+pub found-descends : (slots : Slots) (root : ℕ) (found : Option ℕ) → IfSome found (λ slot. IsTrue (is_descendant slots root slot)) →
+    IfSome found (Descendant slots root)
 found-descends slots root None known = known
 found-descends slots root (Some slot) known = descendant-from_test (depth_of slots slot) slots root slot known
 
@@ -103,7 +109,8 @@ descendant-full slots root slot tree test =
 
 -- no slot is listed twice, and one that is listed is full
 pub order-once : (order : List ℕ) (slots : Slots) → IsOrderOf order slots → (slot : ℕ) → times_in order slot ≤ 1
-order-once order slots lists = λ slot. omega (arith, lists slot, elim (is_full slots slot) as (λ b. (if b then 1 else 0) ≤ 1) [ true ↦ omega arith | false ↦ omega arith ])
+order-once order slots lists = λ slot.
+    omega (arith, lists slot, elim (is_full slots slot) as (λ b. (if b then 1 else 0) ≤ 1) [ true ↦ omega arith | false ↦ omega arith ])
 
 pub listed-full : (order : List ℕ) (slots : Slots) (slot : ℕ) → IsOrderOf order slots → 1 ≤ times_in order slot → IsFull slots slot
 listed-full order slots slot lists found =
@@ -113,7 +120,8 @@ listed-full order slots slot lists found =
     ] refl
 
 -- each descendant is listed once
-pub descendants-once : (order : List ℕ) (slots : Slots) (root slot : ℕ) → IsDerivation slots → IsOrderOf order slots → times_in (descendants order slots root) slot ≡ (if is_descendant slots root slot then 1 else 0)
+pub descendants-once : (order : List ℕ) (slots : Slots) (root slot : ℕ) → IsDerivation slots → IsOrderOf order slots →
+    times_in (descendants order slots root) slot ≡ (if is_descendant slots root slot then 1 else 0)
 descendants-once order slots root slot tree lists =
     times-filter (is_descendant slots root) order slot
     ∙ elim (is_descendant slots root slot) as (λ b. is_descendant slots root slot ≡ b → (if b then times_in order slot else 0) ≡ (if b then 1 else 0)) [

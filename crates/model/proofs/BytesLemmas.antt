@@ -8,14 +8,17 @@ pub length-written : (bytes : List ℕ) (at : ℕ) (piece : List ℕ) → at + l
 length-written bytes at piece fits = grind (arith, common_steps)
 
 -- the bytes that were written
-pub slice_index-written_inside : (bytes : List ℕ) (at : ℕ) (piece : List ℕ) (k : ℕ) → at + length piece ≤ length bytes → k < length piece → slice_index (written bytes at piece) (at + k) ≡ slice_index piece k
+pub slice_index-written_inside : (bytes : List ℕ) (at : ℕ) (piece : List ℕ) (k : ℕ) → at + length piece ≤ length bytes → k < length piece →
+    slice_index (written bytes at piece) (at + k) ≡ slice_index piece k
 slice_index-written_inside bytes at piece k fits inside = grind (arith, common_steps)
 
 -- the bytes before and after them
-pub slice_index-written_before : (bytes : List ℕ) (at : ℕ) (piece : List ℕ) (k : ℕ) → at + length piece ≤ length bytes → k < at → slice_index (written bytes at piece) k ≡ slice_index bytes k
+pub slice_index-written_before : (bytes : List ℕ) (at : ℕ) (piece : List ℕ) (k : ℕ) → at + length piece ≤ length bytes → k < at →
+    slice_index (written bytes at piece) k ≡ slice_index bytes k
 slice_index-written_before bytes at piece k fits before = grind (arith, common_steps)
 
-pub slice_index-written_behind : (bytes : List ℕ) (at : ℕ) (piece : List ℕ) (k : ℕ) → at + length piece ≤ length bytes → at + length piece ≤ k → slice_index (written bytes at piece) k ≡ slice_index bytes k
+pub slice_index-written_behind : (bytes : List ℕ) (at : ℕ) (piece : List ℕ) (k : ℕ) → at + length piece ≤ length bytes → at + length piece ≤ k →
+    slice_index (written bytes at piece) k ≡ slice_index bytes k
 slice_index-written_behind bytes at piece k fits behind = grind (arith, common_steps)
 
 -- a word that was written is read back
@@ -43,10 +46,12 @@ word_at-same old new at same =
     omega (arith, first, second, third, fourth)
 
 -- a write beside a word leaves it
-pub word_at-written_before : (bytes : List ℕ) (at : ℕ) (piece : List ℕ) (word_place : ℕ) → at + length piece ≤ length bytes → word_place + 4 ≤ at → word_at (written bytes at piece) word_place ≡ word_at bytes word_place
+pub word_at-written_before : (bytes : List ℕ) (at : ℕ) (piece : List ℕ) (word_place : ℕ) → at + length piece ≤ length bytes → word_place + 4 ≤ at →
+    word_at (written bytes at piece) word_place ≡ word_at bytes word_place
 word_at-written_before bytes at piece word_place fits before =
     word_at-same bytes (written bytes at piece) word_place (λ k low high. slice_index-written_before bytes at piece k fits (omega arith))
 
-pub word_at-written_behind : (bytes : List ℕ) (at : ℕ) (piece : List ℕ) (word_place : ℕ) → at + length piece ≤ length bytes → at + length piece ≤ word_place → word_at (written bytes at piece) word_place ≡ word_at bytes word_place
+pub word_at-written_behind : (bytes : List ℕ) (at : ℕ) (piece : List ℕ) (word_place : ℕ) → at + length piece ≤ length bytes → at + length piece ≤ word_place →
+    word_at (written bytes at piece) word_place ≡ word_at bytes word_place
 word_at-written_behind bytes at piece word_place fits behind =
     word_at-same bytes (written bytes at piece) word_place (λ k low high. slice_index-written_behind bytes at piece k fits (omega arith))

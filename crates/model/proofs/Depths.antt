@@ -12,7 +12,8 @@ unfolding depth_within
 depth-none zero parents slot is = refl
 depth-none (suc n) parents slot is = ap (λ o. option_map_or (λ parent. depth_within n parents parent + 1) o 0) is
 
-pub depth-some : (n : ℕ) (parents : Parents) (slot parent : ℕ) → parents slot ≡ Some parent → depth_within (suc n) parents slot ≡ depth_within n parents parent + 1
+pub depth-some : (n : ℕ) (parents : Parents) (slot parent : ℕ) → parents slot ≡ Some parent →
+    depth_within (suc n) parents slot ≡ depth_within n parents parent + 1
 unfolding depth_within
 depth-some n parents slot parent is = ap (λ o. option_map_or (λ p. depth_within n parents p + 1) o 0) is
 
@@ -30,10 +31,12 @@ depth-le (suc n) parents slot =
     ] refl
 
 -- a greater bound adds at most one, and takes nothing
-pub depth-mono : (n : ℕ) (parents : Parents) (slot : ℕ) → (depth_within n parents slot ≤ depth_within (suc n) parents slot) × (depth_within (suc n) parents slot ≤ depth_within n parents slot + 1)
+pub depth-mono : (n : ℕ) (parents : Parents) (slot : ℕ) → (depth_within n parents slot ≤ depth_within (suc n) parents slot)
+    × (depth_within (suc n) parents slot ≤ depth_within n parents slot + 1)
 depth-mono zero parents slot = (omega (arith, depth-zero parents slot), omega (arith, depth-zero parents slot, depth-le 1 parents slot))
 depth-mono (suc n) parents slot =
-    elim (parents slot) as (λ o. parents slot ≡ o → (depth_within (suc n) parents slot ≤ depth_within (suc (suc n)) parents slot) × (depth_within (suc (suc n)) parents slot ≤ depth_within (suc n) parents slot + 1)) [
+    elim (parents slot) as (λ o. parents slot ≡ o → (depth_within (suc n) parents slot ≤ depth_within (suc (suc n)) parents slot)
+    × (depth_within (suc (suc n)) parents slot ≤ depth_within (suc n) parents slot + 1)) [
       | None ↦ λ is. (omega (arith, depth-none (suc n) parents slot is), omega (arith, depth-none (suc (suc n)) parents slot is))
       | Some parent ↦ λ is.
           let more = depth-mono n parents parent in
@@ -58,13 +61,15 @@ depth-same (suc n) old new same slot =
     ] refl
 
 -- a slot that is no parent can have another parent, and the others keep their depths
-pub depth-leaf : (n : ℕ) (old new : Parents) (leaf : ℕ) → ((slot : ℕ) → slot ≢ leaf → new slot ≡ old slot) → ((slot parent : ℕ) → old slot ≡ Some parent → parent ≢ leaf) → (slot : ℕ) → slot ≢ leaf → depth_within n new slot ≡ depth_within n old slot
+pub depth-leaf : (n : ℕ) (old new : Parents) (leaf : ℕ) → ((slot : ℕ) → slot ≢ leaf → new slot ≡ old slot) →
+    ((slot parent : ℕ) → old slot ≡ Some parent → parent ≢ leaf) → (slot : ℕ) → slot ≢ leaf → depth_within n new slot ≡ depth_within n old slot
 depth-leaf zero old new leaf same no_parent slot other = depth-zero new slot ∙ sym (depth-zero old slot)
 depth-leaf (suc n) old new leaf same no_parent slot other =
     elim (old slot) as (λ o. old slot ≡ o → depth_within (suc n) new slot ≡ depth_within (suc n) old slot) [
       | None ↦ λ is. depth-none (suc n) new slot (same slot other ∙ is) ∙ sym (depth-none (suc n) old slot is)
       | Some parent ↦ λ is.
-          depth-some n new slot parent (same slot other ∙ is) ∙ ap (λ d. d + 1) (depth-leaf n old new leaf same no_parent parent (no_parent slot parent is)) ∙ sym (depth-some n old slot parent is)
+          depth-some n new slot parent (same slot other ∙ is) ∙ ap (λ d. d + 1) (depth-leaf n old new leaf same no_parent parent (no_parent slot parent is))
+          ∙ sym (depth-some n old slot parent is)
     ] refl
 
 -- a parent, or another in place of one that is gone
@@ -72,7 +77,8 @@ abbrev pub adopted_parent : ℕ → Option ℕ → Option ℕ → Option ℕ
 adopted_parent gone parent None = None
 adopted_parent gone parent (Some p) = if p == gone then parent else Some p
 
-depth-spliced-child : (n : ℕ) (old new : Parents) (gone slot : ℕ) → new slot ≡ old gone → old slot ≡ Some gone → ((s : ℕ) → depth_within n new s ≤ depth_within n old s) → depth_within (suc n) new slot ≤ depth_within (suc n) old slot
+depth-spliced-child : (n : ℕ) (old new : Parents) (gone slot : ℕ) → new slot ≡ old gone → old slot ≡ Some gone →
+    ((s : ℕ) → depth_within n new s ≤ depth_within n old s) → depth_within (suc n) new slot ≤ depth_within (suc n) old slot
 depth-spliced-child n old new gone slot moved was less =
     elim (old gone) as (λ o. old gone ≡ o → depth_within (suc n) new slot ≤ depth_within (suc n) old slot) [
       | None ↦ λ is. omega (arith, depth-none (suc n) new slot (moved ∙ is))
@@ -86,7 +92,8 @@ depth-spliced-child n old new gone slot moved was less =
     ] refl
 
 -- where a slot is taken out and its children get its parent, no depth grows
-pub depth-spliced : (n : ℕ) (old new : Parents) (gone : ℕ) → new gone ≡ None → ((slot : ℕ) → slot ≢ gone → new slot ≡ adopted_parent gone (old gone) (old slot)) → (slot : ℕ) → depth_within n new slot ≤ depth_within n old slot
+pub depth-spliced : (n : ℕ) (old new : Parents) (gone : ℕ) → new gone ≡ None →
+    ((slot : ℕ) → slot ≢ gone → new slot ≡ adopted_parent gone (old gone) (old slot)) → (slot : ℕ) → depth_within n new slot ≤ depth_within n old slot
 depth-spliced zero old new gone empty moved slot = omega (arith, depth-zero new slot, depth-zero old slot)
 depth-spliced (suc n) old new gone empty moved slot =
     elim (eqb_tells slot gone) [
@@ -105,7 +112,8 @@ depth-spliced (suc n) old new gone empty moved slot =
                       omega (
                         arith,
                         depth-spliced n old new gone empty moved parent,
-                        depth-some n new slot parent (moved slot other.1 ∙ ap (adopted_parent gone (old gone)) is ∙ ap (λ b. if b then old gone else Some parent) stays.0),
+                        depth-some n new slot parent (moved slot other.1 ∙ ap (adopted_parent gone (old gone)) is
+                            ∙ ap (λ b. if b then old gone else Some parent) stays.0),
                         depth-some n old slot parent is,
                       )
                 ]
@@ -117,7 +125,9 @@ abbrev pub renamed : ℕ → ℕ → ℕ → ℕ
 renamed from to slot = if slot == from then to else slot
 
 -- where a slot is moved to one that is no parent, with its children, all keep their depths
-pub depth-relocated : (n : ℕ) (old new : Parents) (from to : ℕ) → new to ≡ old from → ((slot : ℕ) → slot ≢ to → slot ≢ from → new slot ≡ adopted_parent from (Some to) (old slot)) → ((slot parent : ℕ) → old slot ≡ Some parent → parent ≢ to) → old from ≢ Some from → (slot : ℕ) → slot ≢ to → depth_within n new (renamed from to slot) ≡ depth_within n old slot
+pub depth-relocated : (n : ℕ) (old new : Parents) (from to : ℕ) → new to ≡ old from →
+    ((slot : ℕ) → slot ≢ to → slot ≢ from → new slot ≡ adopted_parent from (Some to) (old slot)) → ((slot parent : ℕ) → old slot ≡ Some parent → parent ≢ to) →
+    old from ≢ Some from → (slot : ℕ) → slot ≢ to → depth_within n new (renamed from to slot) ≡ depth_within n old slot
 depth-relocated zero old new from to moved others no_parent no_circle slot apart = depth-zero new (renamed from to slot) ∙ sym (depth-zero old slot)
 depth-relocated (suc n) old new from to moved others no_parent no_circle slot apart =
     elim (eqb_tells slot from) [
@@ -129,20 +139,24 @@ depth-relocated (suc n) old new from to moved others no_parent no_circle slot ap
                   | inl circle ↦ absurd (no_circle (ap old (sym here.1) ∙ is ∙ ap (λ p. Some p) circle.1))
                   | inr stays ↦
                       let above = depth-relocated n old new from to moved others no_parent no_circle parent (no_parent slot parent is) in
-                      depth-some n new to parent (moved ∙ ap old (sym here.1) ∙ is) ∙ ap (λ d. d + 1) (rw stays.0 at above) ∙ sym (depth-some n old slot parent is)
+                      depth-some n new to parent (moved ∙ ap old (sym here.1) ∙ is) ∙ ap (λ d. d + 1) (rw stays.0 at above)
+                      ∙ sym (depth-some n old slot parent is)
                 ]
           ] refl)
       | inr other ↦
           rw other.0 (elim (old slot) as (λ o. old slot ≡ o → depth_within (suc n) new slot ≡ depth_within (suc n) old slot) [
-            | None ↦ λ is. depth-none (suc n) new slot (others slot apart other.1 ∙ ap (adopted_parent from (Some to)) is) ∙ sym (depth-none (suc n) old slot is)
+            | None ↦ λ is. depth-none (suc n) new slot (others slot apart other.1 ∙ ap (adopted_parent from (Some to)) is)
+                ∙ sym (depth-none (suc n) old slot is)
             | Some parent ↦ λ is.
                 let above = depth-relocated n old new from to moved others no_parent no_circle parent (no_parent slot parent is) in
                 let same : new slot ≡ adopted_parent from (Some to) (Some parent) = others slot apart other.1 ∙ ap (adopted_parent from (Some to)) is in
                 elim (eqb_tells parent from) [
                   | inl child ↦
-                      depth-some n new slot to (same ∙ ap (λ b. if b then Some to else Some parent) child.0) ∙ ap (λ d. d + 1) (rw child.0 at above) ∙ sym (depth-some n old slot parent is)
+                      depth-some n new slot to (same ∙ ap (λ b. if b then Some to else Some parent) child.0) ∙ ap (λ d. d + 1) (rw child.0 at above)
+                      ∙ sym (depth-some n old slot parent is)
                   | inr stays ↦
-                      depth-some n new slot parent (same ∙ ap (λ b. if b then Some to else Some parent) stays.0) ∙ ap (λ d. d + 1) (rw stays.0 at above) ∙ sym (depth-some n old slot parent is)
+                      depth-some n new slot parent (same ∙ ap (λ b. if b then Some to else Some parent) stays.0) ∙ ap (λ d. d + 1) (rw stays.0 at above)
+                      ∙ sym (depth-some n old slot parent is)
                 ]
           ] refl)
     ]

@@ -1,5 +1,6 @@
 -- What follows a slot in a list.
-use Rattle.std.proofs.Common.{ℕ, ◌≡◌, ◌≢◌, ◌∙◌, ◌==◌, ◌+◌, ◌≤◌, inl, inr, Bool, true, false, not, if◌then◌else◌, Option, Some, None, List, [], ◌∷◌, filter, cond, refl, sym, ap, arith}
+use Rattle.std.proofs.Common.{ℕ, ◌≡◌, ◌≢◌, ◌∙◌, ◌==◌, ◌+◌, ◌≤◌, inl, inr, Bool, true, false, not, if◌then◌else◌, Option, Some, None, List, [], ◌∷◌, filter}
+use Rattle.std.proofs.Common.{cond, refl, sym, ap, arith}
 use Rattle.std.proofs.lemmas.Bool.{eq-eqb, ne_eqb}
 use Rattle.std.proofs.lemmas.Bool.Decides.{eqb_tells}
 use Rattle.model.specs.Capabilities.Orders.{IsOrderOf, next_in, first_of, next_after}
@@ -32,7 +33,9 @@ after-behind order (Some previous) = next_after-behind order previous
 times-behind_slot : (order : List ℕ) (previous slot : ℕ) → times_in (behind_slot order previous) slot ≤ times_in order slot
 times-behind_slot [] previous slot = omega arith
 times-behind_slot (s ∷ rest) previous slot =
-    let more : times_in rest slot ≤ times_in (s ∷ rest) slot = elim (s == slot) as (λ b. times_in rest slot ≤ (if b then times_in rest slot + 1 else times_in rest slot)) [ true ↦ omega arith | false ↦ omega arith ] in
+    let more : times_in rest slot ≤ times_in (s ∷ rest) slot =
+    elim (s == slot) as (λ b. times_in rest slot ≤ (if b then times_in rest slot + 1 else times_in rest slot))
+    [ true ↦ omega arith | false ↦ omega arith ] in
     elim (s == previous) as (λ b. times_in (if b then rest else behind_slot rest previous) slot ≤ times_in (s ∷ rest) slot) [
       | true ↦ more
       | false ↦ omega (arith, times-behind_slot rest previous slot, more)
@@ -43,14 +46,17 @@ pub times-first : (slot : ℕ) (rest : List ℕ) → times_in (slot ∷ rest) sl
 times-first slot rest = ap (λ b. if b then times_in rest slot + 1 else times_in rest slot) (eq-eqb slot slot refl)
 
 times-tail : (s : ℕ) (tail : List ℕ) (slot : ℕ) → times_in tail slot ≤ times_in (s ∷ tail) slot
-times-tail s tail slot = elim (s == slot) as (λ b. times_in tail slot ≤ (if b then times_in tail slot + 1 else times_in tail slot)) [ true ↦ omega arith | false ↦ omega arith ]
+times-tail s tail slot = elim (s == slot) as (λ b. times_in tail slot ≤ (if b then times_in tail slot + 1 else times_in tail slot))
+    [ true ↦ omega arith | false ↦ omega arith ]
 
 -- a slot that is after the first is not the first
 not-first : (s slot : ℕ) (tail : List ℕ) → ((t : ℕ) → times_in (s ∷ tail) t ≤ 1) → 1 ≤ times_in tail slot → s ≢ slot
-not-first s slot tail once found = λ same. absurd (omega (arith, once slot, found, ap (λ b. if b then times_in tail slot + 1 else times_in tail slot) (eq-eqb s slot same)))
+not-first s slot tail once found = λ same.
+    absurd (omega (arith, once slot, found, ap (λ b. if b then times_in tail slot + 1 else times_in tail slot) (eq-eqb s slot same)))
 
 -- after the first slot of what is after another comes the rest of that
-behind-next : (order : List ℕ) (previous slot : ℕ) (rest : List ℕ) → ((s : ℕ) → times_in order s ≤ 1) → behind_slot order previous ≡ slot ∷ rest → behind_slot order slot ≡ rest
+behind-next : (order : List ℕ) (previous slot : ℕ) (rest : List ℕ) → ((s : ℕ) → times_in order s ≤ 1) → behind_slot order previous ≡ slot ∷ rest →
+    behind_slot order slot ≡ rest
 behind-next [] previous slot rest once is = absurd (let clash : [] ≡ slot ∷ rest = is in cc)
 behind-next (s ∷ tail) previous slot rest once is =
     let later : (t : ℕ) → times_in tail t ≤ 1 = λ t. omega (arith, once t, times-tail s tail t) in
@@ -58,19 +64,22 @@ behind-next (s ∷ tail) previous slot rest once is =
       | inl here ↦
           let is' : tail ≡ slot ∷ rest = sym (ap (λ b. if b then tail else behind_slot tail previous) here.0) ∙ is in
           let other = not-first s slot tail once (omega (arith, ap (λ l. times_in l slot) is', times-first slot rest)) in
-          ap (λ b. if b then tail else behind_slot tail slot) (ne_eqb s slot other) ∙ ap (λ l. behind_slot l slot) is' ∙ ap (λ b. if b then rest else behind_slot rest slot) (eq-eqb slot slot refl)
+          ap (λ b. if b then tail else behind_slot tail slot) (ne_eqb s slot other) ∙ ap (λ l. behind_slot l slot) is'
+          ∙ ap (λ b. if b then rest else behind_slot rest slot) (eq-eqb slot slot refl)
       | inr apart ↦
           let is' : behind_slot tail previous ≡ slot ∷ rest = sym (ap (λ b. if b then tail else behind_slot tail previous) apart.0) ∙ is in
           let other = not-first s slot tail once (omega (arith, ap (λ l. times_in l slot) is', times-first slot rest, times-behind_slot tail previous slot)) in
           ap (λ b. if b then tail else behind_slot tail slot) (ne_eqb s slot other) ∙ behind-next tail previous slot rest later is'
     ]
 
-pub behind-step : (order : List ℕ) (previous : Option ℕ) (slot : ℕ) (rest : List ℕ) → ((s : ℕ) → times_in order s ≤ 1) → behind order previous ≡ slot ∷ rest → behind order (Some slot) ≡ rest
+pub behind-step : (order : List ℕ) (previous : Option ℕ) (slot : ℕ) (rest : List ℕ) → ((s : ℕ) → times_in order s ≤ 1) → behind order previous ≡ slot ∷ rest →
+    behind order (Some slot) ≡ rest
 behind-step order None slot rest once is = ap (λ l. behind_slot l slot) is ∙ ap (λ b. if b then rest else behind_slot rest slot) (eq-eqb slot slot refl)
 behind-step order (Some previous) slot rest once is = behind-next order previous slot rest once is
 
 -- the next one of a part of a list
-next_after-filter : (test : ℕ → Bool) (order : List ℕ) (previous : ℕ) → test previous ≡ true → next_after (filter test order) previous ≡ first_of (filter test (behind_slot order previous))
+next_after-filter : (test : ℕ → Bool) (order : List ℕ) (previous : ℕ) → test previous ≡ true →
+    next_after (filter test order) previous ≡ first_of (filter test (behind_slot order previous))
 next_after-filter test [] previous passes = refl
 next_after-filter test (s ∷ rest) previous passes =
     let part = filter test rest in
@@ -88,7 +97,8 @@ next_after-filter test (s ∷ rest) previous passes =
           ]
     ]
 
-pub after-filter : (test : ℕ → Bool) (order : List ℕ) (previous : Option ℕ) → ((p : ℕ) → previous ≡ Some p → test p ≡ true) → next_in (filter test order) previous ≡ first_of (filter test (behind order previous))
+pub after-filter : (test : ℕ → Bool) (order : List ℕ) (previous : Option ℕ) → ((p : ℕ) → previous ≡ Some p → test p ≡ true) →
+    next_in (filter test order) previous ≡ first_of (filter test (behind order previous))
 after-filter test order None passes = refl
 after-filter test order (Some previous) passes = next_after-filter test order previous (passes previous refl)
 
@@ -103,21 +113,23 @@ times-filter test (s ∷ rest) slot =
     let part = filter test rest in
     let more = times-filter test rest slot in
     elim (eqb_tells s slot) [
-      | inl here ↦ elim (test slot) as (λ b. test slot ≡ b → times_in (cond (test s) (s ∷ part) part) slot ≡ (if test slot then (if s == slot then times_in rest slot + 1 else times_in rest slot) else 0)) [
-        | true ↦ λ is.
-            ap (λ b. times_in (cond b (s ∷ part) part) slot) (ap test here.1 ∙ is)
-            ∙ ap (λ b. if b then times_in part slot + 1 else times_in part slot) here.0
-            ∙ ap (λ t. t + 1) (more ∙ ap (λ b. if b then times_in rest slot else 0) is)
-            ∙ sym (ap (λ b. if b then times_in rest slot + 1 else times_in rest slot) here.0)
-            ∙ sym (ap (λ b. if b then (if s == slot then times_in rest slot + 1 else times_in rest slot) else 0) is)
-        | false ↦ λ is.
-            ap (λ b. times_in (cond b (s ∷ part) part) slot) (ap test here.1 ∙ is)
-            ∙ more ∙ ap (λ b. if b then times_in rest slot else 0) is
-            ∙ sym (ap (λ b. if b then (if s == slot then times_in rest slot + 1 else times_in rest slot) else 0) is)
-      ] refl
+      | inl here ↦ elim (test slot) as (λ b. test slot ≡ b →
+          times_in (cond (test s) (s ∷ part) part) slot ≡ (if test slot then (if s == slot then times_in rest slot + 1 else times_in rest slot) else 0)) [
+            | true ↦ λ is.
+                ap (λ b. times_in (cond b (s ∷ part) part) slot) (ap test here.1 ∙ is)
+                ∙ ap (λ b. if b then times_in part slot + 1 else times_in part slot) here.0
+                ∙ ap (λ t. t + 1) (more ∙ ap (λ b. if b then times_in rest slot else 0) is)
+                ∙ sym (ap (λ b. if b then times_in rest slot + 1 else times_in rest slot) here.0)
+                ∙ sym (ap (λ b. if b then (if s == slot then times_in rest slot + 1 else times_in rest slot) else 0) is)
+            | false ↦ λ is.
+                ap (λ b. times_in (cond b (s ∷ part) part) slot) (ap test here.1 ∙ is)
+                ∙ more ∙ ap (λ b. if b then times_in rest slot else 0) is
+                ∙ sym (ap (λ b. if b then (if s == slot then times_in rest slot + 1 else times_in rest slot) else 0) is)
+          ] refl
       | inr other ↦
           let whole = more ∙ sym (ap (λ b. if test slot then (if b then times_in rest slot + 1 else times_in rest slot) else 0) other.0) in
-          elim (test s) as (λ b. times_in (cond b (s ∷ part) part) slot ≡ (if test slot then (if s == slot then times_in rest slot + 1 else times_in rest slot) else 0)) [
+          elim (test s) as (λ b. times_in (cond b (s ∷ part) part) slot
+          ≡ (if test slot then (if s == slot then times_in rest slot + 1 else times_in rest slot) else 0)) [
             | true ↦ ap (λ b. if b then times_in part slot + 1 else times_in part slot) other.0 ∙ whole
             | false ↦ whole
           ]
@@ -169,7 +181,8 @@ without-absent slot (s ∷ rest) none =
     ]
 
 -- a part of a list without a slot is the part without it, if the test of the others stays
-pub filter-without : (old new : ℕ → Bool) (order : List ℕ) (slot : ℕ) → ((s : ℕ) → s ≢ slot → new s ≡ old s) → filter new (without slot order) ≡ without slot (filter old order)
+pub filter-without : (old new : ℕ → Bool) (order : List ℕ) (slot : ℕ) → ((s : ℕ) → s ≢ slot → new s ≡ old s) →
+    filter new (without slot order) ≡ without slot (filter old order)
 filter-without old new [] slot same = refl
 filter-without old new (s ∷ rest) slot same =
     let more = filter-without old new rest slot same in

@@ -3,9 +3,11 @@ use Rattle.std.proofs.Common.{inl, inr, ℕ, ◌≡◌, ◌≢◌, ◌∙◌, �
 use Rattle.std.specs.Option.{option_map, option_map_or}
 use Rattle.std.proofs.lemmas.Bool.{eq-eqb, ne_eqb}
 use Rattle.std.proofs.lemmas.Bool.Decides.{eqb_tells, nat_tests}
-use Rattle.model.specs.Capabilities.Slots.{Slots, IsFull, adopted, capability_at, closed, empty_entry, is_empty, is_full, is_within, opened, parent_at, recapped, spliced, with_entry, with_parent}
+use Rattle.model.specs.Capabilities.Slots.{Slots, IsFull, adopted, capability_at, closed, empty_entry, is_empty, is_full, is_within, opened, parent_at}
+use Rattle.model.specs.Capabilities.Slots.{recapped, spliced, with_entry, with_parent}
 use Rattle.model.specs.declared.capabilities.Cap.{Cap}
-use Rattle.model.specs.declared.capabilities.Cap.TheVariants.{Empty, Untyped, Endpoint, Notification, CNode, Frame, PageTable, Tcb, RootTable, InterruptControl, InterruptHandler}
+use Rattle.model.specs.declared.capabilities.Cap.TheVariants.{Empty, Untyped, Endpoint, Notification, CNode, Frame, PageTable, Tcb, RootTable, InterruptControl}
+use Rattle.model.specs.declared.capabilities.Cap.TheVariants.{InterruptHandler}
 use Rattle.model.specs.declared.slot_entries.Entry.{Entry}
 use Rattle.model.proofs.Depths.{adopted_parent}
 
@@ -26,15 +28,20 @@ parent_of held = option_map_or (λ h. h.parent) held None
 pub capability-adopted : (gone : ℕ) (parent : Option ℕ) (held : Option Entry) → capability_of (option_map (adopted gone parent) held) ≡ capability_of held
 capability-adopted gone parent None = refl
 capability-adopted gone parent (Some held) =
-    elim (option_map_or (λ p. p == gone) held.parent false) as (λ b. (if b then record held { parent = parent } else held).capability ≡ held.capability) [ true ↦ refl | false ↦ refl ]
+    elim (option_map_or (λ p. p == gone) held.parent false) as (λ b. (if b then record held { parent = parent } else held).capability ≡ held.capability)
+    [ true ↦ refl | false ↦ refl ]
 
 -- and its parent changes if it was the one that is gone
-parent-adopted_entry : (gone : ℕ) (parent : Option ℕ) (capability : Cap) (was : Option ℕ) → (adopted gone parent (record { capability = capability; parent = was })).parent ≡ adopted_parent gone parent was
+parent-adopted_entry : (gone : ℕ) (parent : Option ℕ) (capability : Cap) (was : Option ℕ) →
+    (adopted gone parent (record { capability = capability; parent = was })).parent ≡ adopted_parent gone parent was
 parent-adopted_entry gone parent capability None = refl
 parent-adopted_entry gone parent capability (Some p) =
-    elim (p == gone) as (λ b. parent_of (Some (if b then record { capability = capability; parent = parent } else record { capability = capability; parent = Some p })) ≡ (if b then parent else Some p)) [ true ↦ refl | false ↦ refl ]
+    elim (p == gone) as (λ b.
+    parent_of (Some (if b then record { capability = capability; parent = parent } else record { capability = capability; parent = Some p }))
+    ≡ (if b then parent else Some p)) [ true ↦ refl | false ↦ refl ]
 
-pub parent-adopted : (gone : ℕ) (parent : Option ℕ) (held : Option Entry) → parent_of (option_map (adopted gone parent) held) ≡ adopted_parent gone parent (parent_of held)
+pub parent-adopted : (gone : ℕ) (parent : Option ℕ) (held : Option Entry) →
+    parent_of (option_map (adopted gone parent) held) ≡ adopted_parent gone parent (parent_of held)
 parent-adopted gone parent None = refl
 parent-adopted gone parent (Some held) = parent-adopted_entry gone parent held.capability held.parent
 
@@ -67,16 +74,20 @@ full-not-none slots slot full none =
     absurd (let clash : false ≡ true = sym (ap (λ o. not (is_empty (capability_of o))) none) ∙ full in cc)
 
 -- opening and closing empty slots changes no capability and no parent
-pub capability-opened : (slots : Slots) (first count s : ℕ) → ((t : ℕ) → is_within first count t ≡ true → slots t ≡ None) → (capability_at (opened slots first count) s ≡ capability_at slots s) × (parent_at (opened slots first count) s ≡ parent_at slots s)
+pub capability-opened : (slots : Slots) (first count s : ℕ) → ((t : ℕ) → is_within first count t ≡ true → slots t ≡ None) →
+    (capability_at (opened slots first count) s ≡ capability_at slots s) × (parent_at (opened slots first count) s ≡ parent_at slots s)
 capability-opened slots first count s was =
-    elim (is_within first count s) as (λ b. is_within first count s ≡ b → (capability_of (if b then Some empty_entry else slots s) ≡ capability_at slots s) × (parent_of (if b then Some empty_entry else slots s) ≡ parent_at slots s)) [
+    elim (is_within first count s) as (λ b. is_within first count s ≡ b → (capability_of (if b then Some empty_entry else slots s) ≡ capability_at slots s)
+    × (parent_of (if b then Some empty_entry else slots s) ≡ parent_at slots s)) [
       | true ↦ λ inside. (ap capability_of (sym (was s inside)), ap parent_of (sym (was s inside)))
       | false ↦ λ outside. (refl, refl)
     ] refl
 
-pub capability-closed : (slots : Slots) (first count s : ℕ) → ((t : ℕ) → is_within first count t ≡ true → slots t ≡ Some empty_entry) → (capability_at (closed slots first count) s ≡ capability_at slots s) × (parent_at (closed slots first count) s ≡ parent_at slots s)
+pub capability-closed : (slots : Slots) (first count s : ℕ) → ((t : ℕ) → is_within first count t ≡ true → slots t ≡ Some empty_entry) →
+    (capability_at (closed slots first count) s ≡ capability_at slots s) × (parent_at (closed slots first count) s ≡ parent_at slots s)
 capability-closed slots first count s was =
-    elim (is_within first count s) as (λ b. is_within first count s ≡ b → (capability_of (if b then None else slots s) ≡ capability_at slots s) × (parent_of (if b then None else slots s) ≡ parent_at slots s)) [
+    elim (is_within first count s) as (λ b. is_within first count s ≡ b → (capability_of (if b then None else slots s) ≡ capability_at slots s)
+    × (parent_of (if b then None else slots s) ≡ parent_at slots s)) [
       | true ↦ λ inside. (ap capability_of (sym (was s inside)), ap parent_of (sym (was s inside)))
       | false ↦ λ outside. (refl, refl)
     ] refl
@@ -89,7 +100,8 @@ pub bounds-within : (first count slot : ℕ) → first ≤ slot → slot < first
 bounds-within first count slot low high = grind (arith, nat_tests)
 
 -- what is full after each change
-pub full-recapped : (slots : Slots) (slot : ℕ) (capability : Cap) → IsFull slots slot → capability ≢ Empty → (s : ℕ) → is_full (recapped slots slot capability) s ≡ is_full slots s
+pub full-recapped : (slots : Slots) (slot : ℕ) (capability : Cap) → IsFull slots slot → capability ≢ Empty → (s : ℕ) →
+    is_full (recapped slots slot capability) s ≡ is_full slots s
 full-recapped slots slot capability full some s =
     let entry : Option Entry = Some (record { capability = capability; parent = parent_at slots slot }) in
     elim (eqb_tells s slot) [

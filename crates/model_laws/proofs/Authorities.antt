@@ -1,11 +1,13 @@
 -- What authority rules out. A capability that is granted to a thread which holds one endpoint is one to that endpoint.
-use Rattle.std.proofs.Common.{ℕ, ◌≡◌, ◌≢◌, ◌⊎◌, ◌≤◌, ◌++◌, Bool, true, not, if◌then◌else◌, Option, Some, None, List, [], ◌∷◌, Contains, refl, sym, ◌∙◌, ap, subst, inl, inr, arith, bit_and, eq-eqb, lit<, ◌==◌}
+use Rattle.std.proofs.Common.{ℕ, ◌≡◌, ◌≢◌, ◌⊎◌, ◌≤◌, ◌++◌, Bool, true, not, if◌then◌else◌, Option, Some, None, List, [], ◌∷◌, Contains, refl, sym, ◌∙◌, ap}
+use Rattle.std.proofs.Common.{subst, inl, inr, arith, bit_and, eq-eqb, lit<, ◌==◌}
 use Rattle.std.proofs.lemmas.Bool.{ne_eqb}
 use Rattle.model.specs.declared.capabilities.Cap.{Cap}
 use Rattle.model.specs.declared.capabilities.Cap.TheVariants.{Empty, Endpoint, Frame, InterruptControl, InterruptHandler, Untyped}
 use Rattle.model.specs.declared.capabilities.FrameMapping.{FrameMapping}
 use Rattle.model.specs.declared.rights.Rights.{Rights}
-use Rattle.model.specs.Acceptance.Authority.{Covers, Granted, held, appeared, pool, handler, made_handler, control, given, moved_along, IsUntypedAround, ReadyChange, WithinAuthority, rights_of, badge_of, without_use}
+use Rattle.model.specs.Acceptance.Authority.{Covers, Granted, held, appeared, pool, handler, made_handler, control, given, moved_along, IsUntypedAround}
+use Rattle.model.specs.Acceptance.Authority.{ReadyChange, WithinAuthority, rights_of, badge_of, without_use}
 use Rattle.model.specs.Capabilities.CapabilityKinds.{frame_mapping}
 use Rattle.model.specs.Capabilities.Rights.{mapping_rights, rights}
 use Rattle.model.specs.Capabilities.Slots.{capability_at}
@@ -23,7 +25,8 @@ pub record IsPart (offset : ℕ) (r : Rights) (badge : ℕ) (new : Cap) : Type 0
   pub allowed : bit_and r.0 (rights_of new).0 ≡ (rights_of new).0
   pub marks : (badge ≡ 0) ⊎ (badge ≡ badge_of new)
 
-covered : (offset : ℕ) (r : Rights) (badge : ℕ) (new source : Cap) → (source ≡ Empty) ⊎ (source ≡ Endpoint offset r badge) → Covers new source → IsPart offset r badge new
+covered : (offset : ℕ) (r : Rights) (badge : ℕ) (new source : Cap) → (source ≡ Empty) ⊎ (source ≡ Endpoint offset r badge) → Covers new source →
+    IsPart offset r badge new
 covered offset r badge new source (inl none) covers =
     let e : None ≡ Some (covers.kind, covers.offset) = sym (ap object_named none) ∙ covers.same in cc
 covered offset r badge new source (inr same) covers = record {
@@ -33,11 +36,14 @@ covered offset r badge new source (inr same) covers = record {
 }
 
 -- neither is untyped memory, a handler or interrupt control
-no_untyped : (offset : ℕ) (r : Rights) (badge first size : ℕ) (source : Cap) → (source ≡ Empty) ⊎ (source ≡ Endpoint offset r badge) → IsUntypedAround first size source → ⊥
+no_untyped : (offset : ℕ) (r : Rights) (badge first size : ℕ) (source : Cap) → (source ≡ Empty) ⊎ (source ≡ Endpoint offset r badge) →
+    IsUntypedAround first size source → ⊥
 no_untyped offset r badge first size source (inl none) around = let e : Empty ≡ Untyped around.offset around.bits around.watermark = sym none ∙ around.is in cc
-no_untyped offset r badge first size source (inr same) around = let e : Endpoint offset r badge ≡ Untyped around.offset around.bits around.watermark = sym same ∙ around.is in cc
+no_untyped offset r badge first size source (inr same) around = let e : Endpoint offset r badge ≡ Untyped around.offset around.bits around.watermark = sym same
+    ∙ around.is in cc
 
-no_handler : (offset : ℕ) (r : Rights) (badge number : ℕ) (source : Cap) → (source ≡ Empty) ⊎ (source ≡ Endpoint offset r badge) → source ≡ InterruptHandler number → ⊥
+no_handler : (offset : ℕ) (r : Rights) (badge number : ℕ) (source : Cap) → (source ≡ Empty) ⊎ (source ≡ Endpoint offset r badge) →
+    source ≡ InterruptHandler number → ⊥
 no_handler offset r badge number source (inl none) is = let e : Empty ≡ InterruptHandler number = sym none ∙ is in cc
 no_handler offset r badge number source (inr same) is = let e : Endpoint offset r badge ≡ InterruptHandler number = sym same ∙ is in cc
 
@@ -128,7 +134,8 @@ not_nowhere self none = itself_there self (omega (arith, none))
 -- ---- mappings
 
 -- what a mapping that is new gets from a frame of which the thread holds this capability alone, unmapped
-pub mapping-rights : (image : Image) (t : Thread) (s after : State) (slot offset : ℕ) (r : Rights) (mapping : FrameMapping) → HoldsOnly image t s (Frame offset r None)
+pub mapping-rights : (image : Image) (t : Thread) (s after : State) (slot offset : ℕ) (r : Rights) (mapping : FrameMapping) →
+    HoldsOnly image t s (Frame offset r None)
     → capability_at s.slots slot ≡ Frame offset r None → capability_at after.slots slot ≡ Frame offset r (Some mapping)
     → WithinAuthority image t s after → (word : ℕ) × (mapping.rights ≡ mapping_rights r word)
 mapping-rights image t s after slot offset r mapping only before behind within =

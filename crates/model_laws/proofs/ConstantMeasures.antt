@@ -6,7 +6,8 @@ use Rattle.std.specs.List.{range_with_len}
 use Rattle.model.specs.declared.entries.TermEntry.{TermEntry}
 use Rattle.model.specs.declared.ranges.Range.{Range}
 use Rattle.model.specs.Machine.ProgramMemory.{RegisterFile, read}
-use Rattle.model.specs.Acceptance.Measures.{Form, Measure, constant_form, difference_form, falls, greatest, greatest_term, least, least_term, least_value, measured, range_at, register_numbered, stays_below, substituted, sum_form, sum_of, times_form, variable_form}
+use Rattle.model.specs.Acceptance.Measures.{Form, Measure, constant_form, difference_form, falls, greatest, greatest_term, least, least_term, least_value}
+use Rattle.model.specs.Acceptance.Measures.{measured, range_at, register_numbered, stays_below, substituted, sum_form, sum_of, times_form, variable_form}
 use Rattle.model.specs.Acceptance.Ranges.{range_of}
 
 -- a form of no variable
@@ -15,7 +16,8 @@ record IsConstant (f : Form) : Type 0 where
 
 sum_from : (f : ℕ → ℤ) → ((n : ℕ) → f n ≡ pos 0) → (start : ℤ) (ns : List ℕ) → fold (λ n m. n +ℤ m) start (map f ns) ≡ start
 sum_from f each start [] = refl
-sum_from f each start (n ∷ ns) = ap (λ (z : ℤ). fold (λ n m. n +ℤ m) (start +ℤ z) (map f ns)) (each n) ∙ ap (λ (z : ℤ). fold (λ n m. n +ℤ m) z (map f ns)) (+ℤ_idr start) ∙ sum_from f each start ns
+sum_from f each start (n ∷ ns) = ap (λ (z : ℤ). fold (λ n m. n +ℤ m) (start +ℤ z) (map f ns)) (each n)
+    ∙ ap (λ (z : ℤ). fold (λ n m. n +ℤ m) z (map f ns)) (+ℤ_idr start) ∙ sum_from f each start ns
 
 no_greatest : (n : ℤ) (r : Range) → n ≡ pos 0 → greatest_term n r ≡ pos 0
 no_greatest n r none = ap (λ (z : ℤ). greatest_term z r) none ∙ zero-*ℤ (pos r.high)
@@ -26,13 +28,15 @@ no_least n r none = ap (λ (z : ℤ). least_term z r) none ∙ zero-*ℤ (pos r.
 greatest_is : (variables : ℕ) (f : Form) (range : ℕ → Range) → IsConstant f → greatest variables f range ≡ f.constant
 unfolding greatest
 greatest_is variables f range is =
-    ap (λ (z : ℤ). f.constant +ℤ z) (sum_from (λ variable. greatest_term (f.coefficient variable) (range variable)) (λ n. no_greatest (f.coefficient n) (range n) (is.none n)) (pos 0) (range_with_len 0 variables))
+    ap (λ (z : ℤ). f.constant +ℤ z) (sum_from (λ variable. greatest_term (f.coefficient variable) (range variable))
+    (λ n. no_greatest (f.coefficient n) (range n) (is.none n)) (pos 0) (range_with_len 0 variables))
     ∙ +ℤ_idr f.constant
 
 least_is : (variables : ℕ) (f : Form) (range : ℕ → Range) → IsConstant f → least variables f range ≡ f.constant
 unfolding least
 least_is variables f range is =
-    ap (λ (z : ℤ). f.constant +ℤ z) (sum_from (λ variable. least_term (f.coefficient variable) (range variable)) (λ n. no_least (f.coefficient n) (range n) (is.none n)) (pos 0) (range_with_len 0 variables))
+    ap (λ (z : ℤ). f.constant +ℤ z) (sum_from (λ variable. least_term (f.coefficient variable) (range variable))
+    (λ n. no_least (f.coefficient n) (range n) (is.none n)) (pos 0) (range_with_len 0 variables))
     ∙ +ℤ_idr f.constant
 
 constant_is : (n : ℤ) → IsConstant (constant_form n)
@@ -52,15 +56,20 @@ below_by_difference a b = by_lt_z a b (λ lt. grind (arith, ints)) (λ le. grind
 
 -- ---- the rules
 
-pub constant_falls : (from to : Measure) (value_of : ℕ → Form) (before behind : List Range) → from.terms ≡ [] → to.terms ≡ [] → falls from to value_of before behind ≡ int_lt to.constant from.constant
+pub constant_falls : (from to : Measure) (value_of : ℕ → Form) (before behind : List Range) → from.terms ≡ [] → to.terms ≡ [] →
+    falls from to value_of before behind ≡ int_lt to.constant from.constant
 unfolding falls
 constant_falls from to value_of before behind none_from none_to =
-    ap (λ (f : Form). int_lt (greatest 64 (difference_form f (substituted from variable_form)) (range_at before behind)) (pos 0)) (substituted_is to value_of none_to)
-    ∙ ap (λ (f : Form). int_lt (greatest 64 (difference_form (constant_form to.constant) f) (range_at before behind)) (pos 0)) (substituted_is from variable_form none_from)
-    ∙ ap (λ (z : ℤ). int_lt z (pos 0)) (greatest_is 64 (difference_form (constant_form to.constant) (constant_form from.constant)) (range_at before behind) (difference_is to.constant from.constant))
+    ap (λ (f : Form). int_lt (greatest 64 (difference_form f (substituted from variable_form)) (range_at before behind)) (pos 0))
+    (substituted_is to value_of none_to)
+    ∙ ap (λ (f : Form). int_lt (greatest 64 (difference_form (constant_form to.constant) f) (range_at before behind)) (pos 0))
+    (substituted_is from variable_form none_from)
+    ∙ ap (λ (z : ℤ). int_lt z (pos 0)) (greatest_is 64 (difference_form (constant_form to.constant) (constant_form from.constant)) (range_at before behind)
+    (difference_is to.constant from.constant))
     ∙ below_by_difference to.constant from.constant
 
-pub constant_stays_below : (budget : ℕ) (to : Measure) (value_of : ℕ → Form) (before behind : List Range) → to.terms ≡ [] → stays_below budget to value_of before behind ≡ int_le to.constant (pos budget)
+pub constant_stays_below : (budget : ℕ) (to : Measure) (value_of : ℕ → Form) (before behind : List Range) → to.terms ≡ [] →
+    stays_below budget to value_of before behind ≡ int_le to.constant (pos budget)
 unfolding stays_below
 constant_stays_below budget to value_of before behind none =
     ap (λ (f : Form). int_le (greatest 64 f (range_at before behind)) (pos budget)) (substituted_is to value_of none)

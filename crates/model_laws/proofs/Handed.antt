@@ -1,5 +1,6 @@
 -- A step by which a thread hands another a message, a reply or a signal, so that this one runs again, stays within authority.
-use Rattle.std.proofs.Common.{ℕ, zero, suc, ◌≡◌, ◌≢◌, ◌==◌, ◌+◌, ◌<◌, ◌≤◌, ◌++◌, Bool, true, false, not, if◌then◌else◌, Option, Some, option_map, List, [], ◌∷◌, length, refl, sym, ◌∙◌, ap, subst, inl, inr, arith}
+use Rattle.std.proofs.Common.{ℕ, zero, suc, ◌≡◌, ◌≢◌, ◌==◌, ◌+◌, ◌<◌, ◌≤◌, ◌++◌, Bool, true, false, not, if◌then◌else◌, Option, Some, option_map, List, [], ◌∷◌}
+use Rattle.std.proofs.Common.{length, refl, sym, ◌∙◌, ap, subst, inl, inr, arith}
 use Rattle.std.specs.Prelude.{slice_index_or}
 use Rattle.std.specs.Option.{option_map_or}
 use Rattle.std.proofs.lemmas.Bool.{eq-eqb, ne_eqb}
@@ -12,7 +13,8 @@ use Rattle.model.specs.Kernel.Kinds.{Names, kind_at, kind_of}
 use Rattle.model.specs.Kernel.Messages.{passes, passes_with}
 use Rattle.model.specs.Kernel.Retype.{NewEndpoint, NewNotification, NewThread}
 use Rattle.model.specs.Kernel.Scheduling.{full_slice, is_runnable, to_tail, wake}
-use Rattle.model.specs.Kernel.State.{State, Runnable, Object, ThreadObject, EndpointObject, NotificationObject, EndpointState, NotificationState, ThreadState, as_thread, new_thread, thread_at, with_object, with_thread}
+use Rattle.model.specs.Kernel.State.{State, Runnable, Object, ThreadObject, EndpointObject, NotificationObject, EndpointState, NotificationState, ThreadState}
+use Rattle.model.specs.Kernel.State.{as_thread, new_thread, thread_at, with_object, with_thread}
 use Rattle.model.specs.Machine.Effects.{advanced}
 use Rattle.model.specs.Machine.ProgramMemory.{RegisterFile}
 use Rattle.model.specs.Shared.Lists.{times_in, without}
@@ -119,7 +121,8 @@ module _ (image : Image) (t : Thread) (s : State) (base : ℕ) (held : Object) (
   changed = woken waiter (advanced (hands waiter.registers))
 
   put-thread : (x : State) (u : ThreadState) → thread_at (with_thread x other u) other ≡ u
-  put-thread x u = ap (λ (b : Bool). option_map_or (λ (v : ThreadState). v) (as_thread (if b then Some (ThreadObject u) else x.objects other)) new_thread) (eq-eqb other other refl)
+  put-thread x u = ap (λ (b : Bool). option_map_or (λ (v : ThreadState). v) (as_thread (if b then Some (ThreadObject u) else x.objects other)) new_thread)
+      (eq-eqb other other refl)
 
   begun-other : thread_at begun other ≡ waiter
   unfolding begun
@@ -153,7 +156,8 @@ module _ (image : Image) (t : Thread) (s : State) (base : ℕ) (held : Object) (
   moved-elsewhere : (offset : ℕ) → offset ≢ other → moved.objects offset ≡ (if offset == base then Some held else s.objects offset)
   unfolding begun one two three moved
   moved-elsewhere offset not_other =
-      ap (λ (b : Bool). if b then Some (ThreadObject final) else if b then Some (ThreadObject second) else if b then Some (ThreadObject first) else if offset == base then Some held else s.objects offset)
+      ap (λ (b : Bool). if b then Some (ThreadObject final) else if b then Some (ThreadObject second) else if b then Some (ThreadObject first) else
+      if offset == base then Some held else s.objects offset)
       (ne_eqb offset other not_other)
 
   elsewhere : (offset : ℕ) → offset ≢ self → offset ≢ other → after.objects offset ≡ (if offset == base then Some held else s.objects offset)
@@ -186,7 +190,8 @@ module _ (image : Image) (t : Thread) (s : State) (base : ℕ) (held : Object) (
   unfolding last caller_of
   own-right = elim (eqb_tells self base) [
     | inl here ↦
-        let there : moved.objects self ≡ Some held = moved-elsewhere self (λ e. may.apart (sym e)) ∙ ap (λ (b : Bool). if b then Some held else s.objects self) here.0 in
+        let there : moved.objects self ≡ Some held = moved-elsewhere self (λ e. may.apart (sym e))
+        ∙ ap (λ (b : Bool). if b then Some held else s.objects self) here.0 in
         let kind : option_map kind_of (Some held) ≡ Some NewThread = sym may.kind ∙ sym (ap (kind_at s) here.1) ∙ ap (option_map kind_of) may.is in
         let thread = thread-kind (Some held) kind in
         let same : held ≡ ThreadObject thread.0 = let e : Some held ≡ Some (ThreadObject thread.0) = thread.1 in cc in
@@ -220,7 +225,8 @@ module _ (image : Image) (t : Thread) (s : State) (base : ℕ) (held : Object) (
   ready-rest : (priority : ℕ) → priority ≢ tail → after.ready priority ≡ s.ready priority
   ready-rest priority differs =
       ready-is priority
-      ∙ ap (λ (b : Bool). if b then without other (s.ready tail) ++ other ∷ [] else without other (s.ready priority)) (ne_eqb priority tail differs) ∙ none priority
+      ∙ ap (λ (b : Bool). if b then without other (s.ready tail) ++ other ∷ [] else without other (s.ready priority)) (ne_eqb priority tail differs)
+      ∙ none priority
 
   woken-here : (priority : ℕ) → priority ≡ tail → IsWoken s after priority other
   unfolding changed
@@ -262,7 +268,8 @@ module _ (image : Image) (t : Thread) (s : State) (base : ℕ) (held : Object) (
 
   -- ---- all together
 
-  pub handed-within : Reason s (handed s (self_of image t) base held other hands) (self_of image t) (CallNames image t s) other waiter (woken waiter (advanced (hands waiter.registers)))
+  pub handed-within : Reason s (handed s (self_of image t) base held other hands) (self_of image t) (CallNames image t s) other waiter
+      (woken waiter (advanced (hands waiter.registers)))
       → WithinAuthority image t s (handed s (self_of image t) base held other hands)
   unfolding after changed
   handed-within reason = record {

@@ -1,5 +1,6 @@
 -- A Send that is delivered, a signal that wakes a waiter, and a Reply stay within authority.
-use Rattle.std.proofs.Common.{ℕ, ◌≡◌, ◌≢◌, ◌==◌, ◌++◌, Bool, true, false, if◌then◌else◌, Option, Some, None, Result, option_map, List, [], ◌∷◌, refl, sym, ◌∙◌, ap, subst, inl, inr, arith}
+use Rattle.std.proofs.Common.{ℕ, ◌≡◌, ◌≢◌, ◌==◌, ◌++◌, Bool, true, false, if◌then◌else◌, Option, Some, None, Result, option_map, List, [], ◌∷◌, refl, sym, ◌∙◌}
+use Rattle.std.proofs.Common.{ap, subst, inl, inr, arith}
 use Rattle.std.specs.Prelude.{map}
 use Rattle.std.specs.Option.{option_map_or}
 use Rattle.std.proofs.lemmas.Bool.{ne_eqb}
@@ -17,7 +18,9 @@ use Rattle.model.specs.Kernel.Messages.{a0, a7, delivered, message_of, passes, r
 use Rattle.model.specs.Kernel.Retype.{NewEndpoint, NewNotification}
 use Rattle.model.specs.Kernel.Scheduling.{head_of, is_runnable}
 use Rattle.model.specs.Kernel.Soundness.{IsSound, waiting_at}
-use Rattle.model.specs.Kernel.State.{State, Status, Runnable, Object, ThreadObject, EndpointObject, NotificationObject, EndpointState, NotificationState, Sender, BySend, ThreadState, as_endpoint, as_notification, as_thread, endpoint_at, new_endpoint, new_notification, new_thread, notification_at, thread_at, with_object}
+use Rattle.model.specs.Kernel.State.{State, Status, Runnable, Object, ThreadObject, EndpointObject, NotificationObject, EndpointState, NotificationState}
+use Rattle.model.specs.Kernel.State.{Sender, BySend, ThreadState, as_endpoint, as_notification, as_thread, endpoint_at, new_endpoint, new_notification}
+use Rattle.model.specs.Kernel.State.{new_thread, notification_at, thread_at, with_object}
 use Rattle.model.specs.Kernel.Steps.{call_of, calls_known, refused, send_by, send_named, send_on, sender, signal_on, system_call}
 use Rattle.model.specs.declared.system_calls.SendCall.TheVariants.{Sending}
 use Rattle.model.specs.Machine.Effects.{advanced}
@@ -127,7 +130,8 @@ module _ (image : Image) (t : Thread) (s : State) (sound : IsSound s) (endpoint 
   delivers : (send_by s (self_of image t) Sending call.slot (Endpoint endpoint allowed badge)).0 ≡ handed s (self_of image t) endpoint shorter first hands
   unfolding hands
   delivers =
-      ap (λ (b : Bool). (if b then send_on s (self_of image t) Sending endpoint badge (may_grant_reply allowed) else refused s (self_of image t) Sending InvalidCapability).0) writes
+      ap (λ (b : Bool). (if b then send_on s (self_of image t) Sending endpoint badge (may_grant_reply allowed) else
+      refused s (self_of image t) Sending InvalidCapability).0) writes
       ∙ ap (λ (l : List ℕ). sends s endpoint (sender (self_of image t) BySend badge (may_grant_reply allowed)) l) list
 
   reason : Reason s (handed s (self_of image t) endpoint shorter first hands) (self_of image t) (CallNames image t s) first waits.own
@@ -135,7 +139,8 @@ module _ (image : Image) (t : Thread) (s : State) (sound : IsSound s) (endpoint 
   unfolding hands
   reason =
       receiver endpoint badge waits.own.caller (ap head_of list) waits.blocked
-      (record { slot = call.slot; own = call.among; named = call.named; such = record { allowed = allowed; is = call.holds; writes = writes } }) (as_before refl)
+      (record { slot = call.slot; own = call.among; named = call.named; such = record { allowed = allowed; is = call.holds; writes = writes } })
+      (as_before refl)
       (ap (λ (u : ThreadState). woken waits.own (advanced (delivered waits.own.registers badge (message_of u))))
       (thread-beside s endpoint shorter (self_of image t) (ne_eqb (self_of image t) endpoint (not_queue (self_of image t) call.own call.is))))
 
@@ -160,7 +165,8 @@ module _ (image : Image) (t : Thread) (s : State) (sound : IsSound s) (notificat
 
   waiting : waiting_at (s.objects notification) ≡ first ∷ others
   waiting =
-      let same : notification_at s notification ≡ word.0 = ap (λ (o : Option Object). option_map_or (λ (x : NotificationState). x) (as_notification o) new_notification) word.1 in
+      let same : notification_at s notification ≡ word.0 =
+      ap (λ (o : Option Object). option_map_or (λ (x : NotificationState). x) (as_notification o) new_notification) word.1 in
       ap waiting_at word.1 ∙ sym (ap (λ (x : NotificationState). x.waiters) same) ∙ list
 
   rests : Waits s first notification
@@ -187,10 +193,12 @@ module _ (image : Image) (t : Thread) (s : State) (sound : IsSound s) (notificat
   gives : RegisterFile → RegisterFile
   gives r = write r a0 badge
 
-  wakes : (send_by s (self_of image t) Sending call.slot (Notification notification allowed badge)).0 ≡ handed s (self_of image t) notification fewer first gives
+  wakes : (send_by s (self_of image t) Sending call.slot (Notification notification allowed badge)).0 ≡ handed s (self_of image t) notification fewer first
+      gives
   unfolding gives
   wakes =
-      ap (λ (b : Bool). (if b then signal_on s (self_of image t) Sending notification badge else refused s (self_of image t) Sending InvalidCapability).0) writes
+      ap (λ (b : Bool). (if b then signal_on s (self_of image t) Sending notification badge else refused s (self_of image t) Sending InvalidCapability).0)
+      writes
       ∙ ap (λ (l : List ℕ). passes (signals s notification badge (notification_at s notification) l) (self_of image t)) list
 
   wake_reason : Reason s (handed s (self_of image t) notification fewer first gives) (self_of image t) (CallNames image t s) first rests.own
@@ -243,8 +251,11 @@ module _ (image : Image) (t : Thread) (s : State) (sound : IsSound s) (other : �
   unfolding system_call answers
   replies =
       ap (λ (n : ℕ). (calls_known s (self_of image t) n (call_of n)).0) (number-is s (self_of image t) call.own 6 call.is call.calls)
-      ∙ ap (λ (c : Option ℕ). passes (option_map_or (λ (caller : ℕ). replied (with_object s (self_of image t) without_right) caller (thread_at s caller).status (message_of (thread_at s (self_of image t)))) c s) (self_of image t)) right
-      ∙ ap (λ (status : Status). passes (replied (with_object s (self_of image t) without_right) other status (message_of (thread_at s (self_of image t)))) (self_of image t))
+      ∙ ap (λ (c : Option ℕ).
+      passes (option_map_or (λ (caller : ℕ). replied (with_object s (self_of image t) without_right) caller (thread_at s caller).status
+      (message_of (thread_at s (self_of image t)))) c s) (self_of image t)) right
+      ∙ ap (λ (status : Status). passes (replied (with_object s (self_of image t) without_right) other status (message_of (thread_at s (self_of image t))))
+      (self_of image t))
       (ap (λ (u : ThreadState). u.status) (at-place s other call.waiter call.there) ∙ call.waits)
 
   pub reply-within : WithinAuthority image t s (system_call s (self_of image t)).0

@@ -1,11 +1,13 @@
 -- An interrupt of a sound state stays within authority.
-use Rattle.std.proofs.Common.{ℕ, ◌≡◌, ◌≢◌, ◌==◌, ◌+◌, ◌<◌, ◌≤◌, ◌++◌, ◌&&◌, Bool, true, false, not, nat_lt, if◌then◌else◌, Option, Some, None, List, [], ◌∷◌, refl, sym, ◌∙◌, ap, subst, inl, inr, arith}
+use Rattle.std.proofs.Common.{ℕ, ◌≡◌, ◌≢◌, ◌==◌, ◌+◌, ◌<◌, ◌≤◌, ◌++◌, ◌&&◌, Bool, true, false, not, nat_lt, if◌then◌else◌, Option, Some, None, List, [], ◌∷◌}
+use Rattle.std.proofs.Common.{refl, sym, ◌∙◌, ap, subst, inl, inr, arith}
 use Rattle.std.specs.Prelude.{bit_or}
 use Rattle.std.specs.Option.{option_map_or}
 use Rattle.std.proofs.lemmas.Bool.{eq-eqb, eqb-true, ne_eqb}
 use Rattle.std.proofs.lemmas.Bool.Decides.{eqb_tells}
 use Rattle.model.specs.declared.capabilities.Cap.{Cap}
-use Rattle.model.specs.declared.capabilities.Cap.TheVariants.{Empty, Untyped, Endpoint, Notification, CNode, Frame, PageTable, Tcb, RootTable, InterruptControl, InterruptHandler}
+use Rattle.model.specs.declared.capabilities.Cap.TheVariants.{Empty, Untyped, Endpoint, Notification, CNode, Frame, PageTable, Tcb, RootTable, InterruptControl}
+use Rattle.model.specs.declared.capabilities.Cap.TheVariants.{InterruptHandler}
 use Rattle.model.specs.Acceptance.Authority.{InterruptChange, joins, passes_on, wakes, stays, adds, IsDelivered, WithinInterrupt}
 use Rattle.model.specs.Capabilities.Slots.{capability_at}
 use Rattle.model.specs.Kernel.Deliveries.{woken}
@@ -15,7 +17,9 @@ use Rattle.model.specs.Kernel.Messages.{a0, deliver_word, signals, with_register
 use Rattle.model.specs.Kernel.Retype.{NewNotification}
 use Rattle.model.specs.Kernel.Scheduling.{full_slice, head_of, is_runnable, wake}
 use Rattle.model.specs.Kernel.Soundness.{IsSound, is_blocked_on, runs_at, waiting_at}
-use Rattle.model.specs.Kernel.State.{State, Status, Inactive, Runnable, Blocked, AwaitsReply, AwaitsHandler, Object, ThreadObject, NotificationObject, NotificationState, ThreadState, as_notification, as_thread, binding_slot, new_notification, new_thread, notification_at, put, thread_at, with_notification, with_thread}
+use Rattle.model.specs.Kernel.State.{State, Status, Inactive, Runnable, Blocked, AwaitsReply, AwaitsHandler, Object, ThreadObject, NotificationObject}
+use Rattle.model.specs.Kernel.State.{NotificationState, ThreadState, as_notification, as_thread, binding_slot, new_notification, new_thread, notification_at}
+use Rattle.model.specs.Kernel.State.{put, thread_at, with_notification, with_thread}
 use Rattle.model.specs.Machine.Effects.{advanced}
 use Rattle.model.specs.Machine.ProgramMemory.{write}
 use Rattle.model.specs.Shared.Lists.{times_in, without}
@@ -60,13 +64,15 @@ pub waits-own : (s : State) (thread queue : ℕ) (o : Option ThreadState) → as
 waits-own s thread queue None is some = absurd (omega (arith, some))
 waits-own s thread queue (Some t) is some =
     elim (is_blocked_on queue t.status) as (λ b. is_blocked_on queue t.status ≡ b → 1 ≤ (if b then 1 else 0) → Waits s thread queue) [
-      | true ↦ λ blocked more. let waits = blocked-is queue t.status blocked in record { own = t; is = thread-object (s.objects thread) t is; blocked = waits; rests = ap is_runnable waits }
+      | true ↦ λ blocked more. let waits = blocked-is queue t.status blocked in
+          record { own = t; is = thread-object (s.objects thread) t is; blocked = waits; rests = ap is_runnable waits }
       | false ↦ λ free more. absurd (omega (arith, more))
     ] refl some
 
 pub one-more : (thread : ℕ) (rest : List ℕ) → 1 ≤ times_in (thread ∷ rest) thread
 one-more thread rest =
-    let more : times_in (thread ∷ rest) thread ≡ times_in rest thread + 1 = ap (λ (b : Bool). if b then times_in rest thread + 1 else times_in rest thread) (eq-eqb thread thread refl) in
+    let more : times_in (thread ∷ rest) thread ≡ times_in rest thread + 1 =
+    ap (λ (b : Bool). if b then times_in rest thread + 1 else times_in rest thread) (eq-eqb thread thread refl) in
     omega (arith, more)
 
 -- a list that does not hold a thread
@@ -74,10 +80,12 @@ pub without-absent : (thread : ℕ) (threads : List ℕ) → times_in threads th
 without-absent thread [] none = refl
 without-absent thread (t ∷ threads) none = elim (eqb_tells t thread) [
   | inl here ↦
-      let more : times_in (t ∷ threads) thread ≡ times_in threads thread + 1 = ap (λ (b : Bool). if b then times_in threads thread + 1 else times_in threads thread) here.0 in
+      let more : times_in (t ∷ threads) thread ≡ times_in threads thread + 1 =
+      ap (λ (b : Bool). if b then times_in threads thread + 1 else times_in threads thread) here.0 in
       absurd (omega (arith, more, none))
   | inr apart ↦
-      let same : times_in (t ∷ threads) thread ≡ times_in threads thread = ap (λ (b : Bool). if b then times_in threads thread + 1 else times_in threads thread) apart.0 in
+      let same : times_in (t ∷ threads) thread ≡ times_in threads thread =
+      ap (λ (b : Bool). if b then times_in threads thread + 1 else times_in threads thread) apart.0 in
       ap (λ (b : Bool). if not b then t ∷ without thread threads else without thread threads) apart.0
       ∙ ap (λ (l : List ℕ). t ∷ l) (without-absent thread threads (sym same ∙ none))
 ]
@@ -112,7 +120,8 @@ pends number near s = record {
 
 module _ (s : State) (sound : IsSound s) (number n badge : ℕ) (near : 63 < number → ⊥) (delivered : IsDelivered number s n badge) (old : NotificationState)
     (there : s.objects n ≡ Some (NotificationObject old)) where
-  joined : old.waiters ≡ [] → WithinInterrupt number s (record (with_notification s n (record old { word = bit_or old.word badge })) { masked = put s.masked number true })
+  joined : old.waiters ≡ [] → WithinInterrupt number s
+      (record (with_notification s n (record old { word = bit_or old.word badge })) { masked = put s.masked number true })
   joined empty = record {
     beyond = λ far. absurd (near far);
     store = record { memory_bits = refl; boot_radix = refl; slots = λ slot. refl; bytes = λ place. refl };
@@ -120,10 +129,12 @@ module _ (s : State) (sound : IsSound s) (number n badge : ℕ) (near : 63 < num
     pending = λ other differs. refl;
     objects = λ offset differs. elim (eqb_tells offset n) [
       | inl here ↦
-          subst (λ (o : ℕ). InterruptChange number s (record (with_notification s n (record old { word = bit_or old.word badge })) { masked = put s.masked number true }) o) (sym here.1)
+          subst (λ (o : ℕ). InterruptChange number s
+          (record (with_notification s n (record old { word = bit_or old.word badge })) { masked = put s.masked number true }) o) (sym here.1)
           (joins badge old delivered there empty
           (ap (λ (b : Bool). if b then Some (NotificationObject (record old { word = bit_or old.word badge })) else s.objects n) (eq-eqb n n refl)))
-      | inr apart ↦ absurd (differs (sym (ap (λ (b : Bool). if b then Some (NotificationObject (record old { word = bit_or old.word badge })) else s.objects offset) apart.0)))
+      | inr apart ↦ absurd (differs
+          (sym (ap (λ (b : Bool). if b then Some (NotificationObject (record old { word = bit_or old.word badge })) else s.objects offset) apart.0)))
     ];
     ready = λ priority. stays refl;
   }
@@ -145,13 +156,15 @@ module _ (s : State) (sound : IsSound s) (number n badge : ℕ) (near : 63 < num
 
     left-thread : thread_at (with_notification s n (record old { waiters = others })) w ≡ Waits.own waits
     left-thread =
-        ap (λ (b : Bool). option_map_or (λ (t : ThreadState). t) (as_thread (if b then Some (NotificationObject (record old { waiters = others })) else s.objects w)) new_thread)
+        ap (λ (b : Bool). option_map_or (λ (t : ThreadState). t)
+        (as_thread (if b then Some (NotificationObject (record old { waiters = others })) else s.objects w)) new_thread)
         (ne_eqb w n apart-from_queue)
         ∙ ap (λ (o : Option Object). option_map_or (λ (t : ThreadState). t) (as_thread o) new_thread) (Waits.is waits)
 
     -- a thread that was put is there
     put-thread : (x : State) (t : ThreadState) → thread_at (with_thread x w t) w ≡ t
-    put-thread x t = ap (λ (b : Bool). option_map_or (λ (u : ThreadState). u) (as_thread (if b then Some (ThreadObject t) else x.objects w)) new_thread) (eq-eqb w w refl)
+    put-thread x t = ap (λ (b : Bool). option_map_or (λ (u : ThreadState). u) (as_thread (if b then Some (ThreadObject t) else x.objects w)) new_thread)
+        (eq-eqb w w refl)
 
     -- the thread as it is once it was woken, and what it is on the way
     final-is : let left : State = with_notification s n (record old { waiters = others }) in
@@ -171,7 +184,8 @@ module _ (s : State) (sound : IsSound s) (number n badge : ℕ) (near : 63 < num
         (put-thread one (record (thread_at one w) { registers = advanced (thread_at one w).registers })
         ∙ ap (λ (x : ThreadState). record x { registers = advanced x.registers }) got)
 
-    woken-within : WithinInterrupt number s (record (wake (deliver_word (with_notification s n (record old { waiters = others })) w badge) w) { masked = put s.masked number true })
+    woken-within : WithinInterrupt number s (record (wake (deliver_word (with_notification s n (record old { waiters = others })) w badge) w)
+        { masked = put s.masked number true })
     woken-within =
         let left : State = with_notification s n (record old { waiters = others }) in
         let first : ThreadState = record (thread_at left w) { registers = write (thread_at left w).registers a0 badge } in
@@ -188,10 +202,12 @@ module _ (s : State) (sound : IsSound s) (number n badge : ℕ) (near : 63 < num
         there_now ∙ ap (λ (x : ThreadState). Some (ThreadObject x)) final-is in
         let elsewhere : (offset : ℕ) → offset ≢ w → after.objects offset ≡ (if offset == n then rest else s.objects offset) =
         λ offset differs.
-        ap (λ (b : Bool). if b then Some (ThreadObject final) else if b then Some (ThreadObject second) else if b then Some (ThreadObject first) else if offset == n then rest else s.objects offset)
+        ap (λ (b : Bool). if b then Some (ThreadObject final) else if b then Some (ThreadObject second) else if b then Some (ThreadObject first) else
+        if offset == n then rest else s.objects offset)
         (ne_eqb offset w differs) in
         let head : head_of (notification_at s n).waiters ≡ Some w =
-        ap (λ (o : Option Object). head_of (option_map_or (λ (x : NotificationState). x) (as_notification o) new_notification).waiters) there ∙ ap head_of list in
+        ap (λ (o : Option Object). head_of (option_map_or (λ (x : NotificationState). x) (as_notification o) new_notification).waiters) there
+        ∙ ap head_of list in
         let tail : ℕ = (thread_at (with_thread two w final) w).priority in
         let tail_is : tail ≡ own.priority = ap (λ (x : ThreadState). x.priority) (put-thread two final ∙ final-is) in
         let absent : (priority : ℕ) → without w (s.ready priority) ≡ s.ready priority =
@@ -231,7 +247,8 @@ module _ (s : State) (sound : IsSound s) (number n badge : ℕ) (near : 63 < num
           ];
         }
 
-signalled-within : (s : State) (sound : IsSound s) (number n badge : ℕ) (near : 63 < number → ⊥) (delivered : IsDelivered number s n badge) (old : NotificationState)
+signalled-within : (s : State) (sound : IsSound s) (number n badge : ℕ) (near : 63 < number → ⊥) (delivered : IsDelivered number s n badge)
+    (old : NotificationState)
     (there : s.objects n ≡ Some (NotificationObject old)) (waiters : List ℕ) → old.waiters ≡ waiters
     → WithinInterrupt number s (record (signals s n badge old waiters) { masked = put s.masked number true })
 signalled-within s sound number n badge near delivered old there [] list = joined s sound number n badge near delivered old there list
@@ -244,7 +261,8 @@ interrupted-within s sound number n badge near unmasked bound =
     let delivered : IsDelivered number s n badge = record { bound = bound; unmasked = unmasked } in
     let named = bound-is (capability_at s.slots (binding_slot s number)) n badge bound in
     let found = notification-kind (s.objects n) (sound.memory.named (binding_slot s number) NewNotification n named) in
-    let own : notification_at s n ≡ found.0 = ap (λ (o : Option Object). option_map_or (λ (x : NotificationState). x) (as_notification o) new_notification) found.1 in
+    let own : notification_at s n ≡ found.0 = ap (λ (o : Option Object). option_map_or (λ (x : NotificationState). x) (as_notification o) new_notification)
+    found.1 in
     subst (λ (x : NotificationState). WithinInterrupt number s (record (signals s n badge x x.waiters) { masked = put s.masked number true })) (sym own)
     (signalled-within s sound number n badge near delivered found.0 found.1 found.0.waiters refl)
 
@@ -255,10 +273,15 @@ raised-by s sound number near unmasked (Some signal) bound = interrupted-within 
 
 pub raise-within : (s : State) → IsSound s → (number : ℕ) → WithinInterrupt number s (raise s number)
 raise-within s sound number =
-    elim (nat_lt 63 number) as (λ far. nat_lt 63 number ≡ far → WithinInterrupt number s (if far then s else if s.masked number then with_pending s number true else option_map_or (interrupt s number) (binding s number) (with_pending s number true))) [
+    elim (nat_lt 63 number) as (λ far. nat_lt 63 number ≡ far →
+    WithinInterrupt number s (if far then s else if s.masked number then with_pending s number true else
+    option_map_or (interrupt s number) (binding s number) (with_pending s number true))) [
       | true ↦ λ far. unchanged number s
-      | false ↦ λ not_far. let near : 63 < number → ⊥ = λ far. grind arith in elim (s.masked number) as (λ masked. s.masked number ≡ masked → WithinInterrupt number s (if masked then with_pending s number true else option_map_or (interrupt s number) (binding s number) (with_pending s number true))) [
-        | true ↦ λ is. pends number near s
-        | false ↦ λ is. raised-by s sound number near is (binding s number) refl
-      ] refl
+      | false ↦ λ not_far. let near : 63 < number → ⊥ = λ far. grind arith in
+          elim (s.masked number) as (λ masked. s.masked number ≡ masked →
+          WithinInterrupt number s (if masked then with_pending s number true else
+          option_map_or (interrupt s number) (binding s number) (with_pending s number true))) [
+            | true ↦ λ is. pends number near s
+            | false ↦ λ is. raised-by s sound number near is (binding s number) refl
+          ] refl
     ] refl

@@ -1,9 +1,11 @@
 -- An address leads to one slot or one failure, and the lookup leads there.
-use Rattle.std.proofs.Common.{ℕ, zero, suc, ◌≡◌, ◌∙◌, ◌==◌, ◌+◌, ◌-◌, ◌/◌, ◌%◌, ◌^◌, ◌<◌, ◌≤◌, ◌||◌, Bool, true, false, not, nat_lt, if◌then◌else◌, Result, Ok, Err, refl, sym, ap, subst, arith}
+use Rattle.std.proofs.Common.{ℕ, zero, suc, ◌≡◌, ◌∙◌, ◌==◌, ◌+◌, ◌-◌, ◌/◌, ◌%◌, ◌^◌, ◌<◌, ◌≤◌, ◌||◌, Bool, true, false, not, nat_lt, if◌then◌else◌, Result, Ok}
+use Rattle.std.proofs.Common.{Err, refl, sym, ap, subst, arith}
 use Rattle.std.specs.Prelude.{⊤}
 use Rattle.std.proofs.lemmas.Bool.{ltb-false}
 use Rattle.model.specs.declared.capabilities.Cap.{Cap}
-use Rattle.model.specs.declared.capabilities.Cap.TheVariants.{Empty, Untyped, Endpoint, Notification, CNode, Frame, PageTable, Tcb, RootTable, InterruptControl, InterruptHandler}
+use Rattle.model.specs.declared.capabilities.Cap.TheVariants.{Empty, Untyped, Endpoint, Notification, CNode, Frame, PageTable, Tcb, RootTable, InterruptControl}
+use Rattle.model.specs.declared.capabilities.Cap.TheVariants.{InterruptHandler}
 use Rattle.model.specs.declared.lookup_failures.LookupFailure.{LookupFailure}
 use Rattle.model.specs.declared.lookup_failures.LookupFailure.TheVariants.{DepthMismatch, GuardMismatch}
 use Rattle.model.specs.Capabilities.CapabilityWords.{IsCapability}
@@ -14,24 +16,30 @@ use Rattle.model_laws.specs.Lookups.{LeadsTo, no_cnode, unresolved, ends, goes_o
 abbrev Found : Type 0
 Found = Result (ℕ × ℕ) LookupFailure
 
-pub leads-one : (slots : Slots) (address : ℕ) (root : Cap) (left : ℕ) (one other : Found) → LeadsTo slots address root left one → LeadsTo slots address root left other → one ≡ other
+pub leads-one : (slots : Slots) (address : ℕ) (root : Cap) (left : ℕ) (one other : Found) → LeadsTo slots address root left one →
+    LeadsTo slots address root left other → one ≡ other
 leads-one slots address root left one other (no_cnode _ _ is) (no_cnode _ _ _) = refl
 leads-one slots address root left one other (no_cnode _ _ is) (unresolved offset radix guard _ failure _) = absurd (let clash : true ≡ false = is in cc)
 leads-one slots address root left one other (no_cnode _ _ is) (ends offset radix guard _ place _ _) = absurd (let clash : true ≡ false = is in cc)
 leads-one slots address root left one other (no_cnode _ _ is) (goes_on offset radix guard _ place found _ _ _) = absurd (let clash : true ≡ false = is in cc)
 leads-one slots address root left one other (unresolved offset radix guard _ failure is) (no_cnode _ _ isnt) = absurd (let clash : true ≡ false = isnt in cc)
 leads-one slots address root left one other (unresolved offset radix guard _ failure is) (unresolved _ _ _ _ another so) = cc (is, so)
-leads-one slots address root left one other (unresolved offset radix guard _ failure is) (ends _ _ _ _ place so _) = absurd (let clash : Err failure ≡ Ok place = sym is ∙ so in cc)
-leads-one slots address root left one other (unresolved offset radix guard _ failure is) (goes_on _ _ _ _ place found so _ _) = absurd (let clash : Err failure ≡ Ok place = sym is ∙ so in cc)
+leads-one slots address root left one other (unresolved offset radix guard _ failure is) (ends _ _ _ _ place so _) =
+    absurd (let clash : Err failure ≡ Ok place = sym is ∙ so in cc)
+leads-one slots address root left one other (unresolved offset radix guard _ failure is) (goes_on _ _ _ _ place found so _ _) =
+    absurd (let clash : Err failure ≡ Ok place = sym is ∙ so in cc)
 leads-one slots address root left one other (ends offset radix guard _ place is stop) (no_cnode _ _ isnt) = absurd (let clash : true ≡ false = isnt in cc)
-leads-one slots address root left one other (ends offset radix guard _ place is stop) (unresolved _ _ _ _ failure so) = absurd (let clash : Ok place ≡ Err failure = sym is ∙ so in cc)
+leads-one slots address root left one other (ends offset radix guard _ place is stop) (unresolved _ _ _ _ failure so) =
+    absurd (let clash : Ok place ≡ Err failure = sym is ∙ so in cc)
 leads-one slots address root left one other (ends offset radix guard _ place is stop) (ends _ _ _ _ another so _) =
     let same : place ≡ another = cc (is, so) in ap (λ p. Ok (slot_under offset p, p.1)) same
 leads-one slots address root left one other (ends offset radix guard _ place is stop) (goes_on _ _ _ _ another found so more _) =
     let same : place ≡ another = cc (is, so) in
     absurd (let clash : true ≡ false = sym stop ∙ ap (λ p. p.1 == 0 || not (is_cnode (capability_at slots (slot_under offset p)))) same ∙ more in cc)
-leads-one slots address root left one other (goes_on offset radix guard _ place found is more rest) (no_cnode _ _ isnt) = absurd (let clash : true ≡ false = isnt in cc)
-leads-one slots address root left one other (goes_on offset radix guard _ place found is more rest) (unresolved _ _ _ _ failure so) = absurd (let clash : Ok place ≡ Err failure = sym is ∙ so in cc)
+leads-one slots address root left one other (goes_on offset radix guard _ place found is more rest) (no_cnode _ _ isnt) =
+    absurd (let clash : true ≡ false = isnt in cc)
+leads-one slots address root left one other (goes_on offset radix guard _ place found is more rest) (unresolved _ _ _ _ failure so) =
+    absurd (let clash : Ok place ≡ Err failure = sym is ∙ so in cc)
 leads-one slots address root left one other (goes_on offset radix guard _ place found is more rest) (ends _ _ _ _ another so stop) =
     let same : place ≡ another = cc (is, so) in
     absurd (let clash : true ≡ false = sym stop ∙ ap (λ p. p.1 == 0 || not (is_cnode (capability_at slots (slot_under offset p)))) (sym same) ∙ more in cc)
@@ -106,13 +114,15 @@ leads-there slots address (suc n) InterruptControl left all takes less = no_cnod
 leads-there slots address (suc n) (InterruptHandler a) left all takes less = no_cnode (InterruptHandler a) left refl
 leads-there slots address (suc n) (CNode offset radix guard) left all takes less =
     let next : Cap → ℕ → Found = λ held rest. lookup_within n slots held address rest in
-    elim (resolve radix guard address left) as (λ r. resolve radix guard address left ≡ r → LeadsTo slots address (CNode offset radix guard) left (go_on slots offset next r)) [
+    elim (resolve radix guard address left) as (λ r. resolve radix guard address left ≡ r →
+    LeadsTo slots address (CNode offset radix guard) left (go_on slots offset next r)) [
       | Err failure ↦ λ is. unresolved offset radix guard left failure is
       | Ok place ↦ λ is.
           let held : Cap = capability_at slots (slot_under offset place) in
           let below : place.1 < n = (let f = fewer radix guard address left place (cnode-takes offset radix guard takes) is in omega (arith, f, less)) in
           elim (place.1 == 0 || not (is_cnode held)) as (λ b. (place.1 == 0 || not (is_cnode held)) ≡ b
-          → LeadsTo slots address (CNode offset radix guard) left (if b then Ok (slot_under offset place, place.1) else lookup_within n slots held address place.1)) [
+          → LeadsTo slots address (CNode offset radix guard) left
+          (if b then Ok (slot_under offset place, place.1) else lookup_within n slots held address place.1)) [
             | true ↦ λ stop. ends offset radix guard left place is stop
             | false ↦ λ more. goes_on offset radix guard left place (lookup_within n slots held address place.1) is more
                 (leads-there slots address n held place.1 all (all (slot_under offset place)) below)

@@ -1,5 +1,6 @@
 -- A step that makes an endpoint in untyped memory of the thread's own stays within authority.
-use Rattle.std.proofs.Common.{ℕ, ◌≡◌, ◌≢◌, ◌==◌, ◌+◌, ◌-◌, ◌*◌, ◌/◌, ◌^◌, ◌&&◌, ◌||◌, Bool, true, false, nat_le, nat_lt, is_some, if◌then◌else◌, Option, Some, None, Result, option_map, [], refl, sym, ◌∙◌, ap, subst, inl, inr, arith}
+use Rattle.std.proofs.Common.{ℕ, ◌≡◌, ◌≢◌, ◌==◌, ◌+◌, ◌-◌, ◌*◌, ◌/◌, ◌^◌, ◌&&◌, ◌||◌, Bool, true, false, nat_le, nat_lt, is_some, if◌then◌else◌, Option, Some}
+use Rattle.std.proofs.Common.{None, Result, option_map, [], refl, sym, ◌∙◌, ap, subst, inl, inr, arith}
 use Rattle.std.specs.Option.{option_map_or}
 use Rattle.std.proofs.lemmas.Bool.{eq-eqb, ne_eqb}
 use Rattle.std.proofs.lemmas.Bool.Decides.{eqb_tells}
@@ -16,7 +17,8 @@ use Rattle.model.specs.Kernel.Kinds.{kind_at, kind_of}
 use Rattle.model.specs.Kernel.Messages.{passes}
 use Rattle.model.specs.Kernel.Retype.{NewEndpoint}
 use Rattle.model.specs.Kernel.Scheduling.{is_runnable}
-use Rattle.model.specs.Kernel.State.{State, Object, ThreadObject, EndpointObject, NotificationObject, ThreadState, as_thread, new_endpoint, new_thread, thread_at}
+use Rattle.model.specs.Kernel.State.{State, Object, ThreadObject, EndpointObject, NotificationObject, ThreadState, as_thread, new_endpoint, new_thread}
+use Rattle.model.specs.Kernel.State.{thread_at}
 use Rattle.model.specs.Kernel.Steps.{after_invocation, invokes, system_call}
 use Rattle.model.specs.declared.system_calls.SendCall.TheVariants.{Sending}
 use Rattle.model.specs.Machine.Effects.{advanced}
@@ -68,7 +70,8 @@ module _ (image : Image) (t : Thread) (s : State) (offset bits watermark used fi
   made-away : (o : ℕ) → o ≢ first → made.objects o ≡ s.objects o
   made-away o differs =
       made-object o
-      ∙ ap (λ (b : Bool). if b || false then Some (EndpointObject new_endpoint) else s.objects o) (ne_eqb (first + 0 * 2 ^ 4) o (λ same. differs (omega (arith, same))))
+      ∙ ap (λ (b : Bool). if b || false then Some (EndpointObject new_endpoint) else s.objects o)
+      (ne_eqb (first + 0 * 2 ^ 4) o (λ same. differs (omega (arith, same))))
 
   at-self : after.objects self ≡ Some (ThreadObject last)
   unfolding last after
@@ -86,7 +89,12 @@ module _ (image : Image) (t : Thread) (s : State) (offset bits watermark used fi
   appears-here =
       let new : after.objects first ≡ Some (EndpointObject new_endpoint) = passed first (λ e. not_new (sym e)) ∙ made-here first refl in
       appears NewEndpoint makes.unused new
-      (record { slot = call.slot; own = call.among; such = record { offset = offset; bits = bits; watermark = watermark; is = call.holds; begins = makes.begins; ends = makes.ends } })
+      (record {
+        slot = call.slot;
+        own = call.among;
+        such =
+            record { offset = offset; bits = bits; watermark = watermark; is = call.holds; begins = makes.begins; ends = makes.ends };
+      })
 
   kind-away : (o : ℕ) → o ≢ first → kind_at s o ≡ kind_at after o
   kind-away o differs = elim (eqb_tells o self) [
@@ -99,7 +107,12 @@ module _ (image : Image) (t : Thread) (s : State) (offset bits watermark used fi
   new-granted =
       let new : after.objects first ≡ Some (EndpointObject new_endpoint) = passed first (λ e. not_new (sym e)) ∙ made-here first refl in
       appeared (Endpoint first endpoint_rights 0) NewEndpoint first refl makes.unused (ap (option_map kind_of) new)
-      (record { slot = call.slot; own = call.among; such = record { offset = offset; bits = bits; watermark = watermark; is = call.holds; begins = makes.begins; ends = makes.ends } })
+      (record {
+        slot = call.slot;
+        own = call.among;
+        such =
+            record { offset = offset; bits = bits; watermark = watermark; is = call.holds; begins = makes.begins; ends = makes.ends };
+      })
 
   -- ---- slots
 
@@ -117,22 +130,26 @@ module _ (image : Image) (t : Thread) (s : State) (offset bits watermark used fi
   without-new : (x : ℕ) → is_within window 1 x ≡ false → after.slots x ≡ (if x == call.slot then Some used_entry else s.slots x)
   without-new x outside =
       slots-are x
-      ∙ ap (λ (b : Bool). if b then Some (new_entry x) else if is_within ((first + 0 * 2 ^ 4) / 16 + 0) 0 x || false then Some empty_entry else if x == call.slot then Some used_entry else s.slots x) outside
-      ∙ ap (λ (b : Bool). if b || false then Some empty_entry else if x == call.slot then Some used_entry else s.slots x) (none-within ((first + 0 * 2 ^ 4) / 16 + 0) x)
+      ∙ ap (λ (b : Bool). if b then Some (new_entry x) else if is_within ((first + 0 * 2 ^ 4) / 16 + 0) 0 x || false then Some empty_entry else
+      if x == call.slot then Some used_entry else s.slots x) outside
+      ∙ ap (λ (b : Bool). if b || false then Some empty_entry else if x == call.slot then Some used_entry else s.slots x)
+      (none-within ((first + 0 * 2 ^ 4) / 16 + 0) x)
 
   slot-window : (x : ℕ) → x ≡ window → after.slots x ≡ Some (record { capability = Endpoint first endpoint_rights 0; parent = Some call.slot })
   slot-window x here =
       let within : is_within window 1 x ≡ true = one-within window x here in
       let place : first + (x - window) * 2 ^ 4 ≡ first = omega (arith, here) in
       slots-are x
-      ∙ ap (λ (b : Bool). if b then Some (new_entry x) else if is_within ((first + 0 * 2 ^ 4) / 16 + 0) 0 x || false then Some empty_entry else if x == call.slot then Some used_entry else s.slots x) within
+      ∙ ap (λ (b : Bool). if b then Some (new_entry x) else if is_within ((first + 0 * 2 ^ 4) / 16 + 0) 0 x || false then Some empty_entry else
+      if x == call.slot then Some used_entry else s.slots x) within
       ∙ ap (λ (n : ℕ). Some (record { capability = Endpoint n endpoint_rights 0; parent = Some call.slot })) place
 
   slot-used : (x : ℕ) → x ≢ window → x ≡ call.slot → after.slots x ≡ Some used_entry
   slot-used x differs here = without-new x (not-within window x differs) ∙ ap (λ (b : Bool). if b then Some used_entry else s.slots x) (eq-eqb x call.slot here)
 
   slot-away : (x : ℕ) → x ≢ window → x ≢ call.slot → after.slots x ≡ s.slots x
-  slot-away x differs apart = without-new x (not-within window x differs) ∙ ap (λ (b : Bool). if b then Some used_entry else s.slots x) (ne_eqb x call.slot apart)
+  slot-away x differs apart = without-new x (not-within window x differs)
+      ∙ ap (λ (b : Bool). if b then Some used_entry else s.slots x) (ne_eqb x call.slot apart)
 
   -- a slot, by what a clause on slots says of it
   slot-cases : (P : ℕ → Type 0) → P window → (call.slot ≢ window → P call.slot) → ((x : ℕ) → x ≢ window → x ≢ call.slot → P x) → (x : ℕ) → P x
@@ -171,7 +188,8 @@ module _ (image : Image) (t : Thread) (s : State) (offset bits watermark used fi
 
   granted : (x : ℕ) → without_use (capability_at s.slots x) ≢ without_use (capability_at after.slots x) → capability_at after.slots x ≢ Empty
       → Granted image t s after (capability_at after.slots x)
-  granted = slot-cases (λ x. without_use (capability_at s.slots x) ≢ without_use (capability_at after.slots x) → capability_at after.slots x ≢ Empty → Granted image t s after (capability_at after.slots x))
+  granted = slot-cases (λ x. without_use (capability_at s.slots x) ≢ without_use (capability_at after.slots x) → capability_at after.slots x ≢ Empty →
+      Granted image t s after (capability_at after.slots x))
       (λ differs some. subst (λ (c : Cap). Granted image t s after c) (sym new-capability) new-granted)
       (λ apart differs some. absurd (differs (ap without_use call.holds ∙ sym (ap without_use (used-capability apart)))))
       (λ x outside apart differs some. absurd (differs (ap without_use (sym (away-capability x outside apart)))))
@@ -196,12 +214,14 @@ module _ (image : Image) (t : Thread) (s : State) (offset bits watermark used fi
     mapped = λ slot mapping fresh there. absurd (fresh (no-frame slot ∙ there));
     capabilities = granted;
     endpoints = λ offset old new before behind differs.
-        let apart : offset ≢ self = λ same. let e : Some (EndpointObject old) ≡ Some (ThreadObject call.own) = sym before ∙ ap s.objects same ∙ call.is in let f : EndpointObject old ≡ ThreadObject call.own = cc in cc in
+        let apart : offset ≢ self = λ same. let e : Some (EndpointObject old) ≡ Some (ThreadObject call.own) = sym before ∙ ap s.objects same ∙ call.is in
+        let f : EndpointObject old ≡ ThreadObject call.own = cc in cc in
         let there : offset ≢ first = λ same. let e : Some (EndpointObject old) ≡ None = sym before ∙ ap s.objects same ∙ makes.unused in cc in
         let e : Some (EndpointObject new) ≡ Some (EndpointObject old) = sym behind ∙ passed offset apart ∙ made-away offset there ∙ before in
         let f : old ≡ new = cc in absurd (differs f);
     notifications = λ offset old new before behind differs.
-        let apart : offset ≢ self = λ same. let e : Some (NotificationObject old) ≡ Some (ThreadObject call.own) = sym before ∙ ap s.objects same ∙ call.is in let f : NotificationObject old ≡ ThreadObject call.own = cc in cc in
+        let apart : offset ≢ self = λ same. let e : Some (NotificationObject old) ≡ Some (ThreadObject call.own) = sym before ∙ ap s.objects same ∙ call.is in
+        let f : NotificationObject old ≡ ThreadObject call.own = cc in cc in
         let there : offset ≢ first = λ same. let e : Some (NotificationObject old) ≡ None = sym before ∙ ap s.objects same ∙ makes.unused in cc in
         let e : Some (NotificationObject new) ≡ Some (NotificationObject old) = sym behind ∙ passed offset apart ∙ made-away offset there ∙ before in
         let f : old ≡ new = cc in absurd (differs f);

@@ -1,5 +1,6 @@
 -- A range moved by a signed number.
-use Rattle.std.proofs.Common.{ℕ, suc, ℤ, pos, negsuc, ◌+ℤ◌, ◌≡◌, ◌∙◌, ◌+◌, ◌-◌, ◌^◌, ◌<◌, ◌≤◌, ◌&&◌, true, false, inl, inr, nat_le, nat_lt, int_le, int_lt, if◌then◌else◌, sym, ap, arith}
+use Rattle.std.proofs.Common.{ℕ, suc, ℤ, pos, negsuc, ◌+ℤ◌, ◌≡◌, ◌∙◌, ◌+◌, ◌-◌, ◌^◌, ◌<◌, ◌≤◌, ◌&&◌, true, false, inl, inr, nat_le, nat_lt, int_le, int_lt}
+use Rattle.std.proofs.Common.{if◌then◌else◌, sym, ap, arith}
 use Rattle.std.proofs.Math.Bool.{and-false}
 use Rattle.std.proofs.lemmas.Bool.{le-leb}
 use Rattle.std.proofs.lemmas.Bool.Decides.{leb_tells}
@@ -8,7 +9,8 @@ use Rattle.model.specs.Acceptance.Measures.{moves_within}
 use Rattle.model.specs.Acceptance.Ranges.{full, moved}
 
 abbrev Moves : Range → ℤ → Type 0
-Moves r n = (moves_within r n ≡ true → (pos (moved r n).low ≡ pos r.low +ℤ n) × (pos (moved r n).high ≡ pos r.high +ℤ n)) × (moves_within r n ≡ false → moved r n ≡ full)
+Moves r n = (moves_within r n ≡ true → (pos (moved r n).low ≡ pos r.low +ℤ n) × (pos (moved r n).high ≡ pos r.high +ℤ n))
+    × (moves_within r n ≡ false → moved r n ≡ full)
 
 le-false : (a b : ℕ) → b < a → nat_le a b ≡ false
 le-false a b less = elim (leb_tells a b) [ inl low ↦ absurd (omega (arith, low.1, less)) | inr high ↦ high.0 ]
@@ -30,8 +32,10 @@ up-moves r m order = elim (leb_tells (suc (r.high + m)) (2 ^ 32)) [
       let is_moved : moved r (pos m) ≡ record { low = r.low + m; high = r.high + m } =
       ap (λ b. if b && nat_lt (r.high + m) (2 ^ 32) then record { low = r.low + m; high = r.high + m } else full) low
       ∙ ap (λ b. if b then record { low = r.low + m; high = r.high + m } else full) fits.0
-      in
-      ((λ is. (ap (λ (q : Range). pos q.low) is_moved, ap (λ (q : Range). pos q.high) is_moved)), (λ is. absurd (let clash : true ≡ false = sym fits.0 ∙ sym (up-test r m) ∙ is in cc)))
+      in (
+        (λ is. (ap (λ (q : Range). pos q.low) is_moved, ap (λ (q : Range). pos q.high) is_moved)),
+        (λ is. absurd (let clash : true ≡ false = sym fits.0 ∙ sym (up-test r m) ∙ is in cc)),
+      )
   | inr over ↦
       let is_full : moved r (pos m) ≡ full =
       ap (λ b. if nat_lt (r.low + m) (2 ^ 32) && b then record { low = r.low + m; high = r.high + m } else full) over.0
@@ -56,14 +60,19 @@ down-moves r m order words = elim (leb_tells (m + 1) r.low) [
       ∙ ap (λ (z : ℤ). int_lt z (pos (2 ^ 32))) high_is
       ∙ le-leb (suc (r.high - suc m)) (2 ^ 32) (omega (arith, words))
       in (
-        (λ is. (ap (λ (q : Range). pos q.low) is_moved ∙ ap (λ (n : ℕ). pos n) (omega arith) ∙ sym low_is, ap (λ (q : Range). pos q.high) is_moved ∙ ap (λ (n : ℕ). pos n) (omega arith) ∙ sym high_is)),
+        (λ is. (
+          ap (λ (q : Range). pos q.low) is_moved ∙ ap (λ (n : ℕ). pos n) (omega arith) ∙ sym low_is,
+          ap (λ (q : Range). pos q.high) is_moved
+              ∙ ap (λ (n : ℕ). pos n) (omega arith) ∙ sym high_is,
+        )),
         (λ is. absurd (let clash : true ≡ false = sym test ∙ is in cc)),
       )
   | inr below ↦
       let is_full : moved r (negsuc m) ≡ full =
       ap (λ b. if b && nat_le (m + 1) r.high then record { low = r.low - (m + 1); high = r.high - (m + 1) } else full) below.0
       in
-      let test : moves_within r (negsuc m) ≡ false = ap (λ b. b && int_lt (pos r.high +ℤ negsuc m) (pos (2 ^ 32))) (minus-down r.low m (omega (arith, below.1))) in
+      let test : moves_within r (negsuc m) ≡ false = ap (λ b. b && int_lt (pos r.high +ℤ negsuc m) (pos (2 ^ 32)))
+      (minus-down r.low m (omega (arith, below.1))) in
       ((λ is. absurd (let clash : false ≡ true = sym test ∙ is in cc)), (λ is. is_full))
 ]
 

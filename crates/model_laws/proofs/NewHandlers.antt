@@ -85,7 +85,8 @@ module _ (image : Image) (t : Thread) (s : State) (call : CallsOn image t s 3 In
         (ap table_mapping was-empty ∙ sym (ap table_mapping new-capability))
         (λ x same. ap (λ (o : Option Entry). table_mapping (capability_of o)) (sym same));
     mapped = λ x mapping fresh is. absurd (fresh (no-frame x ∙ is));
-    granted = by-slot (λ x. without_use (capability_at s.slots x) ≢ without_use (capability_at slots x) → capability_at slots x ≢ Empty → Granted image t s (passes (with_slots s slots) self) (capability_at slots x))
+    granted = by-slot (λ x. without_use (capability_at s.slots x) ≢ without_use (capability_at slots x) → capability_at slots x ≢ Empty →
+        Granted image t s (passes (with_slots s slots) self) (capability_at slots x))
         (λ differs some. subst (λ (c : Cap). Granted image t s (passes (with_slots s slots) self) c) (sym new-capability)
         (made_handler gets.number near (record { slot = call.slot; own = call.among; such = call.holds })))
         (λ x same differs some. absurd (differs (ap (λ (o : Option Entry). without_use (capability_of o)) (sym same))));

@@ -96,10 +96,12 @@ module _ (image : Image) (t : Thread) (s : State) (offset : ℕ) (allowed : Righ
     tables = by-slot (λ x. table_mapping (capability_at s.slots x) ≡ table_mapping (capability_at slots x))
         (ap table_mapping call.holds ∙ sym (ap table_mapping new-capability))
         (λ x same. ap (λ (o : Option Entry). table_mapping (capability_of o)) (sym same));
-    mapped = by-slot (λ x. (m : FrameMapping) → frame_mapping (capability_at s.slots x) ≢ Some m → frame_mapping (capability_at slots x) ≡ Some m → MappingGranted image t s (capability_at slots x) m)
+    mapped = by-slot (λ x. (m : FrameMapping) → frame_mapping (capability_at s.slots x) ≢ Some m → frame_mapping (capability_at slots x) ≡ Some m →
+        MappingGranted image t s (capability_at slots x) m)
         (λ m fresh is. given maps.word (rights-are m (this-one m is) ∙ ap (λ (c : Cap). mapping_rights (rights_of c) maps.word) (sym new-capability)))
         (λ x same m fresh is. absurd (fresh (ap (λ (o : Option Entry). frame_mapping (capability_of o)) (sym same) ∙ is)));
-    granted = by-slot (λ x. without_use (capability_at s.slots x) ≢ without_use (capability_at slots x) → capability_at slots x ≢ Empty → Granted image t s (passes (with_slots s slots) self) (capability_at slots x))
+    granted = by-slot (λ x. without_use (capability_at s.slots x) ≢ without_use (capability_at slots x) → capability_at slots x ≢ Empty →
+        Granted image t s (passes (with_slots s slots) self) (capability_at slots x))
         (λ differs some. absurd (differs (ap without_use call.holds ∙ sym (ap without_use new-capability))))
         (λ x same differs some. absurd (differs (ap (λ (o : Option Entry). without_use (capability_of o)) (sym same))));
   }

@@ -3,10 +3,12 @@ use Rattle.std.proofs.Common.{ℕ, ◌≡◌, ◌+◌, ◌-◌, ◌*◌, ◌/◌
 use Rattle.model.specs.Capabilities.Placement.{align, place_of_object, placement}
 use Rattle.untyped.proofs.Laws.{sum_is_multiple}
 
-first-aligned : (bits watermark object_bits count first end : ℕ) → placement bits watermark object_bits count ≡ Some (first, end) → first ≡ align watermark (2 ^ object_bits)
+first-aligned : (bits watermark object_bits count first end : ℕ) → placement bits watermark object_bits count ≡ Some (first, end) →
+    first ≡ align watermark (2 ^ object_bits)
 first-aligned bits watermark object_bits count first end placed =
     let limit : ℕ = place_of_object watermark object_bits count in
-    elim (nat_le limit (2 ^ bits)) as (λ b. ◌≡◌ {A = Option (ℕ × ℕ)} (if b then Some (align watermark (2 ^ object_bits), limit) else None) (Some (first, end)) → first ≡ align watermark (2 ^ object_bits)) [
+    elim (nat_le limit (2 ^ bits)) as (λ b. ◌≡◌ {A = Option (ℕ × ℕ)} (if b then Some (align watermark (2 ^ object_bits), limit) else None) (Some (first, end)) →
+    first ≡ align watermark (2 ^ object_bits)) [
       | true ↦ λ h. let same : ◌≡◌ {A = ℕ × ℕ} (align watermark (2 ^ object_bits), limit) (first, end) = cc h in ap (λ x. x.0) (sym same)
       | false ↦ λ h. absurd (let clash : ◌≡◌ {A = Option (ℕ × ℕ)} None (Some (first, end)) = h in cc)
     ] placed

@@ -41,7 +41,8 @@ module _ (image : Image) (t : Thread) (s : State) (own : ThreadState) (registers
   kind-same offset = elim (eqb_tells offset (self_of image t)) [
     | inl here ↦
         ap (λ (n : ℕ). option_map kind_of (s.objects n)) here.1 ∙ ap (option_map kind_of) is
-        ∙ sym (ap (λ (b : Bool). option_map kind_of (if b then Some (ThreadObject (record (thread_at s (self_of image t)) { registers = registers })) else s.objects offset)) here.0)
+        ∙ sym (ap (λ (b : Bool). option_map kind_of (if b then Some (ThreadObject (record (thread_at s (self_of image t)) { registers = registers })) else
+        s.objects offset)) here.0)
     | inr apart ↦ ap (option_map kind_of) (sym (other-same offset apart.1))
   ]
 

@@ -1,5 +1,6 @@
 -- What ADDI and JAL write lies in the range after them, and the other registers stay in theirs.
-use Rattle.std.proofs.Common.{ℕ, suc, ◌≡◌, ◌==◌, ◌&&◌, ◌+◌, ◌-◌, ◌%◌, ◌^◌, ◌<◌, ◌≤◌, ℤ, pos, negsuc, Bool, true, false, if◌then◌else◌, nat_lt, nat_le, List, length, refl, ap, arith}
+use Rattle.std.proofs.Common.{ℕ, suc, ◌≡◌, ◌==◌, ◌&&◌, ◌+◌, ◌-◌, ◌%◌, ◌^◌, ◌<◌, ◌≤◌, ℤ, pos, negsuc, Bool, true, false, if◌then◌else◌, nat_lt, nat_le, List}
+use Rattle.std.proofs.Common.{length, refl, ap, arith}
 use Rattle.std.proofs.lemmas.Bool.{eqb-true, and_parts, ltb-true, leb-true}
 use Rattle.model.specs.declared.instructions.Cause.TheVariants.{Misaligned}
 use Rattle.model.specs.declared.instructions.Exec.{Exec}
@@ -54,11 +55,13 @@ addi_in r n z inside small fits =
 -- ---- the two instructions
 
 pub addi-keeps : (r : RegisterFile) (content : Content) (ranges : List Range) (rd rs1 : Register) (immediate : ℤ)
-    → length r.words ≡ 32 → length ranges ≡ 31 → ((x : Register) → read r x < 2 ^ 32) → IsRegister rd → IsRegister rs1 → IsImmediate immediate → LieWithin r ranges
+    → length r.words ≡ 32 → length ranges ≡ 31 → ((x : Register) → read r x < 2 ^ 32) → IsRegister rd → IsRegister rs1 → IsImmediate immediate →
+    LieWithin r ranges
     → LieWithin (effect r content (Immediate Addi rd rs1 immediate)).registers (ranges_after r.pc (Immediate Addi rd rs1 immediate) ranges)
 unfolding effect ranges_after
 addi-keeps r content ranges rd rs1 immediate words long small target source fits before =
-    written_within r ranges rd (plus (read r rs1) immediate) (value_or (is_single (range_of ranges rs1)) (plus (range_of ranges rs1).low immediate) (moved (range_of ranges rs1) immediate))
+    written_within r ranges rd (plus (read r rs1) immediate)
+    (value_or (is_single (range_of ranges rs1)) (plus (range_of ranges rs1).low immediate) (moved (range_of ranges rs1) immediate))
     words long target before (addi_in (range_of ranges rs1) (read r rs1) immediate (before rs1.0 source) (small rs1) fits)
 
 jumped : (r : RegisterFile) (content : Content) (written : RegisterFile) (target : ℕ) (behind : List Range) → LieWithin written behind

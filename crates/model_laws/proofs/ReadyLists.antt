@@ -1,5 +1,6 @@
 -- What a change of the ready list keeps: no thread occurs there twice.
-use Rattle.std.proofs.Common.{ℕ, ◌≡◌, ◌∙◌, ◌==◌, ◌+◌, ◌<◌, ◌≤◌, ◌++◌, inl, inr, Bool, true, false, not, if◌then◌else◌, List, [], ◌∷◌, filter, refl, sym, subst, ap, arith}
+use Rattle.std.proofs.Common.{ℕ, ◌≡◌, ◌∙◌, ◌==◌, ◌+◌, ◌<◌, ◌≤◌, ◌++◌, inl, inr, Bool, true, false, not, if◌then◌else◌, List, [], ◌∷◌, filter, refl, sym, subst}
+use Rattle.std.proofs.Common.{ap, arith}
 use Rattle.std.proofs.lemmas.Bool.{eq-eqb}
 use Rattle.std.proofs.lemmas.Bool.Decides.{eqb_tells}
 use Rattle.model.specs.Shared.Lists.{times_in, without}
@@ -21,7 +22,8 @@ times-kept thread threads other differs =
 times-less : (thread : ℕ) (threads : List ℕ) (other : ℕ) → times_in (without thread threads) other ≤ times_in threads other
 times-less thread threads other =
     elim (eqb_tells other thread) [
-      | inl here ↦ let gone : times_in (without thread threads) other ≡ 0 = ap (times_in (without thread threads)) here.1 ∙ times-gone thread threads in omega (arith, gone)
+      | inl here ↦ let gone : times_in (without thread threads) other ≡ 0 = ap (times_in (without thread threads)) here.1 ∙ times-gone thread threads in
+          omega (arith, gone)
       | inr apart ↦ let kept = times-kept thread threads other apart.0 in omega (arith, kept)
     ]
 
@@ -39,7 +41,8 @@ unready-none_twice ready thread before = record {
 filtered-less : (keeps : ℕ → Bool) (threads : List ℕ) (other : ℕ) → times_in (filter keeps threads) other ≤ times_in threads other
 filtered-less keeps threads other =
     let count = times-filter keeps threads other in
-    elim (keeps other) as (λ b. times_in (filter keeps threads) other ≡ (if b then times_in threads other else 0) → times_in (filter keeps threads) other ≤ times_in threads other) [
+    elim (keeps other) as (λ b. times_in (filter keeps threads) other ≡ (if b then times_in threads other else 0) →
+    times_in (filter keeps threads) other ≤ times_in threads other) [
       | true ↦ λ is. omega (arith, is)
       | false ↦ λ is. omega (arith, is)
     ] count
@@ -63,12 +66,16 @@ times-end (t ∷ threads) last other =
     let more = times-end threads last other in
     elim (eqb_tells t other) [
       | inl here ↦
-          let one : times_in (t ∷ threads ++ last ∷ []) other ≡ times_in (threads ++ last ∷ []) other + 1 = ap (λ b. if b then times_in (threads ++ last ∷ []) other + 1 else times_in (threads ++ last ∷ []) other) here.0 in
-          let two : times_in (t ∷ threads) other ≡ times_in threads other + 1 = ap (λ b. if b then times_in threads other + 1 else times_in threads other) here.0 in
+          let one : times_in (t ∷ threads ++ last ∷ []) other ≡ times_in (threads ++ last ∷ []) other + 1 =
+          ap (λ b. if b then times_in (threads ++ last ∷ []) other + 1 else times_in (threads ++ last ∷ []) other) here.0 in
+          let two : times_in (t ∷ threads) other ≡ times_in threads other + 1 =
+          ap (λ b. if b then times_in threads other + 1 else times_in threads other) here.0 in
           omega (arith, one, two, more)
       | inr apart ↦
-          let one : times_in (t ∷ threads ++ last ∷ []) other ≡ times_in (threads ++ last ∷ []) other = ap (λ b. if b then times_in (threads ++ last ∷ []) other + 1 else times_in (threads ++ last ∷ []) other) apart.0 in
-          let two : times_in (t ∷ threads) other ≡ times_in threads other = ap (λ b. if b then times_in threads other + 1 else times_in threads other) apart.0 in
+          let one : times_in (t ∷ threads ++ last ∷ []) other ≡ times_in (threads ++ last ∷ []) other =
+          ap (λ b. if b then times_in (threads ++ last ∷ []) other + 1 else times_in (threads ++ last ∷ []) other) apart.0 in
+          let two : times_in (t ∷ threads) other ≡ times_in threads other =
+          ap (λ b. if b then times_in threads other + 1 else times_in threads other) apart.0 in
           omega (arith, one, two, more)
     ]
 
@@ -79,18 +86,21 @@ moved ready thread tail = put (λ priority. without thread (ready priority)) tai
 -- how often another thread is in it, and the thread itself
 pub times-moved_here : (ready : ℕ → List ℕ) (thread tail : ℕ) → times_in (moved ready thread tail tail) thread ≡ 1
 times-moved_here ready thread tail =
-    let place : moved ready thread tail tail ≡ without thread (ready tail) ++ thread ∷ [] = ap (λ b. if b then without thread (ready tail) ++ thread ∷ [] else without thread (ready tail)) (eq-eqb tail tail refl) in
+    let place : moved ready thread tail tail ≡ without thread (ready tail) ++ thread ∷ [] =
+    ap (λ b. if b then without thread (ready tail) ++ thread ∷ [] else without thread (ready tail)) (eq-eqb tail tail refl) in
     let same : (thread == thread) ≡ true = eq-eqb thread thread refl in
     let one : ◌≡◌ {A = ℕ} (if thread == thread then 1 else 0) 1 = ap (λ b. if b then 1 else 0) same in
     ap (λ l. times_in l thread) place ∙ times-end (without thread (ready tail)) thread thread
     ∙ (let gone = times-gone thread (ready tail) in omega (arith, gone, one))
 
-pub times-moved_elsewhere : (ready : ℕ → List ℕ) (thread tail priority : ℕ) → (priority == tail) ≡ false → times_in (moved ready thread tail priority) thread ≡ 0
+pub times-moved_elsewhere : (ready : ℕ → List ℕ) (thread tail priority : ℕ) → (priority == tail) ≡ false →
+    times_in (moved ready thread tail priority) thread ≡ 0
 times-moved_elsewhere ready thread tail priority apart =
     ap (λ b. times_in (if b then without thread (ready tail) ++ thread ∷ [] else without thread (ready priority)) thread) apart
     ∙ times-gone thread (ready priority)
 
-times-moved_other : (ready : ℕ → List ℕ) (thread tail priority other : ℕ) → (thread == other) ≡ false → (other == thread) ≡ false → times_in (moved ready thread tail priority) other ≡ times_in (ready priority) other
+times-moved_other : (ready : ℕ → List ℕ) (thread tail priority other : ℕ) → (thread == other) ≡ false → (other == thread) ≡ false →
+    times_in (moved ready thread tail priority) other ≡ times_in (ready priority) other
 times-moved_other ready thread tail priority other differs apart =
     elim (eqb_tells priority tail) [
       | inl here ↦
@@ -123,10 +133,12 @@ moved-none_twice ready thread tail before = record {
   once = λ other priority. elim (eqb_tells other thread) [
     | inl here ↦ elim (eqb_tells priority tail) [
       | inl there ↦
-          let one : times_in (moved ready thread tail priority) other ≡ 1 = ap (λ o. times_in (moved ready thread tail priority) o) here.1 ∙ ap (λ p. times_in (moved ready thread tail p) thread) there.1 ∙ times-moved_here ready thread tail in
+          let one : times_in (moved ready thread tail priority) other ≡ 1 = ap (λ o. times_in (moved ready thread tail priority) o) here.1
+          ∙ ap (λ p. times_in (moved ready thread tail p) thread) there.1 ∙ times-moved_here ready thread tail in
           omega (arith, one)
       | inr apart ↦
-          let none : times_in (moved ready thread tail priority) other ≡ 0 = ap (λ o. times_in (moved ready thread tail priority) o) here.1 ∙ times-moved_elsewhere ready thread tail priority apart.0 in
+          let none : times_in (moved ready thread tail priority) other ≡ 0 = ap (λ o. times_in (moved ready thread tail priority) o) here.1
+          ∙ times-moved_elsewhere ready thread tail priority apart.0 in
           omega (arith, none)
     ]
     | inr apart ↦

@@ -3,9 +3,11 @@ use Rattle.std.proofs.Common.{ℕ, ◌≡◌, ◌==◌, ◌&&◌, ◌||◌, Bool
 use Rattle.std.specs.Prelude.{◌+◌, ◌-◌, ◌/◌, ◌%◌, ◌^◌, ◌++◌, filter, fold, is_some, nat_le, nat_lt}
 use Rattle.std.specs.Option.{option_map_or}
 use Rattle.model.specs.declared.capabilities.Cap.{Cap}
-use Rattle.model.specs.declared.capabilities.Cap.TheVariants.{Empty, Untyped, Endpoint, Notification, CNode, Frame, PageTable, Tcb, RootTable, InterruptControl, InterruptHandler}
+use Rattle.model.specs.declared.capabilities.Cap.TheVariants.{Empty, Untyped, Endpoint, Notification, CNode, Frame, PageTable, Tcb, RootTable, InterruptControl}
+use Rattle.model.specs.declared.capabilities.Cap.TheVariants.{InterruptHandler}
 use Rattle.model.specs.declared.errors.KError.{KError}
-use Rattle.model.specs.declared.errors.KError.TheVariants.{AlignmentError, DeleteFirst, FailedLookup, IllegalOperation, InvalidArgument, InvalidCapability, NotEnoughMemory, RangeError, RevokeFirst}
+use Rattle.model.specs.declared.errors.KError.TheVariants.{AlignmentError, DeleteFirst, FailedLookup, IllegalOperation, InvalidArgument, InvalidCapability}
+use Rattle.model.specs.declared.errors.KError.TheVariants.{NotEnoughMemory, RangeError, RevokeFirst}
 use Rattle.model.specs.declared.events.Event.{Event}
 use Rattle.model.specs.declared.events.Event.TheVariants.{Step, Tick, Irq}
 use Rattle.model.specs.declared.instructions.Access.TheVariants.{Fetch}
@@ -21,7 +23,8 @@ use Rattle.model.specs.declared.lookup_failures.LookupFailure.{LookupFailure}
 use Rattle.model.specs.declared.lookup_failures.LookupFailure.TheVariants.{MissingCapability}
 use Rattle.model.specs.declared.rights.Rights.{Rights}
 use Rattle.model.specs.Kernel.AddressSpaces.{content_of, with_content, address_limit, is_page_taken, is_region_taken, page_size, region_pages, region_size}
-use Rattle.model.specs.Capabilities.CapabilityKinds.{badge_fits, carries_messages, cnode_of, frame_mapping, guard_fits, is_badged, is_handler_of, may_be_copied, root_of, table_mapping, unmapped}
+use Rattle.model.specs.Capabilities.CapabilityKinds.{badge_fits, carries_messages, cnode_of, frame_mapping, guard_fits, is_badged, is_handler_of, may_be_copied}
+use Rattle.model.specs.Capabilities.CapabilityKinds.{root_of, table_mapping, unmapped}
 use Rattle.model.specs.Capabilities.Placement.{placement}
 use Rattle.model.specs.Capabilities.Rights.{mapping_rights, may_execute, may_grant_reply, may_read, may_write}
 use Rattle.model.specs.Capabilities.Slots.{capability_at, is_full, recapped}
@@ -52,12 +55,18 @@ use Rattle.model.specs.declared.invocations.TableCall.TheVariants.{MapTable, Unm
 use Rattle.model.specs.declared.invocations.ThreadCall.{ThreadCall}
 use Rattle.model.specs.declared.invocations.ThreadCall.TheVariants.{Configure, SetPriority, SetRegister, Resume, Suspend}
 use Rattle.model.specs.declared.invocations.UntypedMemory.{UntypedMemory}
-use Rattle.model.specs.Kernel.Messages.{Message, a7, waits_for_signal, deliver, deliver_word, message_of, message_sent, passes, resumption, waits_to_receive, with_caller, with_registers, receive, receives, received, received_waiting, replied, reply, reply_to_fault, sends, signal, signals, takes_word, tries_to_send, try_to_receive}
+use Rattle.model.specs.Kernel.Messages.{Message, a7, waits_for_signal, deliver, deliver_word, message_of, message_sent, passes, resumption, waits_to_receive}
+use Rattle.model.specs.Kernel.Messages.{with_caller, with_registers, receive, receives, received, received_waiting, replied, reply, reply_to_fault, sends}
+use Rattle.model.specs.Kernel.Messages.{signal, signals, takes_word, tries_to_send, try_to_receive}
 use Rattle.model.specs.Kernel.Removal.{SlotSet, closes, closing, delete, emptied, is_ending_thread, is_set_back, remove, thread_places, without_slots}
 use Rattle.model.specs.Kernel.Retype.{any_full, is_large_enough, is_small_enough, node, object_bits, retype, type_of}
 use Rattle.model.specs.Kernel.Scheduling.{at_tail, block, current, full_slice, is_runnable, leaves, tick, ticked, to_tail, unready, wake, yielded}
-use Rattle.model.specs.Kernel.State.{FaultMessage, NotificationState, Sender, Sent, BySend, ByCall, ByFault, State, Status, Inactive, Runnable, Blocked, AwaitsReply, AwaitsHandler, as_thread, binding_slot, cspace_slot, endpoint_at, holds_some, slot_of, vspace_slot, notification_at, put, thread_at, with_endpoint, with_notification, with_slots, with_thread}
-use Rattle.model.specs.Kernel.Steps.{Done, call_of, calls, calls_known, registers_of, lacks_capability, named_slot, signal_on, after_effect, after_invocation, answered, completed, invokes, ran, receive_by, receive_named, receive_on_endpoint, receive_on_notification, refused, runs, runs_decoded, runs_fetched, send_by, send_named, send_on, sender, sends_nothing, step, system_call}
+use Rattle.model.specs.Kernel.State.{FaultMessage, NotificationState, Sender, Sent, BySend, ByCall, ByFault, State, Status, Inactive, Runnable, Blocked}
+use Rattle.model.specs.Kernel.State.{AwaitsReply, AwaitsHandler, as_thread, binding_slot, cspace_slot, endpoint_at, holds_some, slot_of, vspace_slot}
+use Rattle.model.specs.Kernel.State.{notification_at, put, thread_at, with_endpoint, with_notification, with_slots, with_thread}
+use Rattle.model.specs.Kernel.Steps.{Done, call_of, calls, calls_known, registers_of, lacks_capability, named_slot, signal_on, after_effect, after_invocation}
+use Rattle.model.specs.Kernel.Steps.{answered, completed, invokes, ran, receive_by, receive_named, receive_on_endpoint, receive_on_notification, refused, runs}
+use Rattle.model.specs.Kernel.Steps.{runs_decoded, runs_fetched, send_by, send_named, send_on, sender, sends_nothing, step, system_call}
 use Rattle.model.specs.declared.system_calls.SendCall.{SendCall}
 use Rattle.model.specs.declared.system_calls.SendCall.TheVariants.{Calling, Sending, Trying}
 use Rattle.model.specs.declared.system_calls.ReceiveCall.{ReceiveCall}
@@ -91,7 +100,11 @@ to_tail-sound s thread before = record { holds = moved-none_twice s.ready thread
 
 wake-sound : (s : State) (thread : ℕ) → Sound s → Sound (wake s thread)
 wake-sound s thread before =
-    record { holds = moved-none_twice s.ready thread (thread_at (unready (with_thread s thread (record (thread_at s thread) { status = Runnable; slice = full_slice })) thread) thread).priority before.holds }
+    record {
+      holds = moved-none_twice s.ready thread
+          (thread_at (unready (with_thread s thread (record (thread_at s thread) { status = Runnable; slice = full_slice })) thread) thread).priority
+          before.holds;
+    }
 
 block-sound : (s : State) (thread : ℕ) (status : Status) → Sound s → Sound (block s thread status)
 block-sound s thread status before = same refl (unready-sound s thread before)
@@ -101,7 +114,10 @@ leaves-sound s thread before = same refl (unready-sound s thread before)
 
 yielded-sound : (s : State) (thread : ℕ) → Sound s → Sound (yielded s thread)
 yielded-sound s thread before =
-    record { holds = moved-none_twice s.ready thread (thread_at (unready (with_thread s thread (record (thread_at s thread) { slice = full_slice })) thread) thread).priority before.holds }
+    record {
+      holds = moved-none_twice s.ready thread
+          (thread_at (unready (with_thread s thread (record (thread_at s thread) { slice = full_slice })) thread) thread).priority before.holds;
+    }
 
 -- ---- choices
 
@@ -148,7 +164,8 @@ received_waiting-sound s sender BySend receiver before = wake-sound (passes s se
 received_waiting-sound s sender ByCall receiver before = received-sound s sender ByCall receiver (same refl before)
 received_waiting-sound s sender (ByFault message) receiver before = received-sound s sender (ByFault message) receiver (same refl before)
 
-receives-sound : (s : State) (endpoint receiver : ℕ) (otherwise : State) (senders : List Sender) → Sound s → Sound otherwise → Sound (receives s endpoint receiver otherwise senders)
+receives-sound : (s : State) (endpoint receiver : ℕ) (otherwise : State) (senders : List Sender) → Sound s → Sound otherwise →
+    Sound (receives s endpoint receiver otherwise senders)
 receives-sound s endpoint receiver otherwise [] before other = other
 receives-sound s endpoint receiver otherwise (sender ∷ others) before other =
     let taken : State = with_endpoint s endpoint (record (endpoint_at s endpoint) { senders = others }) in
@@ -171,7 +188,8 @@ reply_to_fault-sound : (s : State) (thread : ℕ) (message : Message) → Sound 
 reply_to_fault-sound s thread message before =
     let r = (thread_at s thread).registers in
     let resumed : State = with_registers s thread (record r { pc = resumption r.pc message.words }) in
-    either (message.label == 0) (wake resumed thread) (block s thread Inactive) (wake-sound resumed thread (same refl before)) (block-sound s thread Inactive before)
+    either (message.label == 0) (wake resumed thread) (block s thread Inactive) (wake-sound resumed thread (same refl before))
+    (block-sound s thread Inactive before)
 
 replied-sound : (s : State) (caller : ℕ) (status : Status) (message : Message) → Sound s → Sound (replied s caller status message)
 replied-sound s caller AwaitsReply message before = wake-sound (deliver s caller 0 message) caller (same refl before)
@@ -221,11 +239,13 @@ acknowledge-sound s irq_line before =
 
 tell-sound : (s : State) (thread : ℕ) (message : FaultMessage) (to : Handler) → Sound s → Sound (tell s thread message to)
 tell-sound s thread message to before =
-    sends-sound s to.endpoint (record { thread = thread; sent = ByFault message; badge = to.badge; grant_reply = true }) (endpoint_at s to.endpoint).receivers before
+    sends-sound s to.endpoint (record { thread = thread; sent = ByFault message; badge = to.badge; grant_reply = true }) (endpoint_at s to.endpoint).receivers
+    before
 
 fault-sound : (s : State) (thread : ℕ) (message : FaultMessage) → Sound s → Sound (fault s thread message)
 fault-sound s thread message before =
-    perhaps (tell s thread message) (handler s thread) (block s thread Inactive) (λ to. tell-sound s thread message to before) (block-sound s thread Inactive before)
+    perhaps (tell s thread message) (handler s thread) (block s thread Inactive) (λ to. tell-sound s thread message to before)
+    (block-sound s thread Inactive before)
 
 -- ---- invocations
 
@@ -256,7 +276,15 @@ delete-sound s slot before = either_result _ _ _ (remove-sound s _ before) (fine
 retype-sound : (s : State) (root : Cap) (slot : ℕ) (memory : UntypedMemory) (call : RetypeCall) → Sound s → SoundResult (retype s root slot memory call)
 unfolding retype
 retype-sound s root slot memory call before =
-    bind-sound (wanted (type_of call.kind call.size) InvalidArgument) _ (λ kind. bind-sound (check (is_large_enough kind) InvalidArgument) _ (λ _. bind-sound (check (is_small_enough kind) RangeError) _ (λ _. bind-sound (node s.slots root call.node) _ (λ cnode. bind-sound (check (nat_le 1 call.count && nat_le call.count 256 && nat_le (call.index + call.count) (2 ^ cnode.radix)) RangeError) _ (λ _. bind-sound (check (not (any_full s.slots (slot_of cnode.offset call.index) call.count)) DeleteFirst) _ (λ _. bind-sound (may_have_child s.slots slot) _ (λ _. bind-sound (wanted (placement memory.bits memory.watermark (object_bits kind) call.count) NotEnoughMemory) _ (λ place. fine (same refl before)))))))))
+    bind-sound (wanted (type_of call.kind call.size) InvalidArgument) _
+    (λ kind. bind-sound (check (is_large_enough kind) InvalidArgument) _
+    (λ _. bind-sound (check (is_small_enough kind) RangeError) _
+    (λ _. bind-sound (node s.slots root call.node) _
+    (λ cnode. bind-sound (check (nat_le 1 call.count && nat_le call.count 256 && nat_le (call.index + call.count) (2 ^ cnode.radix)) RangeError) _
+    (λ _. bind-sound (check (not (any_full s.slots (slot_of cnode.offset call.index) call.count)) DeleteFirst) _
+    (λ _. bind-sound (may_have_child s.slots slot) _
+    (λ _. bind-sound (wanted (placement memory.bits memory.watermark (object_bits kind) call.count) NotEnoughMemory) _
+    (λ place. fine (same refl before)))))))))
 
 with_priority-sound : (s : State) (thread priority : ℕ) → Sound s → Sound (with_priority s thread priority)
 with_priority-sound s thread priority before =
@@ -265,7 +293,8 @@ with_priority-sound s thread priority before =
     (record { holds = moved-none_twice s.ready thread (thread_at (with_thread (unready s thread) thread t) thread).priority before.holds }) (same refl before)
 
 resume-sound : (s : State) (thread : ℕ) → Sound s → Sound (resume s thread)
-resume-sound s thread before = either (is_runnable (thread_at s thread).status) s (wake (leaves s thread) thread) before (wake-sound (leaves s thread) thread (leaves-sound s thread before))
+resume-sound s thread before = either (is_runnable (thread_at s thread).status) s (wake (leaves s thread) thread) before
+    (wake-sound (leaves s thread) thread (leaves-sound s thread before))
 
 suspend-sound : (s : State) (thread : ℕ) → Sound s → Sound (suspend s thread)
 suspend-sound s thread before = block-sound (leaves s thread) thread Inactive (leaves-sound s thread (same refl before))
@@ -273,14 +302,22 @@ suspend-sound s thread before = block-sound (leaves s thread) thread Inactive (l
 configure-sound : (s : State) (root : Cap) (thread : ℕ) (guard : Option ℕ) (fault_address : ℕ) (cspace_name vspace_name : SlotName) → Sound s
     → SoundResult (configure s root thread guard fault_address cspace_name vspace_name)
 configure-sound s root thread guard fault_address cspace_name vspace_name before =
-    bind-sound (source_slot s.slots root cspace_name) _ (λ cspace. bind-sound (wanted (cnode_of (capability_at s.slots cspace)) InvalidCapability) _ (λ _. bind-sound (source_slot s.slots root vspace_name) _ (λ vspace. bind-sound (wanted (root_of (capability_at s.slots vspace)) InvalidCapability) _ (λ _. bind-sound (check (not (is_full s.slots (cspace_slot thread)) && not (is_full s.slots (vspace_slot thread))) DeleteFirst) _ (λ _. bind-sound (check (given_guard_fits (capability_at s.slots cspace) guard) IllegalOperation) _ (λ _. bind-sound (may_have_child s.slots cspace) _ (λ _. bind-sound (may_have_child s.slots vspace) _ (λ _. fine (same refl before)))))))))
+    bind-sound (source_slot s.slots root cspace_name) _
+    (λ cspace. bind-sound (wanted (cnode_of (capability_at s.slots cspace)) InvalidCapability) _
+    (λ _. bind-sound (source_slot s.slots root vspace_name) _
+    (λ vspace. bind-sound (wanted (root_of (capability_at s.slots vspace)) InvalidCapability) _
+    (λ _. bind-sound (check (not (is_full s.slots (cspace_slot thread)) && not (is_full s.slots (vspace_slot thread))) DeleteFirst) _
+    (λ _. bind-sound (check (given_guard_fits (capability_at s.slots cspace) guard) IllegalOperation) _
+    (λ _. bind-sound (may_have_child s.slots cspace) _ (λ _. bind-sound (may_have_child s.slots vspace) _ (λ _. fine (same refl before)))))))))
 
 set_priority-sound : (s : State) (thread priority : ℕ) → Sound s → SoundResult (set_priority s thread priority)
 set_priority-sound s thread priority before = bind-sound (check (nat_le priority 255) RangeError) _ (λ _. fine (with_priority-sound s thread priority before))
 
 set_register-sound : (s : State) (caller : Option ℕ) (thread index value : ℕ) → Sound s → SoundResult (set_register s caller thread index value)
 set_register-sound s caller thread index value before =
-    bind-sound (check (not (is_caller caller thread)) IllegalOperation) _ (λ _. bind-sound (check (nat_le index 31) RangeError) _ (λ _. bind-sound (check (not (index == 0) || value % 4 == 0) AlignmentError) _ (λ _. fine (same refl before))))
+    bind-sound (check (not (is_caller caller thread)) IllegalOperation) _
+    (λ _. bind-sound (check (nat_le index 31) RangeError) _
+    (λ _. bind-sound (check (not (index == 0) || value % 4 == 0) AlignmentError) _ (λ _. fine (same refl before))))
 
 on_thread-sound : (s : State) (call : Call) (thread : ℕ) (c : ThreadCall) → Sound s → SoundResult (on_thread s call thread c)
 on_thread-sound s call thread (Configure fault_address cspace vspace) before = configure-sound s call.root thread None fault_address cspace vspace before
@@ -292,21 +329,34 @@ on_thread-sound s call thread Suspend before = fine (suspend-sound s thread befo
 copy-sound : (s : State) (call : Call) (destination_name source_name : SlotName) (rights_word : ℕ) → Sound s
     → SoundResult (copy s call destination_name source_name rights_word)
 copy-sound s call destination_name source_name rights_word before =
-    bind-sound (destination_slot s.slots call.capability destination_name) _ (λ destination. bind-sound (source_slot s.slots call.root source_name) _ (λ source. bind-sound (check (may_be_copied (capability_at s.slots source)) IllegalOperation) _ (λ _. bind-sound (may_have_child s.slots source) _ (λ _. fine (same refl before)))))
+    bind-sound (destination_slot s.slots call.capability destination_name) _
+    (λ destination. bind-sound (source_slot s.slots call.root source_name) _
+    (λ source. bind-sound (check (may_be_copied (capability_at s.slots source)) IllegalOperation) _
+    (λ _. bind-sound (may_have_child s.slots source) _ (λ _. fine (same refl before)))))
 
 mint-sound : (s : State) (call : Call) (destination_name source_name : SlotName) (rights_word payload : ℕ) → Sound s
     → SoundResult (mint s call destination_name source_name rights_word payload)
 mint-sound s call destination_name source_name rights_word payload before =
-    bind-sound (destination_slot s.slots call.capability destination_name) _ (λ destination. bind-sound (source_slot s.slots call.root source_name) _ (λ source. bind-sound (check (may_be_copied (capability_at s.slots source)) IllegalOperation) _ (λ _. bind-sound (check (not (is_badged (capability_at s.slots source))) IllegalOperation) _ (λ _. bind-sound (check (badge_fits (capability_at s.slots source) payload) RangeError) _ (λ _. bind-sound (check (guard_fits (capability_at s.slots source) payload) IllegalOperation) _ (λ _. bind-sound (may_have_child s.slots source) _ (λ _. fine (same refl before))))))))
+    bind-sound (destination_slot s.slots call.capability destination_name) _
+    (λ destination. bind-sound (source_slot s.slots call.root source_name) _
+    (λ source. bind-sound (check (may_be_copied (capability_at s.slots source)) IllegalOperation) _
+    (λ _. bind-sound (check (not (is_badged (capability_at s.slots source))) IllegalOperation) _
+    (λ _. bind-sound (check (badge_fits (capability_at s.slots source) payload) RangeError) _
+    (λ _. bind-sound (check (guard_fits (capability_at s.slots source) payload) IllegalOperation) _
+    (λ _. bind-sound (may_have_child s.slots source) _ (λ _. fine (same refl before))))))))
 
 move-sound : (s : State) (call : Call) (destination_name source_name : SlotName) → Sound s → SoundResult (move s call destination_name source_name)
 move-sound s call destination_name source_name before =
-    bind-sound (destination_slot s.slots call.capability destination_name) _ (λ destination. bind-sound (source_slot s.slots call.root source_name) _ (λ source. fine (same refl before)))
+    bind-sound (destination_slot s.slots call.capability destination_name) _
+    (λ destination. bind-sound (source_slot s.slots call.root source_name) _ (λ source. fine (same refl before)))
 
 mutate-sound : (s : State) (call : Call) (destination_name source_name : SlotName) (payload : ℕ) → Sound s
     → SoundResult (mutate s call destination_name source_name payload)
 mutate-sound s call destination_name source_name payload before =
-    bind-sound (destination_slot s.slots call.capability destination_name) _ (λ destination. bind-sound (source_slot s.slots call.root source_name) _ (λ source. bind-sound (check (not (carries_messages (capability_at s.slots source))) IllegalOperation) _ (λ _. bind-sound (check (guard_fits (capability_at s.slots source) payload) IllegalOperation) _ (λ _. fine (same refl before)))))
+    bind-sound (destination_slot s.slots call.capability destination_name) _
+    (λ destination. bind-sound (source_slot s.slots call.root source_name) _
+    (λ source. bind-sound (check (not (carries_messages (capability_at s.slots source))) IllegalOperation) _
+    (λ _. bind-sound (check (guard_fits (capability_at s.slots source) payload) IllegalOperation) _ (λ _. fine (same refl before)))))
 
 on_cnode-sound : (s : State) (call : Call) (c : CNodeCall) → Sound s → SoundResult (on_cnode s call c)
 on_cnode-sound s call (Copy destination source rights_word) before = copy-sound s call destination source rights_word before
@@ -320,7 +370,13 @@ map_frame-sound : (s : State) (call : Call) (held : Rights) (root_name : SlotNam
     → SoundResult (map_frame s call held root_name address rights_word)
 map_frame-sound s call held root_name address rights_word before =
     let allowed : Rights = mapping_rights held rights_word in
-    bind-sound (check (not (is_mapped (frame_mapping call.capability))) InvalidCapability) _ (λ _. bind-sound (root_named s.slots call.root root_name) _ (λ root. bind-sound (check (nat_lt address address_limit) InvalidArgument) _ (λ _. bind-sound (check (address % page_size == 0) AlignmentError) _ (λ _. bind-sound (check (is_region_taken s root (address / page_size / region_pages)) FailedLookup) _ (λ _. bind-sound (check (not (is_page_taken s root (address / page_size))) DeleteFirst) _ (λ _. bind-sound (check (may_read allowed || may_execute allowed) InvalidArgument) _ (λ _. fine (same refl before))))))))
+    bind-sound (check (not (is_mapped (frame_mapping call.capability))) InvalidCapability) _
+    (λ _. bind-sound (root_named s.slots call.root root_name) _
+    (λ root. bind-sound (check (nat_lt address address_limit) InvalidArgument) _
+    (λ _. bind-sound (check (address % page_size == 0) AlignmentError) _
+    (λ _. bind-sound (check (is_region_taken s root (address / page_size / region_pages)) FailedLookup) _
+    (λ _. bind-sound (check (not (is_page_taken s root (address / page_size))) DeleteFirst) _
+    (λ _. bind-sound (check (may_read allowed || may_execute allowed) InvalidArgument) _ (λ _. fine (same refl before))))))))
 
 on_frame-sound : (s : State) (call : Call) (held : Rights) (c : FrameCall) → Sound s → SoundResult (on_frame s call held c)
 on_frame-sound s call held (MapFrame root address rights_word) before = map_frame-sound s call held root address rights_word before
@@ -333,7 +389,11 @@ unmap_table-sound s call before =
 
 map_table-sound : (s : State) (call : Call) (root_name : SlotName) (address : ℕ) → Sound s → SoundResult (map_table s call root_name address)
 map_table-sound s call root_name address before =
-    bind-sound (check (not (is_mapped (table_mapping call.capability))) InvalidCapability) _ (λ _. bind-sound (root_named s.slots call.root root_name) _ (λ root. bind-sound (check (nat_lt address address_limit) InvalidArgument) _ (λ _. bind-sound (check (address % region_size == 0) AlignmentError) _ (λ _. bind-sound (check (not (is_region_taken s root (address / region_size))) DeleteFirst) _ (λ _. fine (same refl before))))))
+    bind-sound (check (not (is_mapped (table_mapping call.capability))) InvalidCapability) _
+    (λ _. bind-sound (root_named s.slots call.root root_name) _
+    (λ root. bind-sound (check (nat_lt address address_limit) InvalidArgument) _
+    (λ _. bind-sound (check (address % region_size == 0) AlignmentError) _
+    (λ _. bind-sound (check (not (is_region_taken s root (address / region_size))) DeleteFirst) _ (λ _. fine (same refl before))))))
 
 on_table-sound : (s : State) (call : Call) (c : TableCall) → Sound s → SoundResult (on_table s call c)
 on_table-sound s call (MapTable root address) before = map_table-sound s call root address before
@@ -341,11 +401,17 @@ on_table-sound s call UnmapTable before = fine (unmap_table-sound s call before)
 
 get_handler-sound : (s : State) (call : Call) (line : ℕ) (name : SlotName) → Sound s → SoundResult (get_handler s call line name)
 get_handler-sound s call line name before =
-    bind-sound (check (nat_le line 63) RangeError) _ (λ _. bind-sound (check (not (holds_some s (is_handler_of line))) RevokeFirst) _ (λ _. bind-sound (destination_slot s.slots call.root name) _ (λ destination. bind-sound (may_have_child s.slots call.slot) _ (λ _. fine (same refl before)))))
+    bind-sound (check (nat_le line 63) RangeError) _
+    (λ _. bind-sound (check (not (holds_some s (is_handler_of line))) RevokeFirst) _
+    (λ _. bind-sound (destination_slot s.slots call.root name) _
+    (λ destination. bind-sound (may_have_child s.slots call.slot) _ (λ _. fine (same refl before)))))
 
 bind_line-sound : (s : State) (call : Call) (line : ℕ) (name : SlotName) → Sound s → SoundResult (bind s call line name)
 bind_line-sound s call line name before =
-    bind-sound (source_slot s.slots call.root name) _ (λ source. bind-sound (check (may_be_bound (capability_at s.slots source)) InvalidCapability) _ (λ _. bind-sound (may_have_child s.slots source) _ (λ _. bind-state (delete s (binding_slot s line)) _ (delete-sound s (binding_slot s line) before) (λ after sound. fine (same refl sound)))))
+    bind-sound (source_slot s.slots call.root name) _
+    (λ source. bind-sound (check (may_be_bound (capability_at s.slots source)) InvalidCapability) _
+    (λ _. bind-sound (may_have_child s.slots source) _
+    (λ _. bind-state (delete s (binding_slot s line)) _ (delete-sound s (binding_slot s line) before) (λ after sound. fine (same refl sound)))))
 
 on_handler-sound : (s : State) (call : Call) (irq_line : ℕ) (c : HandlerCall) → Sound s → SoundResult (on_handler s call irq_line c)
 on_handler-sound s call irq_line Acknowledge before = fine (acknowledge-sound s irq_line before)
@@ -378,14 +444,19 @@ completed-sound s thread kind before =
     either (is_some (as_thread (s.objects thread))) (if runs_on then answered s thread kind 0 else passes s thread) s
     (either runs_on (answered s thread kind 0) (passes s thread) (answered-sound s thread kind 0 before) (same refl before)) before
 
-after_invocation-sound : (s : State) (thread : ℕ) (kind : SendCall) (r : Result State KError) → Sound s → SoundResult r → SoundDone (after_invocation s thread kind r)
+after_invocation-sound : (s : State) (thread : ℕ) (kind : SendCall) (r : Result State KError) → Sound s → SoundResult r →
+    SoundDone (after_invocation s thread kind r)
 after_invocation-sound s thread kind (Ok after) before (fine sound) = done (completed-sound after thread kind sound)
 after_invocation-sound s thread kind (Err e) before sound = done (answered-sound s thread kind _ before)
 
-send_on-sound : (s : State) (thread : ℕ) (kind : SendCall) (endpoint badge : ℕ) (grant_reply : Bool) → Sound s → SoundDone (send_on s thread kind endpoint badge grant_reply)
-send_on-sound s thread Calling endpoint badge grant_reply before = done (sends-sound s endpoint (sender thread ByCall badge grant_reply) (endpoint_at s endpoint).receivers before)
-send_on-sound s thread Sending endpoint badge grant_reply before = done (sends-sound s endpoint (sender thread BySend badge grant_reply) (endpoint_at s endpoint).receivers before)
-send_on-sound s thread Trying endpoint badge grant_reply before = done (try_to_send-sound s endpoint (sender thread BySend badge grant_reply) (endpoint_at s endpoint).receivers before)
+send_on-sound : (s : State) (thread : ℕ) (kind : SendCall) (endpoint badge : ℕ) (grant_reply : Bool) → Sound s →
+    SoundDone (send_on s thread kind endpoint badge grant_reply)
+send_on-sound s thread Calling endpoint badge grant_reply before =
+    done (sends-sound s endpoint (sender thread ByCall badge grant_reply) (endpoint_at s endpoint).receivers before)
+send_on-sound s thread Sending endpoint badge grant_reply before =
+    done (sends-sound s endpoint (sender thread BySend badge grant_reply) (endpoint_at s endpoint).receivers before)
+send_on-sound s thread Trying endpoint badge grant_reply before =
+    done (try_to_send-sound s endpoint (sender thread BySend badge grant_reply) (endpoint_at s endpoint).receivers before)
 
 invokes-sound : (s : State) (thread : ℕ) (kind : SendCall) (slot : ℕ) (capability : Cap) → Sound s → SoundDone (invokes s thread kind slot capability)
 invokes-sound s thread kind slot capability before = after_invocation-sound s thread kind _ (same refl before) (invoke-sound s _ _ _ _ (same refl before))
@@ -393,8 +464,12 @@ invokes-sound s thread kind slot capability before = after_invocation-sound s th
 send_by-sound : (s : State) (thread : ℕ) (kind : SendCall) (slot : ℕ) (capability : Cap) → Sound s → SoundDone (send_by s thread kind slot capability)
 send_by-sound s thread kind slot Empty before = invokes-sound s thread kind slot Empty (same refl before)
 send_by-sound s thread kind slot (Untyped offset bits watermark) before = invokes-sound s thread kind slot (Untyped offset bits watermark) (same refl before)
-send_by-sound s thread kind slot (Endpoint offset r badge) before = either_done (may_write r) (send_on s thread kind offset badge (may_grant_reply r)) (refused s thread kind InvalidCapability) (send_on-sound s thread kind offset badge _ (same refl before)) (done (answered-sound s thread kind _ before))
-send_by-sound s thread kind slot (Notification offset r badge) before = either_done (may_write r) (signal_on s thread kind offset badge) (refused s thread kind InvalidCapability) (done (answered-sound (signal s offset badge) thread kind 0 (signal-sound s offset badge before))) (done (answered-sound s thread kind _ before))
+send_by-sound s thread kind slot (Endpoint offset r badge) before =
+    either_done (may_write r) (send_on s thread kind offset badge (may_grant_reply r)) (refused s thread kind InvalidCapability)
+    (send_on-sound s thread kind offset badge _ (same refl before)) (done (answered-sound s thread kind _ before))
+send_by-sound s thread kind slot (Notification offset r badge) before =
+    either_done (may_write r) (signal_on s thread kind offset badge) (refused s thread kind InvalidCapability)
+    (done (answered-sound (signal s offset badge) thread kind 0 (signal-sound s offset badge before))) (done (answered-sound s thread kind _ before))
 send_by-sound s thread kind slot (CNode offset radix guard) before = invokes-sound s thread kind slot (CNode offset radix guard) (same refl before)
 send_by-sound s thread kind slot (Frame offset r mapping) before = invokes-sound s thread kind slot (Frame offset r mapping) (same refl before)
 send_by-sound s thread kind slot (PageTable offset mapping) before = invokes-sound s thread kind slot (PageTable offset mapping) (same refl before)
@@ -416,18 +491,24 @@ receive_on_endpoint-sound : (s : State) (thread : ℕ) (kind : ReceiveCall) (end
 receive_on_endpoint-sound s thread Receiving endpoint before = done (receive-sound s endpoint thread before)
 receive_on_endpoint-sound s thread Polling endpoint before = done (try_to_receive-sound s endpoint thread before)
 
-receive_on_notification-sound : (s : State) (thread : ℕ) (kind : ReceiveCall) (notification : ℕ) → Sound s → SoundDone (receive_on_notification s thread kind notification)
+receive_on_notification-sound : (s : State) (thread : ℕ) (kind : ReceiveCall) (notification : ℕ) → Sound s →
+    SoundDone (receive_on_notification s thread kind notification)
 receive_on_notification-sound s thread Receiving notification before =
     let n = notification_at s notification in
     done (takes_word-sound s notification thread (waits_for_signal s notification thread) before
     (block-sound (with_notification s notification (record n { waiters = n.waiters ++ thread ∷ [] })) thread (Blocked notification) (same refl before)))
-receive_on_notification-sound s thread Polling notification before = done (takes_word-sound s notification thread (deliver_word s thread 0) before (same refl before))
+receive_on_notification-sound s thread Polling notification before =
+    done (takes_word-sound s notification thread (deliver_word s thread 0) before (same refl before))
 
 receive_by-sound : (s : State) (thread : ℕ) (kind : ReceiveCall) (capability : Cap) → Sound s → SoundDone (receive_by s thread kind capability)
 receive_by-sound s thread kind Empty before = done (fault-sound s thread _ before)
 receive_by-sound s thread kind (Untyped offset bits watermark) before = done (fault-sound s thread _ before)
-receive_by-sound s thread kind (Endpoint offset r badge) before = either_done (may_read r) (receive_on_endpoint s thread kind offset) (lacks_capability s thread 1 MissingCapability) (receive_on_endpoint-sound s thread kind offset (same refl before)) (done (fault-sound s thread _ before))
-receive_by-sound s thread kind (Notification offset r badge) before = either_done (may_read r) (receive_on_notification s thread kind offset) (lacks_capability s thread 1 MissingCapability) (receive_on_notification-sound s thread kind offset (same refl before)) (done (fault-sound s thread _ before))
+receive_by-sound s thread kind (Endpoint offset r badge) before =
+    either_done (may_read r) (receive_on_endpoint s thread kind offset) (lacks_capability s thread 1 MissingCapability)
+    (receive_on_endpoint-sound s thread kind offset (same refl before)) (done (fault-sound s thread _ before))
+receive_by-sound s thread kind (Notification offset r badge) before =
+    either_done (may_read r) (receive_on_notification s thread kind offset) (lacks_capability s thread 1 MissingCapability)
+    (receive_on_notification-sound s thread kind offset (same refl before)) (done (fault-sound s thread _ before))
 receive_by-sound s thread kind (CNode offset radix guard) before = done (fault-sound s thread _ before)
 receive_by-sound s thread kind (Frame offset r mapping) before = done (fault-sound s thread _ before)
 receive_by-sound s thread kind (PageTable offset mapping) before = done (fault-sound s thread _ before)
@@ -460,7 +541,8 @@ system_call-sound s thread before =
 
 -- ---- events
 
-after_effect-sound : (s : State) (thread pc : ℕ) (r : RegisterFile) (exec : Exec) (next : Done) → Sound s → SoundDone next → SoundDone (after_effect s thread pc r exec next)
+after_effect-sound : (s : State) (thread pc : ℕ) (r : RegisterFile) (exec : Exec) (next : Done) → Sound s → SoundDone next →
+    SoundDone (after_effect s thread pc r exec next)
 after_effect-sound s thread pc r Next next before sound = sound
 after_effect-sound s thread pc r Ecall next before sound = system_call-sound s thread (same refl before)
 after_effect-sound s thread pc r (Trap cause) next before sound = done (fault-sound s thread _ before)

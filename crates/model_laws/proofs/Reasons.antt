@@ -4,10 +4,12 @@ use Rattle.model.specs.declared.capabilities.Cap.{Cap}
 use Rattle.model.specs.declared.capabilities.Cap.TheVariants.{Endpoint, InterruptHandler, Notification}
 use Rattle.model.specs.declared.rights.Rights.{Rights}
 use Rattle.model.specs.Capabilities.Slots.{capability_at}
-use Rattle.model.specs.Kernel.Deliveries.{MayReply, as_before, to_sender, Reason, receiver, sender, waiter, caller, faulted, set_back, once_received, by_line, by_right, ReceivesFrom, SendsTo, Signals}
+use Rattle.model.specs.Kernel.Deliveries.{MayReply, as_before, to_sender, Reason, receiver, sender, waiter, caller, faulted, set_back, once_received, by_line}
+use Rattle.model.specs.Kernel.Deliveries.{by_right, ReceivesFrom, SendsTo, Signals}
 use Rattle.model.specs.Kernel.Messages.{a0, delivered, message_of}
 use Rattle.model.specs.Kernel.Scheduling.{head_of}
-use Rattle.model.specs.Kernel.State.{State, Inactive, Runnable, Blocked, AwaitsReply, AwaitsHandler, Sender, Sent, BySend, ByCall, ByFault, ThreadState, endpoint_at, thread_at}
+use Rattle.model.specs.Kernel.State.{State, Inactive, Runnable, Blocked, AwaitsReply, AwaitsHandler, Sender, Sent, BySend, ByCall, ByFault, ThreadState}
+use Rattle.model.specs.Kernel.State.{endpoint_at, thread_at}
 use Rattle.model.specs.Kernel.Steps.{named_slot}
 use Rattle.model.specs.Machine.Effects.{advanced}
 use Rattle.model.specs.Machine.ProgramMemory.{write}
@@ -82,7 +84,8 @@ receivers_badge s after self Held other endpoint badge old new waits nobody stay
 receivers_badge s after self Held other endpoint badge old new waits nobody stays badges no_signal (sender e first there names blocked held is) =
     let here : e ≡ endpoint = blocked_is e endpoint old blocked waits in
     let f : None ≡ Some first = sym (ap (λ (n : ℕ). head_of (endpoint_at s n).senders) here ∙ ap head_of nobody) ∙ there in absurd cc
-receivers_badge s after self Held other endpoint badge old new waits nobody stays badges no_signal (waiter n b first blocked held is) = absurd (no_signal n b held)
+receivers_badge s after self Held other endpoint badge old new waits nobody stays badges no_signal (waiter n b first blocked held is) =
+    absurd (no_signal n b held)
 receivers_badge s after self Held other endpoint badge old new waits nobody stays badges no_signal (caller right awaits is) =
     let f : Blocked endpoint ≡ AwaitsReply = sym waits ∙ awaits in absurd cc
 receivers_badge s after self Held other endpoint badge old new waits nobody stays badges no_signal (faulted right awaits is) =
@@ -94,8 +97,10 @@ pub waiters_badge : (s after : State) (self : ℕ) (Held : (Cap → Type 0) → 
     → old.status ≡ Blocked notification → after.objects notification ≢ None
     → ((n b : ℕ) → Held (Signals s n b) → b ≡ badge) → ((e b : ℕ) → Held (SendsTo e b) → ⊥) → ((e : ℕ) → Held (ReceivesFrom e) → ⊥)
     → Reason s after self Held other old new → new.registers ≡ advanced (write old.registers a0 badge)
-waiters_badge s after self Held other notification badge old new waits stays badges no_send no_receive (receiver e b c first blocked held right is) = absurd (no_send e b held)
-waiters_badge s after self Held other notification badge old new waits stays badges no_send no_receive (sender e first there names blocked held is) = absurd (no_receive e held)
+waiters_badge s after self Held other notification badge old new waits stays badges no_send no_receive (receiver e b c first blocked held right is) =
+    absurd (no_send e b held)
+waiters_badge s after self Held other notification badge old new waits stays badges no_send no_receive (sender e first there names blocked held is) =
+    absurd (no_receive e held)
 waiters_badge s after self Held other notification badge old new waits stays badges no_send no_receive (waiter n b first blocked held is) =
     ap (λ (t : ThreadState). t.registers) is ∙ ap (λ (m : ℕ). advanced (write old.registers a0 m)) (badges n b held)
 waiters_badge s after self Held other notification badge old new waits stays badges no_send no_receive (caller right awaits is) =
@@ -123,10 +128,12 @@ named-capability s self a b one two =
     let same : a ≡ b = cc in ap (capability_at s.slots) same
 
 pub no-signal : (s : State) (n b endpoint badge : ℕ) (r : Rights) (capability : Cap) → capability ≡ Endpoint endpoint r badge → Signals s n b capability → ⊥
-no-signal s n b endpoint badge r capability is (by_right allowed other writes) = let f : Endpoint endpoint r badge ≡ Notification n allowed b = sym is ∙ other in cc
+no-signal s n b endpoint badge r capability is (by_right allowed other writes) = let f : Endpoint endpoint r badge ≡ Notification n allowed b = sym is
+    ∙ other in cc
 no-signal s n b endpoint badge r capability is (by_line number other bound) = let f : Endpoint endpoint r badge ≡ InterruptHandler number = sym is ∙ other in cc
 
-pub one-signal : (s : State) (n b notification badge : ℕ) (r : Rights) (capability : Cap) → capability ≡ Notification notification r badge → Signals s n b capability → b ≡ badge
+pub one-signal : (s : State) (n b notification badge : ℕ) (r : Rights) (capability : Cap) → capability ≡ Notification notification r badge →
+    Signals s n b capability → b ≡ badge
 one-signal s n b notification badge r capability is (by_right allowed other writes) =
     let f : Notification n allowed b ≡ Notification notification r badge = sym other ∙ is in cc
 one-signal s n b notification badge r capability is (by_line number other bound) =

@@ -1,5 +1,6 @@
 -- A Recv by which a thread gets a Call, and the right to reply to the first sender, stays within authority.
-use Rattle.std.proofs.Common.{ℕ, ◌≡◌, ◌≢◌, ◌==◌, ◌++◌, Bool, true, if◌then◌else◌, Option, Some, None, Result, option_map, List, [], ◌∷◌, refl, sym, ◌∙◌, ap, subst, inl, inr, arith}
+use Rattle.std.proofs.Common.{ℕ, ◌≡◌, ◌≢◌, ◌==◌, ◌++◌, Bool, true, if◌then◌else◌, Option, Some, None, Result, option_map, List, [], ◌∷◌, refl, sym, ◌∙◌, ap}
+use Rattle.std.proofs.Common.{subst, inl, inr, arith}
 use Rattle.std.specs.Prelude.{map}
 use Rattle.std.specs.Option.{option_map_or}
 use Rattle.std.proofs.lemmas.Bool.{eq-eqb, ne_eqb}
@@ -17,7 +18,8 @@ use Rattle.model.specs.Kernel.Messages.{deliver, delivered, message_sent, receiv
 use Rattle.model.specs.Kernel.Retype.{NewEndpoint}
 use Rattle.model.specs.Kernel.Scheduling.{block, head_of}
 use Rattle.model.specs.Kernel.Soundness.{IsSound, waiting_at}
-use Rattle.model.specs.Kernel.State.{State, Inactive, AwaitsReply, Object, ThreadObject, EndpointObject, NotificationObject, EndpointState, Sender, Sent, ByCall, ThreadState, as_endpoint, as_thread, endpoint_at, new_endpoint, new_thread, thread_at, with_object}
+use Rattle.model.specs.Kernel.State.{State, Inactive, AwaitsReply, Object, ThreadObject, EndpointObject, NotificationObject, EndpointState, Sender, Sent}
+use Rattle.model.specs.Kernel.State.{ByCall, ThreadState, as_endpoint, as_thread, endpoint_at, new_endpoint, new_thread, thread_at, with_object}
 use Rattle.model.specs.Kernel.Steps.{call_of, calls_known, lacks_capability, receive_by, receive_named, receive_on_endpoint, system_call}
 use Rattle.model.specs.declared.system_calls.ReceiveCall.TheVariants.{Receiving}
 use Rattle.model.specs.Machine.Effects.{advanced}
@@ -106,7 +108,8 @@ module _ (image : Image) (t : Thread) (s : State) (sound : IsSound s) (endpoint 
   got-other : got.objects other ≡ Some (ThreadObject waits.own)
   unfolding zero begun one got cleared
   got-other =
-      ap (λ (b : Bool). if b then Some (ThreadObject moved) else if b then Some (ThreadObject filled) else if other == endpoint then Some shorter else if b then Some (ThreadObject cleared) else s.objects other) (ne_eqb other self apart)
+      ap (λ (b : Bool). if b then Some (ThreadObject moved) else if b then Some (ThreadObject filled) else if other == endpoint then Some shorter else if b then
+      Some (ThreadObject cleared) else s.objects other) (ne_eqb other self apart)
       ∙ ap (λ (b : Bool). if b then Some shorter else s.objects other) (ne_eqb other endpoint (not_queue other waits.own waits.is)) ∙ waits.is
 
   waiting-is : waiting ≡ changed
@@ -133,7 +136,8 @@ module _ (image : Image) (t : Thread) (s : State) (sound : IsSound s) (endpoint 
   elsewhere offset not_self not_other =
       passed offset not_self
       ∙ ap (λ (b : Bool). if b then Some (ThreadObject waiting) else got.objects offset) (ne_eqb offset other not_other)
-      ∙ ap (λ (b : Bool). if b then Some (ThreadObject moved) else if b then Some (ThreadObject filled) else if offset == endpoint then Some shorter else if b then Some (ThreadObject cleared) else s.objects offset) (ne_eqb offset self not_self)
+      ∙ ap (λ (b : Bool). if b then Some (ThreadObject moved) else if b then Some (ThreadObject filled) else if offset == endpoint then Some shorter else
+      if b then Some (ThreadObject cleared) else s.objects offset) (ne_eqb offset self not_self)
 
   at-base : (offset : ℕ) → offset ≡ endpoint → offset ≢ self → offset ≢ other → after.objects offset ≡ Some shorter
   at-base offset here not_self not_other =
@@ -194,7 +198,12 @@ module _ (image : Image) (t : Thread) (s : State) (sound : IsSound s) (endpoint 
       | at_other here _ ↦
           let e : Some (ThreadObject changed) ≡ Some (EndpointObject new) = sym at-other ∙ ap after.objects (sym here) ∙ behind in
           let f : ThreadObject changed ≡ EndpointObject new = cc in absurd cc
-      | at_base here not_self not_other ↦ record { slot = call.slot; own = call.among; such = ap object_named call.holds ∙ ap (λ (n : ℕ). Some (NewEndpoint, n)) (sym here) }
+      | at_base here not_self not_other ↦ record {
+        slot = call.slot;
+        own = call.among;
+        such = ap object_named call.holds
+            ∙ ap (λ (n : ℕ). Some (NewEndpoint, n)) (sym here);
+      }
       | away not_self not_other not_base ↦
           let e : Some (EndpointObject old) ≡ Some (EndpointObject new) = sym before ∙ sym (beyond offset not_self not_other not_base) ∙ behind in
           let f : old ≡ new = cc in absurd (differs f)
@@ -248,7 +257,8 @@ module _ (image : Image) (t : Thread) (s : State) (sound : IsSound s) (endpoint 
   zero-list : (endpoint_at zero endpoint).senders ≡ first ∷ others
   unfolding zero cleared
   zero-list =
-      ap (λ (b : Bool). (option_map_or (λ (x : EndpointState). x) (as_endpoint (if b then Some (ThreadObject cleared) else s.objects endpoint)) new_endpoint).senders)
+      ap (λ (b : Bool). (option_map_or (λ (x : EndpointState). x) (as_endpoint (if b then Some (ThreadObject cleared) else s.objects endpoint))
+      new_endpoint).senders)
       (ne_eqb endpoint self (λ same. not_queue self call.own call.is (sym same)))
       ∙ list
 

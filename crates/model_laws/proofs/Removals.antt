@@ -1,5 +1,6 @@
 -- What a removal leaves of the slots outside its set.
-use Rattle.std.proofs.Common.{ℕ, ◌≡◌, ◌∙◌, ◌/◌, ◌^◌, ◌<◌, ◌&&◌, ◌||◌, Bool, true, false, not, if◌then◌else◌, List, [], ◌∷◌, get_or, length, Option, Some, None, Ok, Err, refl, sym, ap, arith}
+use Rattle.std.proofs.Common.{ℕ, ◌≡◌, ◌∙◌, ◌/◌, ◌^◌, ◌<◌, ◌&&◌, ◌||◌, Bool, true, false, not, if◌then◌else◌, List, [], ◌∷◌, get_or, length, Option, Some, None}
+use Rattle.std.proofs.Common.{Ok, Err, refl, sym, ap, arith}
 use Rattle.std.specs.Prelude.{filter, fold, option_map}
 use Rattle.std.specs.List.{list_any, range_with_len}
 use Rattle.std.specs.Option.{option_map_or}
@@ -7,11 +8,13 @@ use Rattle.std.proofs.lemmas.List.Folds.{list_any_at}
 use Rattle.std.proofs.lemmas.List.FromFn.{length-range_with_len, get_or-range_with_len}
 use Rattle.std.proofs.lemmas.Bool.{and_parts}
 use Rattle.model.specs.declared.capabilities.Cap.{Cap}
-use Rattle.model.specs.declared.capabilities.Cap.TheVariants.{Empty, Untyped, Endpoint, Notification, CNode, Frame, PageTable, Tcb, RootTable, InterruptControl, InterruptHandler}
+use Rattle.model.specs.declared.capabilities.Cap.TheVariants.{Empty, Untyped, Endpoint, Notification, CNode, Frame, PageTable, Tcb, RootTable, InterruptControl}
+use Rattle.model.specs.declared.capabilities.Cap.TheVariants.{InterruptHandler}
 use Rattle.model.specs.declared.errors.KError.TheVariants.{RevokeFirst}
 use Rattle.model.specs.declared.slot_entries.Entry.{Entry}
 use Rattle.model.specs.Capabilities.CapabilityKinds.{object_of}
-use Rattle.model.specs.Kernel.Removal.{SlotSet, closes, closing, emptied, ends, ends_filled, frame_loses, is_set_back, is_slot_of, kept, kept_entry, new_parent, remove, table_loses, thread_places, wants_revoke_first, with_bindings, without_slots}
+use Rattle.model.specs.Kernel.Removal.{SlotSet, closes, closing, emptied, ends, ends_filled, frame_loses, is_set_back, is_slot_of, kept, kept_entry, new_parent}
+use Rattle.model.specs.Kernel.Removal.{remove, table_loses, thread_places, wants_revoke_first, with_bindings, without_slots}
 use Rattle.model.specs.Kernel.Scheduling.{wake}
 use Rattle.model.specs.Capabilities.Slots.{Slots, capability_at, empty_entry, is_empty, is_full, parent_at}
 use Rattle.model.specs.Kernel.State.{State, slot_numbers, slots_of}
@@ -126,9 +129,11 @@ kept-apart s set slot (Endpoint offset r badge) = refl
 kept-apart s set slot (Notification offset r badge) = refl
 kept-apart s set slot (CNode offset radix guard) = refl
 kept-apart s set slot (Frame offset r None) = refl
-kept-apart s set slot (Frame offset r (Some mapping)) = either_same (frame_loses s set mapping) (Frame offset r None) (Frame offset r (Some mapping)) (Frame offset r None) refl refl
+kept-apart s set slot (Frame offset r (Some mapping)) = either_same (frame_loses s set mapping) (Frame offset r None) (Frame offset r (Some mapping))
+    (Frame offset r None) refl refl
 kept-apart s set slot (PageTable offset None) = refl
-kept-apart s set slot (PageTable offset (Some mapping)) = either_same (table_loses s set mapping) (PageTable offset None) (PageTable offset (Some mapping)) (PageTable offset None) refl refl
+kept-apart s set slot (PageTable offset (Some mapping)) = either_same (table_loses s set mapping) (PageTable offset None) (PageTable offset (Some mapping))
+    (PageTable offset None) refl refl
 kept-apart s set slot (Tcb offset) = refl
 kept-apart s set slot (RootTable offset) = refl
 kept-apart s set slot InterruptControl = refl

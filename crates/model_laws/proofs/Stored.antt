@@ -1,5 +1,6 @@
 -- A step that changes slots of the thread's own alone, and passes, stays within authority.
-use Rattle.std.proofs.Common.{ℕ, ◌≡◌, ◌≢◌, ◌==◌, ◌⊎◌, Bool, true, false, is_some, if◌then◌else◌, Option, Some, Result, Ok, Err, option_map, [], refl, sym, ◌∙◌, ap, subst, inl, inr, arith}
+use Rattle.std.proofs.Common.{ℕ, ◌≡◌, ◌≢◌, ◌==◌, ◌⊎◌, Bool, true, false, is_some, if◌then◌else◌, Option, Some, Result, Ok, Err, option_map, [], refl, sym, ◌∙◌}
+use Rattle.std.proofs.Common.{ap, subst, inl, inr, arith}
 use Rattle.std.specs.Option.{option_map_or}
 use Rattle.std.proofs.lemmas.Bool.{eq-eqb, ne_eqb}
 use Rattle.std.proofs.lemmas.Bool.Decides.{eqb_tells}
@@ -27,7 +28,8 @@ use Rattle.model_laws.specs.Scenarios.{invoked}
 
 -- ---- checks that passed
 
-pub passed : {B : Type 0} (test : Bool) (error : KError) (f : Unit {0} → Result B KError) (x : B) → (check test error >>= f) ≡ Ok x → (test ≡ true) × (f tt ≡ Ok x)
+pub passed : {B : Type 0} (test : Bool) (error : KError) (f : Unit {0} → Result B KError) (x : B) → (check test error >>= f) ≡ Ok x → (test ≡ true)
+    × (f tt ≡ Ok x)
 passed true error f x is = (refl, is)
 passed false error f x is = let e : Err error ≡ Ok x = is in absurd cc
 
@@ -126,10 +128,12 @@ module _ (image : Image) (t : Thread) (s : State) (own : ThreadState) (is : s.ob
   either-way true = refl
   either-way false = refl
 
-  pub invoked-passes : (slot : ℕ) → invoked s self slot ≡ Ok (with_slots s slots) → (invokes s self Sending slot (capability_at s.slots slot)).0 ≡ passes (with_slots s slots) self
+  pub invoked-passes : (slot : ℕ) → invoked s self slot ≡ Ok (with_slots s slots) →
+      (invokes s self Sending slot (capability_at s.slots slot)).0 ≡ passes (with_slots s slots) self
   invoked-passes slot made =
       ap (λ (r : Result State KError). (after_invocation s self Sending r).0) made
-      ∙ ap (λ (b : Bool). if b then (if is_runnable (thread_at s self).status then passes (with_slots s slots) self else passes (with_slots s slots) self) else with_slots s slots) thread-there
+      ∙ ap (λ (b : Bool). if b then (if is_runnable (thread_at s self).status then passes (with_slots s slots) self else passes (with_slots s slots) self) else
+      with_slots s slots) thread-there
       ∙ either-way (is_runnable (thread_at s self).status)
 
 -- ---- one slot

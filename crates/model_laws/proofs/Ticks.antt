@@ -1,5 +1,6 @@
 -- A tick of a sound state stays within authority.
-use Rattle.std.proofs.Common.{ℕ, zero, suc, ◌≡◌, ◌≢◌, ◌==◌, ◌+◌, ◌-◌, ◌≤◌, ◌++◌, ◌&&◌, Bool, true, false, not, nat_le, if◌then◌else◌, Option, Some, None, List, [], ◌∷◌, refl, sym, ◌∙◌, ap, subst, inl, inr, arith}
+use Rattle.std.proofs.Common.{ℕ, zero, suc, ◌≡◌, ◌≢◌, ◌==◌, ◌+◌, ◌-◌, ◌≤◌, ◌++◌, ◌&&◌, Bool, true, false, not, nat_le, if◌then◌else◌, Option, Some, None, List}
+use Rattle.std.proofs.Common.{[], ◌∷◌, refl, sym, ◌∙◌, ap, subst, inl, inr, arith}
 use Rattle.std.specs.Option.{option_map_or}
 use Rattle.std.proofs.lemmas.Bool.{and_parts, eq-eqb, eqb-true, ne_eqb}
 use Rattle.std.proofs.lemmas.Bool.Decides.{eqb_tells}
@@ -7,7 +8,8 @@ use Rattle.model.specs.Acceptance.Authority.{WithinTick}
 use Rattle.model.specs.Kernel.Scheduling.{current, first_below, full_slice, head_of, is_runnable, tick, ticked, yielded}
 use Rattle.model.specs.Shared.Lists.{times_in, without}
 use Rattle.model.specs.Kernel.Soundness.{IsSound, ThreadsAreSound}
-use Rattle.model.specs.Kernel.State.{State, Object, ThreadObject, EndpointObject, NotificationObject, CNodeObject, FrameObject, PageTableObject, RootTableObject, ThreadState, as_thread, new_thread, put, thread_at, with_thread}
+use Rattle.model.specs.Kernel.State.{State, Object, ThreadObject, EndpointObject, NotificationObject, CNodeObject, FrameObject, PageTableObject}
+use Rattle.model.specs.Kernel.State.{RootTableObject, ThreadState, as_thread, new_thread, put, thread_at, with_thread}
 use Rattle.model_laws.proofs.ReadyLists.{moved, times-moved_elsewhere, times-moved_here}
 
 -- ---- the current thread
@@ -38,7 +40,8 @@ head-counts : (threads : List ℕ) (thread : ℕ) → head_of threads ≡ Some t
 head-counts [] thread is = let e : None ≡ Some thread = is in absurd cc
 head-counts (t ∷ rest) thread is =
     let same : t ≡ thread = cc in
-    let more : times_in (t ∷ rest) thread ≡ times_in rest thread + 1 = ap (λ (b : Bool). if b then times_in rest thread + 1 else times_in rest thread) (eq-eqb t thread same) in
+    let more : times_in (t ∷ rest) thread ≡ times_in rest thread + 1 =
+    ap (λ (b : Bool). if b then times_in rest thread + 1 else times_in rest thread) (eq-eqb t thread same) in
     omega (arith, more)
 
 pub thread-object : (o : Option Object) (t : ThreadState) → as_thread o ≡ Some t → o ≡ Some (ThreadObject t)
@@ -55,7 +58,8 @@ runs-own : (o : Option ThreadState) (priority : ℕ) → 1 ≤ (if option_map_or
     → (t : ThreadState) × (o ≡ Some t) × (t.priority ≡ priority)
 runs-own None priority some = absurd (omega (arith, some))
 runs-own (Some t) priority some =
-    elim (is_runnable t.status && t.priority == priority) as (λ b. (is_runnable t.status && t.priority == priority) ≡ b → 1 ≤ (if b then 1 else 0) → (u : ThreadState) × (Some t ≡ Some u) × (u.priority ≡ priority)) [
+    elim (is_runnable t.status && t.priority == priority) as (λ b. (is_runnable t.status && t.priority == priority) ≡ b → 1 ≤ (if b then 1 else 0) →
+    (u : ThreadState) × (Some t ≡ Some u) × (u.priority ≡ priority)) [
       | true ↦ λ is more. (t, refl, eqb-true t.priority priority (and_parts (is_runnable t.status) (t.priority == priority) is).1)
       | false ↦ λ is more. absurd (omega (arith, more))
     ] refl some
@@ -74,10 +78,12 @@ without-again : (thread : ℕ) (threads : List ℕ) → without thread (without 
 without-again thread [] = refl
 without-again thread (t ∷ threads) = elim (eqb_tells t thread) [
   | inl here ↦
-      let gone : without thread (t ∷ threads) ≡ without thread threads = ap (λ (b : Bool). if not b then t ∷ without thread threads else without thread threads) here.0 in
+      let gone : without thread (t ∷ threads) ≡ without thread threads =
+      ap (λ (b : Bool). if not b then t ∷ without thread threads else without thread threads) here.0 in
       ap (without thread) gone ∙ without-again thread threads ∙ sym gone
   | inr apart ↦
-      let stays : without thread (t ∷ threads) ≡ t ∷ without thread threads = ap (λ (b : Bool). if not b then t ∷ without thread threads else without thread threads) apart.0 in
+      let stays : without thread (t ∷ threads) ≡ t ∷ without thread threads =
+      ap (λ (b : Bool). if not b then t ∷ without thread threads else without thread threads) apart.0 in
       ap (without thread) stays
       ∙ ap (λ (b : Bool). if not b then t ∷ without thread (without thread threads) else without thread (without thread threads)) apart.0
       ∙ ap (λ (l : List ℕ). t ∷ l) (without-again thread threads) ∙ sym stays
@@ -103,7 +109,8 @@ moved-as_often : (ready : ℕ → List ℕ) (thread tail priority : ℕ) → tim
     → (priority ≢ tail → times_in (ready priority) thread ≡ 0) → times_in (moved ready thread tail priority) thread ≡ times_in (ready priority) thread
 moved-as_often ready thread tail priority stands nowhere = elim (eqb_tells priority tail) [
   | inl here ↦
-      let one : times_in (moved ready thread tail priority) thread ≡ 1 = ap (λ (n : ℕ). times_in (moved ready thread tail n) thread) here.1 ∙ times-moved_here ready thread tail in
+      let one : times_in (moved ready thread tail priority) thread ≡ 1 = ap (λ (n : ℕ). times_in (moved ready thread tail n) thread) here.1
+      ∙ times-moved_here ready thread tail in
       let same : times_in (ready priority) thread ≡ times_in (ready tail) thread = ap (λ (n : ℕ). times_in (ready n) thread) here.1 in
       omega (arith, one, same, stands)
   | inr apart ↦ times-moved_elsewhere ready thread tail priority apart.0 ∙ sym (nowhere apart.1)
@@ -171,7 +178,8 @@ module _ (s : State) (sound : ThreadsAreSound s) (thread : ℕ) (is : current s 
   stands =
       let some = head-counts (s.ready (Runs.priority runs)) thread (Runs.first runs) in
       subst (λ (n : ℕ). times_in (s.ready n) thread ≡ 1) (sym at)
-      (one-there (is_runnable (Runs.own runs).status && (Runs.own runs).priority == Runs.priority runs) (times_in (s.ready (Runs.priority runs)) thread) (counted (Runs.priority runs)) some)
+      (one-there (is_runnable (Runs.own runs).status && (Runs.own runs).priority == Runs.priority runs) (times_in (s.ready (Runs.priority runs)) thread)
+      (counted (Runs.priority runs)) some)
 
   nowhere : (priority : ℕ) → priority ≢ (thread_at s thread).priority → times_in (s.ready priority) thread ≡ 0
   nowhere priority differs =
@@ -180,8 +188,11 @@ module _ (s : State) (sound : ThreadsAreSound s) (thread : ℕ) (is : current s 
       counted priority ∙ ap (λ (b : Bool). if is_runnable (Runs.own runs).status && b then 1 else 0) apart
       ∙ ap (λ (b : Bool). if b then 1 else 0) (and-false (is_runnable (Runs.own runs).status))
 
-  tail-is : (t : ThreadState) → (option_map_or (λ (u : ThreadState). u) (as_thread (put s.objects thread (Some (ThreadObject t)) thread)) new_thread).priority ≡ t.priority
-  tail-is t = ap (λ (b : Bool). (option_map_or (λ (u : ThreadState). u) (as_thread (if b then Some (ThreadObject t) else s.objects thread)) new_thread).priority) (eq-eqb thread thread refl)
+  tail-is : (t : ThreadState) → (option_map_or (λ (u : ThreadState). u) (as_thread (put s.objects thread (Some (ThreadObject t)) thread)) new_thread).priority
+      ≡ t.priority
+  tail-is t = ap (λ (b : Bool).
+      (option_map_or (λ (u : ThreadState). u) (as_thread (if b then Some (ThreadObject t) else s.objects thread)) new_thread).priority)
+      (eq-eqb thread thread refl)
 
   yielded-within : WithinTick s (yielded s thread)
   yielded-within =

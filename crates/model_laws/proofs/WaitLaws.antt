@@ -2,7 +2,8 @@
 use Rattle.std.proofs.Common.{ℕ, ◌≡◌, ◌∙◌, ◌==◌, ◌-◌, ◌%◌, ◌||◌, Bool, true, false, if◌then◌else◌, Option, Some, None, Result, Ok, Err, refl, sym, ap, subst}
 use Rattle.std.specs.Option.{option_map_or}
 use Rattle.model.specs.declared.capabilities.Cap.{Cap}
-use Rattle.model.specs.declared.capabilities.Cap.TheVariants.{Empty, Untyped, Endpoint, Notification, CNode, Frame, PageTable, Tcb, RootTable, InterruptControl, InterruptHandler}
+use Rattle.model.specs.declared.capabilities.Cap.TheVariants.{Empty, Untyped, Endpoint, Notification, CNode, Frame, PageTable, Tcb, RootTable, InterruptControl}
+use Rattle.model.specs.declared.capabilities.Cap.TheVariants.{InterruptHandler}
 use Rattle.model.specs.declared.errors.KError.{KError}
 use Rattle.model.specs.declared.errors.KError.TheVariants.{InvalidCapability}
 use Rattle.model.specs.declared.events.Event.{Event}
@@ -32,7 +33,9 @@ use Rattle.model.specs.Capabilities.Rights.{may_grant_reply, may_read, may_write
 use Rattle.model.specs.Kernel.Scheduling.{current}
 use Rattle.model.specs.Capabilities.Slots.{capability_at}
 use Rattle.model.specs.Kernel.State.{State}
-use Rattle.model.specs.Kernel.Steps.{Done, after_effect, after_invocation, call_of, calls, calls_known, invokes, lacks_capability, named_slot, ran, receive_by, receive_named, receive_on_endpoint, receive_on_notification, refused, registers_of, runs, runs_decoded, runs_fetched, send_by, send_named, send_on, signal_on, sends_nothing, step, system_call}
+use Rattle.model.specs.Kernel.Steps.{Done, after_effect, after_invocation, call_of, calls, calls_known, invokes, lacks_capability, named_slot, ran, receive_by}
+use Rattle.model.specs.Kernel.Steps.{receive_named, receive_on_endpoint, receive_on_notification, refused, registers_of, runs, runs_decoded, runs_fetched}
+use Rattle.model.specs.Kernel.Steps.{send_by, send_named, send_on, signal_on, sends_nothing, step, system_call}
 use Rattle.model.specs.declared.system_calls.SendCall.{SendCall}
 use Rattle.model.specs.declared.system_calls.SendCall.TheVariants.{Calling, Sending, Trying}
 use Rattle.model.specs.declared.system_calls.ReceiveCall.TheVariants.{Receiving, Polling}
@@ -64,17 +67,22 @@ send_on-waits s thread Calling endpoint badge grant names waits = calls_endpoint
 send_on-waits s thread Sending endpoint badge grant names waits = sends_to_endpoint names
 send_on-waits s thread Trying endpoint badge grant names waits = no-wait waits
 
-send_by-waits : (s : State) (thread : ℕ) (kind : SendCall) (slot : ℕ) (capability : Cap) → named_slot s thread ≡ Ok slot → capability_at s.slots slot ≡ capability
+send_by-waits : (s : State) (thread : ℕ) (kind : SendCall) (slot : ℕ) (capability : Cap) → named_slot s thread ≡ Ok slot →
+    capability_at s.slots slot ≡ capability
     → Waits (send_by s thread kind slot capability) → IsWaitingCall s thread (Sends kind)
 send_by-waits s thread kind slot Empty found is waits = absurd (invokes-plain s thread kind slot Empty waits)
-send_by-waits s thread kind slot (Untyped offset bits watermark) found is waits = absurd (invokes-plain s thread kind slot (Untyped offset bits watermark) waits)
+send_by-waits s thread kind slot (Untyped offset bits watermark) found is waits =
+    absurd (invokes-plain s thread kind slot (Untyped offset bits watermark) waits)
 send_by-waits s thread kind slot (Endpoint offset r badge) found is waits =
-    elim (may_write r) as (λ b. Waits (if b then send_on s thread kind offset badge (may_grant_reply r) else refused s thread kind InvalidCapability) → IsWaitingCall s thread (Sends kind)) [
-      | true ↦ λ h. send_on-waits s thread kind offset badge (may_grant_reply r) (record { slot = slot; offset = offset; badge = badge; allowed = r; found = found; holds = is }) h
+    elim (may_write r) as (λ b. Waits (if b then send_on s thread kind offset badge (may_grant_reply r) else refused s thread kind InvalidCapability) →
+    IsWaitingCall s thread (Sends kind)) [
+      | true ↦ λ h. send_on-waits s thread kind offset badge (may_grant_reply r)
+          (record { slot = slot; offset = offset; badge = badge; allowed = r; found = found; holds = is }) h
       | false ↦ λ h. no-wait h
     ] waits
 send_by-waits s thread kind slot (Notification offset r badge) found is waits =
-    elim (may_write r) as (λ b. Waits (if b then signal_on s thread kind offset badge else refused s thread kind InvalidCapability) → IsWaitingCall s thread (Sends kind)) [
+    elim (may_write r) as (λ b. Waits (if b then signal_on s thread kind offset badge else refused s thread kind InvalidCapability) →
+    IsWaitingCall s thread (Sends kind)) [
       | true ↦ λ h. no-wait h
       | false ↦ λ h. no-wait h
     ] waits
@@ -199,7 +207,8 @@ only-ecall r content instrs.Ebreak is = other _ refl is
 abbrev AtEcall : State → ℕ → Exec → Type 0
 AtEcall s thread exec = (exec ≡ Ecall) × WaitingNumber s thread (call_of (read (registers_of s thread) a7))
 
-after_effect-waits : (s : State) (thread pc : ℕ) (r : RegisterFile) (exec : Exec) (next : State) → Waits (after_effect s thread pc r exec (next, Plain)) → AtEcall s thread exec
+after_effect-waits : (s : State) (thread pc : ℕ) (r : RegisterFile) (exec : Exec) (next : State) → Waits (after_effect s thread pc r exec (next, Plain)) →
+    AtEcall s thread exec
 after_effect-waits s thread pc r Next next waits = no-wait waits
 after_effect-waits s thread pc r Ecall next waits = (refl, system_call-waits s thread waits)
 after_effect-waits s thread pc r (Trap cause) next waits = no-wait waits
@@ -247,9 +256,11 @@ receive_by-settles : (s : State) (thread : ℕ) (capability : Cap) → Settled (
 receive_by-settles s thread Empty = refl
 receive_by-settles s thread (Untyped offset bits watermark) = refl
 receive_by-settles s thread (Endpoint offset r badge) =
-    elim (may_read r) as (λ b. Settled (if b then receive_on_endpoint s thread Receiving offset else lacks_capability s thread 1 MissingCapability).1) [ true ↦ refl | false ↦ refl ]
+    elim (may_read r) as (λ b. Settled (if b then receive_on_endpoint s thread Receiving offset else lacks_capability s thread 1 MissingCapability).1)
+    [ true ↦ refl | false ↦ refl ]
 receive_by-settles s thread (Notification offset r badge) =
-    elim (may_read r) as (λ b. Settled (if b then receive_on_notification s thread Receiving offset else lacks_capability s thread 1 MissingCapability).1) [ true ↦ refl | false ↦ refl ]
+    elim (may_read r) as (λ b. Settled (if b then receive_on_notification s thread Receiving offset else lacks_capability s thread 1 MissingCapability).1)
+    [ true ↦ refl | false ↦ refl ]
 receive_by-settles s thread (CNode offset radix guard) = refl
 receive_by-settles s thread (Frame offset r mapping) = refl
 receive_by-settles s thread (PageTable offset mapping) = refl
@@ -265,11 +276,14 @@ receive_named-settles s thread (Err failure) = refl
 abbrev Waiting : SendCall → Type 0
 Waiting kind = (s : State) (thread endpoint badge : ℕ) (grant : Bool) → Settled (send_on s thread kind endpoint badge grant).1
 
-send_named-settles : (s : State) (thread : ℕ) (kind : SendCall) → Waiting kind → NamesEndpoint s thread → Settled (send_named s thread kind (named_slot s thread)).1
+send_named-settles : (s : State) (thread : ℕ) (kind : SendCall) → Waiting kind → NamesEndpoint s thread →
+    Settled (send_named s thread kind (named_slot s thread)).1
 send_named-settles s thread kind waiting names =
     subst (λ named. Settled (send_named s thread kind named).1) (sym names.found)
     (subst (λ capability. Settled (send_by s thread kind names.slot capability).1) (sym names.holds)
-    (elim (may_write names.allowed) as (λ b. Settled (if b then send_on s thread kind names.offset names.badge (may_grant_reply names.allowed) else refused s thread kind InvalidCapability).1) [
+    (elim (may_write names.allowed)
+    as (λ b. Settled (if b then send_on s thread kind names.offset names.badge (may_grant_reply names.allowed) else
+    refused s thread kind InvalidCapability).1) [
       | true ↦ waiting s thread names.offset names.badge (may_grant_reply names.allowed)
       | false ↦ refl
     ]))
@@ -298,4 +312,5 @@ runs-settles s at =
 pub waits-settle : (s : State) → StandsAtWait s → (is_wait (step s Step).1 || is_fault (step s Step).1 || is_error (step s Step).1) ≡ true
 unfolding step
 waits-settle s at =
-    subst (λ thread. let label = (option_map_or (ran s) thread (s, Idle)).1 in (is_wait label || is_fault label || is_error label) ≡ true) (sym at.runs) (runs-settles s at)
+    subst (λ thread. let label = (option_map_or (ran s) thread (s, Idle)).1 in (is_wait label || is_fault label || is_error label) ≡ true) (sym at.runs)
+    (runs-settles s at)

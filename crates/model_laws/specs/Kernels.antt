@@ -1,7 +1,9 @@
 -- Small kernels that the rows on calls start from: a boot CNode, the capabilities that are given, and the objects.
-use Rattle.std.specs.Prelude.{ℕ, ◌==◌, ◌-◌, nat_lt, false, if◌then◌else◌, Option, Some, None, Result, Ok, Err, List, [], ◌∷◌, find, option_map, replicate, slice_set, fold}
+use Rattle.std.specs.Prelude.{ℕ, ◌==◌, ◌-◌, nat_lt, false, if◌then◌else◌, Option, Some, None, Result, Ok, Err, List, [], ◌∷◌, find, option_map, replicate}
+use Rattle.std.specs.Prelude.{slice_set, fold}
 use Rattle.std.specs.Option.{option_map_or}
-use Rattle.model.specs.declared.capabilities.Cap.TheVariants.{CNode, Endpoint, Frame, InterruptControl, InterruptHandler, Notification, PageTable, RootTable, Tcb, Untyped}
+use Rattle.model.specs.declared.capabilities.Cap.TheVariants.{CNode, Endpoint, Frame, InterruptControl, InterruptHandler, Notification, PageTable, RootTable}
+use Rattle.model.specs.declared.capabilities.Cap.TheVariants.{Tcb, Untyped}
 use Rattle.model.specs.declared.errors.KError.{KError}
 use Rattle.model.specs.declared.invocations.RetypeCall.{RetypeCall}
 use Rattle.model.specs.declared.invocations.SlotName.{SlotName}
@@ -11,7 +13,8 @@ use Rattle.model.specs.Images.Described.{Holding, held_in, holding}
 use Rattle.model.specs.Kernel.Removal.{delete, revoke}
 use Rattle.model.specs.Kernel.Retype.{retype}
 use Rattle.model.specs.Kernel.Scheduling.{block, full_slice, tick, wake}
-use Rattle.model.specs.Kernel.State.{State, Status, Inactive, Runnable, Blocked, Object, CNodeObject, EndpointObject, NotificationObject, ThreadObject, ThreadState, new_endpoint, new_notification, new_thread, put}
+use Rattle.model.specs.Kernel.State.{State, Status, Inactive, Runnable, Blocked, Object, CNodeObject, EndpointObject, NotificationObject, ThreadObject}
+use Rattle.model.specs.Kernel.State.{ThreadState, new_endpoint, new_notification, new_thread, put}
 use Rattle.model.specs.Machine.ProgramMemory.{RegisterFile}
 
 -- ---- what a kernel is made of

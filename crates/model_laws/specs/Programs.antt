@@ -9,7 +9,21 @@ use Rattle.model_laws.specs.Solo.{solo_image}
 unfoldable pub program : ℕ → List ℕ → List StateRecord → Image
 program budget words records = record solo_image {
   threads = record {
-    header = record { tcb = 4; cnode = 5; guard = 28; root = 1; priority = 100; budget = budget; fault = 0; entry = 0; base = 0x1000; registers = 0; words = length words; records = length records };
+    header = record {
+      tcb = 4;
+      cnode = 5;
+      guard = 28;
+      root = 1;
+      priority = 100;
+      budget = budget;
+      fault = 0;
+      entry = 0;
+      base = 0x1000;
+      registers = 0;
+      words =
+          length words;
+      records = length records;
+    };
     registers = [];
     words = words;
     records = records;

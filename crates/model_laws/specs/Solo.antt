@@ -20,7 +20,8 @@ use Rattle.model.specs.Images.Image.{Image, Thread, whole_image}
 -- the header and the sections before the thread, by words
 abbrev pub solo_front : List ℕ
 solo_front =
-    (0x5359534d ∷ 1 ∷ 0x10 ∷ 4 ∷ 1 ∷ 7 ∷ 2 ∷ 1 ∷ 1 ∷ 2 ∷ 0 ∷ 1 ∷ []) ++ (0x8000 ∷ 0xf ∷ []) ++ (0 ∷ 6 ∷ 0 ∷ 0 ∷ 8 ∷ 0 ∷ 0 ∷ 7 ∷ 0 ∷ 0 ∷ 6 ∷ 0 ∷ 0 ∷ 2 ∷ 0 ∷ 0 ∷ 5 ∷ 4 ∷ 0 ∷ 4 ∷ 0 ∷ [])
+    (0x5359534d ∷ 1 ∷ 0x10 ∷ 4 ∷ 1 ∷ 7 ∷ 2 ∷ 1 ∷ 1 ∷ 2 ∷ 0 ∷ 1 ∷ []) ++ (0x8000 ∷ 0xf ∷ [])
+    ++ (0 ∷ 6 ∷ 0 ∷ 0 ∷ 8 ∷ 0 ∷ 0 ∷ 7 ∷ 0 ∷ 0 ∷ 6 ∷ 0 ∷ 0 ∷ 2 ∷ 0 ∷ 0 ∷ 5 ∷ 4 ∷ 0 ∷ 4 ∷ 0 ∷ [])
     ++ (5 ∷ 1 ∷ 6 ∷ 2 ∷ 0 ∷ 5 ∷ 2 ∷ 7 ∷ 0 ∷ 0 ∷ []) ++ (3 ∷ 6 ∷ 1 ∷ []) ++ (1 ∷ 0 ∷ 2 ∷ [])
     ++ (1 ∷ 0x1000 ∷ 0 ∷ 4 ∷ []) ++ (1 ∷ 0x2000 ∷ 3 ∷ 3 ∷ [])
 
@@ -50,7 +51,19 @@ at_point thread point = record { thread = thread; point = point }
 -- the image that the bytes are read as
 abbrev pub empty_image : Image
 empty_image = record {
-  header = record { version = 0; memory_bits = 0; boot_radix = 0; untypeds = 0; objects = 0; capabilities = 0; interrupts = 0; tables = 0; frames = 0; contents = 0; threads = 0 };
+  header = record {
+    version = 0;
+    memory_bits = 0;
+    boot_radix = 0;
+    untypeds = 0;
+    objects = 0;
+    capabilities = 0;
+    interrupts = 0;
+    tables = 0;
+    frames = 0;
+    contents = 0;
+    threads = 0;
+  };
   untypeds = [];
   objects = [];
   capabilities = [];
@@ -75,7 +88,10 @@ range low high = record { low = low; high = high }
 -- the image with other rights for its data page, or with its untyped memory elsewhere
 abbrev pub solo_mapped : ℕ → Image
 solo_mapped rights =
-    record solo_image { frames = record { root = 1; address = 0x1000; frame = 0; rights = 4 } ∷ record { root = 1; address = 0x2000; frame = 3; rights = rights } ∷ [] }
+    record solo_image {
+      frames = record { root = 1; address = 0x1000; frame = 0; rights = 4 }
+          ∷ record { root = 1; address = 0x2000; frame = 3; rights = rights } ∷ [];
+    }
 
 abbrev pub solo_at : ℕ → Image
 solo_at offset = record solo_image { untypeds = record { offset = offset; bits = 15 } ∷ [] }
@@ -84,7 +100,21 @@ solo_at offset = record solo_image { untypeds = record { offset = offset; bits =
 
 abbrev pub short_thread : ℕ → ℕ → List ℕ → ℤ → Thread
 short_thread tcb budget words constant = record {
-  header = record { tcb = tcb; cnode = 5; guard = 28; root = 1; priority = 100; budget = budget; fault = 0; entry = 0; base = 0x1000; registers = 0; words = length words; records = 1 };
+  header = record {
+    tcb = tcb;
+    cnode = 5;
+    guard = 28;
+    root = 1;
+    priority = 100;
+    budget = budget;
+    fault = 0;
+    entry = 0;
+    base = 0x1000;
+    registers = 0;
+    words =
+        length words;
+    records = 1;
+  };
   registers = [];
   words = words;
   records = record { header = record { point = 0; ranges = 0; slots = 0; terms = 0; constant = constant }; ranges = []; slots = []; terms = [] } ∷ [];

@@ -20,7 +20,20 @@ use Rattle.model_laws.specs.Solo.{at_point}
 
 abbrev pub worker_thread : Thread
 worker_thread = record {
-  header = record { tcb = 3; cnode = 4; guard = 28; root = 1; priority = 100; budget = 1; fault = 0; entry = 0; base = 0x1000; registers = 0; words = 1; records = 0 };
+  header = record {
+    tcb = 3;
+    cnode = 4;
+    guard = 28;
+    root = 1;
+    priority = 100;
+    budget = 1;
+    fault = 0;
+    entry = 0;
+    base = 0x1000;
+    registers = 0;
+    words = 1;
+    records = 0;
+  };
   registers = [];
   words = 0x73 ∷ [];
   records = [];
@@ -29,7 +42,19 @@ worker_thread = record {
 -- the objects: code, root table, page table, thread, CNode, pool, endpoint
 abbrev pub worker_image : Image
 worker_image = record {
-  header = record { version = 1; memory_bits = 16; boot_radix = 4; untypeds = 1; objects = 7; capabilities = 4; interrupts = 0; tables = 1; frames = 1; contents = 0; threads = 1 };
+  header = record {
+    version = 1;
+    memory_bits = 16;
+    boot_radix = 4;
+    untypeds = 1;
+    objects = 7;
+    capabilities = 4;
+    interrupts = 0;
+    tables = 1;
+    frames = 1;
+    contents = 0;
+    threads = 1;
+  };
   untypeds = record { offset = 0x8000; bits = 15 } ∷ [];
   objects =
       record { untyped = 0; kind = 6; size = 0 } ∷ record { untyped = 0; kind = 8; size = 0 } ∷ record { untyped = 0; kind = 7; size = 0 }
@@ -116,7 +141,21 @@ loop_records =
 
 abbrev pub loop_thread : List ℕ → List StateRecord → Thread
 loop_thread words records = record {
-  header = record { tcb = 3; cnode = 4; guard = 28; root = 1; priority = 100; budget = 31; fault = 0; entry = 0; base = 0x1000; registers = 0; words = length words; records = length records };
+  header = record {
+    tcb = 3;
+    cnode = 4;
+    guard = 28;
+    root = 1;
+    priority = 100;
+    budget = 31;
+    fault = 0;
+    entry = 0;
+    base = 0x1000;
+    registers = 0;
+    words =
+        length words;
+    records = length records;
+  };
   registers = [];
   words = words;
   records = records;

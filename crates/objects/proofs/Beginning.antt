@@ -1,5 +1,6 @@
 -- A new object comes at an offset where none was.
-use Rattle.std.proofs.Common.{ℕ, ◌≡◌, ◌≢◌, ◌∙◌, ◌==◌, ◌+◌, ◌<◌, ◌&&◌, inl, inr, Bool, true, false, if◌then◌else◌, Option, Some, None, option_map, List, [], ◌∷◌, refl, sym, ap, arith}
+use Rattle.std.proofs.Common.{ℕ, ◌≡◌, ◌≢◌, ◌∙◌, ◌==◌, ◌+◌, ◌<◌, ◌&&◌, inl, inr, Bool, true, false, if◌then◌else◌, Option, Some, None, option_map, List, [], ◌∷◌}
+use Rattle.std.proofs.Common.{refl, sym, ap, arith}
 use Rattle.std.specs.Prelude.{option_and_then, slice_index}
 use Rattle.std.specs.Option.{option_map_or}
 use Rattle.std.proofs.lemmas.Bool.{cases_lt, eq-eqb}
@@ -30,7 +31,8 @@ free-thread : (t : Option Thread) (p : Option Object) → object_from t p ≡ No
 free-thread (Some t) p free = absurd (let clash : Some (ThreadObject (thread_state t)) ≡ None = free in cc)
 free-thread None p free = refl
 
-free-record : (threads : ℕ → Option Thread) (waiting : List ℕ) (t : Option Thread) (r : Option Record) → object_from t (option_map (object_of threads waiting) r) ≡ None → r ≡ None
+free-record : (threads : ℕ → Option Thread) (waiting : List ℕ) (t : Option Thread) (r : Option Record) →
+    object_from t (option_map (object_of threads waiting) r) ≡ None → r ≡ None
 free-record threads waiting (Some t) r free = absurd (let clash : Some (ThreadObject (thread_state t)) ≡ None = free in cc)
 free-record threads waiting None (Some r) free = absurd (let clash : Some (object_of threads waiting r) ≡ None = free in cc)
 free-record threads waiting None None free = refl
@@ -68,7 +70,8 @@ never : {A : Type 0} (a : Bool) (x y : A) → y ≡ (if a && false then x else y
 never true x y = refl
 never false x y = refl
 
-module _ (o : Contents) (slots : Slots) (memory : List ℕ) (offset : ℕ) (stands : Linked o slots memory) (free : (contents_state o slots memory).objects offset ≡ None) where
+module _ (o : Contents) (slots : Slots) (memory : List ℕ) (offset : ℕ) (stands : Linked o slots memory)
+    (free : (contents_state o slots memory).objects offset ≡ None) where
   free-object : object_in o (waiting_of o memory) offset ≡ None
   unfolding told_by
   free-object = free
@@ -84,7 +87,8 @@ module _ (o : Contents) (slots : Slots) (memory : List ℕ) (offset : ℕ) (stan
   ]
 
   no-queue : waiting_of o memory offset ≡ []
-  no-queue = nobody (waiting_of o memory) offset (λ thread some. absurd (let clash : false ≡ true = sym (ap has_waiting no-kind) ∙ waited o slots memory stands offset thread some in cc))
+  no-queue = nobody (waiting_of o memory) offset (λ thread some.
+      absurd (let clash : false ≡ true = sym (ap has_waiting no-kind) ∙ waited o slots memory stands offset thread some in cc))
 
   free-in-threads : o.threads offset ≡ None
   free-in-threads = free-thread (o.threads offset) _ free-object
@@ -99,12 +103,14 @@ module _ (o : Contents) (slots : Slots) (memory : List ℕ) (offset : ℕ) (stan
     sends : (other : ℕ) → other ≢ offset → sending_in threads other ≡ sending_in o.threads other
     sends other apart = ap (option_and_then (λ t. t.sending)) (threaded other ∙ put-there (o.threads) offset (Some new) other apart)
 
-    object-threaded : (other : ℕ) → object_in (record o { threads = threads }) (waiting_of o memory) other ≡ put (object_in o (waiting_of o memory)) offset (Some (ThreadObject new_thread)) other
+    object-threaded : (other : ℕ) → object_in (record o { threads = threads }) (waiting_of o memory) other ≡ put (object_in o (waiting_of o memory)) offset
+        (Some (ThreadObject new_thread)) other
     object-threaded other = elim (eqb_tells other offset) [
       | inl here ↦
           ap (λ t. object_from t (option_map (object_of threads (waiting_of o memory other)) (o.records other)))
           (threaded other ∙ ap (λ b. if b then Some new else o.threads other) here.0)
-          ∙ ap (λ t. Some (ThreadObject t)) is_new ∙ ap (λ b. if b then Some (ThreadObject new_thread) else object_in o (waiting_of o memory) other) (sym here.0)
+          ∙ ap (λ t. Some (ThreadObject t)) is_new ∙ ap (λ b. if b then Some (ThreadObject new_thread) else object_in o (waiting_of o memory) other)
+          (sym here.0)
       | inr apart ↦
           ap (λ t. object_from t (option_map (object_of threads (waiting_of o memory other)) (o.records other)))
           (threaded other ∙ put-there (o.threads) offset (Some new) other apart.1)
@@ -120,7 +126,8 @@ module _ (o : Contents) (slots : Slots) (memory : List ℕ) (offset : ℕ) (stan
 
   module _ (records : ℕ → Option Record) (kind : Kind) (new : Record) (is : record_of kind ≡ Some new)
       (recorded : (other : ℕ) → records other ≡ put (o.records) offset (Some new) other) where
-    object-recorded : (other : ℕ) → object_in (record o { records = records }) (waiting_of o memory) other ≡ put (object_in o (waiting_of o memory)) offset (Some (new_object kind)) other
+    object-recorded : (other : ℕ) → object_in (record o { records = records }) (waiting_of o memory) other ≡ put (object_in o (waiting_of o memory)) offset
+        (Some (new_object kind)) other
     object-recorded other = elim (eqb_tells other offset) [
       | inl here ↦
           ap (λ t. object_from t (option_map (object_of o.threads (waiting_of o memory other)) (records other))) (ap (o.threads) here.1 ∙ free-in-threads)

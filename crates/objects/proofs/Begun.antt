@@ -1,14 +1,17 @@
 -- The invariant of objects is kept where objects end, wake and begin.
-use Rattle.std.proofs.Common.{ℕ, ◌≡◌, ◌≢◌, ◌∙◌, ◌==◌, ◌+◌, ◌/◌, ◌^◌, ◌<◌, ◌≤◌, ◌⊎◌, ◌&&◌, inl, inr, Bool, true, false, if◌then◌else◌, Option, Some, None, IsSome, option_map, List, length, refl, sym, ap, subst, arith}
+use Rattle.std.proofs.Common.{ℕ, ◌≡◌, ◌≢◌, ◌∙◌, ◌==◌, ◌+◌, ◌/◌, ◌^◌, ◌<◌, ◌≤◌, ◌⊎◌, ◌&&◌, inl, inr, Bool, true, false, if◌then◌else◌, Option, Some, None}
+use Rattle.std.proofs.Common.{IsSome, option_map, List, length, refl, sym, ap, subst, arith}
 use Rattle.std.specs.Prelude.{slice_index}
 use Rattle.std.specs.Option.{option_map_or}
 use Rattle.std.proofs.lemmas.Bool.Decides.{eqb_tells}
 use Rattle.model.specs.Capabilities.Slots.{IsOpen, Slots}
 use Rattle.model.specs.Kernel.AddressSpaces.{page_size}
 use Rattle.model.specs.Kernel.Kinds.{frame_around, kind_at, kind_of}
-use Rattle.model.specs.Kernel.Retype.{NewObject, NewUntyped, NewThread, NewEndpoint, NewNotification, NewCNode, NewFrame, NewPageTable, NewRootTable, object_bits}
+use Rattle.model.specs.Kernel.Retype.{NewObject, NewUntyped, NewThread, NewEndpoint, NewNotification, NewCNode, NewFrame, NewPageTable, NewRootTable}
+use Rattle.model.specs.Kernel.Retype.{object_bits}
 use Rattle.model.specs.Kernel.Scheduling.{full_slice, wake}
-use Rattle.model.specs.Kernel.State.{Object, Runnable, State, ThreadObject, EndpointObject, NotificationObject, CNodeObject, FrameObject, PageTableObject, RootTableObject, as_thread, put, thread_at}
+use Rattle.model.specs.Kernel.State.{Object, Runnable, State, ThreadObject, EndpointObject, NotificationObject, CNodeObject, FrameObject, PageTableObject}
+use Rattle.model.specs.Kernel.State.{RootTableObject, as_thread, put, thread_at}
 use Rattle.model.specs.declared.slot_entries.Entry.{Entry}
 use Rattle.objects.proofs.Frames.{Unmoved, kind-put, same-state}
 use Rattle.objects.specs.Changes.{begun, is_frame_kind}
@@ -33,7 +36,8 @@ use Rattle.removal_laws.specs.Finishing.{is_stranded, waits_nowhere}
 
 -- ---- threads that wake
 
-stranded-kind : (o : Option Object) (s : State) → option_map_or (λ t. waits_nowhere s t.status) (as_thread o) false ≡ true → option_map kind_of o ≡ Some NewThread
+stranded-kind : (o : Option Object) (s : State) → option_map_or (λ t. waits_nowhere s t.status) (as_thread o) false ≡ true →
+    option_map kind_of o ≡ Some NewThread
 stranded-kind (Some (ThreadObject t)) s is = refl
 stranded-kind None s is = absurd (let clash : false ≡ true = is in cc)
 stranded-kind (Some (EndpointObject e)) s is = absurd (let clash : false ≡ true = is in cc)
@@ -47,7 +51,8 @@ stranded-kind (Some RootTableObject) s is = absurd (let clash : false ≡ true =
 pub woken-one : (s : State) (place : ℕ) → Unmoved s (if is_stranded s place then wake s place else s)
 woken-one s place = elim (is_stranded s place) as (λ b. is_stranded s place ≡ b → Unmoved s (if b then wake s place else s)) [
   | true ↦ λ is. record {
-    kinds = kind-put s.objects place (ThreadObject (record (thread_at s place) { status = Runnable; slice = full_slice })) (stranded-kind (s.objects place) s is);
+    kinds = kind-put s.objects place (ThreadObject (record (thread_at s place) { status = Runnable; slice = full_slice }))
+        (stranded-kind (s.objects place) s is);
     bytes = refl;
     slots = refl;
     bits = refl;
@@ -104,7 +109,8 @@ module _ (s : State) (memory : List ℕ) (kind : Kind) (offset : ℕ) (fits : Fi
       ⊎ ((has_record k ≡ true) × (offset + slot_bytes k ≤ place) × (place < offset + 2 ^ object_bits k) × (held.offset ≡ offset))
   record-after place held = elim (eqb_tells held.offset offset) [
     | inl here ↦
-        let same : Some k ≡ Some held.kind = sym (ap (λ (b : Bool). option_map kind_of (if b then Some (new_object kind) else s.objects held.offset)) here.0) ∙ held.there in
+        let same : Some k ≡ Some held.kind = sym (ap (λ (b : Bool). option_map kind_of (if b then Some (new_object kind) else s.objects held.offset)) here.0)
+        ∙ held.there in
         let is : held.kind ≡ k = cc in
         let from = held.from in
         let below = held.below in
@@ -128,7 +134,8 @@ module _ (s : State) (memory : List ℕ) (kind : Kind) (offset : ℕ) (fits : Fi
   closed : (place : ℕ) → IsOpen s.slots (place / 16) → s.slots (place / 16) ≡ None → ⊥
   closed place is_open none = let clash : false ≡ true = subst (λ (e : Option Entry). IsSome e) none is_open in absurd cc
 
-  pub bytes-after : (place : ℕ) → ((is_frame_kind kind && (offset == frame_around place)) ≡ true → ⊥) → s.bytes place ≡ None → (begun s memory kind offset).bytes place ≡ None
+  pub bytes-after : (place : ℕ) → ((is_frame_kind kind && (offset == frame_around place)) ≡ true → ⊥) → s.bytes place ≡ None →
+      (begun s memory kind offset).bytes place ≡ None
   bytes-after place apart none =
       elim (is_frame_kind kind && (offset == frame_around place)) as (λ b. (is_frame_kind kind && (offset == frame_around place)) ≡ b
       → (if b then Some (slice_index memory place) else s.bytes place) ≡ None) [
@@ -178,8 +185,10 @@ module _ (s : State) (memory : List ℕ) (kind : Kind) (offset : ℕ) (fits : Fi
 -- ---- the invariant of objects is kept
 
 module _ (o n : Contents) (before after : Slots) (old new : List ℕ) (kind : Kind) (offset : ℕ) (stands : Linked o before old) (same_slots : after ≡ before)
-    (free : (contents_state o before old).objects offset ≡ None) (room : IsRoom (contents_state o before old) (kind_of (new_object kind)) offset) (same_ready : n.ready ≡ o.ready)
-    (begins : (ready : ℕ → List ℕ) → state_with n (waiting_of o old) ready before old ≡ begun (state_with o (waiting_of o old) ready before old) old kind offset)
+    (free : (contents_state o before old).objects offset ≡ None) (room : IsRoom (contents_state o before old) (kind_of (new_object kind)) offset)
+    (same_ready : n.ready ≡ o.ready)
+    (begins : (ready : ℕ → List ℕ) → state_with n (waiting_of o old) ready before old ≡ begun (state_with o (waiting_of o old) ready before old) old kind
+    offset)
     (size : length new ≡ length old)
     (same : (place : ℕ) → (offset + slot_bytes (kind_of (new_object kind)) ≤ place → place < offset + 2 ^ object_bits (kind_of (new_object kind))
     → has_record (kind_of (new_object kind)) ≡ true → ⊥) → slice_index new place ≡ slice_index old place)
@@ -203,7 +212,8 @@ module _ (o n : Contents) (before after : Slots) (old new : List ℕ) (kind : Ki
       ∙ ap (λ (x : State). kind_at (begun x old kind offset) other) (sym (told o before old))
 
   kind-other : (other : ℕ) → other ≢ offset → kind_in n other ≡ kind_in o other
-  kind-other other differs = kinds-now other ∙ ap (option_map kind_of) (put-there u.objects offset (Some (new_object kind)) other differs) ∙ kind-state o other before old
+  kind-other other differs = kinds-now other ∙ ap (option_map kind_of) (put-there u.objects offset (Some (new_object kind)) other differs)
+      ∙ kind-state o other before old
 
   kind-new : kind_in n offset ≡ Some q
   kind-new = kinds-now offset ∙ ap (option_map kind_of) (put-here u.objects offset (Some (new_object kind)))
@@ -223,12 +233,15 @@ module _ (o n : Contents) (before after : Slots) (old new : List ℕ) (kind : Ki
   keep base least most none thread = elim (eqb_tells thread offset) [
     | inl here ↦ inr (record {
       was = ap (link_in base p.threads old 0) here.1 ∙ ap (λ (k : Option NewObject). if is_thread_kind k then link_at base old offset 0 else None) kind-old;
-      now = ap (link_in base (places_of n).threads new 0) here.1 ∙ ap (λ (k : Option NewObject). if is_thread_kind k then link_at base new offset 0 else None) kind-new
+      now = ap (link_in base (places_of n).threads new 0) here.1
+          ∙ ap (λ (k : Option NewObject). if is_thread_kind k then link_at base new offset 0 else None) kind-new
           ∙ if-none (is_thread_kind (Some q)) (link_at base new offset 0) none;
     })
     | inr apart ↦ inl (record {
       there = ap is_thread_kind (kind-other thread apart.1);
-      bytes = λ is place held. same-record place (in-thread u thread place (kind-state o thread before old ∙ has-thread o thread is) (omega (arith, least, held.0)) (omega (arith, most, held.1)));
+      bytes = λ is place held.
+          same-record place (in-thread u thread place (kind-state o thread before old ∙ has-thread o thread is) (omega (arith, least, held.0))
+          (omega (arith, most, held.1)));
     })
   ]
 
@@ -245,15 +258,18 @@ module _ (o n : Contents) (before after : Slots) (old new : List ℕ) (kind : Ki
   keep-heads : KeepHeads p (places_of n) old new
   keep-heads queue = elim (eqb_tells queue offset) [
     | inl here ↦ inr (record {
-      was = λ i low. ap (λ (x : ℕ). end_of old i (p.heads x)) here.1 ∙ ap (λ (x : Option NewObject). end_of old i (if has_waiting x then Some offset else None)) kind-old;
-      now = λ i low. ap (λ (x : ℕ). end_of new i ((places_of n).heads x)) here.1 ∙ ap (λ (x : Option NewObject). end_of new i (if has_waiting x then Some offset else None)) kind-new
+      was = λ i low. ap (λ (x : ℕ). end_of old i (p.heads x)) here.1
+          ∙ ap (λ (x : Option NewObject). end_of old i (if has_waiting x then Some offset else None)) kind-old;
+      now = λ i low. ap (λ (x : ℕ). end_of new i ((places_of n).heads x)) here.1
+          ∙ ap (λ (x : Option NewObject). end_of new i (if has_waiting x then Some offset else None)) kind-new
           ∙ no-end (has_waiting (Some q)) i (λ is. unwaited is i low);
     })
     | inr apart ↦ inl (record {
       there = ap (λ (x : Option NewObject). if has_waiting x then Some queue else None) (kind-other queue apart.1);
       bytes = λ head place is held.
           let at = has-head o queue head is in
-          same-record place (in-point u queue place (ap has_waiting (kind-state o queue before old) ∙ at.0) (omega (arith, held.0, at.1)) (omega (arith, held.1, at.1))).0;
+          same-record place (in-point u queue place (ap has_waiting (kind-state o queue before old) ∙ at.0) (omega (arith, held.0, at.1))
+          (omega (arith, held.1, at.1))).0;
     })
   ]
 
@@ -264,7 +280,8 @@ module _ (o n : Contents) (before after : Slots) (old new : List ℕ) (kind : Ki
   ready-was = subst (λ (e : List Ends). ReadyStands p e old) (sym same_ready) stands.ready
 
   runs_now : (priority : ℕ) → ready_at n new priority ≡ ready_at o old priority
-  runs_now priority = ready_stays.queues p (places_of n) n.ready old new size keep-runs ready-was priority ∙ ap (λ (e : List Ends). ready_of p e old priority) same_ready
+  runs_now priority = ready_stays.queues p (places_of n) n.ready old new size keep-runs ready-was priority
+      ∙ ap (λ (e : List Ends). ready_of p e old priority) same_ready
 
   now-with : state_with n (waiting_of n new) (ready_at n new) before old ≡ t
   now-with =
@@ -280,7 +297,8 @@ module _ (o n : Contents) (before after : Slots) (old new : List ℕ) (kind : Ki
       let clash : None ≡ Some byte = sym none ∙ sym (ap (λ (x : State). x.bytes place) now-with) ∙ some in absurd cc)
 
   now-state : contents_state n after new ≡ t
-  now-state = follows-bytes n before old new after frames-same ∙ ap (λ (f : Slots). state_with n (waiting_of n new) (ready_at n new) f old) same_slots ∙ now-with
+  now-state = follows-bytes n before old new after frames-same ∙ ap (λ (f : Slots). state_with n (waiting_of n new) (ready_at n new) f old) same_slots
+      ∙ now-with
 
   pub begun-left : Left n after new t
   begun-left =
@@ -299,7 +317,8 @@ module _ (o n : Contents) (before after : Slots) (old new : List ℕ) (kind : Ki
   begun-bytes = record {
     size = size;
     bytes = λ place outside. same place (λ from below kept.
-        elim (outside offset q (ap (λ (x : State). kind_at x offset) now-state ∙ ap (option_map kind_of) (put-here u.objects offset (Some (new_object kind)))) kept) [
+        elim (outside offset q (ap (λ (x : State). kind_at x offset) now-state ∙ ap (option_map kind_of) (put-here u.objects offset (Some (new_object kind))))
+        kept) [
           | inl earlier ↦ absurd (omega (arith, from, earlier))
           | inr behind ↦ absurd (omega (arith, below, behind))
         ]);

@@ -1,5 +1,6 @@
 -- The tables with a new object, and the room that it has.
-use Rattle.std.proofs.Common.{ℕ, ◌≡◌, ◌∙◌, ◌+◌, ◌-◌, ◌*◌, ◌/◌, ◌%◌, ◌^◌, ◌<◌, ◌≤◌, inl, inr, true, false, if◌then◌else◌, Some, None, List, length, refl, sym, ap, subst, arith}
+use Rattle.std.proofs.Common.{ℕ, ◌≡◌, ◌∙◌, ◌+◌, ◌-◌, ◌*◌, ◌/◌, ◌%◌, ◌^◌, ◌<◌, ◌≤◌, inl, inr, true, false, if◌then◌else◌, Some, None, List, length, refl, sym}
+use Rattle.std.proofs.Common.{ap, subst, arith}
 use Rattle.std.proofs.lemmas.Bool.Decides.{eqb_tells}
 use Rattle.std.proofs.lemmas.Nat.{pow-add}
 use Rattle.model.specs.Capabilities.Slots.{OutsideSlots, Slots}
@@ -38,7 +39,8 @@ entry-place kinds.PageTable bits offset may = may
 entry-place kinds.RootTable bits offset may = may
 
 -- the tables have an entry for what may come there
-pub has-entry : (o : Tables) (slots : Slots) (memory : List ℕ) (kind : Kind) (offset : ℕ) → AreTables o → MayStand (state_of o slots memory).memory_bits kind offset
+pub has-entry : (o : Tables) (slots : Slots) (memory : List ℕ) (kind : Kind) (offset : ℕ) → AreTables o →
+    MayStand (state_of o slots memory).memory_bits kind offset
     → (offset % 16 ≡ 0) × (offset / 16 < length o.entries)
 unfolding state_of
 has-entry o slots memory kind offset are may =
@@ -58,7 +60,8 @@ small-node kinds.PageTable bits offset radix is may = absurd cc
 small-node kinds.RootTable bits offset radix is may = absurd cc
 
 pub tables-begun : (o : Tables) (entries_now : List Entry) (kind : Kind) (bits offset : ℕ) → AreTables o → length entries_now ≡ length o.entries
-    → ((other : ℕ) → entry_in entries_now other ≡ put (entry_in o.entries) offset (entry_of kind) other) → MayStand bits kind offset → AreTables (record o { entries = entries_now })
+    → ((other : ℕ) → entry_in entries_now other ≡ put (entry_in o.entries) offset (entry_of kind) other) → MayStand bits kind offset →
+    AreTables (record o { entries = entries_now })
 tables-begun o entries_now kind bits offset are long entered may = record {
   least_bits = are.least_bits;
   most_bits = are.most_bits;
@@ -104,12 +107,18 @@ module _ (o : Tables) (slots : Slots) (memory : List ℕ) (kind : Kind) (offset 
       elim kind as (λ x. kind ≡ x → (offset + 16 ≤ length memory) × OutsideSlots slots offset 16) [
         | kinds.Endpoint ↦ λ is.
             let may' = subst (λ (x : Kind). MayStand (state_of o slots memory).memory_bits x offset) is may in
-            let room' = subst (λ (x : Kind). IsRoom (state_of o slots memory) (kind_of (new_object x)) offset) is room in
-            (omega (arith, may'.0, end may'.1, size, parts), λ place from below. empty place (room'.slots place (omega (arith, from)) (omega (arith, below)) refl))
+            let room' = subst (λ (x : Kind). IsRoom (state_of o slots memory) (kind_of (new_object x)) offset) is room in (
+              omega (arith, may'.0, end may'.1, size, parts),
+              λ place from below.
+                  empty place (room'.slots place (omega (arith, from)) (omega (arith, below)) refl),
+            )
         | kinds.Notification ↦ λ is.
             let may' = subst (λ (x : Kind). MayStand (state_of o slots memory).memory_bits x offset) is may in
-            let room' = subst (λ (x : Kind). IsRoom (state_of o slots memory) (kind_of (new_object x)) offset) is room in
-            (omega (arith, may'.0, end may'.1, size, parts), λ place from below. empty place (room'.slots place (omega (arith, from)) (omega (arith, below)) refl))
+            let room' = subst (λ (x : Kind). IsRoom (state_of o slots memory) (kind_of (new_object x)) offset) is room in (
+              omega (arith, may'.0, end may'.1, size, parts),
+              λ place from below.
+                  empty place (room'.slots place (omega (arith, from)) (omega (arith, below)) refl),
+            )
         | kinds.Thread ↦ λ is. absurd (let clash : false ≡ true = sym (ap (λ (x : Kind). has_waiting (Some (kind_of (new_object x)))) is) ∙ waits in cc)
         | kinds.CNode radix ↦ λ is. absurd (let clash : false ≡ true = sym (ap (λ (x : Kind). has_waiting (Some (kind_of (new_object x)))) is) ∙ waits in cc)
         | kinds.Frame ↦ λ is. absurd (let clash : false ≡ true = sym (ap (λ (x : Kind). has_waiting (Some (kind_of (new_object x)))) is) ∙ waits in cc)

@@ -20,7 +20,8 @@ use Rattle.objects.proofs.Holding.{Done, are-contents, done, kind-as, kind-state
 use Rattle.objects.proofs.Joining.{nowhere-queued}
 use Rattle.objects.proofs.Kept.{put-there}
 use Rattle.objects.proofs.Linked.{Linked}
-use Rattle.objects.proofs.Parts.{SameBesideContents, SameBesideLinks, contents-records, known-same, link-record, link-replier, link-word, ready-as, ready-links, ready-stands, same-contents, waiting-as, waiting-links, waiting-stands}
+use Rattle.objects.proofs.Parts.{SameBesideContents, SameBesideLinks, contents-records, known-same, link-record, link-replier, link-word, ready-as, ready-links}
+use Rattle.objects.proofs.Parts.{ready-stands, same-contents, waiting-as, waiting-links, waiting-stands}
 use Rattle.objects.proofs.Replacing.{replaced-with}
 use Rattle.objects.proofs.Stepping.{Left, enqueue-left, left-same, serve-left, tail-left, unready-left}
 use Rattle.objects.proofs.Told.{laid-out, state_with, told}
@@ -60,12 +61,14 @@ module _ (o : Tables) (before after : Slots) (old new : List ℕ) (stands : Stan
     links-contents = same-contents o old new (link-record o before old stands.fits old new same) (link-word o before old stands.fits old new same)
 
     pub links-known : AreKnown (thread_in o new) new
-    links-known = known-same o old new stands.rights (λ caller holder right. ap (λ (x : Contents). has_right (x.threads holder) caller) (sym links-contents) ∙ right)
+    links-known = known-same o old new stands.rights (λ caller holder right. ap (λ (x : Contents). has_right (x.threads holder) caller) (sym links-contents)
+        ∙ right)
         (link-replier o before old stands.fits old new same)
 
     links-done : (ready : List Ends) (t : State) → Left (record c { ready = ready }) after new t → Done (record o { ready = ready }) after new t
     links-done ready t left =
-        done (record o { ready = ready }) after new t (subst (AreThreadsPlaced o.entries) (sym same.size) stands.placed) (subst (λ (x : Contents). Left (record x { ready = ready }) after new t) (sym links-contents) left) links-known
+        done (record o { ready = ready }) after new t (subst (AreThreadsPlaced o.entries) (sym same.size) stands.placed)
+        (subst (λ (x : Contents). Left (record x { ready = ready }) after new t) (sym links-contents) left) links-known
 
   module _ (are : AreTables o) where
     laid : AreLaidOut (contents.places_of c) before (length old)
@@ -94,23 +97,28 @@ module _ (o : Tables) (before after : Slots) (old new : List ℕ) (stands : Stan
     enqueue-done queue thread held sending there sends may apart pushed queued bytes =
         let t = changed_at s queue (joined thread sending) in
         let same : Some held ≡ Some (record held { sending = sending }) = ap (λ (x : Option Sending). Some (record held { sending = x })) sends in
-        let self : (other : ℕ) → c.threads other ≡ put c.threads thread (Some (record held { sending = sending })) other = λ other. elim (eqb_tells other thread) [
+        let self : (other : ℕ) → c.threads other ≡ put c.threads thread (Some (record held { sending = sending })) other = λ other.
+        elim (eqb_tells other thread) [
           | inl here ↦ ap c.threads here.1 ∙ there ∙ same ∙ ap (λ b. if b then Some (record held { sending = sending }) else c.threads other) (sym here.0)
           | inr differs ↦ sym (put-there c.threads thread (Some (record held { sending = sending })) other differs.1)
         ] in
-        let left = subst (λ (p : Places). ((other : ℕ) → queue_of p new other ≡ put (queue_of p old) queue (queue_of p old queue ++ thread ∷ []) other) → QueuesStand p new
+        let left = subst (λ (p : Places). ((other : ℕ) → queue_of p new other ≡ put (queue_of p old) queue (queue_of p old queue ++ thread ∷ []) other) →
+        QueuesStand p new
         → SameBesideWaiting p (queue_of p new) old new → Left c after new t × SameBesideRecords s old new)
-        (places-as o old) (enqueue-left c before after old new links same_slots laid c.threads queue thread held sending there may apart self) pushed queued bytes in
+        (places-as o old) (enqueue-left c before after old new links same_slots laid c.threads queue thread held sending there may apart self) pushed queued
+        bytes in
         (links-done (waiting-links o old new (waiting_of o new) (kinds_apart.waiters (places_of o) new queued) bytes) o.ready t left.0, left.1)
 
-    pub unready-done : (ready : List Ends) (thread : ℕ) → ((priority : ℕ) → ready_of (places_of o) ready new priority ≡ without thread (ready_at o old priority))
+    pub unready-done : (ready : List Ends) (thread : ℕ) →
+        ((priority : ℕ) → ready_of (places_of o) ready new priority ≡ without thread (ready_at o old priority))
         → ReadyStands (places_of o) ready new → SameBesideReady (ready_at o old) old new
         → Done (record o { ready = ready }) after new (unready s thread) × SameBesideRecords s old new
     unfolding state_of
     unready-done ready thread unlisted queued bytes =
         let t = unready s thread in
         let left = subst (λ (p : Places). ((priority : ℕ) → ready_of p ready new priority ≡ without thread (ready_of p o.ready old priority))
-        → ReadyStands p ready new → SameBesideReady (ready_of p o.ready old) old new → Left (record c { ready = ready }) after new t × SameBesideRecords s old new)
+        → ReadyStands p ready new → SameBesideReady (ready_of p o.ready old) old new → Left (record c { ready = ready }) after new t
+        × SameBesideRecords s old new)
         (places-as o old) (unready-left c before after old new links same_slots laid ready thread) unlisted queued bytes in
         (links-done (ready-links o old new (ready_at o old) runners bytes) ready t left.0, left.1)
 
@@ -124,11 +132,14 @@ module _ (o : Tables) (before after : Slots) (old new : List ℕ) (stands : Stan
     unfolding state_of
     tail-done ready mid_ready thread priority mid own unlisted mid_stands bytes pushed queued more =
         let t = to_tail s thread in
-        let left = subst (λ (p : Places). ((other : ℕ) → ready_of p mid_ready mid other ≡ without thread (ready_of p o.ready old other)) → ReadyStands p mid_ready mid
+        let left = subst (λ (p : Places). ((other : ℕ) → ready_of p mid_ready mid other ≡ without thread (ready_of p o.ready old other)) →
+        ReadyStands p mid_ready mid
         → SameBesideReady (ready_of p o.ready old) old mid
         → ((other : ℕ) → ready_of p ready new other ≡ put (ready_of p mid_ready mid) priority (ready_of p mid_ready mid priority ++ thread ∷ []) other)
-        → ReadyStands p ready new → SameBesideReady (ready_of p ready new) mid new → Left (record c { ready = ready }) after new t × SameBesideRecords s old new)
-        (places-as o old) (tail-left c before after old new links same_slots laid ready mid_ready thread priority mid own) unlisted mid_stands bytes pushed queued more in
+        → ReadyStands p ready new → SameBesideReady (ready_of p ready new) mid new → Left (record c { ready = ready }) after new t
+        × SameBesideRecords s old new)
+        (places-as o old) (tail-left c before after old new links same_slots laid ready mid_ready thread priority mid own) unlisted mid_stands bytes pushed
+        queued more in
         let one = ready-links o old mid (ready_at o old) runners bytes in
         let two = ready-links o mid new (ready_of (places_of o) ready new) (kinds_apart.runners (places_of o) ready new queued) more in
         let both : SameBesideLinks o old new = record {
@@ -151,16 +162,21 @@ module _ (o : Tables) (before after : Slots) (old new : List ℕ) (stands : Stan
     runs_now = subst (λ (p : Places). (priority : ℕ) → ready_of p o.ready new priority ≡ ready_of p o.ready old priority) (sym (places-as o old))
         (ready-as o before old stands.fits old new same o.ready stands.ready)
 
-    pub contents-done : (t : State) → state_with d (contents.waiting_of c old) (contents.ready_at c old) before old ≡ t → Unmoved s t → AreKnown (thread_in o new) new
+    pub contents-done : (t : State) → state_with d (contents.waiting_of c old) (contents.ready_at c old) before old ≡ t → Unmoved s t →
+        AreKnown (thread_in o new) new
         → Done o after new t × SameBesideRecords s old new
     unfolding state_of
     contents-done t is unmoved known =
         let records = contents-records o before old stands.fits old new same in
         let waiting = subst (λ (p : Places). QueuesStand p new) (sym (places-as o old)) (waiting-stands o before old stands.fits old new same stands.waiting) in
-        let ready = subst (λ (p : Places). ReadyStands p o.ready new) (sym (places-as o old)) (ready-stands o before old stands.fits old new same o.ready stands.ready) in
+        let ready = subst (λ (p : Places). ReadyStands p o.ready new) (sym (places-as o old))
+        (ready-stands o before old stands.fits old new same o.ready stands.ready) in
         let is' : state_with d (queue_of (contents.places_of c) new) (ready_of (contents.places_of c) d.ready new) before old ≡ t =
-        (λ i. state_with d (λ queue. waits_now queue i) (λ priority. runs_now priority i) before old) ∙ is in
-        (done o after new t (subst (AreThreadsPlaced o.entries) (sym same.size) stands.placed) (left-same c d before after old new t links same_slots is' unmoved records waiting ready) known, records)
+        (λ i. state_with d (λ queue. waits_now queue i) (λ priority. runs_now priority i) before old) ∙ is in (
+          done o after new t (subst (AreThreadsPlaced o.entries) (sym same.size) stands.placed)
+              (left-same c d before after old new t links same_slots is' unmoved records waiting ready) known,
+          records,
+        )
 
     -- a thread is another one that sends the same
     pub thread-done : (thread : ℕ) (held now : Thread) → kind_in o thread ≡ Some NewThread → thread_in o old thread ≡ Some held → held.sending ≡ now.sending
@@ -171,7 +187,8 @@ module _ (o : Tables) (before after : Slots) (old new : List ℕ) (stands : Stan
     thread-done thread held now is there alike replaced recorded known =
         contents-done (with_thread s thread (thread_state now))
         ((λ i. state_with (record d { records = λ other. recorded other i }) (contents.waiting_of c old) (contents.ready_at c old) before old)
-        ∙ replaced-with c d.threads thread now replaced (ap (option_and_then (λ (t : Thread). t.sending)) there ∙ alike) (contents.waiting_of c old) (contents.ready_at c old) before old
+        ∙ replaced-with c d.threads thread now replaced (ap (option_and_then (λ (t : Thread). t.sending)) there ∙ alike) (contents.waiting_of c old)
+        (contents.ready_at c old) before old
         ∙ ap (λ (u : State). with_thread u thread (thread_state now)) (sym (told c before old)))
         (one-put s thread (ThreadObject (thread_state now)) (kind-state o thread before old ∙ is)) known
 
@@ -198,16 +215,20 @@ module _ (o : Tables) (before after : Slots) (old new : List ℕ) (stands : Stan
         let nowhere = nowhere-queued c before old thread links apart in
         let sends : (other : ℕ) → other ≢ thread → contents.sending_in d.threads other ≡ contents.sending_in c.threads other = λ other differs.
         ap (option_and_then (λ (t : Thread). t.sending)) (replaced other ∙ put-there c.threads thread _ other differs) in
-        let objects : (other : ℕ) → object_in d (contents.waiting_of c old) other ≡ object_in c (contents.waiting_of c old) other = λ other. elim (eqb_tells other thread) [
+        let objects : (other : ℕ) → object_in d (contents.waiting_of c old) other ≡ object_in c (contents.waiting_of c old) other = λ other.
+        elim (eqb_tells other thread) [
           | inl here ↦
               ap (λ (x : Option Thread). object_from x (option_map (object_of d.threads (contents.waiting_of c old other)) (d.records other)))
               (replaced other ∙ ap (λ b. if b then Some (record held { sending = sending }) else c.threads other) here.0)
-              ∙ ap (λ (x : Option Thread). object_from x (option_map (object_of c.threads (contents.waiting_of c old other)) (c.records other))) (sym (ap c.threads here.1 ∙ there))
+              ∙ ap (λ (x : Option Thread). object_from x (option_map (object_of c.threads (contents.waiting_of c old other)) (c.records other)))
+              (sym (ap c.threads here.1 ∙ there))
           | inr differs ↦
               ap (λ (x : Option Thread). object_from x (option_map (object_of d.threads (contents.waiting_of c old other)) (d.records other)))
               (replaced other ∙ put-there c.threads thread _ other differs.1)
-              ∙ ap (λ (r : Option Record). object_from (c.threads other) (option_map (object_of d.threads (contents.waiting_of c old other)) r)) (recorded other)
-              ∙ ap (object_from (c.threads other)) (other-same c.threads d.threads thread (contents.waiting_of c old other) (c.records other) sends (nowhere other))
+              ∙ ap (λ (r : Option Record). object_from (c.threads other) (option_map (object_of d.threads (contents.waiting_of c old other)) r))
+              (recorded other)
+              ∙ ap (object_from (c.threads other))
+              (other-same c.threads d.threads thread (contents.waiting_of c old other) (c.records other) sends (nowhere other))
         ] in
         contents-done s ((λ i. record (state_with d (contents.waiting_of c old) (contents.ready_at c old) before old) {
           objects = λ other. objects other i;

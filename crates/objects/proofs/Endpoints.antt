@@ -1,5 +1,6 @@
 -- Endpoints and notifications that are there, with those that wait.
-use Rattle.std.proofs.Common.{ℕ, ◌≡◌, ◌∙◌, ◌&&◌, ◌↔◌, inl, inr, Bool, true, false, if◌then◌else◌, Option, Some, None, is_some, option_map, List, [], ◌∷◌, ◌++◌, drop, length, length-append, map, refl, sym, ap, arith}
+use Rattle.std.proofs.Common.{ℕ, ◌≡◌, ◌∙◌, ◌&&◌, ◌↔◌, inl, inr, Bool, true, false, if◌then◌else◌, Option, Some, None, is_some, option_map, List, [], ◌∷◌, ◌++◌}
+use Rattle.std.proofs.Common.{drop, length, length-append, map, refl, sym, ap, arith}
 use Rattle.std.specs.Prelude.{slice_index}
 use Rattle.std.specs.Option.{option_map_or}
 use Rattle.std.proofs.lemmas.Bool.Decides.{eqb_tells}
@@ -8,10 +9,13 @@ use Rattle.model.specs.Kernel.Kinds.{frame_around, kind_at, kind_of}
 use Rattle.model.specs.Kernel.Retype.{NewEndpoint, NewNotification}
 use Rattle.model.specs.Kernel.Scheduling.{head_of}
 use Rattle.model.specs.Kernel.Soundness.{waiting_at}
-use Rattle.model.specs.Kernel.State.{CNodeObject, EndpointObject, EndpointState, FrameObject, NotificationObject, NotificationState, Object, PageTableObject, RootTableObject, State, ThreadObject, Sender, as_endpoint, as_notification, endpoint_at, new_endpoint, new_notification, notification_at, put, with_object}
+use Rattle.model.specs.Kernel.State.{CNodeObject, EndpointObject, EndpointState, FrameObject, NotificationObject, NotificationState, Object, PageTableObject}
+use Rattle.model.specs.Kernel.State.{RootTableObject, State, ThreadObject, Sender, as_endpoint, as_notification, endpoint_at, new_endpoint, new_notification}
+use Rattle.model.specs.Kernel.State.{notification_at, put, with_object}
 use Rattle.objects.proofs.Kept.{put-here, put-there}
 use Rattle.objects.proofs.Serving.{first-receives, first-sends}
-use Rattle.objects.specs.Contents.{Contents, is_frame, kind_in, object_from, object_in, object_of, receivers_in, senders_in, sending_in, contents_state, told_by, waiting_of}
+use Rattle.objects.specs.Contents.{Contents, is_frame, kind_in, object_from, object_in, object_of, receivers_in, senders_in, sending_in, contents_state}
+use Rattle.objects.specs.Contents.{told_by, waiting_of}
 use Rattle.objects.specs.thread_records.Threads.{sender_of}
 use Rattle.objects.specs.Waiting.{IsOneSided, changed_at, has_waiting, with_word}
 use Rattle.objects.specs.Contents.{Record}
@@ -24,7 +28,8 @@ pub use Rattle.objects.proofs.Told.{kind-state}
 
 -- ---- in any state
 
-pub endpoint-there : (o : Option Object) → option_map kind_of o ≡ Some NewEndpoint → o ≡ Some (EndpointObject (option_map_or (λ e. e) (as_endpoint o) new_endpoint))
+pub endpoint-there : (o : Option Object) → option_map kind_of o ≡ Some NewEndpoint →
+    o ≡ Some (EndpointObject (option_map_or (λ e. e) (as_endpoint o) new_endpoint))
 endpoint-there (Some (EndpointObject e)) is = refl
 endpoint-there None is = absurd cc
 endpoint-there (Some (ThreadObject t)) is = absurd cc
@@ -34,7 +39,8 @@ endpoint-there (Some FrameObject) is = absurd cc
 endpoint-there (Some PageTableObject) is = absurd cc
 endpoint-there (Some RootTableObject) is = absurd cc
 
-pub notification-there : (o : Option Object) → option_map kind_of o ≡ Some NewNotification → o ≡ Some (NotificationObject (option_map_or (λ n. n) (as_notification o) new_notification))
+pub notification-there : (o : Option Object) → option_map kind_of o ≡ Some NewNotification →
+    o ≡ Some (NotificationObject (option_map_or (λ n. n) (as_notification o) new_notification))
 notification-there (Some (NotificationObject n)) is = refl
 notification-there None is = absurd cc
 notification-there (Some (ThreadObject t)) is = absurd cc
@@ -135,7 +141,8 @@ module _ (o : Contents) (endpoint : ℕ) (slots : Slots) (memory : List ℕ) (is
       | inr none ↦ none
     ]
 
-module _ (o : Contents) (notification : ℕ) (slots : Slots) (memory : List ℕ) (is : kind_at (contents_state o slots memory) notification ≡ Some NewNotification) where
+module _ (o : Contents) (notification : ℕ) (slots : Slots) (memory : List ℕ)
+    (is : kind_at (contents_state o slots memory) notification ≡ Some NewNotification) where
   abbrev n : NotificationState
   n = notification_at (contents_state o slots memory) notification
 
@@ -154,31 +161,38 @@ module _ (o : Contents) (notification : ℕ) (slots : Slots) (memory : List ℕ)
 
 -- ---- whether someone waits
 
-someone-waits : (threads : ℕ → Option Thread) (thread : ℕ) (rest : List ℕ) → map (λ (sender : Sender). sender.thread) (senders_in threads (thread ∷ rest)) ++ receivers_in threads (thread ∷ rest) ≡ [] → ⊥
+someone-waits : (threads : ℕ → Option Thread) (thread : ℕ) (rest : List ℕ) → map (λ (sender : Sender). sender.thread) (senders_in threads (thread ∷ rest))
+    ++ receivers_in threads (thread ∷ rest) ≡ [] → ⊥
 someone-waits threads thread rest none = elim (sending_in threads thread) as (λ o. sending_in threads thread ≡ o → ⊥) [
   | Some sending ↦ λ sends.
-      let first = ap length (ap (λ (l : List Sender). map (λ (sender : Sender). sender.thread) l ++ receivers_in threads (thread ∷ rest)) (sym (first-sends (sending_in threads) thread rest sending sends)) ∙ none) in
+      let first = ap length (ap (λ (l : List Sender). map (λ (sender : Sender). sender.thread) l ++ receivers_in threads (thread ∷ rest))
+      (sym (first-sends (sending_in threads) thread rest sending sends)) ∙ none) in
       omega (arith, first)
   | None ↦ λ receives.
-      let first = ap length (ap (λ (l : List ℕ). map (λ (sender : Sender). sender.thread) (senders_in threads (thread ∷ rest)) ++ l) (sym (first-receives (sending_in threads) thread rest receives)) ∙ none) in
+      let first = ap length (ap (λ (l : List ℕ). map (λ (sender : Sender). sender.thread) (senders_in threads (thread ∷ rest)) ++ l)
+      (sym (first-receives (sending_in threads) thread rest receives)) ∙ none) in
       let both = length-append (map (λ (sender : Sender). sender.thread) (senders_in threads (thread ∷ rest))) (thread ∷ receivers_in threads rest) in
       omega (arith, first, both)
 ] refl
 
 waited-from : (threads : ℕ → Option Thread) (waiting : List ℕ) (t : Option Thread) (r : Option Record)
-    → ((has_waiting (option_map kind_of (object_from t (option_map (object_of threads []) r))) && is_some (head_of waiting)) ≡ false) ↔ (waiting_at (object_from t (option_map (object_of threads waiting) r)) ≡ [])
+    → ((has_waiting (option_map kind_of (object_from t (option_map (object_of threads []) r))) && is_some (head_of waiting)) ≡ false) ↔
+    (waiting_at (object_from t (option_map (object_of threads waiting) r)) ≡ [])
 waited-from threads waiting (Some t) r = (λ _. refl, λ _. refl)
 waited-from threads waiting None None = (λ _. refl, λ _. refl)
 waited-from threads [] None (Some Endpoint) = (λ _. refl, λ _. refl)
-waited-from threads (thread ∷ rest) None (Some Endpoint) = (λ is. absurd (let clash : true ≡ false = is in cc), λ none. absurd (someone-waits threads thread rest none))
+waited-from threads (thread ∷ rest) None (Some Endpoint) =
+    (λ is. absurd (let clash : true ≡ false = is in cc), λ none. absurd (someone-waits threads thread rest none))
 waited-from threads [] None (Some (Notification word)) = (λ _. refl, λ _. refl)
-waited-from threads (thread ∷ rest) None (Some (Notification word)) = (λ is. absurd (let clash : true ≡ false = is in cc), λ none. absurd (let clash : thread ∷ rest ≡ [] = none in cc))
+waited-from threads (thread ∷ rest) None (Some (Notification word)) =
+    (λ is. absurd (let clash : true ≡ false = is in cc), λ none. absurd (let clash : thread ∷ rest ≡ [] = none in cc))
 waited-from threads waiting None (Some (CNode radix)) = (λ _. refl, λ _. refl)
 waited-from threads waiting None (Some Frame) = (λ _. refl, λ _. refl)
 waited-from threads waiting None (Some PageTable) = (λ _. refl, λ _. refl)
 waited-from threads waiting None (Some RootTable) = (λ _. refl, λ _. refl)
 
-pub waited-in : (o : Contents) (slots : Slots) (memory : List ℕ) (offset : ℕ) (waited : Bool) → waited ≡ (has_waiting (kind_in o offset) && is_some (head_of (waiting_of o memory offset)))
+pub waited-in : (o : Contents) (slots : Slots) (memory : List ℕ) (offset : ℕ) (waited : Bool) →
+    waited ≡ (has_waiting (kind_in o offset) && is_some (head_of (waiting_of o memory offset)))
     → (waited ≡ false) ↔ (waiting_at ((contents_state o slots memory).objects offset) ≡ [])
 unfolding told_by
 waited-in o slots memory offset waited is =
@@ -190,7 +204,8 @@ waited-in o slots memory offset waited is =
 word-from : (threads : ℕ → Option Thread) (waiting : List ℕ) (word : ℕ) (t : Option Thread) (r : Option Record)
     → option_map kind_of (object_from t (option_map (object_of threads waiting) r)) ≡ Some NewNotification
     → object_from t (option_map (object_of threads waiting) (Some (Notification word)))
-    ≡ Some (NotificationObject (record (option_map_or (λ n. n) (as_notification (object_from t (option_map (object_of threads waiting) r))) new_notification) { word = word }))
+    ≡ Some (NotificationObject (record (option_map_or (λ n. n) (as_notification (object_from t (option_map (object_of threads waiting) r))) new_notification)
+    { word = word }))
 word-from threads waiting word None (Some (Notification old)) is = refl
 word-from threads waiting word (Some t) r is = absurd cc
 word-from threads waiting word None None is = absurd cc
@@ -246,7 +261,8 @@ module _ (o : Contents) (records : ℕ → Option Record) (notification word : �
     | inr apart ↦ ap (λ r. option_map_or is_frame r false) (replaced other ∙ put-there (o.records) notification _ other apart.1)
   ]
 
-  pub word-with : (waiting ready : ℕ → List ℕ) (slots : Slots) (memory : List ℕ) → state_with now waiting ready slots memory ≡ with_word (state_with o waiting ready slots memory) notification word
+  pub word-with : (waiting ready : ℕ → List ℕ) (slots : Slots) (memory : List ℕ) →
+      state_with now waiting ready slots memory ≡ with_word (state_with o waiting ready slots memory) notification word
   word-with waiting ready slots memory = λ i. record (state_with o waiting ready slots memory) {
     objects = λ other. object-word waiting other i;
     bytes = λ place. ap (λ b. if b then Some (slice_index memory place) else None) (frame-word (frame_around place)) i;

@@ -25,10 +25,11 @@ no-thread threads waiting (Some RootTable) = refl
 
 -- the threads of the state are those of the table
 pub as-thread : (o : Contents) (waiting : ℕ → List ℕ) (offset : ℕ) → as_thread (object_in o waiting offset) ≡ option_map thread_state (o.threads offset)
-as-thread o waiting offset = elim (o.threads offset) as (λ t. as_thread (object_from t (option_map (object_of o.threads (waiting offset)) (o.records offset))) ≡ option_map thread_state t) [
-  | Some t ↦ refl
-  | None ↦ no-thread o.threads (waiting offset) (o.records offset)
-]
+as-thread o waiting offset = elim (o.threads offset)
+    as (λ t. as_thread (object_from t (option_map (object_of o.threads (waiting offset)) (o.records offset))) ≡ option_map thread_state t) [
+      | Some t ↦ refl
+      | None ↦ no-thread o.threads (waiting offset) (o.records offset)
+    ]
 
 any-false : (t : Option ThreadState) → option_map_or (λ (x : ThreadState). false) t false ≡ false
 any-false (Some t) = refl

@@ -96,10 +96,11 @@ module _ (o : Contents) (slots : Slots) (old new : List ℕ) where
   -- ---- only bytes of frames changed
 
   framed-now : (place : ℕ) → byte_in o.records new place ≡ option_map (λ _. slice_index new place) (byte_in o.records old place)
-  framed-now place = elim (in_frame place) as (λ b. (if b then Some (slice_index new place) else None) ≡ option_map (λ _. slice_index new place) (if b then Some (slice_index old place) else None)) [
-    | true ↦ refl
-    | false ↦ refl
-  ]
+  framed-now place = elim (in_frame place) as (λ b. (if b then Some (slice_index new place) else None) ≡ option_map (λ _. slice_index new place)
+      (if b then Some (slice_index old place) else None)) [
+        | true ↦ refl
+        | false ↦ refl
+      ]
 
   beside-records : Linked o slots old → SameBesideFrames s old new → (place : ℕ) → IsInRecord s.objects place → slice_index new place ≡ slice_index old place
   beside-records stands same place held = same.bytes place (stands.fits.apart place held)
@@ -134,6 +135,7 @@ framed-byte true now byte is = let same : now ≡ byte = cc in sym same
 framed-byte false now byte is = absurd (let clash : None ≡ Some byte = is in cc)
 
 -- where a state has a byte, memory has it
-pub byte-there : (o : Contents) (slots : Slots) (memory : List ℕ) (place byte : ℕ) → (contents_state o slots memory).bytes place ≡ Some byte → byte ≡ slice_index memory place
+pub byte-there : (o : Contents) (slots : Slots) (memory : List ℕ) (place byte : ℕ) → (contents_state o slots memory).bytes place ≡ Some byte →
+    byte ≡ slice_index memory place
 unfolding told_by
 byte-there o slots memory place byte is = framed-byte (option_map_or is_frame (o.records (frame_around place)) false) (slice_index memory place) byte is

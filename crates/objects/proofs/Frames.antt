@@ -1,11 +1,13 @@
 -- Calls that change records of objects leave the same objects, and keep the invariant of objects.
-use Rattle.std.proofs.Common.{ℕ, ◌≡◌, ◌∙◌, ◌+◌, ◌/◌, ◌^◌, ◌<◌, ◌≤◌, ◌⊎◌, inl, inr, Bool, true, if◌then◌else◌, Option, Some, None, option_map, List, length, refl, sym, ap, subst, arith}
+use Rattle.std.proofs.Common.{ℕ, ◌≡◌, ◌∙◌, ◌+◌, ◌/◌, ◌^◌, ◌<◌, ◌≤◌, ◌⊎◌, inl, inr, Bool, true, if◌then◌else◌, Option, Some, None, option_map, List, length}
+use Rattle.std.proofs.Common.{refl, sym, ap, subst, arith}
 use Rattle.std.proofs.lemmas.Bool.Decides.{eqb_tells}
 use Rattle.model.specs.Capabilities.Slots.{IsOpen}
 use Rattle.model.specs.Kernel.Kinds.{kind_at, kind_of}
 use Rattle.model.specs.Kernel.Retype.{NewObject, object_bits}
 use Rattle.model.specs.Kernel.Scheduling.{without_threads}
-use Rattle.model.specs.Kernel.State.{Object, CNodeObject, EndpointObject, FrameObject, NotificationObject, PageTableObject, RootTableObject, State, ThreadObject, put, with_object}
+use Rattle.model.specs.Kernel.State.{Object, CNodeObject, EndpointObject, FrameObject, NotificationObject, PageTableObject, RootTableObject, State}
+use Rattle.model.specs.Kernel.State.{ThreadObject, put, with_object}
 use Rattle.objects.proofs.Kept.{put-there}
 use Rattle.objects.specs.Frames.{FitsMemory, IsInRecord, SameBesideObjects, SameBesideRecords, SameElsewhere, SameObjects, has_record}
 use Rattle.objects.specs.Waiting.{changed_at, joined, served}
@@ -51,7 +53,8 @@ kind-served sending FrameObject = refl
 kind-served sending PageTableObject = refl
 kind-served sending RootTableObject = refl
 
-kind-changed : (change : Object → Object) → ((x : Object) → kind_of (change x) ≡ kind_of x) → (o : Option Object) → option_map kind_of (option_map change o) ≡ option_map kind_of o
+kind-changed : (change : Object → Object) → ((x : Object) → kind_of (change x) ≡ kind_of x) → (o : Option Object) →
+    option_map kind_of (option_map change o) ≡ option_map kind_of o
 kind-changed change same None = refl
 kind-changed change same (Some x) = ap Some (same x)
 
@@ -94,7 +97,8 @@ same-records s memory = record { size = refl; bytes = λ place apart. refl }
 
 -- a record lies in its object
 in-object : (objects : ℕ → Option Object) (place : ℕ) (held : IsInRecord objects place)
-    → ((offset : ℕ) (kind : NewObject) → option_map kind_of (objects offset) ≡ Some kind → has_record kind ≡ true → (place < offset) ⊎ (offset + 2 ^ object_bits kind ≤ place)) → ⊥
+    → ((offset : ℕ) (kind : NewObject) → option_map kind_of (objects offset) ≡ Some kind → has_record kind ≡ true →
+    (place < offset) ⊎ (offset + 2 ^ object_bits kind ≤ place)) → ⊥
 in-object objects place held outside = elim (outside held.offset held.kind held.there held.kept) [
   | inl before ↦ let from = held.from in omega (arith, before, from)
   | inr behind ↦ let below = held.below in omega (arith, behind, below)

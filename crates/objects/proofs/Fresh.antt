@@ -1,5 +1,6 @@
 -- Tables without objects.
-use Rattle.std.proofs.Common.{ℕ, ◌≡◌, ◌∙◌, ◌==◌, ◌*◌, ◌-◌, ◌/◌, ◌%◌, ◌^◌, ◌≤◌, inl, inr, Bool, true, false, if◌then◌else◌, Some, None, option_map, List, [], length, replicate, refl, sym, ap, subst, arith}
+use Rattle.std.proofs.Common.{ℕ, ◌≡◌, ◌∙◌, ◌==◌, ◌*◌, ◌-◌, ◌/◌, ◌%◌, ◌^◌, ◌≤◌, inl, inr, Bool, true, false, if◌then◌else◌, Some, None, option_map, List, []}
+use Rattle.std.proofs.Common.{length, replicate, refl, sym, ap, subst, arith}
 use Rattle.std.specs.Prelude.{◌+◌, slice_index, slice_index_or}
 use Rattle.std.specs.Option.{option_map_or}
 use Rattle.std.proofs.lemmas.List.{get_or-replicate, get_or_past, length-replicate}
@@ -33,10 +34,11 @@ nothing-at n i = elim (cases_lt i n) [
 ]
 
 nothing-in : (n offset : ℕ) → entry_in (replicate n entries.Nothing) offset ≡ entries.Nothing
-nothing-in n offset = elim (offset % 16 == 0) as (λ b. (if b then slice_index_or (replicate n entries.Nothing) (offset / 16) entries.Nothing else entries.Nothing) ≡ entries.Nothing) [
-  | true ↦ nothing-at n (offset / 16)
-  | false ↦ refl
-]
+nothing-in n offset = elim (offset % 16 == 0)
+    as (λ b. (if b then slice_index_or (replicate n entries.Nothing) (offset / 16) entries.Nothing else entries.Nothing) ≡ entries.Nothing) [
+      | true ↦ nothing-at n (offset / 16)
+      | false ↦ refl
+    ]
 
 never-masked : (n line : ℕ) → slice_index_or (replicate n false) line false ≡ false
 never-masked n line = elim (cases_lt line n) [
@@ -80,7 +82,8 @@ module _ (bits radix : ℕ) (ready : List Ends) (nobody : (places : Places) (mem
       (option_map (object_of (contents_of o memory).threads (waiting offset)) (record_from e (word_at memory (offset + 8))))) (nothing offset)
 
   no-byte : (memory : List ℕ) (place : ℕ) → byte_in (contents_of o memory).records memory place ≡ None
-  no-byte memory place = ap (λ (e : Entry). if option_map_or is_frame (record_from e (word_at memory (frame_around place + 8))) false then Some (slice_index memory place) else None) (nothing (frame_around place))
+  no-byte memory place = ap (λ (e : Entry). if option_map_or is_frame (record_from e (word_at memory (frame_around place + 8))) false then
+      Some (slice_index memory place) else None) (nothing (frame_around place))
 
   no-kind : (offset : ℕ) → kind_in o offset ≡ None
   no-kind offset = ap kind_of_entry (nothing offset)
@@ -96,7 +99,8 @@ module _ (bits radix : ℕ) (ready : List Ends) (nobody : (places : Places) (mem
   }
 
   pub fresh-stands : AreTables o → (slots : Slots) (memory : List ℕ)
-      → ((places : Places) (memory : List ℕ) → ((offset : ℕ) → places.threads offset ≡ false) → ReadyStands places ready memory) → 2 ^ bits ≡ length memory → Standing o slots memory
+      → ((places : Places) (memory : List ℕ) → ((offset : ℕ) → places.threads offset ≡ false) → ReadyStands places ready memory) → 2 ^ bits ≡ length memory →
+      Standing o slots memory
   unfolding boot_area
   fresh-stands are slots memory runs size =
       let fits : FitsMemory (state_of o slots memory) memory = subst (λ (t : State). FitsMemory t memory) (sym (fresh-state slots memory))

@@ -1,5 +1,6 @@
 -- What tables and bytes hold, as contents.
-use Rattle.std.proofs.Common.{ℕ, ◌≡◌, ◌∙◌, ◌+◌, ◌-◌, ◌*◌, ◌/◌, ◌%◌, ◌^◌, ◌<◌, ◌≤◌, inl, inr, true, false, if◌then◌else◌, Option, Some, None, is_some, option_map, List, [], length, refl, sym, ap, subst, arith}
+use Rattle.std.proofs.Common.{ℕ, ◌≡◌, ◌∙◌, ◌+◌, ◌-◌, ◌*◌, ◌/◌, ◌%◌, ◌^◌, ◌<◌, ◌≤◌, inl, inr, true, false, if◌then◌else◌, Option, Some, None, is_some}
+use Rattle.std.proofs.Common.{option_map, List, [], length, refl, sym, ap, subst, arith}
 use Rattle.std.specs.Prelude.{slice_index_or}
 use Rattle.std.proofs.lemmas.Bool.{cases_lt}
 use Rattle.std.proofs.lemmas.Bool.Decides.{eqb_tells}
@@ -104,18 +105,22 @@ done n slots memory t placed left known = record { state = left.state; stands = 
 pub some-inside : (table : List Entry) (offset : ℕ) → is_some (kind_of_entry (entry_in table offset)) ≡ true → (offset % 16 ≡ 0) × (offset / 16 < length table)
 some-inside table offset some = elim (eqb_tells (offset % 16) 0) [
   | inr apart ↦
-      absurd (let clash : false ≡ true = sym (ap (λ b. is_some (kind_of_entry (if b then slice_index_or table (offset / 16) entries.Nothing else entries.Nothing))) apart.0) ∙ some in cc)
+      absurd (let clash : false ≡ true =
+      sym (ap (λ b. is_some (kind_of_entry (if b then slice_index_or table (offset / 16) entries.Nothing else entries.Nothing))) apart.0)
+      ∙ some in cc)
   | inl here ↦ elim (cases_lt (offset / 16) (length table)) [
     | inl less ↦ (here.1, less)
     | inr past ↦
         let none : entry_in table offset ≡ entries.Nothing =
-        ap (λ b. if b then slice_index_or table (offset / 16) entries.Nothing else entries.Nothing) here.0 ∙ get_or_past table (offset / 16) entries.Nothing past in
+        ap (λ b. if b then slice_index_or table (offset / 16) entries.Nothing else entries.Nothing) here.0
+        ∙ get_or_past table (offset / 16) entries.Nothing past in
         absurd (let clash : false ≡ true = sym (ap (λ (e : Entry). is_some (kind_of_entry e)) none) ∙ some in cc)
   ]
 ]
 
 -- objects lie at multiples of 16 bytes
-pub object-aligned : (o : Tables) (slots : Slots) (memory : List ℕ) (offset : ℕ) (kind : NewObject) → kind_at (state_of o slots memory) offset ≡ Some kind → offset % 16 ≡ 0
+pub object-aligned : (o : Tables) (slots : Slots) (memory : List ℕ) (offset : ℕ) (kind : NewObject) → kind_at (state_of o slots memory) offset ≡ Some kind →
+    offset % 16 ≡ 0
 object-aligned o slots memory offset kind is = (some-inside o.entries offset (ap is_some (sym (kind-state o offset slots memory) ∙ is))).0
 
 some-thread : (e : Entry) (t : Thread) → is_some (thread_from e t) ≡ true → e ≡ entries.Thread
@@ -187,7 +192,8 @@ module _ (o : Tables) (are : AreTables o) where
   module _ (slots : Slots) (memory : List ℕ) (fits : FitsMemory (state_of o slots memory) memory) where
     pub laid-here : AreLaidOut (places_of o) slots (length memory)
     unfolding state_of
-    laid-here = subst (λ (p : Places). AreLaidOut p slots (length memory)) (places-as o memory) (told.laid-out (contents_of o memory) slots memory (are-contents memory) fits)
+    laid-here = subst (λ (p : Places). AreLaidOut p slots (length memory)) (places-as o memory)
+        (told.laid-out (contents_of o memory) slots memory (are-contents memory) fits)
 
     pub long : length memory ≡ 2 ^ o.bits
     unfolding state_of
@@ -200,7 +206,8 @@ module _ (o : Tables) (are : AreTables o) where
     placed-here = placed-by (length memory) long
 
 -- no slot is open in a record
-pub closed : (o : Tables) (slots : Slots) (memory : List ℕ) → FitsMemory (state_of o slots memory) memory → (place : ℕ) → IsInRecord (state_of o slots memory).objects place
+pub closed : (o : Tables) (slots : Slots) (memory : List ℕ) → FitsMemory (state_of o slots memory) memory → (place : ℕ) →
+    IsInRecord (state_of o slots memory).objects place
     → slots (place / 16) ≡ None
 unfolding state_of
 closed o slots memory fits place held = not-open slots (place / 16)
@@ -212,7 +219,8 @@ module _ (o : Tables) (slots : Slots) (memory : List ℕ) (stands : Standing o s
     few = stands.placed.few;
     within = stands.placed.within thread is;
     outside = λ place from below. closed o slots memory stands.fits place
-        (in-thread (state_of o slots memory) thread place (kind-state o thread slots memory ∙ kind-there o thread is) (omega (arith, from)) (omega (arith, below)));
+        (in-thread (state_of o slots memory) thread place (kind-state o thread slots memory ∙ kind-there o thread is) (omega (arith, from))
+        (omega (arith, below)));
   }
 
   pub threads-laid : AreThreadsLaid o.entries slots (length memory)

@@ -37,11 +37,13 @@ pub waiting-records : (o : Contents) (slots : Slots) (memory old new : List ℕ)
 waiting-records o slots memory old new queues there same = record {
   size = same.size;
   bytes = λ place apart. same.bytes place
-      (λ queue thread stands held. apart (in-thread (contents_state o slots memory) thread place (kind-state o thread slots memory ∙ has-thread o thread (there queue thread stands))
+      (λ queue thread stands held.
+      apart (in-thread (contents_state o slots memory) thread place (kind-state o thread slots memory ∙ has-thread o thread (there queue thread stands))
       (omega (arith, held.0)) (omega (arith, held.1))))
       (λ queue head thread stands is held.
       let at = has-head o queue head is in
-      apart (in-point (contents_state o slots memory) queue place (ap has_waiting (kind-state o queue slots memory) ∙ at.0) (omega (arith, held.0, at.1)) (omega (arith, held.1, at.1))).0);
+      apart (in-point (contents_state o slots memory) queue place (ap has_waiting (kind-state o queue slots memory) ∙ at.0) (omega (arith, held.0, at.1))
+      (omega (arith, held.1, at.1))).0);
 }
 
 pub ready-records : (o : Contents) (slots : Slots) (memory old new : List ℕ) (queues : ℕ → List ℕ) → AreThreadsIn (places_of o) queues
@@ -49,6 +51,7 @@ pub ready-records : (o : Contents) (slots : Slots) (memory old new : List ℕ) (
 ready-records o slots memory old new queues there same = record {
   size = same.size;
   bytes = λ place apart. same.bytes place
-      (λ queue thread stands held. apart (in-thread (contents_state o slots memory) thread place (kind-state o thread slots memory ∙ has-thread o thread (there queue thread stands))
+      (λ queue thread stands held.
+      apart (in-thread (contents_state o slots memory) thread place (kind-state o thread slots memory ∙ has-thread o thread (there queue thread stands))
       (omega (arith, held.0)) (omega (arith, held.1))));
 }

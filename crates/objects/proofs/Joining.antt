@@ -1,5 +1,6 @@
 -- A thread joins a queue, after all others.
-use Rattle.std.proofs.Common.{ℕ, ◌≡◌, ◌≢◌, ◌∙◌, ◌==◌, ◌+◌, inl, inr, true, false, if◌then◌else◌, Option, Some, None, option_map, List, [], ◌∷◌, ◌++◌, map, refl, sym, ap, arith}
+use Rattle.std.proofs.Common.{ℕ, ◌≡◌, ◌≢◌, ◌∙◌, ◌==◌, ◌+◌, inl, inr, true, false, if◌then◌else◌, Option, Some, None, option_map, List, [], ◌∷◌, ◌++◌, map, refl}
+use Rattle.std.proofs.Common.{sym, ap, arith}
 use Rattle.std.specs.Prelude.{option_and_then}
 use Rattle.std.proofs.lemmas.Bool.{cases_lt}
 use Rattle.std.proofs.lemmas.Bool.Decides.{eqb_tells, nat_tests}
@@ -27,7 +28,8 @@ pub times-append : (one two : List ℕ) (thread : ℕ) → times_in (one ++ two)
 times-append [] two thread = omega arith
 times-append (x ∷ one) two thread =
     let more = times-append one two thread in
-    elim (x == thread) as (λ b. (if b then times_in (one ++ two) thread + 1 else times_in (one ++ two) thread) ≡ (if b then times_in one thread + 1 else times_in one thread) + times_in two thread) [
+    elim (x == thread) as (λ b. (if b then times_in (one ++ two) thread + 1 else times_in (one ++ two) thread)
+    ≡ (if b then times_in one thread + 1 else times_in one thread) + times_in two thread) [
       | true ↦ omega (arith, more)
       | false ↦ more
     ]
@@ -70,7 +72,8 @@ no-thread-waits : (t : Option Thread) (p : Option Object) → has_waiting (optio
 no-thread-waits (Some t) p is = absurd (let clash : false ≡ true = is in cc)
 no-thread-waits None p is = refl
 
-pub free-queue : (o : Contents) (slots : Slots) (memory : List ℕ) (queue : ℕ) → has_waiting (kind_at (contents_state o slots memory) queue) ≡ true → o.threads queue ≡ None
+pub free-queue : (o : Contents) (slots : Slots) (memory : List ℕ) (queue : ℕ) → has_waiting (kind_at (contents_state o slots memory) queue) ≡ true →
+    o.threads queue ≡ None
 unfolding told_by
 free-queue o slots memory queue = no-thread-waits (o.threads queue) _
 
@@ -88,12 +91,14 @@ waits-queued threads waiting thread None (Some PageTable) is = absurd (let clash
 waits-queued threads waiting thread None (Some RootTable) is = absurd (let clash : false ≡ true = is in cc)
 
 -- so who waits at no object is in no queue
-pub nowhere-queued : (o : Contents) (slots : Slots) (memory : List ℕ) (thread : ℕ) → Linked o slots memory → StandsNowhere (contents_state o slots memory).objects thread
+pub nowhere-queued : (o : Contents) (slots : Slots) (memory : List ℕ) (thread : ℕ) → Linked o slots memory →
+    StandsNowhere (contents_state o slots memory).objects thread
     → (queue : ℕ) → times_in (waiting_of o memory queue) thread ≡ 0
 unfolding told_by
 nowhere-queued o slots memory thread stands apart queue = elim (cases_lt 0 (times_in (waiting_of o memory queue) thread)) [
   | inl some ↦
-      let waits = waits-queued o.threads (waiting_of o memory queue) thread (o.threads queue) (o.records queue) (waited o slots memory stands queue thread some) in
+      let waits = waits-queued o.threads (waiting_of o memory queue) thread (o.threads queue) (o.records queue)
+      (waited o slots memory stands queue thread some) in
       sym waits ∙ apart.nowhere queue
   | inr few ↦ omega (arith, few)
 ]
@@ -141,7 +146,8 @@ module _ (o : Contents) (threads : ℕ → Option Thread) (was_waiting waiting :
   record-joined PageTable = refl
   record-joined RootTable = refl
 
-  other-joined : (r : Option Record) → option_map (object_of threads (before ++ thread ∷ [])) r ≡ option_map (joined thread sending) (option_map (object_of o.threads before) r)
+  other-joined : (r : Option Record) → option_map (object_of threads (before ++ thread ∷ [])) r ≡ option_map (joined thread sending)
+      (option_map (object_of o.threads before) r)
   other-joined (Some r) = ap Some (record-joined r)
   other-joined None = refl
 
@@ -171,7 +177,8 @@ module _ (o : Contents) (threads : ℕ → Option Thread) (was_waiting waiting :
       ∙ ap (object_from (o.threads other))
       (other-same o.threads threads thread (was_waiting other) (o.records other) sends (waits-not other))
 
-  object-joined : (other : ℕ) → object_in now waiting other ≡ put (object_in o was_waiting) queue (option_map (joined thread sending) (object_in o was_waiting queue)) other
+  object-joined : (other : ℕ) → object_in now waiting other ≡ put (object_in o was_waiting) queue
+      (option_map (joined thread sending) (object_in o was_waiting queue)) other
   object-joined other = elim (eqb_tells other queue) [
     | inl here ↦
         ap (object_in now waiting) here.1 ∙ joined-here
@@ -183,5 +190,6 @@ module _ (o : Contents) (threads : ℕ → Option Thread) (was_waiting waiting :
         ]) ∙ ap (λ b. if b then option_map (joined thread sending) (object_in o was_waiting queue) else object_in o was_waiting other) (sym apart.0)
   ]
 
-  pub joined-state : (ready : ℕ → List ℕ) (slots : Slots) (memory : List ℕ) → state_with now waiting ready slots memory ≡ changed_at (state_with o was_waiting ready slots memory) queue (joined thread sending)
+  pub joined-state : (ready : ℕ → List ℕ) (slots : Slots) (memory : List ℕ) →
+      state_with now waiting ready slots memory ≡ changed_at (state_with o was_waiting ready slots memory) queue (joined thread sending)
   joined-state ready slots memory = λ i. record (state_with o was_waiting ready slots memory) { objects = λ other. object-joined other i }

@@ -64,7 +64,8 @@ module _ (o : Contents) (threads : ℕ → Option Thread) (was_waiting waiting w
       ap (λ t. object_from t (option_map (object_of threads (waiting offset)) (o.records offset))) (void offset)
       ∙ from-left (o.threads offset) _ _ (other-left offset (o.records offset))
 
-  pub left-state : (slots : Slots) (memory : List ℕ) → state_with now waiting ready slots memory ≡ leaves (state_with o was_waiting was_ready slots memory) thread
+  pub left-state : (slots : Slots) (memory : List ℕ) → state_with now waiting ready slots memory ≡ leaves (state_with o was_waiting was_ready slots memory)
+      thread
   left-state slots memory = λ i. record (state_with o was_waiting was_ready slots memory) {
     objects = λ offset. object-left offset i;
     ready = λ priority. unready priority i;

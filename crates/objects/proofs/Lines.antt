@@ -43,7 +43,8 @@ module _ (o before : Tables) (index line : ℕ) (bit : Bool) (here : index ≡ l
   pub pending-state : index < length o.pending
       → state_of (record o { pending = set o.pending index bit }) slots memory ≡ with_pending (state_of before slots memory) line bit
   pending-state less =
-      pending-at less ∙ ap (λ (n : ℕ). with_pending (state_of o slots memory) n bit) here ∙ ap (λ (t : Tables). with_pending (state_of t slots memory) line bit) is
+      pending-at less ∙ ap (λ (n : ℕ). with_pending (state_of o slots memory) n bit) here
+      ∙ ap (λ (t : Tables). with_pending (state_of t slots memory) line bit) is
 
 -- the invariant of objects does not depend on other lines
 pub lines-stand : (o : Tables) (masked pending : List Bool) (slots : Slots) (memory : List ℕ) → Standing o slots memory

@@ -1,5 +1,6 @@
 -- Who waits at an endpoint, as parts of a list and after changes of other threads.
-use Rattle.std.proofs.Common.{ℕ, ◌≡◌, ◌≢◌, ◌∙◌, ◌+◌, inl, inr, Bool, not, if◌then◌else◌, Option, Some, None, is_some, option_map, List, [], ◌∷◌, drop, filter, refl, sym, ap, arith}
+use Rattle.std.proofs.Common.{ℕ, ◌≡◌, ◌≢◌, ◌∙◌, ◌+◌, inl, inr, Bool, not, if◌then◌else◌, Option, Some, None, is_some, option_map, List, [], ◌∷◌, drop, filter}
+use Rattle.std.proofs.Common.{refl, sym, ap, arith}
 use Rattle.std.specs.Prelude.{filter_map}
 use Rattle.std.proofs.lemmas.Bool.Decides.{eqb_tells}
 use Rattle.model.specs.Kernel.Scheduling.{head_of}

@@ -1,5 +1,6 @@
 -- A new object comes at an offset, in tables and bytes.
-use Rattle.std.proofs.Common.{ℕ, ◌≡◌, ◌≢◌, ◌∙◌, ◌==◌, ◌+◌, ◌<◌, ◌≤◌, inl, inr, true, false, if◌then◌else◌, Option, Some, None, is_some, option_map, List, length, refl, sym, ap, arith}
+use Rattle.std.proofs.Common.{ℕ, ◌≡◌, ◌≢◌, ◌∙◌, ◌==◌, ◌+◌, ◌<◌, ◌≤◌, inl, inr, true, false, if◌then◌else◌, Option, Some, None, is_some, option_map, List}
+use Rattle.std.proofs.Common.{length, refl, sym, ap, arith}
 use Rattle.std.specs.Prelude.{slice_index}
 use Rattle.std.specs.Option.{option_map_or}
 use Rattle.std.proofs.lemmas.Bool.Decides.{eqb_tells}
@@ -65,22 +66,26 @@ module _ (o : Tables) (before after : Slots) (old new : List ℕ) (kind : Kind) 
   still : (place : ℕ) → IsInRecord s.objects place → slice_index new place ≡ slice_index old place
   still place held = bytes.bytes place (λ from below kept. room.records place (omega (arith, from)) below held)
 
-  thread-byte : (thread : ℕ) → kind_in o thread ≡ Some NewThread → (place : ℕ) → thread + 32 ≤ place → place < thread + 512 → slice_index new place ≡ slice_index old place
+  thread-byte : (thread : ℕ) → kind_in o thread ≡ Some NewThread → (place : ℕ) → thread + 32 ≤ place → place < thread + 512 →
+      slice_index new place ≡ slice_index old place
   thread-byte thread is place from below = still place (in-thread s thread place (kind-state o thread before old ∙ is) from below)
 
   same : contents_of o new ≡ c
   same = same-contents o old new
       (λ thread is place part. thread-byte thread is place (omega (arith, part.0)) (omega (arith, part.1)))
-      (λ queue waits place part. still place (in-point s queue place (ap has_waiting (kind-state o queue before old) ∙ waits) (omega (arith, part.0)) (omega (arith, part.1))).0)
+      (λ queue waits place part.
+      still place (in-point s queue place (ap has_waiting (kind-state o queue before old) ∙ waits) (omega (arith, part.0)) (omega (arith, part.1))).0)
 
   threads-put : (other : ℕ) → e.threads other ≡ put c.threads offset (thread_from (entry_of kind) (thread_words.thread_at new offset)) other
   threads-put other = elim (eqb_tells other offset) [
     | inl here ↦
-        ap (λ (x : Entry). thread_from x (thread_words.thread_at new other)) (entered other ∙ ap (λ b. if b then entry_of kind else entry_in o.entries other) here.0)
+        ap (λ (x : Entry). thread_from x (thread_words.thread_at new other))
+        (entered other ∙ ap (λ b. if b then entry_of kind else entry_in o.entries other) here.0)
         ∙ ap (λ (n : ℕ). thread_from (entry_of kind) (thread_words.thread_at new n)) here.1
         ∙ sym (ap (λ b. if b then thread_from (entry_of kind) (thread_words.thread_at new offset) else c.threads other) here.0)
     | inr apart ↦
-        ap (λ (x : Entry). thread_from x (thread_words.thread_at new other)) (entered other ∙ put-there (entry_in o.entries) offset (entry_of kind) other apart.1)
+        ap (λ (x : Entry). thread_from x (thread_words.thread_at new other))
+        (entered other ∙ put-there (entry_in o.entries) offset (entry_of kind) other apart.1)
         ∙ ap (λ (x : Contents). x.threads other) same
         ∙ sym (put-there c.threads offset (thread_from (entry_of kind) (thread_words.thread_at new offset)) other apart.1)
   ]
@@ -114,7 +119,8 @@ module _ (o : Tables) (before after : Slots) (old new : List ℕ) (kind : Kind) 
   links = linked o before old stands
 
   abbrev Begins : Type 0
-  Begins = (ready : ℕ → List ℕ) → state_with e (contents.waiting_of c old) ready before old ≡ begun (state_with c (contents.waiting_of c old) ready before old) old kind offset
+  Begins = (ready : ℕ → List ℕ) → state_with e (contents.waiting_of c old) ready before old ≡ begun (state_with c (contents.waiting_of c old) ready before old)
+      old kind offset
 
   as-thread : kind ≡ kinds.Thread → Begins
   unfolding state_of
@@ -122,7 +128,8 @@ module _ (o : Tables) (before after : Slots) (old new : List ℕ) (kind : Kind) 
       let threads : (other : ℕ) → e.threads other ≡ put c.threads offset (Some (thread_words.thread_at new offset)) other = λ other.
       threads-put other ∙ ap (λ (k : Kind). put c.threads offset (thread_from (entry_of k) (thread_words.thread_at new offset)) other) is in
       let records : (other : ℕ) → e.records other ≡ c.records other = λ other.
-      records-put other ∙ ap (λ (k : Kind). put c.records offset (record_from (entry_of k) (word_at new (offset + 8))) other) is ∙ put-nothing c.records no-record other in
+      records-put other ∙ ap (λ (k : Kind). put c.records offset (record_from (entry_of k) (word_at new (offset + 8))) other) is
+      ∙ put-nothing c.records no-record other in
       (λ i. state_with (record e { records = λ other. records other i }) (contents.waiting_of c old) ready before old)
       ∙ begun-thread c before old offset links free e.threads (thread_words.thread_at new offset) threads (bytes.thread is) ready
       ∙ ap (λ (k : Kind). begun (state_with c (contents.waiting_of c old) ready before old) old k offset) (sym is)
@@ -178,7 +185,8 @@ module _ (o : Tables) (before after : Slots) (old new : List ℕ) (kind : Kind) 
   was caller holder right = elim (eqb_tells holder offset) [
     | inl here ↦
         absurd (let clash : false ≡ true =
-        sym (ap (λ (t : Option Thread). has_right t caller) (threads-put holder ∙ ap (λ b. if b then fresh kind else c.threads holder) here.0) ∙ no-right caller) ∙ right in cc)
+        sym (ap (λ (t : Option Thread). has_right t caller) (threads-put holder ∙ ap (λ b. if b then fresh kind else c.threads holder) here.0)
+        ∙ no-right caller) ∙ right in cc)
     | inr apart ↦ sym (ap (λ (t : Option Thread). has_right t caller) (threads-put holder ∙ put-there c.threads offset (fresh kind) holder apart.1)) ∙ right
   ]
 

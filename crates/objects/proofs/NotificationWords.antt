@@ -13,7 +13,8 @@ use Rattle.objects.specs.declared.thread_records.records.Thread.{Thread}
 
 abbrev word_told : (ℕ → Option Thread) → List ℕ → Thread → ℕ → Entry → ℕ
 word_told threads waiting thread word e =
-    (option_map_or (λ n. n) (as_notification (object_from (thread_from e thread) (option_map (object_of threads waiting) (record_from e word)))) new_notification).word
+    (option_map_or (λ n. n) (as_notification (object_from (thread_from e thread) (option_map (object_of threads waiting) (record_from e word))))
+    new_notification).word
 
 no-word : (threads : ℕ → Option Thread) (waiting : List ℕ) (thread : Thread) (word : ℕ) (e : Entry) → (e ≡ entries.Notification → ⊥)
     → 0 ≡ word_told threads waiting thread word e
@@ -37,4 +38,5 @@ module _ (o : Tables) (slots : Slots) (memory : List ℕ) (offset : ℕ) where
   unfolding state_of told_by
   word-nowhere other =
       let here = contents_of o memory in
-      no-word here.threads (waiting_of here memory offset) (thread_words.thread_at memory offset) (word_at memory (offset + 8)) (entry_in o.entries offset) other
+      no-word here.threads (waiting_of here memory offset) (thread_words.thread_at memory offset) (word_at memory (offset + 8)) (entry_in o.entries offset)
+      other

@@ -19,7 +19,8 @@ use Rattle.queues.specs.Layout.{Places}
 use Rattle.queues.specs.Queues.{queue_of}
 use Rattle.objects.proofs.Joining.{nowhere-queued}
 use Rattle.objects.proofs.Told.{in-point, is-thread}
-use Rattle.objects.proofs.Writing.{known-noted, other-replier, record-replaces, replier-record, replier-thread, same-rights, thread-here, threads-record, threads-replier, word-replaces, word-replier, word-thread}
+use Rattle.objects.proofs.Writing.{known-noted, other-replier, record-replaces, replier-record, replier-thread, same-rights, thread-here, threads-record}
+use Rattle.objects.proofs.Writing.{threads-replier, word-replaces, word-replier, word-thread}
 use Rattle.queues.proofs.Laws.{kinds_apart}
 use Rattle.model.specs.Kernel.Scheduling.{all_leave, leaves}
 use Rattle.model.specs.Shared.Lists.{times_in}
@@ -34,7 +35,8 @@ use Rattle.objects.specs.Frames.{SameBesideRecords, SameObjects}
 use Rattle.objects.specs.Laid.{IsThreadPlace}
 use Rattle.objects.specs.Rights.{AreKnown, SameBesideReplier, has_right, noted, replier_at}
 use Rattle.objects.specs.Standing.{Standing}
-use Rattle.objects.specs.Tables.{Tables, contents_of, entry_in, kind_in, kind_of_entry, places_of, ready_at, sending_in, state_of, thread_from, thread_in, waiting_of}
+use Rattle.objects.specs.Tables.{Tables, contents_of, entry_in, kind_in, kind_of_entry, places_of, ready_at, sending_in, state_of, thread_from, thread_in}
+use Rattle.objects.specs.Tables.{waiting_of}
 use Rattle.objects.specs.Waiting.{StandsNowhere, has_waiting, with_word}
 use Rattle.objects.specs.declared.records.Entry.{Entry}
 use Rattle.objects.specs.declared.records.Entry.TheVariants as entries
@@ -45,7 +47,12 @@ use Rattle.objects.specs.declared.thread_records.records.Sending.{Sending}
 use Rattle.objects.specs.declared.thread_records.records.Thread.{Thread}
 
 pub record-of-place : (slots : Slots) (size thread : ℕ) → IsThreadPlace slots size thread → IsRecordAt slots size thread
-record-of-place slots size thread place = record { few = place.few; within = place.within; outside = λ at from below. place.outside at from (omega (arith, below)) }
+record-of-place slots size thread place = record {
+  few = place.few;
+  within = place.within;
+  outside = λ at from below.
+      place.outside at from (omega (arith, below));
+}
 
 notification-entry : (e : Entry) → kind_of_entry e ≡ Some NewNotification → e ≡ entries.Notification
 notification-entry entries.Notification is = refl
@@ -77,7 +84,8 @@ module _ (o : Tables) (slots : Slots) (memory : List ℕ) where
   none-at thread is = no-entry (entry_in o.entries thread) (thread_words.thread_at memory thread) is
 
   -- the thread of a state, where one is and where none is
-  pub read-there : (thread : ℕ) → is_thread_kind (kind_in o thread) ≡ true → thread_at (state_of o slots memory) thread ≡ thread_state (thread_words.thread_at memory thread)
+  pub read-there : (thread : ℕ) → is_thread_kind (kind_in o thread) ≡ true →
+      thread_at (state_of o slots memory) thread ≡ thread_state (thread_words.thread_at memory thread)
   unfolding state_of
   read-there thread is =
       replacing.thread-is (contents_of o memory) thread (thread_words.thread_at memory thread) slots memory
@@ -95,10 +103,12 @@ module _ (o : Tables) (slots : Slots) (memory : List ℕ) where
   pub of-state : (thread : ℕ) → kind_at (state_of o slots memory) thread ≡ Some NewThread → kind_in o thread ≡ Some NewThread
   of-state thread is = sym (kind-state o thread slots memory) ∙ is
 
-  pub place-there : Standing o slots memory → (thread : ℕ) → kind_at (state_of o slots memory) thread ≡ Some NewThread → IsThreadPlace slots (length memory) thread
+  pub place-there : Standing o slots memory → (thread : ℕ) → kind_at (state_of o slots memory) thread ≡ Some NewThread →
+      IsThreadPlace slots (length memory) thread
   place-there stands thread is = thread-place o slots memory stands thread (entry-there o thread (of-state thread is))
 
-  pub record-there : Standing o slots memory → (thread : ℕ) → kind_at (state_of o slots memory) thread ≡ Some NewThread → IsRecordAt slots (length memory) thread
+  pub record-there : Standing o slots memory → (thread : ℕ) → kind_at (state_of o slots memory) thread ≡ Some NewThread →
+      IsRecordAt slots (length memory) thread
   record-there stands thread is = record-of-place slots (length memory) thread (place-there stands thread is)
 
   -- objects, and who is stranded
@@ -117,7 +127,8 @@ module _ (o : Tables) (slots : Slots) (memory : List ℕ) where
   stranded-none thread is = stranded-nobody (contents_of o memory) thread slots memory (none-at thread is)
 
   pub sends-there : (thread : ℕ) → is_thread_kind (kind_in o thread) ≡ true → (thread_words.thread_at memory thread).sending ≡ sending_in o memory thread
-  sends-there thread is = ap (option_and_then (λ (t : Thread). t.sending)) (sym (thread-here o memory thread (kind-there o thread (thread-entry (entry_in o.entries thread) is))))
+  sends-there thread is = ap (option_and_then (λ (t : Thread). t.sending))
+      (sym (thread-here o memory thread (kind-there o thread (thread-entry (entry_in o.entries thread) is))))
 
   pub sends-none : (thread : ℕ) → is_thread_kind (kind_in o thread) ≡ false → None ≡ sending_in o memory thread
   sends-none thread is = ap (option_and_then (λ (t : Thread). t.sending)) (sym (none-at thread is))
@@ -137,12 +148,13 @@ module _ (o : Tables) (slots : Slots) (memory : List ℕ) where
     ]
 
     pub nobody-replies : (holder : ℕ) → has_right (thread_in o memory holder) offset ≡ false
-    nobody-replies holder = elim (has_right (thread_in o memory holder) offset) as (λ b. has_right (thread_in o memory holder) offset ≡ b → has_right (thread_in o memory holder) offset ≡ false) [
-      | false ↦ λ is. is
-      | true ↦ λ is.
-          absurd (let clash : false ≡ true =
-          sym no ∙ ap (λ (e : Entry). is_thread_kind (kind_of_entry e)) (thread-some o memory offset (stands.rights.there offset holder is)) in cc)
-    ] refl
+    nobody-replies holder = elim (has_right (thread_in o memory holder) offset)
+        as (λ b. has_right (thread_in o memory holder) offset ≡ b → has_right (thread_in o memory holder) offset ≡ false) [
+          | false ↦ λ is. is
+          | true ↦ λ is.
+              absurd (let clash : false ≡ true =
+              sym no ∙ ap (λ (e : Entry). is_thread_kind (kind_of_entry e)) (thread-some o memory offset (stands.rights.there offset holder is)) in cc)
+        ] refl
 
     pub left-none : state_of o slots memory ≡ all_leave (state_of o slots memory) (ends_thread (state_of o slots memory) offset)
     unfolding state_of
@@ -155,13 +167,15 @@ module _ (o : Tables) (slots : Slots) (memory : List ℕ) where
       (sym (thread-here o memory offset (kind-there o offset (thread-entry (entry_in o.entries offset) is)))) refl
 
   pub stranded-kind : (offset : ℕ) → is_stranded (state_of o slots memory) offset ≡ true → kind_at (state_of o slots memory) offset ≡ Some NewThread
-  stranded-kind offset stranded = elim (is_thread_kind (kind_in o offset)) as (λ b. is_thread_kind (kind_in o offset) ≡ b → kind_at (state_of o slots memory) offset ≡ Some NewThread) [
-    | true ↦ λ is. kind-state o offset slots memory ∙ is-thread (kind_in o offset) is
-    | false ↦ λ no. absurd (let clash : false ≡ true = sym (stranded-none offset no) ∙ stranded in cc)
-  ] refl
+  stranded-kind offset stranded = elim (is_thread_kind (kind_in o offset))
+      as (λ b. is_thread_kind (kind_in o offset) ≡ b → kind_at (state_of o slots memory) offset ≡ Some NewThread) [
+        | true ↦ λ is. kind-state o offset slots memory ∙ is-thread (kind_in o offset) is
+        | false ↦ λ no. absurd (let clash : false ≡ true = sym (stranded-none offset no) ∙ stranded in cc)
+      ] refl
 
   -- who waits at no object is in no queue
-  pub nowhere-here : Standing o slots memory → (thread : ℕ) → StandsNowhere (state_of o slots memory).objects thread → (queue : ℕ) → times_in (waiting_of o memory queue) thread ≡ 0
+  pub nowhere-here : Standing o slots memory → (thread : ℕ) → StandsNowhere (state_of o slots memory).objects thread → (queue : ℕ) →
+      times_in (waiting_of o memory queue) thread ≡ 0
   unfolding state_of
   nowhere-here stands thread apart = subst (λ (p : Places). (queue : ℕ) → times_in (queue_of p memory queue) thread ≡ 0) (places-as o memory)
       (nowhere-queued (contents_of o memory) slots memory thread (linked o slots memory stands) apart)
@@ -173,7 +187,8 @@ module _ (o : Tables) (slots : Slots) (memory : List ℕ) where
 
     pub word-outside : OutsideSlots slots (notification + 8) 4
     word-outside = λ place from below. closed o slots memory stands.fits place
-        (in-point (state_of o slots memory) notification place (ap has_waiting (kind-state o notification slots memory ∙ is)) (omega (arith, from)) (omega (arith, below))).0
+        (in-point (state_of o slots memory) notification place (ap has_waiting (kind-state o notification slots memory ∙ is)) (omega (arith, from))
+        (omega (arith, below))).0
 
 -- ---- what is written
 
@@ -181,7 +196,8 @@ module _ (o : Tables) (before after : Slots) (old new : List ℕ) (stands : Stan
   abbrev s : State
   s = state_of o before old
 
-  module _ (thread : ℕ) (there : kind_at s thread ≡ Some NewThread) (same : SameBesideRecord thread old new) (now : Thread) (holds : thread_words.thread_at new thread ≡ now) where
+  module _ (thread : ℕ) (there : kind_at s thread ≡ Some NewThread) (same : SameBesideRecord thread old new) (now : Thread)
+      (holds : thread_words.thread_at new thread ≡ now) where
     abbrev held : Thread
     held = thread_words.thread_at old thread
 
@@ -205,7 +221,8 @@ module _ (o : Tables) (before after : Slots) (old new : List ℕ) (stands : Stan
     beside = threads-beside o old new (record-beside o old new thread is same)
 
     -- a field of the thread changes
-    module _ (sends : held.sending ≡ now.sending) (calls : held.caller ≡ now.caller) (change : ThreadState → ThreadState) (is_changed : thread_state now ≡ change (thread_state held)) where
+    module _ (sends : held.sending ≡ now.sending) (calls : held.caller ≡ now.caller) (change : ThreadState → ThreadState)
+        (is_changed : thread_state now ≡ change (thread_state held)) where
       pub field-done : Done o after new (with_thread s thread (change (thread_at s thread))) × SameBesideRecords s old new
       field-done =
           let result = thread-done o before after old new stands same_slots beside thread held now is here sends replaced recorded (known calls) in
@@ -217,10 +234,12 @@ module _ (o : Tables) (before after : Slots) (old new : List ℕ) (stands : Stan
           (moved-to s (state_of o after new) _ field-done.0.state (one-put s thread (ThreadObject (change (thread_at s thread))) there)) field-done.1
 
     -- what it sends changes
-    pub unsent-done : (sending : Option Sending) → StandsNowhere s.objects thread → now ≡ record held { sending = sending } → Done o after new s × SameBesideRecords s old new
+    pub unsent-done : (sending : Option Sending) → StandsNowhere s.objects thread → now ≡ record held { sending = sending } → Done o after new s
+        × SameBesideRecords s old new
     unsent-done sending apart changed =
         sending-done o before after old new stands same_slots beside thread held sending is here apart
-        (λ other. replaced other ∙ ap (λ (t : Thread). put (thread_in o old) thread (Some t) other) changed) recorded (known (ap (λ (t : Thread). t.caller) (sym changed)))
+        (λ other. replaced other ∙ ap (λ (t : Thread). put (thread_in o old) thread (Some t) other) changed) recorded
+        (known (ap (λ (t : Thread). t.caller) (sym changed)))
 
   -- a thread comes to have the right to reply to a caller
   module _ (thread : ℕ) (caller : Option ℕ) (mid : List ℕ) (there : kind_at s thread ≡ Some NewThread)
@@ -249,7 +268,8 @@ module _ (o : Tables) (before after : Slots) (old new : List ℕ) (stands : Stan
         ∙ (λ i. put (λ x. in-mid x i) thread (Some (record t { caller = caller })) other)
 
     both : SameBesideContents o old new
-    both = contents-then o old mid new (replier-beside o old mid caller caller-kind replier) (threads-beside o mid new (record-beside o mid new thread own-kind same))
+    both = contents-then o old mid new (replier-beside o old mid caller caller-kind replier)
+        (threads-beside o mid new (record-beside o mid new thread own-kind same))
 
     words : (other : ℕ) → (contents_of o new).records other ≡ (contents_of o old).records other
     words other =
@@ -267,11 +287,14 @@ module _ (o : Tables) (before after : Slots) (old new : List ℕ) (stands : Stan
 
     pub caller-done : Done o after new (with_caller s thread caller) × SameBesideRecords s old new
     caller-done =
-        let result = thread-done o before after old new stands same_slots both thread t (record t { caller = caller }) own-kind was-there refl put-now words known-now in
+        let result = thread-done o before after old new stands same_slots both thread t (record t { caller = caller }) own-kind was-there refl put-now words
+        known-now in
         let own : thread_at s thread ≡ thread_state t =
         read-there o before old thread (ap is_thread_kind own-kind)
-        ∙ ap thread_state (same-some (thread_words.thread_at old thread) t (sym (thread-here o old thread own-kind) ∙ was-there)) in
-        (subst (λ (x : ThreadState). Done o after new (with_thread s thread x)) (ap (λ (x : ThreadState). record x { caller = caller }) (sym own)) result.0, result.1)
+        ∙ ap thread_state (same-some (thread_words.thread_at old thread) t (sym (thread-here o old thread own-kind) ∙ was-there)) in (
+          subst (λ (x : ThreadState). Done o after new (with_thread s thread x)) (ap (λ (x : ThreadState). record x { caller = caller }) (sym own)) result.0,
+          result.1,
+        )
 
   -- a notification has another word
   module _ (notification word : ℕ) (there : kind_at s notification ≡ Some NewNotification) (within : notification + 8 + 4 ≤ length old) (small : word < 2 ^ 32)

@@ -1,5 +1,6 @@
 -- A thread leaves all queues, and nothing is at an offset any more.
-use Rattle.std.proofs.Common.{ℕ, ◌≡◌, ◌≢◌, ◌∙◌, ◌==◌, ◌+◌, ◌*◌, inl, inr, true, false, if◌then◌else◌, Option, None, is_some, option_map, List, [], length, refl, sym, ap, subst, arith}
+use Rattle.std.proofs.Common.{ℕ, ◌≡◌, ◌≢◌, ◌∙◌, ◌==◌, ◌+◌, ◌*◌, inl, inr, true, false, if◌then◌else◌, Option, None, is_some, option_map, List, [], length, refl}
+use Rattle.std.proofs.Common.{sym, ap, subst, arith}
 use Rattle.std.proofs.lemmas.Bool.Decides.{eqb_tells}
 use Rattle.model.specs.Capabilities.Slots.{Slots}
 use Rattle.model.specs.Kernel.Kinds.{kind_at}
@@ -18,7 +19,8 @@ use Rattle.objects.proofs.Frames.{Unmoved, kind-left, record-was, same-state}
 use Rattle.objects.proofs.Holding.{Done, are-contents, done, kind-state, kind-there, linked, places-as, thread-some}
 use Rattle.objects.proofs.Kept.{put-there}
 use Rattle.objects.proofs.Linked.{Linked}
-use Rattle.objects.proofs.Parts.{SameBesideContents, SameBesideLinks, contents-records, known-same, link-replier, links-then, ready-as, ready-links, ready-stands, replier-same, threads-beside, waiting-as, waiting-links, waiting-stands}
+use Rattle.objects.proofs.Parts.{SameBesideContents, SameBesideLinks, contents-records, known-same, link-replier, links-then, ready-as, ready-links}
+use Rattle.objects.proofs.Parts.{ready-stands, replier-same, threads-beside, waiting-as, waiting-links, waiting-stands}
 use Rattle.objects.proofs.Stepping.{Left, forget-left, left-same, ready-then, vacate-left}
 use Rattle.objects.proofs.Told as tellings
 use Rattle.objects.proofs.Told.{laid-out, state_with, told}
@@ -30,14 +32,16 @@ use Rattle.objects.specs.Frames.{SameBesideRecords}
 use Rattle.objects.specs.Laid.{AreThreadsPlaced, SameBesideThreads}
 use Rattle.objects.specs.Rights.{AreKnown, has_right}
 use Rattle.objects.specs.Standing.{Standing}
-use Rattle.objects.specs.Tables.{AreTables, Tables, contents_of, entry_in, kind_in, places_of, ready_at, record_from, state_of, thread_from, thread_in, waiting_of}
+use Rattle.objects.specs.Tables.{AreTables, Tables, contents_of, entry_in, kind_in, places_of, ready_at, record_from, state_of, thread_from, thread_in}
+use Rattle.objects.specs.Tables.{waiting_of}
 use Rattle.objects.specs.declared.records.Entry.{Entry}
 use Rattle.objects.specs.declared.records.Entry.TheVariants as entries
 use Rattle.objects.specs.thread_records.Records as thread_words
 use Rattle.objects.specs.declared.thread_records.records.Thread.{Thread}
 
 -- where one entry is taken away
-module _ (o : Tables) (entries_now : List Entry) (offset : ℕ) (cleared : (other : ℕ) → entry_in entries_now other ≡ put (entry_in o.entries) offset entries.Nothing other) where
+module _ (o : Tables) (entries_now : List Entry) (offset : ℕ) (cleared : (other : ℕ) →
+    entry_in entries_now other ≡ put (entry_in o.entries) offset entries.Nothing other) where
   less-entry : (place : ℕ) (e : Entry) → entry_in entries_now place ≡ e → (entries.Nothing ≡ e → ⊥) → entry_in o.entries place ≡ e
   less-entry place e is some = elim (eqb_tells place offset) [
     | inl here ↦ absurd (some (sym (cleared place ∙ ap (λ b. if b then entries.Nothing else entry_in o.entries place) here.0) ∙ is))
@@ -90,7 +94,8 @@ module _ (o : Tables) (before after : Slots) (old : List ℕ) (stands : Standing
     carry same =
         let u : State = contents_state x after a in
         let waits : (queue : ℕ) → queue_of (contents.places_of x) b queue ≡ queue_of (contents.places_of x) a queue =
-        subst (λ (q : Places). (queue : ℕ) → queue_of q b queue ≡ queue_of q a queue) (sym places-of) (waiting-as o before old stands.fits a b same waits-there) in
+        subst (λ (q : Places). (queue : ℕ) → queue_of q b queue ≡ queue_of q a queue) (sym places-of)
+        (waiting-as o before old stands.fits a b same waits-there) in
         let runs : (priority : ℕ) → ready_of (contents.places_of x) x.ready b priority ≡ ready_of (contents.places_of x) x.ready a priority =
         subst (λ (q : Places). (priority : ℕ) → ready_of q x.ready b priority ≡ ready_of q x.ready a priority) (sym places-of)
         (ready-as o before old stands.fits a b same x.ready runs-there) in
@@ -136,7 +141,8 @@ module _ (o : Tables) (before after : Slots) (old : List ℕ) (stands : Standing
         n = record o { ready = ready }
 
         void-all : (other : ℕ) → thread_in o new other ≡ option_map (voided thread) (thread_in o old other)
-        void-all other = void other ∙ ap (λ (x : Contents). option_map (voided thread) (x.threads other)) (links-contents o before after old two stands same_slots both)
+        void-all other = void other ∙ ap (λ (x : Contents). option_map (voided thread) (x.threads other))
+            (links-contents o before after old two stands same_slots both)
 
         abbrev middle : Contents
         middle = record c { threads = thread_in o new; ready = ready }
@@ -145,15 +151,18 @@ module _ (o : Tables) (before after : Slots) (old : List ℕ) (stands : Standing
         t-kinds offset = kind-left (λ other. other == thread) (s.objects offset) ∙ kind-state o offset before old
 
         all : Left middle after two (leaves s thread) × SameBesideRecords s old two
-            × ((queue : ℕ) → times_in (contents.waiting_of middle two queue) thread ≡ 0) × ((priority : ℕ) → times_in (contents.ready_at middle two priority) thread ≡ 0)
+            × ((queue : ℕ) → times_in (contents.waiting_of middle two queue) thread ≡ 0)
+            × ((priority : ℕ) → times_in (contents.ready_at middle two priority) thread ≡ 0)
         unfolding state_of
         all = subst (λ (q : Places). ((queue : ℕ) → queue_of q one queue ≡ without thread (queue_of q old queue)) → QueuesStand q one
             → SameBesideWaiting q (queue_of q old) old one
             → ((priority : ℕ) → ready_of q ready two priority ≡ without thread (ready_of q o.ready one priority)) → ReadyStands q ready two
             → SameBesideReady (ready_of q o.ready one) one two
             → Left middle after two (leaves s thread) × SameBesideRecords s old two
-            × ((queue : ℕ) → times_in (contents.waiting_of middle two queue) thread ≡ 0) × ((priority : ℕ) → times_in (contents.ready_at middle two priority) thread ≡ 0))
-            (places-as o old) (forget-left c before after old two links same_slots laid (thread_in o new) ready thread one void-all) left queued bytes unready readied more
+            × ((queue : ℕ) → times_in (contents.waiting_of middle two queue) thread ≡ 0)
+            × ((priority : ℕ) → times_in (contents.ready_at middle two priority) thread ≡ 0))
+            (places-as o old) (forget-left c before after old two links same_slots laid (thread_in o new) ready thread one void-all) left queued bytes unready
+            readied more
 
         carried : Left middle after new (leaves s thread)
         carried = carry middle (leaves s thread) two new t-kinds all.0 (threads-beside o two new beside)
@@ -165,12 +174,15 @@ module _ (o : Tables) (before after : Slots) (old : List ℕ) (stands : Standing
 
         known : AreKnown (thread_in o new) new
         known = known-same o old new stands.rights
-            (λ caller holder right. void-fewer thread caller (thread_in o old holder) (ap (λ (t : Option Thread). has_right t caller) (sym (void-all holder)) ∙ right))
-            (λ other is place part. threads-replier o before old stands.fits two new beside other is place part ∙ link-replier o before old stands.fits old two both other is place part)
+            (λ caller holder right. void-fewer thread caller (thread_in o old holder)
+            (ap (λ (t : Option Thread). has_right t caller) (sym (void-all holder)) ∙ right))
+            (λ other is place part. threads-replier o before old stands.fits two new beside other is place part
+            ∙ link-replier o before old stands.fits old two both other is place part)
 
         pub forget-done : Done n after new (leaves s thread) × SameBesideRecords s old new
         forget-done = (
-          done n after new (leaves s thread) (subst (AreThreadsPlaced o.entries) (sym (beside.size ∙ all.1.size)) stands.placed) (subst (λ (r : ℕ → Option Record). Left (record middle { records = r }) after new (leaves s thread))
+          done n after new (leaves s thread) (subst (AreThreadsPlaced o.entries) (sym (beside.size ∙ all.1.size)) stands.placed)
+              (subst (λ (r : ℕ → Option Record). Left (record middle { records = r }) after new (leaves s thread))
               (λ i. λ other. sym (recorded other) i) carried) known,
           record {
             size = beside.size ∙ all.1.size;
@@ -181,13 +193,16 @@ module _ (o : Tables) (before after : Slots) (old : List ℕ) (stands : Standing
 
         pub forget-waits : (queue : ℕ) → times_in (waiting_of n new queue) thread ≡ 0
         forget-waits queue =
-            ap (λ l. times_in l thread) (waiting-as o before old stands.fits two new (threads-beside o two new beside) (waits-there middle (leaves s thread) two two t-kinds all.0) queue)
+            ap (λ l. times_in l thread) (waiting-as o before old stands.fits two new (threads-beside o two new beside)
+            (waits-there middle (leaves s thread) two two t-kinds all.0) queue)
             ∙ ap (λ (q : Places). times_in (queue_of q two queue) thread) (sym (places-of middle (leaves s thread) two two t-kinds all.0)) ∙ all.2 queue
 
         pub forget-ready : (priority : ℕ) → times_in (ready_at n new priority) thread ≡ 0
         forget-ready priority =
-            ap (λ l. times_in l thread) (ready-as o before old stands.fits two new (threads-beside o two new beside) ready (runs-there middle (leaves s thread) two two t-kinds all.0) priority)
-            ∙ ap (λ (q : Places). times_in (ready_of q ready two priority) thread) (sym (places-of middle (leaves s thread) two two t-kinds all.0)) ∙ all.3 priority
+            ap (λ l. times_in l thread) (ready-as o before old stands.fits two new (threads-beside o two new beside) ready
+            (runs-there middle (leaves s thread) two two t-kinds all.0) priority)
+            ∙ ap (λ (q : Places). times_in (ready_of q ready two priority) thread) (sym (places-of middle (leaves s thread) two two t-kinds all.0))
+            ∙ all.3 priority
 
         pub forget-rights : (holder : ℕ) → has_right (thread_in n new holder) thread ≡ false
         forget-rights holder = ap (λ (t : Option Thread). has_right t thread) (void-all holder) ∙ void-gone thread (thread_in o old holder)
@@ -215,17 +230,20 @@ module _ (o : Tables) (before after : Slots) (old : List ℕ) (stands : Standing
       unthreaded : (other : ℕ) → e.threads other ≡ put c.threads offset None other
       unthreaded other = elim (eqb_tells other offset) [
         | inl here ↦
-            ap (λ (x : Entry). thread_from x (thread_words.thread_at new other)) (cleared other ∙ ap (λ b. if b then entries.Nothing else entry_in o.entries other) here.0)
+            ap (λ (x : Entry). thread_from x (thread_words.thread_at new other))
+            (cleared other ∙ ap (λ b. if b then entries.Nothing else entry_in o.entries other) here.0)
             ∙ sym (ap (λ b. if b then None else c.threads other) here.0)
         | inr apart ↦
-            ap (λ (x : Entry). thread_from x (thread_words.thread_at new other)) (cleared other ∙ put-there (entry_in o.entries) offset entries.Nothing other apart.1)
+            ap (λ (x : Entry). thread_from x (thread_words.thread_at new other))
+            (cleared other ∙ put-there (entry_in o.entries) offset entries.Nothing other apart.1)
             ∙ ap (λ (x : Contents). x.threads other) still ∙ sym (put-there c.threads offset None other apart.1)
       ]
 
       unrecorded : (other : ℕ) → e.records other ≡ put c.records offset None other
       unrecorded other = elim (eqb_tells other offset) [
         | inl here ↦
-            ap (λ (x : Entry). record_from x (word_at new (other + 8))) (cleared other ∙ ap (λ b. if b then entries.Nothing else entry_in o.entries other) here.0)
+            ap (λ (x : Entry). record_from x (word_at new (other + 8)))
+            (cleared other ∙ ap (λ b. if b then entries.Nothing else entry_in o.entries other) here.0)
             ∙ sym (ap (λ b. if b then None else c.records other) here.0)
         | inr apart ↦
             ap (λ (x : Entry). record_from x (word_at new (other + 8))) (cleared other ∙ put-there (entry_in o.entries) offset entries.Nothing other apart.1)
@@ -279,7 +297,8 @@ module _ (o : Tables) (before after : Slots) (old : List ℕ) (stands : Standing
       pub vacate-done : Done m after new (vacated s offset) × SameBesideRecords s old new
       unfolding state_of
       vacate-done =
-          let result = subst (λ (q : Places). ((queue : ℕ) → times_in (queue_of q old queue) offset ≡ 0) → ((priority : ℕ) → times_in (ready_of q o.ready old priority) offset ≡ 0)
+          let result = subst (λ (q : Places). ((queue : ℕ) → times_in (queue_of q old queue) offset ≡ 0) →
+          ((priority : ℕ) → times_in (ready_of q o.ready old priority) offset ≡ 0)
           → ((queue : ℕ) → queue_of q new queue ≡ put (queue_of q old) offset [] queue) → QueuesStand q new → SameBesideWaiting q (queue_of q old) old new
           → Left e after new (vacated s offset) × SameBesideRecords s old new)
           (places-as o old) (λ waits runs ends stand beside.

@@ -63,7 +63,8 @@ threads-beside o old new same = record {
   bytes = λ place records repliers words. same.bytes place (λ thread is held. records thread (kind-there o thread is) held);
 }
 
-pub record-beside : (o : Tables) (old new : List ℕ) (thread : ℕ) → kind_in o thread ≡ Some NewThread → SameBesideRecord thread old new → SameBesideThreads o.entries old new
+pub record-beside : (o : Tables) (old new : List ℕ) (thread : ℕ) → kind_in o thread ≡ Some NewThread → SameBesideRecord thread old new →
+    SameBesideThreads o.entries old new
 record-beside o old new thread is same = record {
   size = same.size;
   bytes = λ place records. same.bytes place (λ held. records thread (entry-there o thread is) held);
@@ -87,7 +88,8 @@ waiting-links o old new queues there same = record {
       points queue at.0 (omega (arith, held.0, at.1), omega (arith, held.1, at.1)));
 }
 
-pub ready-links : (o : Tables) (old new : List ℕ) (queues : ℕ → List ℕ) → AreThreadsIn (places_of o) queues → SameBesideReady queues old new → SameBesideLinks o old new
+pub ready-links : (o : Tables) (old new : List ℕ) (queues : ℕ → List ℕ) → AreThreadsIn (places_of o) queues → SameBesideReady queues old new →
+    SameBesideLinks o old new
 ready-links o old new queues there same = record {
   size = same.size;
   bytes = λ place threads points. same.bytes place
@@ -106,12 +108,14 @@ module _ (o : Tables) (slots : Slots) (memory : List ℕ) (fits : FitsMemory (st
   point-is : (queue : ℕ) → has_waiting (kind_in o queue) ≡ true → has_waiting (kind_at s queue) ≡ true
   point-is queue is = ap has_waiting (kind-state o queue slots memory) ∙ is
 
-  pub same-thread : (one two place : ℕ) → kind_in o one ≡ Some NewThread → kind_in o two ≡ Some NewThread → IsPart one 32 512 place → IsPart two 32 512 place → one ≡ two
+  pub same-thread : (one two place : ℕ) → kind_in o one ≡ Some NewThread → kind_in o two ≡ Some NewThread → IsPart one 32 512 place → IsPart two 32 512 place →
+      one ≡ two
   unfolding in-thread
   same-thread one two place is is' held held' =
       fits.alone place (in-thread s one place (thread-is one is) held.0 held.1) (in-thread s two place (thread-is two is') held'.0 held'.1)
 
-  pub never-both : (thread queue place : ℕ) → kind_in o thread ≡ Some NewThread → has_waiting (kind_in o queue) ≡ true → IsPart thread 32 512 place → IsPart queue 0 16 place → ⊥
+  pub never-both : (thread queue place : ℕ) → kind_in o thread ≡ Some NewThread → has_waiting (kind_in o queue) ≡ true → IsPart thread 32 512 place →
+      IsPart queue 0 16 place → ⊥
   unfolding in-thread
   never-both thread queue place is waits held held' =
       let point = in-point s queue place (point-is queue waits) (omega (arith, held'.0)) held'.1 in
@@ -119,7 +123,8 @@ module _ (o : Tables) (slots : Slots) (memory : List ℕ) (fits : FitsMemory (st
       let at : queue ≡ thread = sym point.1 ∙ same in
       absurd (let clash : true ≡ false = sym waits ∙ ap (λ (x : ℕ). has_waiting (kind_in o x)) at ∙ ap has_waiting is in cc)
 
-  pub same-point : (one two place : ℕ) → has_waiting (kind_in o one) ≡ true → has_waiting (kind_in o two) ≡ true → IsPart one 0 16 place → IsPart two 0 16 place → one ≡ two
+  pub same-point : (one two place : ℕ) → has_waiting (kind_in o one) ≡ true → has_waiting (kind_in o two) ≡ true → IsPart one 0 16 place →
+      IsPart two 0 16 place → one ≡ two
   same-point one two place is is' held held' =
       let first = in-point s one place (point-is one is) (omega (arith, held.0)) held.1 in
       let second = in-point s two place (point-is two is') (omega (arith, held'.0)) held'.1 in
@@ -128,14 +133,16 @@ module _ (o : Tables) (slots : Slots) (memory : List ℕ) (fits : FitsMemory (st
   -- ---- only links change
 
   module _ (old new : List ℕ) (same : SameBesideLinks o old new) where
-    pub link-record : (thread : ℕ) → kind_in o thread ≡ Some NewThread → (place : ℕ) → IsPart thread 48 244 place → slice_index new place ≡ slice_index old place
+    pub link-record : (thread : ℕ) → kind_in o thread ≡ Some NewThread → (place : ℕ) → IsPart thread 48 244 place →
+        slice_index new place ≡ slice_index old place
     link-record thread is place held = same.bytes place
         (λ other is' held'.
         let at = same-thread thread other place is is' (omega (arith, held.0), omega (arith, held.1)) (omega (arith, held'.0), omega (arith, held'.1)) in
         absurd (omega (arith, held.1, held'.0, at)))
         (λ queue waits held'. never-both thread queue place is waits (omega (arith, held.0), omega (arith, held.1)) (held'.0, omega (arith, held'.1)))
 
-    pub link-replier : (thread : ℕ) → kind_in o thread ≡ Some NewThread → (place : ℕ) → IsPart thread 268 272 place → slice_index new place ≡ slice_index old place
+    pub link-replier : (thread : ℕ) → kind_in o thread ≡ Some NewThread → (place : ℕ) → IsPart thread 268 272 place →
+        slice_index new place ≡ slice_index old place
     link-replier thread is place held = same.bytes place
         (λ other is' held'.
         let at = same-thread thread other place is is' (omega (arith, held.0), omega (arith, held.1)) (omega (arith, held'.0), omega (arith, held'.1)) in
@@ -144,7 +151,8 @@ module _ (o : Tables) (slots : Slots) (memory : List ℕ) (fits : FitsMemory (st
 
     pub link-word : (queue : ℕ) → has_waiting (kind_in o queue) ≡ true → (place : ℕ) → IsPart queue 8 12 place → slice_index new place ≡ slice_index old place
     link-word queue waits place held = same.bytes place
-        (λ thread is held'. never-both thread queue place is waits (omega (arith, held'.0), omega (arith, held'.1)) (omega (arith, held.0), omega (arith, held.1)))
+        (λ thread is held'. never-both thread queue place is waits (omega (arith, held'.0), omega (arith, held'.1))
+        (omega (arith, held.0), omega (arith, held.1)))
         (λ other waits' held'.
         let at = same-point queue other place waits waits' (omega (arith, held.0), omega (arith, held.1)) (held'.0, omega (arith, held'.1)) in
         absurd (omega (arith, held.0, held'.1, at)))
@@ -160,7 +168,8 @@ module _ (o : Tables) (slots : Slots) (memory : List ℕ) (fits : FitsMemory (st
         (λ other is' held'.
         let at = same-thread thread other place is is' (omega (arith, held.0), omega (arith, held.1)) (omega (arith, held'.0), omega (arith, held'.1)) in
         absurd (omega (arith, held.1, held'.0, at)))
-        (λ queue waits held'. never-both thread queue place is waits (omega (arith, held.0), omega (arith, held.1)) (omega (arith, held'.0), omega (arith, held'.1)))
+        (λ queue waits held'. never-both thread queue place is waits (omega (arith, held.0), omega (arith, held.1))
+        (omega (arith, held'.0), omega (arith, held'.1)))
 
     content-head : (queue : ℕ) → has_waiting (kind_in o queue) ≡ true → (place : ℕ) → IsPart queue 0 8 place → slice_index new place ≡ slice_index old place
     content-head queue waits place held = same.bytes place
@@ -203,7 +212,8 @@ module _ (o : Tables) (slots : Slots) (memory : List ℕ) (fits : FitsMemory (st
     pub ready-stands : (ends : List Ends) → ReadyStands (places_of o) ends old → ReadyStands (places_of o) ends new
     ready-stands ends = ready_stays.stands (places_of o) (places_of o) ends old new same.size (keep 256 (omega arith) (omega arith))
 
-    pub ready-as : (ends : List Ends) → ReadyStands (places_of o) ends old → (priority : ℕ) → ready_of (places_of o) ends new priority ≡ ready_of (places_of o) ends old priority
+    pub ready-as : (ends : List Ends) → ReadyStands (places_of o) ends old → (priority : ℕ) →
+        ready_of (places_of o) ends new priority ≡ ready_of (places_of o) ends old priority
     ready-as ends = ready_stays.queues (places_of o) (places_of o) ends old new same.size (keep 256 (omega arith) (omega arith))
 
 -- ---- where the bytes are the same, contents are
@@ -232,7 +242,8 @@ pub thread-same : (o : Tables) (old new : List ℕ) (other : ℕ)
     → (kind_in o other ≡ Some NewThread → (place : ℕ) → IsPart other 48 244 place → slice_index new place ≡ slice_index old place)
     → thread_in o new other ≡ thread_in o old other
 thread-same o old new other same =
-    thread-from-same (entry_in o.entries other) (thread_words.thread_at new other) (thread_words.thread_at old other) (λ is. record_stays old new other (λ place held. same is place held))
+    thread-from-same (entry_in o.entries other) (thread_words.thread_at new other) (thread_words.thread_at old other)
+    (λ is. record_stays old new other (λ place held. same is place held))
 
 pub record-same : (o : Tables) (old new : List ℕ) (other : ℕ)
     → (has_waiting (kind_in o other) ≡ true → (place : ℕ) → IsPart other 8 12 place → slice_index new place ≡ slice_index old place)

@@ -51,13 +51,15 @@ module _ (o : Tables) (endpoint : ℕ) (slots : Slots) (memory : List ℕ) (is :
 
     pub no-receiver : (sending : Option Sending) → sending ≡ sending_in o memory thread → is_some sending ≡ true → IsOneSided e → e.receivers ≡ []
     unfolding state_of
-    no-receiver sending sends some sides = points.no-receiver (contents_of o memory) endpoint slots memory is thread (heads (Some thread) first) sending sends some sides
+    no-receiver sending sends some sides = points.no-receiver (contents_of o memory) endpoint slots memory is thread (heads (Some thread) first) sending sends
+        some sides
 
 module _ (o : Tables) (notification : ℕ) (slots : Slots) (memory : List ℕ) (is : kind_at (state_of o slots memory) notification ≡ Some NewNotification) where
   abbrev n : NotificationState
   n = notification_at (state_of o slots memory) notification
 
-  waits : (first : Option ℕ) → head_of (waiting_of o memory notification) ≡ first → head_of (contents.waiting_of (contents_of o memory) memory notification) ≡ first
+  waits : (first : Option ℕ) → head_of (waiting_of o memory notification) ≡ first →
+      head_of (contents.waiting_of (contents_of o memory) memory notification) ≡ first
   waits first head = ap head_of (queue-here o memory notification) ∙ head
 
   pub nobody-waits : head_of (waiting_of o memory notification) ≡ None → n.waiters ≡ []
@@ -68,7 +70,8 @@ module _ (o : Tables) (notification : ℕ) (slots : Slots) (memory : List ℕ) (
   unfolding state_of
   waiter-first thread first = points.waiter-first (contents_of o memory) notification slots memory is thread (waits (Some thread) first)
 
-pub waited-in : (o : Tables) (slots : Slots) (memory : List ℕ) (offset : ℕ) (waited : Bool) → waited ≡ (has_waiting (kind_in o offset) && is_some (head_of (waiting_of o memory offset)))
+pub waited-in : (o : Tables) (slots : Slots) (memory : List ℕ) (offset : ℕ) (waited : Bool) →
+    waited ≡ (has_waiting (kind_in o offset) && is_some (head_of (waiting_of o memory offset)))
     → (waited ≡ false) ↔ (waiting_at ((state_of o slots memory).objects offset) ≡ [])
 unfolding state_of
 waited-in o slots memory offset waited is =

@@ -35,9 +35,11 @@ thread-is o offset t slots memory is =
 pub thread-kind : (o : Contents) (offset : ℕ) (t : Thread) (slots : Slots) (memory : List ℕ) → o.threads offset ≡ Some t
     → kind_at (contents_state o slots memory) offset ≡ Some NewThread
 unfolding told_by
-thread-kind o offset t slots memory is = ap (λ found. option_map kind_of (object_from found (option_map (object_of o.threads (waiting_of o memory offset)) (o.records offset)))) is
+thread-kind o offset t slots memory is =
+    ap (λ found. option_map kind_of (object_from found (option_map (object_of o.threads (waiting_of o memory offset)) (o.records offset)))) is
 
-no-thread-kind : (threads : ℕ → Option Thread) (waiting : List ℕ) (r : Option Record) → option_map kind_of (option_map (object_of threads waiting) r) ≡ Some NewThread → false ≡ true
+no-thread-kind : (threads : ℕ → Option Thread) (waiting : List ℕ) (r : Option Record) →
+    option_map kind_of (option_map (object_of threads waiting) r) ≡ Some NewThread → false ≡ true
 no-thread-kind threads waiting None is = cc
 no-thread-kind threads waiting (Some Endpoint) is = cc
 no-thread-kind threads waiting (Some (Notification word)) is = cc
@@ -94,14 +96,16 @@ module _ (o : Contents) (threads : ℕ → Option Thread) (thread : ℕ) (after 
   from-put true t p = refl
   from-put false t p = refl
 
-  object-replaced : (waiting : ℕ → List ℕ) (other : ℕ) → object_in now waiting other ≡ put (object_in o waiting) thread (Some (ThreadObject (thread_state after))) other
+  object-replaced : (waiting : ℕ → List ℕ) (other : ℕ) → object_in now waiting other ≡ put (object_in o waiting) thread
+      (Some (ThreadObject (thread_state after))) other
   object-replaced waiting other =
       ap (λ t. object_from t (option_map (object_of threads (waiting other)) (o.records other))) (replaced other)
       ∙ from-put (other == thread) (o.threads other) _
       ∙ ap (λ p. if other == thread then Some (ThreadObject (thread_state after)) else object_from (o.threads other) p)
       (other-still (waiting other) (o.records other))
 
-  pub replaced-with : (waiting ready : ℕ → List ℕ) (slots : Slots) (memory : List ℕ) → state_with now waiting ready slots memory ≡ with_thread (state_with o waiting ready slots memory) thread (thread_state after)
+  pub replaced-with : (waiting ready : ℕ → List ℕ) (slots : Slots) (memory : List ℕ) →
+      state_with now waiting ready slots memory ≡ with_thread (state_with o waiting ready slots memory) thread (thread_state after)
   replaced-with waiting ready slots memory = λ i. record (state_with o waiting ready slots memory) { objects = λ other. object-replaced waiting other i }
 
 -- ---- the ready list

@@ -65,12 +65,14 @@ module _ (o : Contents) (was_waiting waiting : ℕ → List ℕ) (queue thread :
   record-served RootTable = refl
 
   other-served : (t : Option Thread) (r : Option Record)
-      → object_from t (option_map (object_of o.threads rest) r) ≡ option_map (served sending) (object_from t (option_map (object_of o.threads (thread ∷ rest)) r))
+      → object_from t (option_map (object_of o.threads rest) r) ≡ option_map (served sending)
+      (object_from t (option_map (object_of o.threads (thread ∷ rest)) r))
   other-served (Some t) r = refl
   other-served None (Some r) = ap Some (record-served r)
   other-served None None = refl
 
-  object-served : (other : ℕ) → object_in o waiting other ≡ put (object_in o was_waiting) queue (option_map (served sending) (object_in o was_waiting queue)) other
+  object-served : (other : ℕ) → object_in o waiting other ≡ put (object_in o was_waiting) queue (option_map (served sending) (object_in o was_waiting queue))
+      other
   object-served other =
       ap (λ l. object_from (o.threads other) (option_map (object_of o.threads l) (o.records other))) (queue-now other)
       ∙ (elim (eqb_tells other queue) [
@@ -85,5 +87,6 @@ module _ (o : Contents) (was_waiting waiting : ℕ → List ℕ) (queue thread :
             ∙ ap (λ b. if b then option_map (served sending) (object_in o was_waiting queue) else object_in o was_waiting other) (sym apart.0)
       ])
 
-  pub served-state : (ready : ℕ → List ℕ) (slots : Slots) (memory : List ℕ) → state_with o waiting ready slots memory ≡ changed_at (state_with o was_waiting ready slots memory) queue (served sending)
+  pub served-state : (ready : ℕ → List ℕ) (slots : Slots) (memory : List ℕ) →
+      state_with o waiting ready slots memory ≡ changed_at (state_with o was_waiting ready slots memory) queue (served sending)
   served-state ready slots memory = λ i. record (state_with o was_waiting ready slots memory) { objects = λ other. object-served other i }

@@ -24,7 +24,8 @@ module _ (o : Tables) (slots : Slots) (old new : List ℕ) (stands : Standing o 
     contents-still : contents_of o new ≡ contents_of o old
     contents-still = same-contents o old new
         (λ thread is place held. same place (in-thread s thread place (kind-state o thread slots old ∙ is) (omega (arith, held.0)) (omega (arith, held.1))))
-        (λ queue waits place held. same place (in-point s queue place (ap has_waiting (kind-state o queue slots old) ∙ waits) (omega (arith, held.0)) (omega (arith, held.1))).0)
+        (λ queue waits place held.
+        same place (in-point s queue place (ap has_waiting (kind-state o queue slots old) ∙ waits) (omega (arith, held.0)) (omega (arith, held.1))).0)
 
     known-still : AreKnown (thread_in o new) new
     known-still = known-same o old new stands.rights
@@ -100,6 +101,7 @@ module _ (o : Tables) (slots : Slots) (old new : List ℕ) where
   pub stands-frames : Standing o slots old → SameBesideFrames (state_of o slots old) old new → Standing o slots new
   stands-frames stands same = frames-stand o slots old new stands same
 
-pub byte-there : (o : Tables) (slots : Slots) (memory : List ℕ) (place byte : ℕ) → (state_of o slots memory).bytes place ≡ Some byte → byte ≡ slice_index memory place
+pub byte-there : (o : Tables) (slots : Slots) (memory : List ℕ) (place byte : ℕ) → (state_of o slots memory).bytes place ≡ Some byte →
+    byte ≡ slice_index memory place
 unfolding state_of
 byte-there o slots memory place byte is = following.byte-there (contents_of o memory) slots memory place byte is

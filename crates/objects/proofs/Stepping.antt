@@ -1,5 +1,6 @@
 -- A call that changes queues leaves a state, and keeps the invariant of objects.
-use Rattle.std.proofs.Common.{ℕ, ◌≡◌, ◌≢◌, ◌∙◌, ◌==◌, inl, inr, true, false, if◌then◌else◌, Option, Some, None, option_map, List, [], ◌∷◌, ◌++◌, drop, length, refl, sym, ap, subst}
+use Rattle.std.proofs.Common.{ℕ, ◌≡◌, ◌≢◌, ◌∙◌, ◌==◌, inl, inr, true, false, if◌then◌else◌, Option, Some, None, option_map, List, [], ◌∷◌, ◌++◌, drop, length}
+use Rattle.std.proofs.Common.{refl, sym, ap, subst}
 use Rattle.std.specs.Prelude.{slice_index}
 use Rattle.std.proofs.lemmas.Bool.Decides.{eqb_tells}
 use Rattle.model.specs.Capabilities.Slots.{IsOpen, Slots}
@@ -44,7 +45,8 @@ module _ (p : Places) (slots : Slots) (a b : List ℕ) (laid : AreLaidOut p slot
   pub ready-beyond : (ends : List Ends) → SameBesideWaiting p queues a b → ReadyStands p ends a → ReadyStands p ends b
   ready-beyond ends same = ready_stays.stands p p ends a b same.size (λ thread. inl (kinds_apart.ready p slots a b laid queues there same thread))
 
-  pub ready-as-was : (ends : List Ends) → SameBesideWaiting p queues a b → ReadyStands p ends a → (priority : ℕ) → ready_of p ends b priority ≡ ready_of p ends a priority
+  pub ready-as-was : (ends : List Ends) → SameBesideWaiting p queues a b → ReadyStands p ends a → (priority : ℕ) →
+      ready_of p ends b priority ≡ ready_of p ends a priority
   ready-as-was ends same = ready_stays.queues p p ends a b same.size (λ thread. inl (kinds_apart.ready p slots a b laid queues there same thread))
 
   pub waiting-beyond : SameBesideReady queues a b → QueuesStand p a → QueuesStand p b
@@ -56,7 +58,8 @@ module _ (p : Places) (slots : Slots) (a b : List ℕ) (laid : AreLaidOut p slot
       (λ queue. inl (kinds_apart.heads p slots a b laid queues there same queue))
 
 -- what is ready stays so while those that wait change
-pub ready-then : (o : Contents) (slots : Slots) (a b : List ℕ) → Linked o slots a → AreLaidOut (places_of o) slots (length a) → SameBesideWaiting (places_of o) (waiting_of o a) a b
+pub ready-then : (o : Contents) (slots : Slots) (a b : List ℕ) → Linked o slots a → AreLaidOut (places_of o) slots (length a) →
+    SameBesideWaiting (places_of o) (waiting_of o a) a b
     → ReadyStands (places_of o) o.ready b
 ready-then o slots a b stands laid same =
     ready-beyond (places_of o) slots a b laid (waiting_of o a) (kinds_apart.waiters (places_of o) a stands.waiting) o.ready same stands.ready
@@ -163,13 +166,15 @@ module _ (o : Contents) (before after : Slots) (old new : List ℕ) (stands : Li
       )
 
   -- a thread leaves the ready list
-  pub unready-left : (ready : List Ends) (thread : ℕ) → ((priority : ℕ) → ready_of p ready new priority ≡ without thread (runs priority)) → ReadyStands p ready new
+  pub unready-left : (ready : List Ends) (thread : ℕ) → ((priority : ℕ) → ready_of p ready new priority ≡ without thread (runs priority)) →
+      ReadyStands p ready new
       → SameBesideReady runs old new → Left (record o { ready = ready }) after new (unready was thread) × SameBesideRecords was old new
   unready-left ready thread left queued bytes =
       let same = ready-records o before old old new runs own-runners bytes in
       let waits_was = waiting-as-was p before old new laid runs own-runners bytes stands.waiting in (
         left-same o (record o { ready = ready }) before after old new (unready was thread) stands same_slots
-            ((λ i. state_with o (λ queue. waits_was queue i) (λ priority. left priority i) before old) ∙ ap (λ (u : State). unready u thread) (sym (told o before old)))
+            ((λ i. state_with o (λ queue. waits_was queue i) (λ priority. left priority i) before old)
+            ∙ ap (λ (u : State). unready u thread) (sym (told o before old)))
             (record { kinds = λ offset. refl; bytes = refl; slots = refl; bits = refl }) same
             (waiting-beyond p before old new laid runs own-runners bytes stands.waiting) queued,
         same,
@@ -192,7 +197,8 @@ module _ (o : Contents) (before after : Slots) (old new : List ℕ) (stands : Li
       let mid-runners = kinds_apart.runners p o.ready mid ready_mid in
       let waits_was = waiting-as-was p before mid new laid_mid (ready_of p o.ready mid) mid-runners more queued in
       let left_now : (queue : ℕ) → queue_of p new queue ≡ without thread (waits queue) = λ queue. waits_was queue ∙ left queue in
-      let unready_now : (priority : ℕ) → ready_of p ready new priority ≡ without thread (runs priority) = λ priority. unready priority ∙ ap (without thread) (ready_was priority) in
+      let unready_now : (priority : ℕ) → ready_of p ready new priority ≡ without thread (runs priority) = λ priority. unready priority
+      ∙ ap (without thread) (ready_was priority) in
       let same = records-then was was old mid new (λ offset kind is. is) (waiting-records o before old old mid waits own-waiters bytes)
       (ready-records o before old mid new (ready_of p o.ready mid) mid-runners more) in
       let is = left-state o threads waits (queue_of p new) runs (ready_of p ready new) thread void left_now unready_now before old
@@ -203,14 +209,17 @@ module _ (o : Contents) (before after : Slots) (old new : List ℕ) (stands : Li
         left-same o n before after old new (leaves was thread) stands same_slots is unmoved
             same (waiting-beyond p before mid new laid_mid (ready_of p o.ready mid) mid-runners more queued) runs_now,
         same,
-        λ queue. ap (λ (x : Places). times_in (queue_of x new queue) thread) same_places ∙ ap (λ l. times_in l thread) (left_now queue) ∙ times-gone (waits queue) thread,
-        λ priority. ap (λ (x : Places). times_in (ready_of x ready new priority) thread) same_places ∙ ap (λ l. times_in l thread) (unready_now priority) ∙ times-gone (runs priority) thread,
+        λ queue. ap (λ (x : Places). times_in (queue_of x new queue) thread) same_places ∙ ap (λ l. times_in l thread) (left_now queue)
+            ∙ times-gone (waits queue) thread,
+        λ priority. ap (λ (x : Places). times_in (ready_of x ready new priority) thread) same_places ∙ ap (λ l. times_in l thread) (unready_now priority)
+            ∙ times-gone (runs priority) thread,
       )
 
   -- a thread goes to the tail of its priority
   pub tail-left : (ready mid_ready : List Ends) (thread priority : ℕ) (mid : List ℕ) → priority ≡ (thread_at was thread).priority
       → ((other : ℕ) → ready_of p mid_ready mid other ≡ without thread (runs other)) → ReadyStands p mid_ready mid → SameBesideReady runs old mid
-      → ((other : ℕ) → ready_of p ready new other ≡ put (ready_of p mid_ready mid) priority (ready_of p mid_ready mid priority ++ thread ∷ []) other) → ReadyStands p ready new
+      → ((other : ℕ) → ready_of p ready new other ≡ put (ready_of p mid_ready mid) priority (ready_of p mid_ready mid priority ++ thread ∷ []) other) →
+      ReadyStands p ready new
       → SameBesideReady (ready_of p ready new) mid new
       → Left (record o { ready = ready }) after new (to_tail was thread) × SameBesideRecords was old new
   tail-left ready mid_ready thread priority mid own left mid_stands bytes pushed queued more =
@@ -275,14 +284,16 @@ module _ (o : Contents) (before after : Slots) (old new : List ℕ) (stands : Li
     ready_was = ready-as-was p before old new laid waits own-waiters o.ready bytes stands.ready
 
     -- whatever the queues of the new tables are said to be
-    vacant-with : (ready : ℕ → List ℕ) → ((priority : ℕ) → ready priority ≡ runs priority) → (waiting : ℕ → List ℕ) → ((queue : ℕ) → waiting queue ≡ queue_of p new queue)
+    vacant-with : (ready : ℕ → List ℕ) → ((priority : ℕ) → ready priority ≡ runs priority) → (waiting : ℕ → List ℕ) →
+        ((queue : ℕ) → waiting queue ≡ queue_of p new queue)
         → state_with n waiting ready before old ≡ vacant
     vacant-with ready are waiting same =
         vacated-state o records threads waits waiting offset unrecorded unthreaded (λ queue. same queue ∙ ended queue) waits_not ready before old
         ∙ (λ i. vacated (state_with o waits (λ priority. are priority i) before old) offset) ∙ ap (λ (u : State). vacated u offset) (sym (told o before old))
 
     kinds-now : (other : ℕ) → kind_in n other ≡ kind_at vacant other
-    kinds-now other = sym (kind-with n (queue_of p new) runs before old other) ∙ ap (λ (u : State). kind_at u other) (vacant-with runs (λ priority. refl) (queue_of p new) (λ queue. refl))
+    kinds-now other = sym (kind-with n (queue_of p new) runs before old other)
+        ∙ ap (λ (u : State). kind_at u other) (vacant-with runs (λ priority. refl) (queue_of p new) (λ queue. refl))
 
     kind-other : (other : ℕ) → other ≢ offset → kind_in n other ≡ kind_in o other
     kind-other other differs = kinds-now other ∙ kind-then other differs ∙ kind-state o other before old
@@ -303,7 +314,8 @@ module _ (o : Contents) (before after : Slots) (old new : List ℕ) (stands : Li
     keep base none thread = elim (eqb_tells thread offset) [
       | inl here ↦ inr (record {
         was = ap (link_in base p.threads new 0) here.1 ∙ none;
-        now = ap (link_in base (places_of n).threads new 0) here.1 ∙ ap (λ (k : Option NewObject). if is_thread_kind k then link_at base new offset 0 else None) kind-gone;
+        now = ap (link_in base (places_of n).threads new 0) here.1
+            ∙ ap (λ (k : Option NewObject). if is_thread_kind k then link_at base new offset 0 else None) kind-gone;
       })
       | inr apart ↦ inl (record { there = ap is_thread_kind (kind-other thread apart.1); bytes = λ is place held. refl })
     ]
@@ -312,15 +324,21 @@ module _ (o : Contents) (before after : Slots) (old new : List ℕ) (stands : Li
     keep-waits = keep 244 (nobody_named.idle p new offset queued times-ended)
 
     keep-runs : KeepThreads 256 p (places_of n) new new
-    keep-runs = keep 256 (nobody_named.unready p o.ready new offset ready_new (λ priority. ap (λ l. times_in l offset) (ready_was priority) ∙ ready_not priority))
+    keep-runs = keep 256 (nobody_named.unready p o.ready new offset ready_new
+        (λ priority. ap (λ l. times_in l offset) (ready_was priority) ∙ ready_not priority))
 
     keep-heads : KeepHeads p (places_of n) new new
     keep-heads queue = elim (eqb_tells queue offset) [
       | inl here ↦ inr (record {
         was = λ k low. nobody_named.empty p new queue queued (ended queue ∙ ap (λ b. if b then [] else waits queue) here.0) k low;
-        now = λ k low. ap (λ (q : ℕ). end_of new k ((places_of n).heads q)) here.1 ∙ ap (λ (x : Option NewObject). end_of new k (if has_waiting x then Some offset else None)) kind-gone;
+        now = λ k low. ap (λ (q : ℕ). end_of new k ((places_of n).heads q)) here.1
+            ∙ ap (λ (x : Option NewObject). end_of new k (if has_waiting x then Some offset else None)) kind-gone;
       })
-      | inr apart ↦ inl (record { there = ap (λ (x : Option NewObject). if has_waiting x then Some queue else None) (kind-other queue apart.1); bytes = λ head place is held. refl })
+      | inr apart ↦ inl (record {
+        there = ap (λ (x : Option NewObject). if has_waiting x then Some queue else None) (kind-other queue apart.1);
+        bytes =
+            λ head place is held. refl;
+      })
     ]
 
     waits_now : (queue : ℕ) → queue_of (places_of n) new queue ≡ queue_of p new queue

@@ -1,11 +1,13 @@
 -- Threads that wait at objects that are gone run again, one place after another.
-use Rattle.std.proofs.Common.{ℕ, zero, suc, ◌≡◌, ◌≢◌, ◌∙◌, ◌+◌, ◌*◌, ◌-◌, ◌/◌, ◌%◌, ◌^◌, ◌<◌, ◌≤◌, inl, inr, Bool, true, false, not, if◌then◌else◌, Option, Some, None, is_some, option_map, List, ◌∷◌, filter, fold, map, refl, sym, ap, arith}
+use Rattle.std.proofs.Common.{ℕ, zero, suc, ◌≡◌, ◌≢◌, ◌∙◌, ◌+◌, ◌*◌, ◌-◌, ◌/◌, ◌%◌, ◌^◌, ◌<◌, ◌≤◌, inl, inr, Bool, true, false, not, if◌then◌else◌, Option}
+use Rattle.std.proofs.Common.{Some, None, is_some, option_map, List, ◌∷◌, filter, fold, map, refl, sym, ap, arith}
 use Rattle.std.specs.Option.{option_map_or}
 use Rattle.std.specs.List.{range_with_len}
 use Rattle.std.proofs.lemmas.Bool.Decides.{eqb_tells}
 use Rattle.model.specs.Capabilities.Slots.{Slots}
 use Rattle.model.specs.Kernel.Scheduling.{full_slice, wake}
-use Rattle.model.specs.Kernel.State.{Object, State, Status, Inactive, Runnable, Blocked, AwaitsReply, AwaitsHandler, ThreadObject, ThreadState, as_thread, put, slot_numbers, thread_at}
+use Rattle.model.specs.Kernel.State.{Object, State, Status, Inactive, Runnable, Blocked, AwaitsReply, AwaitsHandler, ThreadObject, ThreadState, as_thread, put}
+use Rattle.model.specs.Kernel.State.{slot_numbers, thread_at}
 use Rattle.objects.proofs.Begun.{woken-one}
 use Rattle.objects.proofs.Ends.{as-thread, none-there}
 use Rattle.objects.proofs.Frames.{Unmoved, moved-to, records-then, same-records, same-state}
@@ -25,13 +27,15 @@ pub stranded-at : (o : Contents) (offset : ℕ) (t : Thread) (slots : Slots) (me
     → is_stranded (contents_state o slots memory) offset ≡ waits_nowhere (contents_state o slots memory) (status_of t.status)
 unfolding told_by
 stranded-at o offset t slots memory there =
-    ap (λ p. option_map_or (λ x. waits_nowhere (contents_state o slots memory) x.status) p false) (as-thread o (waiting_of o memory) offset ∙ ap (option_map thread_state) there)
+    ap (λ p. option_map_or (λ x. waits_nowhere (contents_state o slots memory) x.status) p false)
+    (as-thread o (waiting_of o memory) offset ∙ ap (option_map thread_state) there)
 
 pub stranded-nobody : (o : Contents) (offset : ℕ) (slots : Slots) (memory : List ℕ) → o.threads offset ≡ None
     → is_stranded (contents_state o slots memory) offset ≡ false
 unfolding told_by
 stranded-nobody o offset slots memory none =
-    ap (λ p. option_map_or (λ x. waits_nowhere (contents_state o slots memory) x.status) p false) (as-thread o (waiting_of o memory) offset ∙ ap (option_map thread_state) none)
+    ap (λ p. option_map_or (λ x. waits_nowhere (contents_state o slots memory) x.status) p false)
+    (as-thread o (waiting_of o memory) offset ∙ ap (option_map thread_state) none)
 
 -- ---- one that is woken leaves the others so
 
@@ -77,7 +81,8 @@ same-stranded : (s t : State) (below : ℕ) → ((x : ℕ) → below < x → is_
     → filter (is_stranded s) (places first count) ≡ filter (is_stranded t) (places first count)
 same-stranded s t below same first zero less = refl
 same-stranded s t below same first (suc count) less =
-    ap (λ b. if b then 16 * first ∷ filter (is_stranded s) (places (first + 1) count) else filter (is_stranded s) (places (first + 1) count)) (sym (same (16 * first) less))
+    ap (λ b. if b then 16 * first ∷ filter (is_stranded s) (places (first + 1) count) else filter (is_stranded s) (places (first + 1) count))
+    (sym (same (16 * first) less))
     ∙ ap (λ l. if is_stranded t (16 * first) then 16 * first ∷ l else l) (same-stranded s t below same (first + 1) count (omega (arith, less)))
 
 abbrev pub woken-if : State → ℕ → State
@@ -112,9 +117,11 @@ pub swept-all : (o : Tables) (slots : Slots) (memory : List ℕ) (count : ℕ) �
 unfolding state_of told_by slot_numbers
 swept-all o slots memory count is =
     let all : 32 * count - 32 * 0 ≡ 2 ^ o.bits / 16 = omega (arith, is) in
-    ap (λ (n : ℕ). swept (state_of o slots memory) n (32 * count - 32 * 0)) (let e : 32 * 0 ≡ 0 = omega arith in e) ∙ ap (λ (n : ℕ). swept (state_of o slots memory) 0 n) all
+    ap (λ (n : ℕ). swept (state_of o slots memory) n (32 * count - 32 * 0)) (let e : 32 * 0 ≡ 0 = omega arith in e)
+    ∙ ap (λ (n : ℕ). swept (state_of o slots memory) 0 n) all
 
-sweep-on : (s t : State) (first count : ℕ) → first < count → t ≡ woken-if s (16 * first) → swept t (first + 1) (count - (first + 1)) ≡ swept s first (count - first)
+sweep-on : (s t : State) (first count : ℕ) → first < count → t ≡ woken-if s (16 * first) →
+    swept t (first + 1) (count - (first + 1)) ≡ swept s first (count - first)
 sweep-on s t first count less is =
     let left : suc (count - (first + 1)) ≡ count - first = omega (arith, less) in
     ap (λ (x : State). swept x (first + 1) (count - (first + 1))) is ∙ sym (sweep-step s first (count - (first + 1))) ∙ ap (λ (n : ℕ). swept s first n) left
@@ -134,7 +141,8 @@ sweep-thread s t number count less is none =
     ∙ sweep-on s t (32 * number) (32 * count) (omega (arith, less)) (is ∙ ap (woken-if s) at)
 
 -- who is stranded is a thread, and lies at a multiple of its size
-pub stranded-apart : (o : Tables) (slots : Slots) (memory : List ℕ) → Standing o slots memory → (place : ℕ) → place % 512 ≢ 0 → is_stranded (state_of o slots memory) place ≡ false
+pub stranded-apart : (o : Tables) (slots : Slots) (memory : List ℕ) → Standing o slots memory → (place : ℕ) → place % 512 ≢ 0 →
+    is_stranded (state_of o slots memory) place ≡ false
 unfolding state_of
 stranded-apart o slots memory stands place apart =
     stranded-nobody (contents_of o memory) place slots memory
@@ -153,7 +161,8 @@ pub record SweptSoFar (o n : Tables) (before after : Slots) (old new : List ℕ)
   pub slots : after ≡ before
   pub stands : Standing n after new
 
-pub swept-first : (o : Tables) (slots : Slots) (memory : List ℕ) (count : ℕ) → 512 * count ≡ 2 ^ o.bits → Standing o slots memory → SweptSoFar o o slots slots memory memory 0 count
+pub swept-first : (o : Tables) (slots : Slots) (memory : List ℕ) (count : ℕ) → 512 * count ≡ 2 ^ o.bits → Standing o slots memory →
+    SweptSoFar o o slots slots memory memory 0 count
 swept-first o slots memory count is stands = record {
   left = swept-all o slots memory count is;
   unmoved = same-state (state_of o slots memory);
@@ -162,8 +171,10 @@ swept-first o slots memory count is stands = record {
   stands = stands;
 }
 
-pub swept-next : (o m n : Tables) (before mid after : Slots) (old half new : List ℕ) (number count : ℕ) → SweptSoFar o m before mid old half number count → number < count
-    → state_of n after new ≡ woken-if (state_of m mid half) (512 * number) → SameBesideRecords (state_of m mid half) half new → after ≡ mid → Standing n after new
+pub swept-next : (o m n : Tables) (before mid after : Slots) (old half new : List ℕ) (number count : ℕ) → SweptSoFar o m before mid old half number count →
+    number < count
+    → state_of n after new ≡ woken-if (state_of m mid half) (512 * number) → SameBesideRecords (state_of m mid half) half new → after ≡ mid →
+    Standing n after new
     → SweptSoFar o n before after old new (number + 1) count
 swept-next o m n before mid after old half new number count sofar less is bytes same stands =
     let step = moved-to (state_of m mid half) (state_of n after new) _ is (woken-one (state_of m mid half) (512 * number)) in
@@ -175,7 +186,8 @@ swept-next o m n before mid after old half new number count sofar less is bytes 
         slots = step.slots ∙ sofar.unmoved.slots;
         bits = step.bits ∙ sofar.unmoved.bits;
       };
-      bytes = records-then (state_of o before old) (state_of m mid half) old half new (λ offset k k_is. sym (sofar.unmoved.kinds offset) ∙ k_is) sofar.bytes bytes;
+      bytes = records-then (state_of o before old) (state_of m mid half) old half new (λ offset k k_is. sym (sofar.unmoved.kinds offset) ∙ k_is) sofar.bytes
+          bytes;
       slots = same ∙ sofar.slots;
       stands = stands;
     }

@@ -1,5 +1,6 @@
 -- What is where, as queues ask, and who is in queues.
-use Rattle.std.proofs.Common.{ℕ, ◌≡◌, ◌∙◌, ◌+◌, ◌/◌, ◌%◌, ◌^◌, ◌<◌, ◌≤◌, ◌⊎◌, inl, inr, Bool, true, false, if◌then◌else◌, Option, Some, None, IsSome, is_some, option_map, List, [], length, refl, sym, ap, subst, arith}
+use Rattle.std.proofs.Common.{ℕ, ◌≡◌, ◌∙◌, ◌+◌, ◌/◌, ◌%◌, ◌^◌, ◌<◌, ◌≤◌, ◌⊎◌, inl, inr, Bool, true, false, if◌then◌else◌, Option, Some, None, IsSome, is_some}
+use Rattle.std.proofs.Common.{option_map, List, [], length, refl, sym, ap, subst, arith}
 use Rattle.std.specs.Prelude.{slice_index}
 use Rattle.std.proofs.lemmas.Bool.{cases_lt}
 use Rattle.std.proofs.Math.Pow.{pow_mono}
@@ -16,7 +17,8 @@ use Rattle.queues.specs.Ready.{ReadyStands, ready_of}
 use Rattle.queues.proofs.Laws.{kinds_apart, ready_stays, waiting_stays}
 use Rattle.objects.specs.Frames.{FitsMemory, IsInRecord}
 use Rattle.objects.proofs.Linked.{AreContents, Linked}
-use Rattle.objects.specs.Contents.{Contents, is_thread_kind, kind_in, object_from, object_of, places_by, places_of, ready_at, contents_state, told_by, told_with, waiting_of}
+use Rattle.objects.specs.Contents.{Contents, is_thread_kind, kind_in, object_from, object_of, places_by, places_of, ready_at, contents_state, told_by}
+use Rattle.objects.specs.Contents.{told_with, waiting_of}
 use Rattle.objects.specs.Waiting.{has_waiting}
 use Rattle.objects.specs.Contents.{Record}
 use Rattle.objects.specs.Contents.{Endpoint, Notification, CNode, Frame, PageTable, RootTable}
@@ -26,7 +28,8 @@ use Rattle.objects.specs.declared.thread_records.records.Thread.{Thread}
 abbrev pub state_with : Contents → (ℕ → List ℕ) → (ℕ → List ℕ) → Slots → List ℕ → State
 state_with o waiting ready slots memory = with_slots (told_with o waiting ready memory) slots
 
-pub told : (o : Contents) (slots : Slots) (memory : List ℕ) → contents_state o slots memory ≡ state_with o (waiting_of o memory) (ready_at o memory) slots memory
+pub told : (o : Contents) (slots : Slots) (memory : List ℕ) →
+    contents_state o slots memory ≡ state_with o (waiting_of o memory) (ready_at o memory) slots memory
 unfolding told_by
 told o slots memory = refl
 
@@ -50,7 +53,8 @@ kind-from threads waiting None (Some Frame) = refl
 kind-from threads waiting None (Some PageTable) = refl
 kind-from threads waiting None (Some RootTable) = refl
 
-pub kind-with : (o : Contents) (waiting ready : ℕ → List ℕ) (slots : Slots) (memory : List ℕ) (offset : ℕ) → kind_at (state_with o waiting ready slots memory) offset ≡ kind_in o offset
+pub kind-with : (o : Contents) (waiting ready : ℕ → List ℕ) (slots : Slots) (memory : List ℕ) (offset : ℕ) →
+    kind_at (state_with o waiting ready slots memory) offset ≡ kind_in o offset
 kind-with o waiting ready slots memory offset = kind-from o.threads (waiting offset) (o.threads offset) (o.records offset)
 
 pub kind-state : (o : Contents) (offset : ℕ) (slots : Slots) (memory : List ℕ) → kind_at (contents_state o slots memory) offset ≡ kind_in o offset
@@ -94,7 +98,8 @@ has-head o queue head is = if-head (has_waiting (kind_in o queue)) queue head is
 
 -- ---- the tables hold what a kind says
 
-thread-from : (threads : ℕ → Option Thread) (t : Option Thread) (r : Option Record) → option_map kind_of (object_from t (option_map (object_of threads []) r)) ≡ Some NewThread → is_some t ≡ true
+thread-from : (threads : ℕ → Option Thread) (t : Option Thread) (r : Option Record) →
+    option_map kind_of (object_from t (option_map (object_of threads []) r)) ≡ Some NewThread → is_some t ≡ true
 thread-from threads (Some t) r is = refl
 thread-from threads None None is = absurd (let clash : None ≡ Some NewThread = is in cc)
 thread-from threads None (Some Endpoint) is = absurd cc
@@ -104,7 +109,8 @@ thread-from threads None (Some Frame) is = absurd cc
 thread-from threads None (Some PageTable) is = absurd cc
 thread-from threads None (Some RootTable) is = absurd cc
 
-record-from : (threads : ℕ → Option Thread) (t : Option Thread) (r : Option Record) → has_waiting (option_map kind_of (object_from t (option_map (object_of threads []) r))) ≡ true → is_some r ≡ true
+record-from : (threads : ℕ → Option Thread) (t : Option Thread) (r : Option Record) →
+    has_waiting (option_map kind_of (object_from t (option_map (object_of threads []) r))) ≡ true → is_some r ≡ true
 record-from threads (Some t) r is = absurd (let clash : false ≡ true = is in cc)
 record-from threads None None is = absurd (let clash : false ≡ true = is in cc)
 record-from threads None (Some r) is = refl
@@ -122,7 +128,8 @@ point-kind (Some NewRootTable) is = absurd (let clash : false ≡ true = is in c
 
 -- ---- bytes of links lie in records
 
-unfoldable pub in-thread : (s : State) (thread place : ℕ) → kind_at s thread ≡ Some NewThread → thread + 32 ≤ place → place < thread + 512 → IsInRecord s.objects place
+unfoldable pub in-thread : (s : State) (thread place : ℕ) → kind_at s thread ≡ Some NewThread → thread + 32 ≤ place → place < thread + 512 →
+    IsInRecord s.objects place
 in-thread s thread place is from below = record { offset = thread; kind = NewThread; there = is; kept = refl; from = from; below = below }
 
 pub in-point : (s : State) (queue place : ℕ) → has_waiting (kind_at s queue) ≡ true → queue ≤ place → place < queue + 16
@@ -158,7 +165,8 @@ module _ (o : Contents) (slots : Slots) (memory : List ℕ) (are : AreContents o
   few = omega (arith, size, pow_mono {i = o.bits} {j = 24} are.most_bits)
 
   closed : (place : ℕ) → IsInRecord s.objects place → slots (place / 16) ≡ None
-  closed place held = not-open slots (place / 16) (λ is_open. fits.records place (subst (λ (f : Slots). IsOpen f (place / 16)) (sym (own-slots o slots memory)) is_open) held)
+  closed place held = not-open slots (place / 16)
+      (λ is_open. fits.records place (subst (λ (f : Slots). IsOpen f (place / 16)) (sym (own-slots o slots memory)) is_open) held)
 
   module _ (thread : ℕ) (is : (places_of o).threads thread ≡ true) where
     there : is_some (o.threads thread) ≡ true
@@ -207,7 +215,8 @@ module _ (o : Contents) (slots : Slots) (memory : List ℕ) (are : AreContents o
       | inl under ↦
           let point = in-point s queue queue (waits-there queue waits) (omega arith) (omega arith) in
           let same : point.0.offset ≡ thread = fits.alone queue point.0
-          (in-thread s thread queue (kind-there thread is) (omega (arith, least, queue-multiple queue waits, thread-multiple thread is)) (omega (arith, under))) in
+          (in-thread s thread queue (kind-there thread is) (omega (arith, least, queue-multiple queue waits, thread-multiple thread is))
+          (omega (arith, under))) in
           let at : queue ≡ thread = sym point.1 ∙ same in
           absurd (omega (arith, least, at))
     ]
@@ -218,7 +227,8 @@ module _ (o : Contents) (slots : Slots) (memory : List ℕ) (are : AreContents o
     aligned = thread-multiple;
     threads = thread-at;
     named = λ queue head is. omega (arith, queue-inside queue (has-head o queue head is).0);
-    heads = λ queue head is. subst (λ (n : ℕ). IsHeadAt slots (length memory) n) (sym (has-head o queue head is).1) (head-at queue (has-head o queue head is).0);
+    heads = λ queue head is. subst (λ (n : ℕ). IsHeadAt slots (length memory) n) (sym (has-head o queue head is).1)
+        (head-at queue (has-head o queue head is).0);
     apart = λ queue head other place is is' off.
         let one = has-head o queue head is in
         let two = has-head o other place is' in
@@ -248,7 +258,8 @@ module _ (o : Contents) (slots : Slots) (memory : List ℕ) (stands : Linked o s
       ap has_waiting (kind-state o queue slots memory) ∙ (has-head o queue at.0 at.1).0
 
   pub runners : AreThere (contents_state o slots memory) (ready_at o memory)
-  runners priority thread some = kind-state o thread slots memory ∙ has-thread o thread (kinds_apart.runners (places_of o) o.ready memory stands.ready priority thread some)
+  runners priority thread some = kind-state o thread slots memory
+      ∙ has-thread o thread (kinds_apart.runners (places_of o) o.ready memory stands.ready priority thread some)
 
 -- ---- where the bytes of records are the same, queues are
 
@@ -269,7 +280,8 @@ module _ (o : Contents) (slots : Slots) (old new : List ℕ) (stands : Linked o 
     there = refl;
     bytes = λ head place is held.
         let at = has-head o queue head is in
-        records place (in-point (contents_state o slots old) queue place (ap has_waiting (kind-state o queue slots old) ∙ at.0) (omega (arith, held.0, at.1)) (omega (arith, held.1, at.1))).0;
+        records place (in-point (contents_state o slots old) queue place (ap has_waiting (kind-state o queue slots old) ∙ at.0) (omega (arith, held.0, at.1))
+        (omega (arith, held.1, at.1))).0;
   })
 
   pub waiting-on : QueuesStand p new

@@ -18,7 +18,8 @@ use Rattle.objects.proofs.Told.{state_with}
 
 -- An object looks the same where one thread that does not wait at it changes what it sends.
 pub object-same : (old new : ℕ → Option Thread) (thread : ℕ) (waiting : List ℕ) (r : Record)
-    → ((other : ℕ) → other ≢ thread → sending_in new other ≡ sending_in old other) → times_in waiting thread ≡ 0 → object_of new waiting r ≡ object_of old waiting r
+    → ((other : ℕ) → other ≢ thread → sending_in new other ≡ sending_in old other) → times_in waiting thread ≡ 0 →
+    object_of new waiting r ≡ object_of old waiting r
 object-same old new thread waiting Endpoint same none = λ i. EndpointObject (record {
   senders = senders-same (sending_in new) (sending_in old) thread waiting same none i;
   receivers = receivers-same (sending_in new) (sending_in old) thread waiting same none i;
@@ -85,7 +86,8 @@ module _ (o : Contents) (records : ℕ → Option Record) (threads : ℕ → Opt
         ∙ ap (λ b. if b then None else byte_in o.records memory place) (sym differs.0)
   ]
 
-  pub vacated-state : (ready : ℕ → List ℕ) (slots : Slots) (memory : List ℕ) → state_with now waiting ready slots memory ≡ vacated (state_with o was_waiting ready slots memory) offset
+  pub vacated-state : (ready : ℕ → List ℕ) (slots : Slots) (memory : List ℕ) →
+      state_with now waiting ready slots memory ≡ vacated (state_with o was_waiting ready slots memory) offset
   vacated-state ready slots memory = λ i. record (state_with o was_waiting ready slots memory) {
     objects = λ other. object-vacated other i;
     bytes = λ place. byte-vacated memory place i;

@@ -1,5 +1,6 @@
 -- Rights to reply to a thread are taken away, in the threads that the bytes hold.
-use Rattle.std.proofs.Common.{ℕ, ◌≡◌, ◌≢◌, ◌∙◌, ◌+◌, ◌*◌, ◌/◌, ◌<◌, ◌≤◌, inl, inr, true, false, if◌then◌else◌, Option, Some, None, is_some, option_map, List, length, refl, sym, ap, subst, arith}
+use Rattle.std.proofs.Common.{ℕ, ◌≡◌, ◌≢◌, ◌∙◌, ◌+◌, ◌*◌, ◌/◌, ◌<◌, ◌≤◌, inl, inr, true, false, if◌then◌else◌, Option, Some, None, is_some, option_map, List}
+use Rattle.std.proofs.Common.{length, refl, sym, ap, subst, arith}
 use Rattle.std.proofs.lemmas.Bool.{cases_lt}
 use Rattle.std.proofs.lemmas.Bool.Decides.{eqb_tells}
 use Rattle.model.specs.Capabilities.Slots.{Slots}
@@ -31,7 +32,8 @@ right-entry entries.Frame t gone right = absurd (let clash : false ≡ true = ri
 right-entry entries.PageTable t gone right = absurd (let clash : false ≡ true = right in cc)
 right-entry entries.RootTable t gone right = absurd (let clash : false ≡ true = right in cc)
 
-pub right-there : (table : List Entry) (memory : List ℕ) (holder gone : ℕ) → has_right (threads_by table memory holder) gone ≡ true → entry_in table holder ≡ entries.Thread
+pub right-there : (table : List Entry) (memory : List ℕ) (holder gone : ℕ) → has_right (threads_by table memory holder) gone ≡ true →
+    entry_in table holder ≡ entries.Thread
 right-there table memory holder gone right = right-entry (entry_in table holder) (thread_words.thread_at memory holder) gone right
 
 no-thread : (e : Entry) (t : Thread) → is_thread_kind (kind_of_entry e) ≡ false → thread_from e t ≡ None
@@ -56,7 +58,8 @@ module _ (table : List Entry) (slots : Slots) (size : ℕ) (laid : AreThreadsLai
           | inr least ↦ absurd (omega (arith, least, apart, mine, its, part.0, part'.1))
         ]))
 
-    written-one : (now : Thread) → thread_words.thread_at b holder ≡ now → (other : ℕ) → threads_by table b other ≡ put (threads_by table a) holder (Some now) other
+    written-one : (now : Thread) → thread_words.thread_at b holder ≡ now → (other : ℕ) →
+        threads_by table b other ≡ put (threads_by table a) holder (Some now) other
     written-one now holds other = elim (eqb_tells other holder) [
       | inl here ↦
           ap (threads_by table b) here.1 ∙ ap (λ (e : Entry). thread_from e (thread_words.thread_at b holder)) is ∙ ap Some holds
@@ -67,7 +70,8 @@ module _ (table : List Entry) (slots : Slots) (size : ℕ) (laid : AreThreadsLai
           ∙ sym (put-there (threads_by table a) holder (Some now) other apart.1)
     ]
 
-    pub void-one : (gone : ℕ) → has_right (threads_by table a holder) gone ≡ true → thread_words.thread_at b holder ≡ record (thread_words.thread_at a holder) { caller = None }
+    pub void-one : (gone : ℕ) → has_right (threads_by table a holder) gone ≡ true →
+        thread_words.thread_at b holder ≡ record (thread_words.thread_at a holder) { caller = None }
         → (other : ℕ) → threads_by table b other ≡ put (threads_by table a) holder (option_map (voided gone) (threads_by table a holder)) other
     void-one gone right holds other =
         let t : Thread = thread_words.thread_at a holder in
@@ -98,7 +102,8 @@ one-voided table old new gone holder known kept changed other = elim (eqb_tells 
 
 -- the threads below a place have lost the right, the others are as they were, and only bytes of records changed
 pub record VoidedSoFar (table : List Entry) (gone : ℕ) (before after : Slots) (old new : List ℕ) (number : ℕ) : Type 0 where
-  pub passed : (other : ℕ) → entry_in table other ≡ entries.Thread → other < 512 * number → threads_by table new other ≡ option_map (voided gone) (threads_by table old other)
+  pub passed : (other : ℕ) → entry_in table other ≡ entries.Thread → other < 512 * number →
+      threads_by table new other ≡ option_map (voided gone) (threads_by table old other)
   pub rest : (other : ℕ) → entry_in table other ≡ entries.Thread → 512 * number ≤ other → threads_by table new other ≡ threads_by table old other
   pub bytes : SameBesideThreads table old new
   pub slots : after ≡ before
@@ -116,7 +121,8 @@ module _ (table : List Entry) (gone : ℕ) (before mid after : Slots) (old half 
   pub laid-still : AreThreadsLaid table mid (length half)
   laid-still = subst (λ slots. AreThreadsLaid table slots (length half)) (sym sofar.slots) (subst (AreThreadsLaid table before) (sym sofar.bytes.size) laid)
 
-  pub voided-next : ((other : ℕ) → threads_by table new other ≡ put (threads_by table half) (512 * number) (option_map (voided gone) (threads_by table half (512 * number))) other)
+  pub voided-next : ((other : ℕ) → threads_by table new other ≡ put (threads_by table half) (512 * number)
+      (option_map (voided gone) (threads_by table half (512 * number))) other)
       → SameBesideThreads table half new → after ≡ mid → VoidedSoFar table gone before after old new (number + 1)
   voided-next changed bytes same = record {
     passed = λ other is less. elim (eqb_tells other (512 * number)) [
@@ -131,13 +137,15 @@ module _ (table : List Entry) (gone : ℕ) (before mid after : Slots) (old half 
     ];
     rest = λ other is least.
         changed other
-        ∙ put-there (threads_by table half) (512 * number) (option_map (voided gone) (threads_by table half (512 * number))) other (λ same. absurd (omega (arith, same, least)))
+        ∙ put-there (threads_by table half) (512 * number) (option_map (voided gone) (threads_by table half (512 * number))) other
+        (λ same. absurd (omega (arith, same, least)))
         ∙ sofar.rest other is (omega (arith, least));
     bytes = record { size = bytes.size ∙ sofar.bytes.size; bytes = λ place apart. bytes.bytes place apart ∙ sofar.bytes.bytes place apart };
     slots = same ∙ sofar.slots;
   }
 
-pub voided-all : (table : List Entry) (gone : ℕ) (before after : Slots) (old new : List ℕ) (number count : ℕ) → AreThreadsLaid table before (length old) → count ≡ length table / 32 → count ≤ number
+pub voided-all : (table : List Entry) (gone : ℕ) (before after : Slots) (old new : List ℕ) (number count : ℕ) → AreThreadsLaid table before (length old) →
+    count ≡ length table / 32 → count ≤ number
     → VoidedSoFar table gone before after old new number → (other : ℕ) → threads_by table new other ≡ option_map (voided gone) (threads_by table old other)
 voided-all table gone before after old new number count laid is most sofar other =
     elim (is_thread_kind (kind_of_entry (entry_in table other))) as (λ b. is_thread_kind (kind_of_entry (entry_in table other)) ≡ b

@@ -1,5 +1,6 @@
 -- What writes to records, to words and to who may reply leave of threads, words and rights.
-use Rattle.std.proofs.Common.{ℕ, ◌≡◌, ◌≢◌, ◌∙◌, ◌==◌, ◌&&◌, ◌+◌, inl, inr, true, false, not, if◌then◌else◌, Option, Some, None, is_some, option_map, List, length, refl, sym, ap, arith}
+use Rattle.std.proofs.Common.{ℕ, ◌≡◌, ◌≢◌, ◌∙◌, ◌==◌, ◌&&◌, ◌+◌, inl, inr, true, false, not, if◌then◌else◌, Option, Some, None, is_some, option_map, List}
+use Rattle.std.proofs.Common.{length, refl, sym, ap, arith}
 use Rattle.std.specs.Prelude.{slice_index}
 use Rattle.std.specs.Option.{option_map_or}
 use Rattle.std.proofs.lemmas.Bool.Decides.{eqb_tells}
@@ -23,20 +24,23 @@ use Rattle.objects.specs.thread_records.Records as thread_words
 use Rattle.objects.specs.thread_records.Records.{SameBesideRecord}
 use Rattle.objects.specs.declared.thread_records.records.Thread.{Thread}
 
-pub thread-here : (o : Tables) (memory : List ℕ) (thread : ℕ) → kind_in o thread ≡ Some NewThread → thread_in o memory thread ≡ Some (thread_words.thread_at memory thread)
+pub thread-here : (o : Tables) (memory : List ℕ) (thread : ℕ) → kind_in o thread ≡ Some NewThread →
+    thread_in o memory thread ≡ Some (thread_words.thread_at memory thread)
 thread-here o memory thread is = ap (λ (e : Entry). thread_from e (thread_words.thread_at memory thread)) (entry-there o thread is)
 
 module _ (o : Tables) (slots : Slots) (memory : List ℕ) (fits : FitsMemory (state_of o slots memory) memory) (a b : List ℕ) where
   -- ---- the record of one thread
 
   module _ (thread : ℕ) (is : kind_in o thread ≡ Some NewThread) (same : SameBesideRecord thread a b) where
-    pub record-replaces : (now : Thread) → thread_words.thread_at b thread ≡ now → (other : ℕ) → thread_in o b other ≡ put (thread_in o a) thread (Some now) other
+    pub record-replaces : (now : Thread) → thread_words.thread_at b thread ≡ now → (other : ℕ) →
+        thread_in o b other ≡ put (thread_in o a) thread (Some now) other
     record-replaces now held other = elim (eqb_tells other thread) [
       | inl here ↦
           ap (thread_in o b) here.1 ∙ thread-here o b thread is ∙ ap Some held ∙ ap (λ x. if x then Some now else thread_in o a other) (sym here.0)
       | inr apart ↦
           thread-same o a b other (λ is' place part. same.bytes place (λ part'.
-          apart.1 (same-thread o slots memory fits other thread place is' is (omega (arith, part.0), omega (arith, part.1)) (omega (arith, part'.0), omega (arith, part'.1)))))
+          apart.1 (same-thread o slots memory fits other thread place is' is (omega (arith, part.0), omega (arith, part.1))
+          (omega (arith, part'.0), omega (arith, part'.1)))))
           ∙ sym (put-there (thread_in o a) thread (Some now) other apart.1)
     ]
 
@@ -45,11 +49,14 @@ module _ (o : Tables) (slots : Slots) (memory : List ℕ) (fits : FitsMemory (st
   module _ (same : SameBesideThreads o.entries a b) where
     pub threads-record : (other : ℕ) → (contents_of o b).records other ≡ (contents_of o a).records other
     threads-record other = record-same o a b other (λ waits place part. same.bytes place (λ thread is part'.
-        never-both o slots memory fits thread other place (kind-there o thread is) waits (omega (arith, part'.0), omega (arith, part'.1)) (omega (arith, part.0), omega (arith, part.1))))
+        never-both o slots memory fits thread other place (kind-there o thread is) waits (omega (arith, part'.0), omega (arith, part'.1))
+        (omega (arith, part.0), omega (arith, part.1))))
 
-    pub threads-replier : (thread : ℕ) → kind_in o thread ≡ Some NewThread → (place : ℕ) → IsPart thread 268 272 place → slice_index b place ≡ slice_index a place
+    pub threads-replier : (thread : ℕ) → kind_in o thread ≡ Some NewThread → (place : ℕ) → IsPart thread 268 272 place →
+        slice_index b place ≡ slice_index a place
     threads-replier thread is place part = same.bytes place (λ other is' part'.
-        let at = same-thread o slots memory fits thread other place is (kind-there o other is') (omega (arith, part.0), omega (arith, part.1)) (omega (arith, part'.0), omega (arith, part'.1)) in
+        let at = same-thread o slots memory fits thread other place is (kind-there o other is') (omega (arith, part.0), omega (arith, part.1))
+        (omega (arith, part'.0), omega (arith, part'.1)) in
         absurd (omega (arith, part.0, part'.1, at)))
 
   -- ---- who may reply
@@ -57,42 +64,50 @@ module _ (o : Tables) (slots : Slots) (memory : List ℕ) (fits : FitsMemory (st
   module _ (caller : Option ℕ) (there : (named : ℕ) → caller ≡ Some named → kind_in o named ≡ Some NewThread) (same : SameBesideReplier caller a b) where
     pub replier-thread : (other : ℕ) → thread_in o b other ≡ thread_in o a other
     replier-thread other = thread-same o a b other (λ is place part. same.bytes place (λ named found from to.
-        let at = same-thread o slots memory fits other named place is (there named found) (omega (arith, part.0), omega (arith, part.1)) (omega (arith, from), omega (arith, to)) in
+        let at = same-thread o slots memory fits other named place is (there named found) (omega (arith, part.0), omega (arith, part.1))
+        (omega (arith, from), omega (arith, to)) in
         absurd (omega (arith, part.1, from, at))))
 
     pub replier-record : (other : ℕ) → (contents_of o b).records other ≡ (contents_of o a).records other
     replier-record other = record-same o a b other (λ waits place part. same.bytes place (λ named found from to.
-        never-both o slots memory fits named other place (there named found) waits (omega (arith, from), omega (arith, to)) (omega (arith, part.0), omega (arith, part.1))))
+        never-both o slots memory fits named other place (there named found) waits (omega (arith, from), omega (arith, to))
+        (omega (arith, part.0), omega (arith, part.1))))
 
     pub other-replier : (thread : ℕ) → kind_in o thread ≡ Some NewThread → (caller ≡ Some thread → ⊥) → replier_at b thread ≡ replier_at a thread
     other-replier thread is apart = replier-same a b thread (λ place part. same.bytes place (λ named found from to.
-        let at = same-thread o slots memory fits thread named place is (there named found) (omega (arith, part.0), omega (arith, part.1)) (omega (arith, from), omega (arith, to)) in
+        let at = same-thread o slots memory fits thread named place is (there named found) (omega (arith, part.0), omega (arith, part.1))
+        (omega (arith, from), omega (arith, to)) in
         absurd (apart (found ∙ ap Some (sym at)))))
 
   -- ---- the word of a notification
 
   module _ (notification word : ℕ) (is : kind_in o notification ≡ Some NewNotification) (size : length b ≡ length a)
-      (same : (place : ℕ) → (IsPart notification 8 12 place → ⊥) → slice_index b place ≡ slice_index a place) (holds : word_at b (notification + 8) ≡ word) where
+      (same : (place : ℕ) → (IsPart notification 8 12 place → ⊥) → slice_index b place ≡ slice_index a place)
+      (holds : word_at b (notification + 8) ≡ word) where
     waits : has_waiting (kind_in o notification) ≡ true
     waits = ap has_waiting is
 
     pub word-thread : (other : ℕ) → thread_in o b other ≡ thread_in o a other
     word-thread other = thread-same o a b other (λ is' place part. same place (λ part'.
-        never-both o slots memory fits other notification place is' waits (omega (arith, part.0), omega (arith, part.1)) (omega (arith, part'.0), omega (arith, part'.1))))
+        never-both o slots memory fits other notification place is' waits (omega (arith, part.0), omega (arith, part.1))
+        (omega (arith, part'.0), omega (arith, part'.1))))
 
     pub word-replier : (thread : ℕ) → kind_in o thread ≡ Some NewThread → (place : ℕ) → IsPart thread 268 272 place → slice_index b place ≡ slice_index a place
     word-replier thread is' place part = same place (λ part'.
-        never-both o slots memory fits thread notification place is' waits (omega (arith, part.0), omega (arith, part.1)) (omega (arith, part'.0), omega (arith, part'.1)))
+        never-both o slots memory fits thread notification place is' waits (omega (arith, part.0), omega (arith, part.1))
+        (omega (arith, part'.0), omega (arith, part'.1)))
 
     pub word-replaces : entry_in o.entries notification ≡ entries.Notification → (other : ℕ)
         → (contents_of o b).records other ≡ put (contents_of o a).records notification (Some (Notification word)) other
     word-replaces entry other = elim (eqb_tells other notification) [
       | inl here ↦
-          ap (contents_of o b).records here.1 ∙ ap (λ (e : Entry). record_from e (word_at b (notification + 8))) entry ∙ ap (λ (w : ℕ). Some (Notification w)) holds
+          ap (contents_of o b).records here.1 ∙ ap (λ (e : Entry). record_from e (word_at b (notification + 8))) entry
+          ∙ ap (λ (w : ℕ). Some (Notification w)) holds
           ∙ ap (λ x. if x then Some (Notification word) else (contents_of o a).records other) (sym here.0)
       | inr apart ↦
           record-same o a b other (λ waits' place part. same place (λ part'.
-          apart.1 (same-point o slots memory fits other notification place waits' waits (omega (arith, part.0), omega (arith, part.1)) (omega (arith, part'.0), omega (arith, part'.1)))))
+          apart.1 (same-point o slots memory fits other notification place waits' waits (omega (arith, part.0), omega (arith, part.1))
+          (omega (arith, part'.0), omega (arith, part'.1)))))
           ∙ sym (put-there (contents_of o a).records notification (Some (Notification word)) other apart.1)
     ]
 
@@ -114,7 +129,8 @@ named-right caller x none found = elim (eqb_tells x x) [
 
 -- a thread with the same caller in the place of another has no other right
 pub same-rights : (old new : ℕ → Option Thread) (thread : ℕ) (held now : Thread) → old thread ≡ Some held → held.caller ≡ now.caller
-    → ((other : ℕ) → new other ≡ put old thread (Some now) other) → (caller holder : ℕ) → has_right (new holder) caller ≡ true → has_right (old holder) caller ≡ true
+    → ((other : ℕ) → new other ≡ put old thread (Some now) other) → (caller holder : ℕ) → has_right (new holder) caller ≡ true →
+    has_right (old holder) caller ≡ true
 same-rights old new thread held now there alike replaced caller holder right = elim (eqb_tells holder thread) [
   | inl here ↦
       ap (λ (t : Option Thread). has_right t caller) (ap old here.1 ∙ there) ∙ ap (λ (c : Option ℕ). option_map_or (λ x. x == caller) c false) alike
@@ -159,7 +175,8 @@ module _ (o : Tables) (old new : List ℕ) (known : AreKnown (thread_in o old) o
       ∙ sym (ap (λ (t : Option Thread). has_right t x) (ap (thread_in o new) at ∙ replaced thread ∙ put-here (thread_in o old) thread (Some now))) ∙ right)
 
   theirs : (holder : ℕ) → holder ≢ thread → (x : ℕ) → has_right (thread_in o new holder) x ≡ true → has_right (thread_in o old holder) x ≡ true
-  theirs holder apart x right = sym (ap (λ (t : Option Thread). has_right t x) (replaced holder ∙ put-there (thread_in o old) thread (Some now) holder apart)) ∙ right
+  theirs holder apart x right = sym (ap (λ (t : Option Thread). has_right t x) (replaced holder ∙ put-there (thread_in o old) thread (Some now) holder apart))
+      ∙ right
 
   called : (x holder : ℕ) → has_right (thread_in o new holder) x ≡ true → kind_in o x ≡ Some NewThread
   called x holder right = elim (eqb_tells holder thread) [
@@ -168,9 +185,11 @@ module _ (o : Tables) (old new : List ℕ) (known : AreKnown (thread_in o old) o
   ]
 
   -- the one that is kept, where one was kept before
-  kept-one : (x holder k r : ℕ) → has_right (thread_in o new holder) x ≡ true → replier_at old x ≡ Some r → noted (thread_in o old) thread x (Some r) ≡ Some k → holder ≡ k
+  kept-one : (x holder k r : ℕ) → has_right (thread_in o new holder) x ≡ true → replier_at old x ≡ Some r → noted (thread_in o old) thread x (Some r) ≡ Some k →
+      holder ≡ k
   kept-one x holder k r right before is =
-      elim (not (r == thread) && has_right (thread_in o old r) x) as (λ b. (not (r == thread) && has_right (thread_in o old r) x) ≡ b → (if b then None else Some thread) ≡ Some k → holder ≡ k) [
+      elim (not (r == thread) && has_right (thread_in o old r) x)
+      as (λ b. (not (r == thread) && has_right (thread_in o old r) x) ≡ b → (if b then None else Some thread) ≡ Some k → holder ≡ k) [
         | true ↦ λ _ clash. absurd (let e : None ≡ Some k = clash in cc)
         | false ↦ λ free now.
             let this : thread ≡ k = let e : Some thread ≡ Some k = now in cc in

@@ -1,11 +1,13 @@
 -- What the tables and the bytes of memory hold of objects, and the state that these represent.
 -- seL4 Reference Manual, "Kernel Services and Objects".
-use Rattle.std.specs.Prelude.{ℕ, Bool, true, false, not, if◌then◌else◌, Option, Some, None, is_some, option_map, option_and_then, List, [], filter, filter_map, slice_index, slice_index_or}
+use Rattle.std.specs.Prelude.{ℕ, Bool, true, false, not, if◌then◌else◌, Option, Some, None, is_some, option_map, option_and_then, List, [], filter, filter_map}
+use Rattle.std.specs.Prelude.{slice_index, slice_index_or}
 use Rattle.std.specs.Option.{option_map_or}
 use Rattle.model.specs.Capabilities.Slots.{Slots}
 use Rattle.model.specs.Kernel.Kinds.{frame_around, kind_of}
 use Rattle.model.specs.Kernel.Retype.{NewObject, NewUntyped, NewThread, NewEndpoint, NewNotification, NewCNode, NewFrame, NewPageTable, NewRootTable}
-use Rattle.model.specs.Kernel.State.{State, Object, Sender, ThreadObject, EndpointObject, NotificationObject, CNodeObject, FrameObject, PageTableObject, RootTableObject, with_slots}
+use Rattle.model.specs.Kernel.State.{State, Object, Sender, ThreadObject, EndpointObject, NotificationObject, CNodeObject, FrameObject, PageTableObject}
+use Rattle.model.specs.Kernel.State.{RootTableObject, with_slots}
 use Rattle.objects.specs.thread_records.Threads.{sender_of, thread_state}
 use Rattle.objects.specs.declared.thread_records.records.Sending.{Sending}
 use Rattle.objects.specs.declared.thread_records.records.Thread.{Thread}

@@ -49,7 +49,8 @@ threads_by table memory offset = thread_from (entry_in table offset) (thread_wor
 -- all bytes are the same but those of the records of threads
 pub record SameBesideThreads (table : List Entry) (old new : List ℕ) : Type 0 where
   pub size : length new ≡ length old
-  pub bytes : (place : ℕ) → ((thread : ℕ) → entry_in table thread ≡ entries.Thread → IsRecordByte thread place → ⊥) → slice_index new place ≡ slice_index old place
+  pub bytes : (place : ℕ) → ((thread : ℕ) → entry_in table thread ≡ entries.Thread → IsRecordByte thread place → ⊥) →
+      slice_index new place ≡ slice_index old place
 
 -- where a new object of a kind may come: its record lies in memory, and in no open slot
 pub record IsRoomAt (kind : Kind) (slots : Slots) (size offset : ℕ) : Type 0 where

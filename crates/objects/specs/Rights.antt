@@ -1,5 +1,6 @@
 -- Who has the right to reply to a thread, and what is kept of it in the thread's own bytes.
-use Rattle.std.specs.Prelude.{ℕ, ◌≡◌, ◌==◌, ◌&&◌, ◌+◌, ◌-◌, ◌^◌, ◌<◌, ◌≤◌, Bool, true, false, not, Option, Some, None, is_some, if◌then◌else◌, List, length, slice_index}
+use Rattle.std.specs.Prelude.{ℕ, ◌≡◌, ◌==◌, ◌&&◌, ◌+◌, ◌-◌, ◌^◌, ◌<◌, ◌≤◌, Bool, true, false, not, Option, Some, None, is_some, if◌then◌else◌, List, length}
+use Rattle.std.specs.Prelude.{slice_index}
 use Rattle.std.specs.Option.{option_map_or}
 use Rattle.model.specs.Shared.Bytes.{word_at}
 use Rattle.objects.specs.declared.thread_records.records.Thread.{Thread}
@@ -28,4 +29,5 @@ noted threads holder caller (Some thread) = if not (thread == holder) && has_rig
 -- all bytes are the same but those that say who may reply to this thread
 pub record SameBesideReplier (caller : Option ℕ) (old new : List ℕ) : Type 0 where
   pub size : length new ≡ length old
-  pub bytes : (place : ℕ) → ((thread : ℕ) → caller ≡ Some thread → thread + 268 ≤ place → place < thread + 272 → ⊥) → slice_index new place ≡ slice_index old place
+  pub bytes : (place : ℕ) → ((thread : ℕ) → caller ≡ Some thread → thread + 268 ≤ place → place < thread + 272 → ⊥) →
+      slice_index new place ≡ slice_index old place

@@ -1,6 +1,7 @@
 -- New objects.
 -- seL4 Reference Manual, "Kernel Services and Objects".
-use Rattle.model.specs.Kernel.State.{Object, ThreadObject, EndpointObject, NotificationObject, CNodeObject, FrameObject, PageTableObject, RootTableObject, new_endpoint, new_notification, new_thread}
+use Rattle.model.specs.Kernel.State.{Object, ThreadObject, EndpointObject, NotificationObject, CNodeObject, FrameObject, PageTableObject, RootTableObject}
+use Rattle.model.specs.Kernel.State.{new_endpoint, new_notification, new_thread}
 use Rattle.objects.specs.declared.records.Kind.{Kind}
 use Rattle.objects.specs.declared.records.Kind.TheVariants as kinds
 

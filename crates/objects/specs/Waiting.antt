@@ -4,7 +4,8 @@ use Rattle.std.specs.Prelude.{ℕ, ◌≡◌, ◌⊎◌, Bool, true, false, Opti
 use Rattle.model.specs.Kernel.Kinds.{kind_at}
 use Rattle.model.specs.Kernel.Retype.{NewObject, NewUntyped, NewThread, NewEndpoint, NewNotification, NewCNode, NewFrame, NewPageTable, NewRootTable}
 use Rattle.model.specs.Kernel.Soundness.{waiting_at}
-use Rattle.model.specs.Kernel.State.{State, Object, ThreadObject, EndpointObject, NotificationObject, CNodeObject, FrameObject, PageTableObject, RootTableObject, EndpointState, Sender, endpoint_at, notification_at, put, with_endpoint, with_notification}
+use Rattle.model.specs.Kernel.State.{State, Object, ThreadObject, EndpointObject, NotificationObject, CNodeObject, FrameObject, PageTableObject}
+use Rattle.model.specs.Kernel.State.{RootTableObject, EndpointState, Sender, endpoint_at, notification_at, put, with_endpoint, with_notification}
 use Rattle.model.specs.Shared.Lists.{times_in}
 use Rattle.objects.specs.thread_records.Threads.{sender_of}
 use Rattle.objects.specs.declared.thread_records.records.Sending.{Sending}

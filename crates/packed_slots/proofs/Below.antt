@@ -32,7 +32,8 @@ pub below_none : (p : Packed) (root : ℕ) (last : Option ℕ) → IsPacked p �
     → next_in (descendants (packed_order p) (packed_slots p) root) last ≡ None
 below_none p root last is empty =
     let rows = packed_rows p in
-    ap (λ l. next_in l last) (below-run p root is ∙ ap slots_of (behind-none rows root (no-row (words_in p.memory) p.open_slots p.first rows root is.packed empty)))
+    ap (λ l. next_in l last) (below-run p root is
+    ∙ ap slots_of (behind-none rows root (no-row (words_in p.memory) p.open_slots p.first rows root is.packed empty)))
     ∙ next-none last
 
 -- the first one below a full root is right after it, and the next one after the last

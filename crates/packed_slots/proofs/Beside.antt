@@ -1,5 +1,6 @@
 -- The bytes at places where no slot is open stay as they are.
-use Rattle.std.proofs.Common.{ℕ, zero, suc, ◌≡◌, ◌≢◌, ◌∙◌, ◌+◌, ◌-◌, ◌*◌, ◌/◌, ◌%◌, ◌<◌, ◌≤◌, inl, inr, Bool, true, false, if◌then◌else◌, Option, Some, None, List, [], ◌∷◌, length, replicate, slice_index, refl, sym, ap, arith}
+use Rattle.std.proofs.Common.{ℕ, zero, suc, ◌≡◌, ◌≢◌, ◌∙◌, ◌+◌, ◌-◌, ◌*◌, ◌/◌, ◌%◌, ◌<◌, ◌≤◌, inl, inr, Bool, true, false, if◌then◌else◌, Option, Some, None}
+use Rattle.std.proofs.Common.{List, [], ◌∷◌, length, replicate, slice_index, refl, sym, ap, arith}
 use Rattle.std.proofs.lemmas.Bool.Decides.{eqb_tells, nat_tests}
 use Rattle.std.proofs.lemmas.Bool.{cases_lt, lt-ltb, le-ltb}
 use Rattle.std.proofs.lemmas.List.{length-replicate}
@@ -12,7 +13,8 @@ use Rattle.slots.proofs.Laws.{chain-same, rows-here, rows-rest}
 use Rattle.slots.specs.preorder.Chains.{IsChain, Links}
 use Rattle.slots.specs.preorder.Preorder.{Row, rows_of, slots_of}
 use Rattle.packed_slots.specs.Packing.{is_open_in, slots_as}
-use Rattle.packed_slots.specs.Words.{Words, back_word, blanked, depth_in, link_word, linked_behind, linked_first, lowered_memory, next_in, unlinked, with_back_at, with_cap, with_link, with_next_at, with_word, word_of, words_in}
+use Rattle.packed_slots.specs.Words.{Words, back_word, blanked, depth_in, link_word, linked_behind, linked_first, lowered_memory, next_in, unlinked}
+use Rattle.packed_slots.specs.Words.{with_back_at, with_cap, with_link, with_next_at, with_word, word_of, words_in}
 use Rattle.packed_slots.proofs.PackedFacts.{closed-from}
 use Rattle.packed_slots.proofs.WordWrites.{depth-small, next-small, put-next-same, size-back_at, size-next_at, size-word, words-link}
 use Rattle.packed_slots.proofs.WordsBehind.{deep_inside}
@@ -34,7 +36,8 @@ closed-word o m s k word is inside small place closed =
       | inr least ↦ slice_index-written_behind m (16 * s + 4 * k) (word_bytes word) place (omega (arith, inside, small)) (omega (arith, least, off, small))
     ]
 
-pub closed-blanked : (o : List Bool) (m : List ℕ) (first count : ℕ) → ((s : ℕ) → is_within first count s ≡ true → is_open_in o s ≡ true) → 16 * (first + count) ≤ length m
+pub closed-blanked : (o : List Bool) (m : List ℕ) (first count : ℕ) → ((s : ℕ) → is_within first count s ≡ true → is_open_in o s ≡ true) →
+    16 * (first + count) ≤ length m
     → SameClosed o m (blanked m first count)
 closed-blanked o m first count opens inside place closed =
     let size = length-replicate {A = ℕ} (16 * count) 0 in
@@ -47,12 +50,14 @@ closed-blanked o m first count opens inside place closed =
       ]
     ]
 
-pub closed-back_at : (o : List Bool) (m : List ℕ) (at v : Option ℕ) → ((s : ℕ) → at ≡ Some s → is_open_in o s ≡ true) → ((s : ℕ) → at ≡ Some s → 16 * (s + 1) ≤ length m)
+pub closed-back_at : (o : List Bool) (m : List ℕ) (at v : Option ℕ) → ((s : ℕ) → at ≡ Some s → is_open_in o s ≡ true) →
+    ((s : ℕ) → at ≡ Some s → 16 * (s + 1) ≤ length m)
     → SameClosed o m (with_back_at m at v)
 closed-back_at o m None v is inside = λ place closed. refl
 closed-back_at o m (Some s) v is inside = closed-word o m s 3 (back_word v) (is s refl) (inside s refl) (omega arith)
 
-pub closed-next_at : (o : List Bool) (m : List ℕ) (at v : Option ℕ) → ((s : ℕ) → at ≡ Some s → is_open_in o s ≡ true) → ((s : ℕ) → at ≡ Some s → 16 * (s + 1) ≤ length m)
+pub closed-next_at : (o : List Bool) (m : List ℕ) (at v : Option ℕ) → ((s : ℕ) → at ≡ Some s → is_open_in o s ≡ true) →
+    ((s : ℕ) → at ≡ Some s → 16 * (s + 1) ≤ length m)
     → SameClosed o m (with_next_at m at v)
 closed-next_at o m None v is inside = λ place closed. refl
 closed-next_at o m (Some s) v is inside = closed-word o m s 2 (link_word v (depth_in (word_of m s 2))) (is s refl) (inside s refl) (omega arith)
@@ -112,7 +117,8 @@ closed-unlinked o m slot is near near' own inside inside' =
     let size' = size-back_at one after before inside'' in
     closed-then o m one (unlinked m slot) (closed-next_at o m before after near' inside')
     (closed-then o one two (unlinked m slot) (closed-back_at o one after before near inside'')
-    (closed-blanked o two slot 1 (λ s within. ap (is_open_in o) (let e : s ≡ slot = grind (arith, nat_tests, within) in e) ∙ is) (omega (arith, own, size, size'))))
+    (closed-blanked o two slot 1 (λ s within. ap (is_open_in o) (let e : s ≡ slot = grind (arith, nat_tests, within) in e) ∙ is)
+    (omega (arith, own, size, size'))))
 
 -- ---- a run that is lowered
 
@@ -143,7 +149,8 @@ closed-run (r ∷ rest) o previous before m d (suc n) whole chain opens =
           λ place closed.
           ap (λ b. slice_index (if b then lowered_memory d n (next_in word) less else m) place) (lt-ltb d (depth_in word) deep)
           ∙ ap (λ (f : Option ℕ). slice_index (lowered_memory d n f less) place) chain.1
-          ∙ more place closed ∙ closed-word o m s 2 (link_word (next_in word) (depth_in word - 1)) (opens s (omega (arith, rows-here r rest s refl))) inside (omega arith) place closed
+          ∙ more place closed ∙ closed-word o m s 2 (link_word (next_in word) (depth_in word - 1)) (opens s (omega (arith, rows-here r rest s refl))) inside
+          (omega arith) place closed
       | inr end ↦ λ place closed. ap (λ b. slice_index (if b then lowered_memory d n (next_in word) less else m) place) (le-ltb d (depth_in word) end)
     ]
 
@@ -160,5 +167,6 @@ closed-lowered (r ∷ rest) o previous before m d n gone whole chain opens there
       (omega (arith, there, rows-rest r rest gone other.1))
 ]
 
-pub outside-from : (w : Words) (o : List Bool) (rows : List Row) (old new : List ℕ) → length new ≡ length old → SameClosed o old new → SameOutside (slots_as w o rows) old new
+pub outside-from : (w : Words) (o : List Bool) (rows : List Row) (old new : List ℕ) → length new ≡ length old → SameClosed o old new →
+    SameOutside (slots_as w o rows) old new
 outside-from w o rows old new size same = record { size = size; bytes = λ place none. same place (closed-from w o rows (place / 16) none) }

@@ -1,27 +1,35 @@
 -- What each change of the memory makes of the slots that it packs.
-use Rattle.std.proofs.Common.{ℕ, ◌≡◌, ◌≢◌, ◌∙◌, ◌+◌, ◌*◌, ◌%◌, ◌^◌, ◌<◌, ◌≤◌, inl, inr, Bool, true, false, if◌then◌else◌, Option, Some, None, List, [], ◌∷◌, length, refl, sym, ap, subst, arith}
+use Rattle.std.proofs.Common.{ℕ, ◌≡◌, ◌≢◌, ◌∙◌, ◌+◌, ◌*◌, ◌%◌, ◌^◌, ◌<◌, ◌≤◌, inl, inr, Bool, true, false, if◌then◌else◌, Option, Some, None, List, [], ◌∷◌}
+use Rattle.std.proofs.Common.{length, refl, sym, ap, subst, arith}
 use Rattle.std.proofs.lemmas.Bool.Decides.{eqb_tells}
 use Rattle.model.proofs.Depths.{depth-none}
 use Rattle.model.specs.Capabilities.CapabilityKinds.{object_of}
 use Rattle.model.specs.Capabilities.CapabilityWords.{IsCapability, words_of}
-use Rattle.model.specs.Capabilities.Slots.{IsFull, SameOutside, Slots, closed, depth_of, depth_within, empty_entry, inserted, is_full, is_within, opened, parent_at, recapped, relocated, spliced}
+use Rattle.model.specs.Capabilities.Slots.{IsFull, SameOutside, Slots, closed, depth_of, depth_within, empty_entry, inserted, is_full, is_within, opened}
+use Rattle.model.specs.Capabilities.Slots.{parent_at, recapped, relocated, spliced}
 use Rattle.model.specs.Kernel.State.{put}
 use Rattle.model.specs.Shared.Lists.{without}
 use Rattle.model.specs.declared.capabilities.Cap.{Cap}
-use Rattle.model.specs.declared.capabilities.Cap.TheVariants.{Empty, Untyped, Endpoint, Notification, CNode, Frame, PageTable, Tcb, RootTable, InterruptControl, InterruptHandler}
+use Rattle.model.specs.declared.capabilities.Cap.TheVariants.{Empty, Untyped, Endpoint, Notification, CNode, Frame, PageTable, Tcb, RootTable, InterruptControl}
+use Rattle.model.specs.declared.capabilities.Cap.TheVariants.{InterruptHandler}
 use Rattle.slots.proofs.Laws.{depth-rows, none-without, slots-taken_out}
 use Rattle.slots.specs.Kin.{IsKin, object_at}
 use Rattle.slots.specs.preorder.Chains.{put_at}
 use Rattle.slots.specs.preorder.Preorder.{Row, first_row, put_behind, renamed, slots_of, taken_out}
-use Rattle.packed_slots.specs.Packing.{IsChanged, IsPacked, IsPackedAs, Packed, head_of, is_open_in, packed_order, packed_rows, packed_slots, packing, slots_as, tail_of}
+use Rattle.packed_slots.specs.Packing.{IsChanged, IsPacked, IsPackedAs, Packed, head_of, is_open_in, packed_order, packed_rows, packed_slots, packing, slots_as}
+use Rattle.packed_slots.specs.Packing.{tail_of}
 use Rattle.packed_slots.specs.Words.{Words, blanked, first_without, linked_behind, linked_first, lowered_memory, unlinked, with_cap, word_of, words_in}
-use Rattle.packed_slots.proofs.Beside.{closed-behind, closed-blanked, closed-cap, closed-first, closed-lowered, closed-then, closed-unlinked, outside-from, size-cap}
-use Rattle.packed_slots.proofs.Inserting.{IsPut, behind-packs, behind-slots, behind_words, empty-not-full, first-packs, first-slots, first_words, put-here, put-off}
+use Rattle.packed_slots.proofs.Beside.{closed-behind, closed-blanked, closed-cap, closed-first, closed-lowered, closed-then, closed-unlinked, outside-from}
+use Rattle.packed_slots.proofs.Beside.{size-cap}
+use Rattle.packed_slots.proofs.Inserting.{IsPut, behind-packs, behind-slots, behind_words, empty-not-full, first-packs, first-slots, first_words, put-here}
+use Rattle.packed_slots.proofs.Inserting.{put-off}
 use Rattle.packed_slots.proofs.Keeping.{capped-packs, capped-slots, capped_words, closed-packs, closed-slots, opened-packs, opened-slots}
 use Rattle.packed_slots.proofs.Moving.{move-packs, move-slots, moved_words}
-use Rattle.packed_slots.proofs.PackedFacts.{few-packed, first-open, full-row, next-open, open-from, open-full, open-near, packed-from, parent-as, previous-open, row-open, rows-found, slots-from}
+use Rattle.packed_slots.proofs.PackedFacts.{few-packed, first-open, full-row, next-open, open-from, open-full, open-near, packed-from, parent-as, previous-open}
+use Rattle.packed_slots.proofs.PackedFacts.{row-open, rows-found, slots-from}
 use Rattle.packed_slots.proofs.Splicing.{lowered_words, splice-packs, splice-slots, unlinked_words}
-use Rattle.packed_slots.proofs.WordWrites.{depth-small, size-behind, size-blanked, size-first, size-lowered, size-unlinked, words-behind, words-blanked, words-cap, words-first, words-lowered, words-unlinked, zeroed}
+use Rattle.packed_slots.proofs.WordWrites.{depth-small, size-behind, size-blanked, size-first, size-lowered, size-unlinked, words-behind, words-blanked}
+use Rattle.packed_slots.proofs.WordWrites.{words-cap, words-first, words-lowered, words-unlinked, zeroed}
 
 -- ---- what holds of slots that are packed
 
@@ -53,12 +61,14 @@ empty-open p s is = open-from (words_in p.memory) p.open_slots (packed_rows p) s
 pub full-open : (p : Packed) (s : ℕ) → is_full (packed_slots p) s ≡ true → is_open_in p.open_slots s ≡ true
 full-open p s full = open-full (words_in p.memory) p.open_slots (packed_rows p) s full
 
-pub next-there : (p : Packed) (s n : ℕ) → IsPacked p → is_full (packed_slots p) s ≡ true → (words_in p.memory).next s ≡ Some n → is_open_in p.open_slots n ≡ true
+pub next-there : (p : Packed) (s n : ℕ) → IsPacked p → is_full (packed_slots p) s ≡ true → (words_in p.memory).next s ≡ Some n →
+    is_open_in p.open_slots n ≡ true
 next-there p s n is full same =
     next-open (words_in p.memory) p.open_slots p.first (packed_rows p) s n is.packed
     (omega (arith, full-row (words_in p.memory) p.open_slots p.first (packed_rows p) s is.packed full)) same
 
-pub previous-there : (p : Packed) (s n : ℕ) → IsPacked p → is_full (packed_slots p) s ≡ true → (words_in p.memory).previous s ≡ Some n → is_open_in p.open_slots n ≡ true
+pub previous-there : (p : Packed) (s n : ℕ) → IsPacked p → is_full (packed_slots p) s ≡ true → (words_in p.memory).previous s ≡ Some n →
+    is_open_in p.open_slots n ≡ true
 previous-there p s n is full same =
     previous-open (words_in p.memory) p.open_slots p.first (packed_rows p) s n is.packed
     (omega (arith, full-row (words_in p.memory) p.open_slots p.first (packed_rows p) s is.packed full)) same
@@ -123,9 +133,12 @@ put-facts : (p : Packed) (slot : ℕ) (capability : Cap) → IsPacked p → pack
     → IsPut (words_in p.memory) p.open_slots p.first (packed_rows p) slot capability (head_of capability) (tail_of capability)
 put-facts p slot capability is empty valid some = record { packed = is.packed; empty = empty; valid = valid; some = some; words = two-words capability }
 
-pub inserted_behind : (p : Packed) (slot parent : ℕ) (capability : Cap) → IsPacked p → packed_slots p slot ≡ Some empty_entry → IsCapability capability → capability ≢ Empty
-    → IsFull (packed_slots p) parent → depth_of (packed_slots p) parent < 255 → IsKin (packed_slots p) capability (Some parent) → head_of capability < 2 ^ 32 → tail_of capability < 2 ^ 32
-    → IsChanged p (packing (linked_behind (with_cap p.memory slot (head_of capability) (tail_of capability)) parent slot ((words_in p.memory).depth parent + 1)) p.open_slots p.first)
+pub inserted_behind : (p : Packed) (slot parent : ℕ) (capability : Cap) → IsPacked p → packed_slots p slot ≡ Some empty_entry → IsCapability capability →
+    capability ≢ Empty
+    → IsFull (packed_slots p) parent → depth_of (packed_slots p) parent < 255 → IsKin (packed_slots p) capability (Some parent) → head_of capability < 2 ^ 32 →
+    tail_of capability < 2 ^ 32
+    → IsChanged p (packing (linked_behind (with_cap p.memory slot (head_of capability) (tail_of capability)) parent slot ((words_in p.memory).depth parent + 1))
+    p.open_slots p.first)
     (inserted (packed_slots p) slot capability (Some parent))
 inserted_behind p slot parent capability is empty valid some full room kin fits fits' =
     let m = p.memory in
@@ -145,9 +158,11 @@ inserted_behind p slot parent capability is empty valid some full room kin fits 
     let small : d < 256 = omega (arith, room, depth-full p parent is full) in
     let size' : length two ≡ length one = size-behind one parent slot d (inside' parent above) (inside' slot own) (λ s same. inside' s (near' s same)) in
     let facts = put-facts p slot capability is empty valid some in
-    changed-from p (packing two p.open_slots p.first) (behind_words w parent slot h t d) (put_behind parent slot (packed_rows p)) (inserted (packed_slots p) slot capability (Some parent))
+    changed-from p (packing two p.open_slots p.first) (behind_words w parent slot h t d) (put_behind parent slot (packed_rows p))
+    (inserted (packed_slots p) slot capability (Some parent))
     (is.long ∙ sym (size' ∙ size)) is.few
-    (words-behind one parent slot d (inside' parent above) (inside' slot own) (λ s same. inside' s (near' s same)) (near p parent is above) (near p slot is own) small
+    (words-behind one parent slot d (inside' parent above) (inside' slot own) (λ s same. inside' s (near' s same)) (near p parent is above) (near p slot is own)
+    small
     ∙ ap (λ (v : Words). record v {
       next = put (put v.next parent (Some slot)) slot (v.next parent);
       depth = put v.depth slot d;
@@ -159,7 +174,8 @@ inserted_behind p slot parent capability is empty valid some full room kin fits 
     (closed-then p.open_slots m one two (closed-cap p.open_slots m slot h t own (inside p slot is own))
     (closed-behind p.open_slots one parent slot d above own near' (inside' parent above) (inside' slot own) (λ s same. inside' s (near' s same)))))
 
-pub inserted_first : (p : Packed) (slot : ℕ) (capability : Cap) → IsPacked p → packed_slots p slot ≡ Some empty_entry → IsCapability capability → capability ≢ Empty
+pub inserted_first : (p : Packed) (slot : ℕ) (capability : Cap) → IsPacked p → packed_slots p slot ≡ Some empty_entry → IsCapability capability →
+    capability ≢ Empty
     → IsKin (packed_slots p) capability None → head_of capability < 2 ^ 32 → tail_of capability < 2 ^ 32
     → IsChanged p (packing (linked_first (with_cap p.memory slot (head_of capability) (tail_of capability)) p.first slot) p.open_slots (Some slot))
     (inserted (packed_slots p) slot capability None)
@@ -176,10 +192,17 @@ inserted_first p slot capability is empty valid some kin fits fits' =
     let inside' : (s : ℕ) → is_open_in p.open_slots s ≡ true → 16 * (s + 1) ≤ length one = λ s there. omega (arith, inside p s is there, size) in
     let size' : length two ≡ length one = size-first one p.first slot (inside' slot own) (λ s same. inside' s (first-there p s is same)) in
     let facts = put-facts p slot capability is empty valid some in
-    changed-from p (packing two p.open_slots (Some slot)) (first_words w p.first slot h t) (first_row slot ∷ packed_rows p) (inserted (packed_slots p) slot capability None)
+    changed-from p (packing two p.open_slots (Some slot)) (first_words w p.first slot h t) (first_row slot ∷ packed_rows p)
+    (inserted (packed_slots p) slot capability None)
     (is.long ∙ sym (size' ∙ size)) is.few
-    (words-first one p.first slot (inside' slot own) (λ s same. inside' s (first-there p s is same)) (λ s same. near p s is (first-there p s is same)) (near p slot is own)
-    ∙ ap (λ (v : Words). record v { next = put v.next slot p.first; depth = put v.depth slot 0; previous = put (put_at v.previous p.first (Some slot)) slot None }) capped)
+    (words-first one p.first slot (inside' slot own) (λ s same. inside' s (first-there p s is same)) (λ s same. near p s is (first-there p s is same))
+    (near p slot is own)
+    ∙ ap (λ (v : Words). record v {
+      next = put v.next slot p.first;
+      depth = put v.depth slot 0;
+      previous =
+          put (put_at v.previous p.first (Some slot)) slot None;
+    }) capped)
     (first-packs w p.open_slots p.first (packed_rows p) slot capability h t facts kin)
     (first-slots w p.open_slots p.first (packed_rows p) slot capability h t facts)
     (outside-from w p.open_slots (packed_rows p) m two (size' ∙ size)
@@ -227,7 +250,8 @@ spliced_out p gone is full =
     λ s same. next-there p gone s is full (sym (ap (λ (v : Words). v.next gone) lowered) ∙ same) in
     let previous' : (s : ℕ) → (words_in one).previous gone ≡ Some s → is_open_in o s ≡ true =
     λ s same. previous-there p gone s is full (sym (ap (λ (v : Words). v.previous gone) lowered) ∙ same) in
-    let size' : length two ≡ length one = size-unlinked one gone (inside' gone own) (λ s same. inside' s (next' s same)) (λ s same. inside' s (previous' s same)) in
+    let size' : length two ≡ length one = size-unlinked one gone (inside' gone own) (λ s same. inside' s (next' s same))
+    (λ s same. inside' s (previous' s same)) in
     let few = few-packed p is in
     changed-from p (spliced_packing p gone) (unlinked_words (lowered_words w gone n) gone) (taken_out gone rows) (spliced (packed_slots p) gone)
     (is.long ∙ sym (size' ∙ size)) is.few (spliced-words p gone is full)
@@ -242,7 +266,8 @@ spliced_out p gone is full =
 pub spliced_order : (p : Packed) (gone : ℕ) → IsPacked p → IsFull (packed_slots p) gone → packed_order (spliced_packing p gone) ≡ without gone (packed_order p)
 spliced_order p gone is full =
     let w = words_in p.memory in
-    order-from (spliced_packing p gone) (unlinked_words (lowered_words w gone (length p.open_slots)) gone) (taken_out gone (packed_rows p)) (spliced-words p gone is full)
+    order-from (spliced_packing p gone) (unlinked_words (lowered_words w gone (length p.open_slots)) gone) (taken_out gone (packed_rows p))
+    (spliced-words p gone is full)
     (splice-packs w p.open_slots p.first (packed_rows p) gone (length p.open_slots) is.packed full (few-packed p is))
     ∙ slots-taken_out (packed_rows p) gone (is.packed.linked.once gone)
 
@@ -284,10 +309,13 @@ moved-previous p from to s is full empty same =
       | Some n ↦ λ some.
           elim (eqb_tells from n) [
             | inl here ↦
-                (let at : to ≡ s = (let e : Some to ≡ Some s = sym (first ∙ ap (λ o. put_at w.previous o (Some to) from) some ∙ put-here w.previous n from (Some to) here.1) ∙ same in cc) in
+                (let at : to ≡ s = (let e : Some to ≡ Some s =
+                sym (first ∙ ap (λ o. put_at w.previous o (Some to) from) some ∙ put-here w.previous n from (Some to) here.1)
+                ∙ same in cc) in
                 ap (is_open_in p.open_slots) (sym at) ∙ open-from w p.open_slots (packed_rows p) to empty_entry empty)
             | inr off ↦
-                previous-there p from s is full (sym (first ∙ ap (λ o. put_at w.previous o (Some to) from) some ∙ put-off w.previous n from (Some to) off.1) ∙ same)
+                previous-there p from s is full (sym (first ∙ ap (λ o. put_at w.previous o (Some to) from) some ∙ put-off w.previous n from (Some to) off.1)
+                ∙ same)
           ]
     ] refl
 
@@ -309,11 +337,13 @@ moved p from to is full empty fits fits' =
     let from-there = full-open p from full in
     let size = size-cap m to h t (inside p to is own) in
     let capped = words-cap m to h t (inside p to is own) fits fits' in
-    let near' : (s : ℕ) → (words_in one).next from ≡ Some s → is_open_in o s ≡ true = λ s same. next-there p from s is full (sym (ap (λ (v : Words). v.next from) capped) ∙ same) in
+    let near' : (s : ℕ) → (words_in one).next from ≡ Some s → is_open_in o s ≡ true = λ s same.
+    next-there p from s is full (sym (ap (λ (v : Words). v.next from) capped) ∙ same) in
     let inside' : (s : ℕ) → is_open_in o s ≡ true → 16 * (s + 1) ≤ length one = λ s there. omega (arith, inside p s is there, size) in
     let size' : length two ≡ length one = size-behind one from to d (inside' from from-there) (inside' to own) (λ s same. inside' s (near' s same)) in
     let behind : words_in two ≡ moved_words w from to =
-    words-behind one from to d (inside' from from-there) (inside' to own) (λ s same. inside' s (near' s same)) (near p from is from-there) (near p to is own) (depth-small (word_of m from 2))
+    words-behind one from to d (inside' from from-there) (inside' to own) (λ s same. inside' s (near' s same)) (near p from is from-there) (near p to is own)
+    (depth-small (word_of m from 2))
     ∙ ap (λ (v : Words). record v {
       next = put (put v.next from (Some to)) to (v.next from);
       depth = put v.depth to d;
@@ -324,19 +354,22 @@ moved p from to is full empty fits fits' =
     λ s same. moved-next p from to s is full empty (sym (ap (λ (v : Words). v.next from) behind) ∙ same) in
     let before : (s : ℕ) → (words_in two).previous from ≡ Some s → is_open_in o s ≡ true =
     λ s same. moved-previous p from to s is full empty (sym (ap (λ (v : Words). v.previous from) behind) ∙ same) in
-    let size'' : length three ≡ length two = size-unlinked two from (inside'' from from-there) (λ s same. inside'' s (after s same)) (λ s same. inside'' s (before s same)) in
+    let size'' : length three ≡ length two = size-unlinked two from (inside'' from from-there) (λ s same. inside'' s (after s same))
+    (λ s same. inside'' s (before s same)) in
     changed-from p (moved_packing p from to) (unlinked_words (moved_words w from to) from) (renamed from to rows) (relocated (packed_slots p) from to)
     (is.long ∙ sym (size'' ∙ size' ∙ size)) is.few
     (words-unlinked two from (inside'' from from-there) (λ s same. inside'' s (after s same)) (λ s same. inside'' s (before s same))
     ∙ ap (λ (v : Words). unlinked_words v from) behind)
-    (subst (λ (v : Words). IsPackedAs (unlinked_words (moved_words w from to) from) o (first_without (v.previous from) (v.next from) p.first) (renamed from to rows)) (sym behind)
+    (subst (λ (v : Words). IsPackedAs (unlinked_words (moved_words w from to) from) o (first_without (v.previous from) (v.next from) p.first)
+    (renamed from to rows)) (sym behind)
     (move-packs w o p.first rows from to is.packed full empty))
     (move-slots w o p.first rows from to is.packed full empty)
     (outside-from w o rows m three (size'' ∙ size' ∙ size)
     (closed-then o m one three (closed-cap o m to h t own (inside p to is own))
     (closed-then o one two three
     (closed-behind o one from to d from-there own near' (inside' from from-there) (inside' to own) (λ s same. inside' s (near' s same)))
-    (closed-unlinked o two from from-there after before (inside'' from from-there) (λ s same. inside'' s (after s same)) (λ s same. inside'' s (before s same))))))
+    (closed-unlinked o two from from-there after before (inside'' from from-there) (λ s same. inside'' s (after s same))
+    (λ s same. inside'' s (before s same))))))
 
 -- ---- the list stays
 
@@ -458,7 +491,8 @@ behind-words p from to is full empty fits fits' =
     let near' : (s : ℕ) → (words_in one).next from ≡ Some s → 16 * (s + 1) ≤ length one =
     capped-near p to from (w.head from) (w.tail from) one is own fits fits' full refl in
     let inside' : (s : ℕ) → is_open_in p.open_slots s ≡ true → 16 * (s + 1) ≤ length one = λ s there. omega (arith, inside p s is there, size) in (
-      words-behind one from to d (inside' from from-there) (inside' to own) near' (near p from is from-there) (near p to is own) (depth-small (word_of m from 2))
+      words-behind one from to d (inside' from from-there) (inside' to own) near' (near p from is from-there) (near p to is own)
+          (depth-small (word_of m from 2))
           ∙ ap (λ (v : Words). record v {
             next = put (put v.next from (Some to)) to (v.next from);
             depth = put v.depth to d;
@@ -482,4 +516,5 @@ pub moved-is : (p : Packed) (from to : ℕ) (m n : List ℕ) (first : Option ℕ
     → first ≡ first_without ((words_in m).previous from) ((words_in m).next from) p.first → packing n p.open_slots first ≡ moved_packing p from to
 moved-is p from to m n first same same' begins =
     ap (λ l. packing l p.open_slots first) (same' ∙ ap (λ l. unlinked l from) same)
-    ∙ ap (packing (unlinked (behind_memory p from to) from) p.open_slots) (begins ∙ ap (λ l. first_without ((words_in l).previous from) ((words_in l).next from) p.first) same)
+    ∙ ap (packing (unlinked (behind_memory p from to) from) p.open_slots)
+    (begins ∙ ap (λ l. first_without ((words_in l).previous from) ((words_in l).next from) p.first) same)

@@ -1,5 +1,6 @@
 -- What the neighbours of a slot show of its parent's children.
-use Rattle.std.proofs.Common.{ℕ, zero, suc, ◌≡◌, ◌≢◌, ◌∙◌, ◌&&◌, ◌+◌, ◌<◌, ◌≤◌, ◌⊎◌, nat_lt, inl, inr, Bool, true, false, if◌then◌else◌, Option, Some, None, List, [], ◌∷◌, length, refl, sym, ap, subst, arith}
+use Rattle.std.proofs.Common.{ℕ, zero, suc, ◌≡◌, ◌≢◌, ◌∙◌, ◌&&◌, ◌+◌, ◌<◌, ◌≤◌, ◌⊎◌, nat_lt, inl, inr, Bool, true, false, if◌then◌else◌, Option, Some, None}
+use Rattle.std.proofs.Common.{List, [], ◌∷◌, length, refl, sym, ap, subst, arith}
 use Rattle.std.proofs.lemmas.Bool.Decides.{eqb_tells}
 use Rattle.std.proofs.lemmas.Bool.{cases_lt, le-ltb, lt-ltb}
 use Rattle.model.proofs.Ancestors.{depth-child, test-from_descendant}
@@ -24,7 +25,8 @@ back-nothing previous depths zero d = refl
 back-nothing previous depths (suc n) d = refl
 
 -- a longer walk finds what a shorter one does
-one-longer : (previous : Links) (depths : ℕ → ℕ) (n d p : ℕ) (o : Option ℕ) → is_one p (back_above previous depths n d o) ≡ true → is_one p (back_above previous depths (suc n) d o) ≡ true
+one-longer : (previous : Links) (depths : ℕ → ℕ) (n d p : ℕ) (o : Option ℕ) → is_one p (back_above previous depths n d o) ≡ true →
+    is_one p (back_above previous depths (suc n) d o) ≡ true
 one-longer previous depths zero d p o is = absurd (let clash : false ≡ true = is in cc)
 one-longer previous depths (suc n) d p None is = absurd (let clash : false ≡ true = is in cc)
 one-longer previous depths (suc n) d p (Some s) is = elim (cases_lt (depths s) d) [
@@ -38,10 +40,12 @@ one-longer previous depths (suc n) d p (Some s) is = elim (cases_lt (depths s) d
 ]
 
 -- from a slot as deep on, the walk goes on after it
-one-back : (previous : Links) (depths : ℕ → ℕ) (n d p s : ℕ) → d ≤ depths s → is_one p (back_above previous depths n d (Some s)) ≡ true → is_one p (back_above previous depths n d (previous s)) ≡ true
+one-back : (previous : Links) (depths : ℕ → ℕ) (n d p s : ℕ) → d ≤ depths s → is_one p (back_above previous depths n d (Some s)) ≡ true →
+    is_one p (back_above previous depths n d (previous s)) ≡ true
 one-back previous depths zero d p s most is = absurd (let clash : false ≡ true = is in cc)
 one-back previous depths (suc n) d p s most is =
-    one-longer previous depths n d p (previous s) (sym (ap (λ b. is_one p (if b then Some s else back_above previous depths n d (previous s))) (le-ltb (depths s) d most)) ∙ is)
+    one-longer previous depths n d p (previous s)
+    (sym (ap (λ b. is_one p (if b then Some s else back_above previous depths n d (previous s))) (le-ltb (depths s) d most)) ∙ is)
 
 both-parts : (a b : Bool) → (a && b) ≡ true → (a ≡ true) × (b ≡ true)
 both-parts true b is = (refl, is)
@@ -53,10 +57,11 @@ next-back : (xs : List ℕ) (next previous : Links) (before : Option ℕ) (s b :
 next-back [] next previous before s b chain there is = absurd (omega (arith, there))
 next-back (x ∷ rest) next previous before s b chain there is = elim (eqb_tells x s) [
   | inl here ↦ inl (sym chain.0 ∙ ap previous here.1 ∙ is, ap Some here.1)
-  | inr off ↦ elim (next-back rest next previous (Some x) s b chain.2 (omega (arith, there, ap (λ t. if t then times_in rest s + 1 else times_in rest s) off.0)) is) [
-    | inl first ↦ (let same : x ≡ b = (let e : Some x ≡ Some b = first.0 in cc) in inr (ap next (sym same) ∙ chain.1 ∙ first.1))
-    | inr found ↦ inr found
-  ]
+  | inr off ↦ elim (next-back rest next previous (Some x) s b chain.2 (omega (arith, there, ap (λ t. if t then times_in rest s + 1 else times_in rest s) off.0))
+      is) [
+        | inl first ↦ (let same : x ≡ b = (let e : Some x ≡ Some b = first.0 in cc) in inr (ap next (sym same) ∙ chain.1 ∙ first.1))
+        | inr found ↦ inr found
+      ]
 ]
 
 module _ (p : Packed) (slot : ℕ) (is : IsPacked p) (full : IsFull (packed_slots p) slot) where
@@ -83,7 +88,8 @@ module _ (p : Packed) (slot : ℕ) (is : IsPacked p) (full : IsFull (packed_slot
 
   -- the first slot of all has no parent
   pub first-none : previous slot ≡ None → LeavesChildless slots slot None
-  first-none none = no_parent (parent-is ∙ ap (back_above previous deep (length p.open_slots) (deep slot)) none ∙ back-nothing previous deep (length p.open_slots) (deep slot))
+  first-none none = no_parent (parent-is ∙ ap (back_above previous deep (length p.open_slots) (deep slot)) none
+      ∙ back-nothing previous deep (length p.open_slots) (deep slot))
 
   module _ (before : ℕ) (back : previous slot ≡ Some before) where
     other : (0 < rows_of (packed_rows p) before) × (before ≢ slot)
@@ -94,7 +100,8 @@ module _ (p : Packed) (slot : ℕ) (is : IsPacked p) (full : IsFull (packed_slot
     brother parent up most =
         let tree = is.packed.derivation in
         let own : is_descendant slots parent slot ≡ true = test-from_descendant slots parent slot tree (child slot up) in
-        let parts = both-parts (nat_lt (deep parent) (deep slot)) (is_one parent (back_above previous deep (length p.open_slots) (deep parent + 1) (previous slot)))
+        let parts = both-parts (nat_lt (deep parent) (deep slot))
+        (is_one parent (back_above previous deep (length p.open_slots) (deep parent + 1) (previous slot)))
         (sym (descent-found p parent slot is opened) ∙ own) in
         let lower : deep parent < deep slot = elim (cases_lt (deep parent) (deep slot)) [
           | inl less ↦ less
@@ -104,7 +111,8 @@ module _ (p : Packed) (slot : ℕ) (is : IsPacked p) (full : IsFull (packed_slot
         (ap (λ o. is_one parent (back_above previous deep (length p.open_slots) (deep parent + 1) o)) (sym back) ∙ parts.1) in
         let below_it : is_descendant slots parent before ≡ true =
         descent-found p parent before is (row-open (words_in p.memory) p.open_slots p.first (packed_rows p) before is.packed other.0)
-        ∙ ap (λ b. b && is_one parent (back_above previous deep (length p.open_slots) (deep parent + 1) (previous before))) (lt-ltb (deep parent) (deep before) (omega (arith, lower, most)))
+        ∙ ap (λ b. b && is_one parent (back_above previous deep (length p.open_slots) (deep parent + 1) (previous before)))
+        (lt-ltb (deep parent) (deep before) (omega (arith, lower, most)))
         ∙ behind in
         leaves-other slots slot parent tree up before other.1 below_it
 
@@ -120,7 +128,8 @@ module _ (p : Packed) (slot : ℕ) (is : IsPacked p) (full : IsFull (packed_slot
           parent-is ∙ ap (back_above previous deep (length p.open_slots) (deep slot)) back
           ∙ elim (length p.open_slots) as (λ n. length p.open_slots ≡ n → back_above previous deep n (deep slot) (Some before) ≡ Some before) [
             | zero ↦ λ none. absurd (omega (arith, none, some-open))
-            | suc n ↦ λ some. ap (λ b. if b then Some before else back_above previous deep n (deep slot) (previous before)) (lt-ltb (deep before) (deep slot) less)
+            | suc n ↦ λ some. ap (λ b. if b then Some before else back_above previous deep n (deep slot) (previous before))
+                (lt-ltb (deep before) (deep slot) less)
           ] refl
         where
           some-open : 0 < length p.open_slots
@@ -144,7 +153,8 @@ module _ (p : Packed) (slot : ℕ) (is : IsPacked p) (full : IsFull (packed_slot
       pub beside-next : (after : ℕ) → next slot ≡ Some after → deep slot ≤ deep after → LeavesChildless slots slot None
       beside-next after on most =
           let found : Some after ≡ next_in (descendants (packed_order p) slots before) (Some slot) =
-          sym (behind-is ∙ ap (if_deeper deep (deep before)) on ∙ ap (λ b. if b then Some after else None) (lt-ltb (deep before) (deep after) (omega (arith, less, most)))) in
+          sym (behind-is ∙ ap (if_deeper deep (deep before)) on
+          ∙ ap (λ b. if b then Some after else None) (lt-ltb (deep before) (deep after) (omega (arith, less, most)))) in
           let apart = next-another (slots_of (packed_rows p)) next previous None slot after is.packed.linked.chain is.packed.linked.once there on in
           leaves-other slots slot before is.packed.derivation up after apart.1 (found_known p before (Some slot) (Some after) is found)
 

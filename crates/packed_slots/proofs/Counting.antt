@@ -1,5 +1,6 @@
 -- How many slots hold a handler of a line, as slots change.
-use Rattle.std.proofs.Common.{ℕ, zero, suc, ◌≡◌, ◌≢◌, ◌∙◌, ◌+◌, ◌*◌, ◌/◌, ◌^◌, ◌<◌, ◌≤◌, nat_lt, inl, inr, Bool, true, false, not, if◌then◌else◌, Option, Some, None, List, length, get_or, replicate, slice_index_or, refl, sym, ap, arith}
+use Rattle.std.proofs.Common.{ℕ, zero, suc, ◌≡◌, ◌≢◌, ◌∙◌, ◌+◌, ◌*◌, ◌/◌, ◌^◌, ◌<◌, ◌≤◌, nat_lt, inl, inr, Bool, true, false, not, if◌then◌else◌, Option, Some}
+use Rattle.std.proofs.Common.{None, List, length, get_or, replicate, slice_index_or, refl, sym, ap, arith}
 use Rattle.std.proofs.lemmas.Bool.Decides.{eqb_tells}
 use Rattle.std.proofs.lemmas.Bool.{cases_lt, le-ltb, lt-ltb}
 use Rattle.std.proofs.lemmas.List.{get_or-replicate}
@@ -7,11 +8,14 @@ use Rattle.std.proofs.lemmas.List.Folds.{list_any_at, list_any_none}
 use Rattle.std.proofs.lemmas.List.FromFn.{get_or-range_with_len, length-range_with_len}
 use Rattle.std.specs.List.{range_with_len}
 use Rattle.model.proofs.Ancestors.{full-open}
-use Rattle.model.proofs.SlotChanges.{capability-adopted, capability-closed, capability-opened, capability_of, entry-other, entry-same, full-not-empty, within-bounds}
+use Rattle.model.proofs.SlotChanges.{capability-adopted, capability-closed, capability-opened, capability_of, entry-other, entry-same, full-not-empty}
+use Rattle.model.proofs.SlotChanges.{within-bounds}
 use Rattle.model.specs.Capabilities.CapabilityKinds.{is_handler_of}
-use Rattle.model.specs.Capabilities.Slots.{IsFull, IsOpen, Slots, capability_at, closed, empty_entry, inserted, is_empty, opened, parent_at, recapped, relocated, spliced, with_entry, with_parent}
+use Rattle.model.specs.Capabilities.Slots.{IsFull, IsOpen, Slots, capability_at, closed, empty_entry, inserted, is_empty, opened, parent_at, recapped}
+use Rattle.model.specs.Capabilities.Slots.{relocated, spliced, with_entry, with_parent}
 use Rattle.model.specs.declared.capabilities.Cap.{Cap}
-use Rattle.model.specs.declared.capabilities.Cap.TheVariants.{Empty, Untyped, Endpoint, Notification, CNode, Frame, PageTable, Tcb, RootTable, InterruptControl, InterruptHandler}
+use Rattle.model.specs.declared.capabilities.Cap.TheVariants.{Empty, Untyped, Endpoint, Notification, CNode, Frame, PageTable, Tcb, RootTable, InterruptControl}
+use Rattle.model.specs.declared.capabilities.Cap.TheVariants.{InterruptHandler}
 use Rattle.model.specs.declared.slot_entries.Entry.{Entry}
 use Rattle.packed_slots.specs.Handlers.{AreCounted, handles, times_of}
 use Rattle.slots.specs.Listed.{is_handled}
@@ -67,7 +71,8 @@ times-where t (suc n) some = elim (t n) as (λ b. t n ≡ b → 1 ≤ times_of t
 ] refl some
 
 -- two tests that differ at one number at most
-pub times-changed : (t u : ℕ → Bool) (n x : ℕ) → x < n → ((y : ℕ) → y ≢ x → t y ≡ u y) → times_of t n + (if u x then 1 else 0) ≡ times_of u n + (if t x then 1 else 0)
+pub times-changed : (t u : ℕ → Bool) (n x : ℕ) → x < n → ((y : ℕ) → y ≢ x → t y ≡ u y) →
+    times_of t n + (if u x then 1 else 0) ≡ times_of u n + (if t x then 1 else 0)
 unfolding times_of
 times-changed t u zero x less same = absurd (omega (arith, less))
 times-changed t u (suc n) x less same = elim (eqb_tells n x) [
@@ -98,9 +103,11 @@ same-counted old new counts same counted = record {
 }
 
 -- one does
-pub one-counted : (old new : Slots) (counts now : List ℕ) (slot : ℕ) (was is : Cap) → slot < 2 ^ 20 → ((s : ℕ) → s ≢ slot → capability_at new s ≡ capability_at old s)
+pub one-counted : (old new : Slots) (counts now : List ℕ) (slot : ℕ) (was is : Cap) → slot < 2 ^ 20 →
+    ((s : ℕ) → s ≢ slot → capability_at new s ≡ capability_at old s)
     → capability_at old slot ≡ was → capability_at new slot ≡ is → AreCounted old counts
-    → ((line : ℕ) → line < 64 → slice_index_or now line 0 + (if is_handler_of line was then 1 else 0) ≡ slice_index_or counts line 0 + (if is_handler_of line is then 1 else 0))
+    → ((line : ℕ) → line < 64 → slice_index_or now line 0 + (if is_handler_of line was then 1 else 0) ≡ slice_index_or counts line 0
+    + (if is_handler_of line is then 1 else 0))
     → AreCounted new now
 one-counted old new counts now slot was is near same before after counted told = record {
   each = λ line few.
@@ -165,10 +172,12 @@ counted-relocated slots counts from to near near_to full empty counted =
           let taken = times-changed (handles put_slots line) (handles (relocated slots from to) line) (2 ^ 20) from near (λ y other. ap (is_handler_of line)
           (sym (ap capability_of (entry-other put_slots from (Some empty_entry) y other)))) in
           let nothing : bit (handles slots line to) ≡ 0 = ap (λ (o : Option Entry). bit (is_handler_of line (capability_of o))) empty in
-          let there : bit (handles put_slots line to) ≡ bit (handles slots line from) = ap (λ (o : Option Entry). bit (is_handler_of line (capability_of o))) (entry-same adopted_slots to (slots from)) in
+          let there : bit (handles put_slots line to) ≡ bit (handles slots line from) =
+          ap (λ (o : Option Entry). bit (is_handler_of line (capability_of o))) (entry-same adopted_slots to (slots from)) in
           let still : bit (handles put_slots line from) ≡ bit (handles slots line from) = ap (λ c. bit (is_handler_of line c))
           (ap capability_of (entry-other adopted_slots to (slots from) from apart) ∙ capability-adopted from (Some to) (slots from)) in
-          let gone : bit (handles (relocated slots from to) line from) ≡ 0 = ap (λ (o : Option Entry). bit (is_handler_of line (capability_of o))) (entry-same put_slots from (Some empty_entry)) in
+          let gone : bit (handles (relocated slots from to) line from) ≡ 0 =
+          ap (λ (o : Option Entry). bit (is_handler_of line (capability_of o))) (entry-same put_slots from (Some empty_entry)) in
           omega (arith, counted.each line few, put, taken, nothing, there, still, gone);
     }
 
@@ -177,7 +186,8 @@ counted-relocated slots counts from to near near_to full empty counted =
 pub counts-few : (slots : Slots) (counts : List ℕ) → AreCounted slots counts → (line : ℕ) → line < 64 → slice_index_or counts line 0 ≤ 2 ^ 20
 counts-few slots counts counted line few = omega (arith, counted.each line few, times-most (handles slots line) (2 ^ 20))
 
-pub held-counted : (slots : Slots) (counts : List ℕ) (slot : ℕ) (capability : Cap) → slot < 2 ^ 20 → capability ≡ capability_at slots slot → AreCounted slots counts
+pub held-counted : (slots : Slots) (counts : List ℕ) (slot : ℕ) (capability : Cap) → slot < 2 ^ 20 → capability ≡ capability_at slots slot →
+    AreCounted slots counts
     → (line : ℕ) → line < 64 → is_handler_of line capability ≡ true → 1 ≤ slice_index_or counts line 0
 held-counted slots counts slot capability near held counted line few is =
     omega (arith, counted.each line few, times-some (handles slots line) (2 ^ 20) slot near (ap (is_handler_of line) (sym held) ∙ is))
@@ -195,7 +205,8 @@ handler-full line (RootTable f) is = refl
 handler-full line InterruptControl is = refl
 handler-full line (InterruptHandler other) is = refl
 
-module _ (slots : Slots) (counts : List ℕ) (line count bytes told : ℕ) (few : line < 64) (counted : AreCounted slots counts) (size : 16 * count ≡ bytes) (most : count ≤ 2 ^ 20)
+module _ (slots : Slots) (counts : List ℕ) (line count bytes told : ℕ) (few : line < 64) (counted : AreCounted slots counts) (size : 16 * count ≡ bytes)
+    (most : count ≤ 2 ^ 20)
     (near : (s : ℕ) → IsOpen slots s → s < count) (is : told ≡ slice_index_or counts line 0) where
   handler-near : (s : ℕ) → handles slots line s ≡ true → s < bytes / 16
   handler-near s holds = omega (arith, size, near s (full-open slots s (handler-full line (capability_at slots s) holds)))
@@ -213,7 +224,8 @@ module _ (slots : Slots) (counts : List ℕ) (line count bytes told : ℕ) (few 
       let low : k < bytes / 16 = omega (arith, less, length-range_with_len 0 (bytes / 16)) in
       ap (handles slots line) (get_or-range_with_len 0 (bytes / 16) k d low)
       ∙ elim (handles slots line (0 + k)) as (λ b. handles slots line (0 + k) ≡ b → b ≡ false) [
-        | true ↦ λ holds. absurd (omega (arith, none, is, counted.each line few, times-some (handles slots line) (2 ^ 20) (0 + k) (omega (arith, low, size, most)) holds))
+        | true ↦ λ holds. absurd
+            (omega (arith, none, is, counted.each line few, times-some (handles slots line) (2 ^ 20) (0 + k) (omega (arith, low, size, most)) holds))
         | false ↦ λ _. refl
       ] refl)
 

@@ -1,5 +1,6 @@
 -- What the slots at the edges of a root's descendants show of the objects that they share with others.
-use Rattle.std.proofs.Common.{ℕ, ◌≡◌, ◌∙◌, ◌+◌, ◌<◌, ◌||◌, ◌&&◌, nat_lt, inl, inr, not, true, false, if◌then◌else◌, Option, Some, None, length, refl, sym, ap, subst, arith}
+use Rattle.std.proofs.Common.{ℕ, ◌≡◌, ◌∙◌, ◌+◌, ◌<◌, ◌||◌, ◌&&◌, nat_lt, inl, inr, not, true, false, if◌then◌else◌, Option, Some, None, length, refl, sym, ap}
+use Rattle.std.proofs.Common.{subst, arith}
 use Rattle.std.specs.Option.{option_map_or}
 use Rattle.model.proofs.Ancestors.{depth-child, descendant-from_test, descendant-full, descendants-once}
 use Rattle.model.specs.Capabilities.Orders.{descendants, first_of, next_in}
@@ -42,7 +43,8 @@ if-none depths depth s is = elim (nat_lt depth (depths s)) as (λ b. (if b then 
 ] is
 
 module _ (p : Packed) (root last slot : ℕ) (is : IsPacked p) (known : is_descendant (packed_slots p) root slot ≡ true)
-    (last_known : is_descendant (packed_slots p) root last ≡ true) (none : next_in (descendants (packed_order p) (packed_slots p) root) (Some last) ≡ None) where
+    (last_known : is_descendant (packed_slots p) root last ≡ true)
+    (none : next_in (descendants (packed_order p) (packed_slots p) root) (Some last) ≡ None) where
   abbrev slots : Slots
   slots = packed_slots p
 
@@ -76,17 +78,21 @@ module _ (p : Packed) (root last slot : ℕ) (is : IsPacked p) (known : is_desce
       let shallow = if-none (words_in p.memory).depth ((words_in p.memory).depth root) s
       (ap (if_deeper (words_in p.memory).depth ((words_in p.memory).depth root)) (sym at)
       ∙ sym (below p root (Some last) is full (λ y same. let e : last ≡ y = cc in subst (λ z. is_descendant slots root z ≡ true) e last_known)) ∙ none) in
-      let found = next-another (slots_of (packed_rows p)) (words_in p.memory).next (words_in p.memory).previous None last s is.packed.linked.chain is.packed.linked.once last-full at in
+      let found = next-another (slots_of (packed_rows p)) (words_in p.memory).next (words_in p.memory).previous None last s is.packed.linked.chain
+      is.packed.linked.once last-full at in
       descent-found p root s is (row-open (words_in p.memory) p.open_slots p.first (packed_rows p) s is.packed found.0)
-      ∙ ap (λ b. b && is_one root (back_above (words_in p.memory).previous (words_in p.memory).depth (length p.open_slots) ((words_in p.memory).depth root + 1) ((words_in p.memory).previous s))) shallow
+      ∙ ap (λ b. b && is_one root (back_above (words_in p.memory).previous (words_in p.memory).depth (length p.open_slots) ((words_in p.memory).depth root + 1)
+      ((words_in p.memory).previous s))) shallow
 
-  with-offset : (offset : ℕ) → object_at slots slot ≡ Some offset → has_like_edge p root last slot ≡ (is_named_at slots offset (Some root) || is_named_at slots offset edge)
+  with-offset : (offset : ℕ) → object_at slots slot ≡ Some offset →
+      has_like_edge p root last slot ≡ (is_named_at slots offset (Some root) || is_named_at slots offset edge)
   with-offset offset own = ap (λ (o : Option ℕ). option_map_or (λ offset. is_named_at slots offset (Some root) || is_named_at slots offset edge) o false) own
 
   pub beside-so : has_like_edge p root last slot ≡ true → IsSharedBeside slots root slot
   beside-so like = elim (object_at slots slot) as (λ o. object_at slots slot ≡ o → IsSharedBeside slots root slot) [
     | None ↦ λ nothing. absurd (let clash : false ≡ true =
-        sym (ap (λ (o : Option ℕ). option_map_or (λ offset. is_named_at slots offset (Some root) || is_named_at slots offset edge) o false) nothing) ∙ like in cc)
+        sym (ap (λ (o : Option ℕ). option_map_or (λ offset. is_named_at slots offset (Some root) || is_named_at slots offset edge) o false) nothing) ∙ like in
+        cc)
     | Some offset ↦ λ own. elim (either (is_named_at slots offset (Some root)) (is_named_at slots offset edge) (sym (with-offset offset own) ∙ like)) [
       | inl at_root ↦
           let found = at-found slots offset (Some root) at_root in
@@ -101,7 +107,8 @@ module _ (p : Packed) (root last slot : ℕ) (is : IsPacked p) (known : is_desce
   pub none-beside : has_like_edge p root last slot ≡ false → IsSharedBeside slots root slot → ⊥
   none-beside unlike shared =
       let other_full : is_full slots shared.other ≡ true = ap not (named-full (capability_at slots shared.other) shared.offset shared.names) in
-      let found : 0 < rows_of (packed_rows p) shared.other = omega (arith, full-row (words_in p.memory) p.open_slots p.first (packed_rows p) shared.other is.packed other_full) in
+      let found : 0 < rows_of (packed_rows p) shared.other =
+      omega (arith, full-row (words_in p.memory) p.open_slots p.first (packed_rows p) shared.other is.packed other_full) in
       let inside : 0 < times_in (slots_of (run_behind root (packed_rows p))) slot = omega (arith, in-run slot ∙ ap (λ b. if b then 1 else 0) known) in
       let outside : times_in (slots_of (run_behind root (packed_rows p))) shared.other ≡ 0 = in-run shared.other ∙ ap (λ b. if b then 1 else 0) shared.beside in
       let at_root = is_named_at slots shared.offset (Some root) in

@@ -1,5 +1,6 @@
 -- A capability is put into an empty slot.
-use Rattle.std.proofs.Common.{ℕ, ◌≡◌, ◌≢◌, ◌∙◌, ◌==◌, ◌+◌, ◌<◌, ◌≤◌, inl, inr, Bool, true, false, not, if◌then◌else◌, Option, Some, None, List, [], ◌∷◌, refl, sym, ap, subst, arith}
+use Rattle.std.proofs.Common.{ℕ, ◌≡◌, ◌≢◌, ◌∙◌, ◌==◌, ◌+◌, ◌<◌, ◌≤◌, inl, inr, Bool, true, false, not, if◌then◌else◌, Option, Some, None, List, [], ◌∷◌, refl}
+use Rattle.std.proofs.Common.{sym, ap, subst, arith}
 use Rattle.std.proofs.lemmas.Bool.Decides.{eqb_tells}
 use Rattle.std.proofs.lemmas.Bool.{eq-eqb, ne_eqb}
 use Rattle.model.proofs.Derivations.{derivation-inserted}
@@ -15,7 +16,8 @@ use Rattle.model.specs.Shared.Lists.{times_in}
 use Rattle.model.specs.declared.capabilities.Cap.{Cap}
 use Rattle.model.specs.declared.capabilities.Cap.TheVariants.{Empty}
 use Rattle.model.specs.declared.slot_entries.Entry.{Entry}
-use Rattle.slots.proofs.Laws.{chain-first, chain-put_after, deep-first, deep-put_behind, first-others, first-own, put-others, put-own, rises-first, rises-put_behind, runs-first, runs-put_behind, runs-same, slots-put_behind, times-put_after, times-put_after_own}
+use Rattle.slots.proofs.Laws.{chain-first, chain-put_after, deep-first, deep-put_behind, first-others, first-own, put-others, put-own, rises-first}
+use Rattle.slots.proofs.Laws.{rises-put_behind, runs-first, runs-put_behind, runs-same, slots-put_behind, times-put_after, times-put_after_own}
 use Rattle.slots.specs.Kin.{IsKin, IsUnnamed, object_at}
 use Rattle.slots.specs.preorder.Chains.{IsChain, IsLinked, Links, put_after, put_at}
 use Rattle.slots.specs.preorder.Preorder.{Row, first_row, parents_of, put_behind, rows_of, slots_of}
@@ -127,7 +129,8 @@ module _ (w : Words) (o : List Bool) (first : Option ℕ) (rows more : List Row)
 
   put-blank : (s : ℕ) → is_open_in o s ≡ true → is_full (inserted (slots_as w o rows) slot capability parent) s ≡ false → new.depth s ≡ 0
   put-blank s there empty = elim (eqb_tells s slot) [
-    | inl here ↦ absurd (let clash : true ≡ false = sym full-own ∙ ap (is_full (inserted (slots_as w o rows) slot capability parent)) (sym here.1) ∙ empty in cc)
+    | inl here ↦ absurd (let clash : true ≡ false = sym full-own ∙ ap (is_full (inserted (slots_as w o rows) slot capability parent)) (sym here.1) ∙ empty in
+        cc)
     | inr off ↦ put-off w.depth slot s depth off.1 ∙ is.packed.blank s there (sym (full-other s off.1) ∙ empty)
   ]
 
@@ -144,30 +147,37 @@ module _ (w : Words) (o : List Bool) (first : Option ℕ) (rows more : List Row)
 -- ---- the objects that are named
 
 object-own : (slots : Slots) (slot : ℕ) (capability : Cap) (parent : Option ℕ) → object_at (inserted slots slot capability parent) slot ≡ object_of capability
-object-own slots slot capability parent = ap (λ e. object_of (capability_of e)) (entry-same slots slot (Some (record { capability = capability; parent = parent })))
+object-own slots slot capability parent = ap (λ e. object_of (capability_of e))
+    (entry-same slots slot (Some (record { capability = capability; parent = parent })))
 
-object-beside : (slots : Slots) (slot : ℕ) (capability : Cap) (parent : Option ℕ) (s : ℕ) → s ≢ slot → object_at (inserted slots slot capability parent) s ≡ object_at slots s
-object-beside slots slot capability parent s off = ap (λ e. object_of (capability_of e)) (entry-other slots slot (Some (record { capability = capability; parent = parent })) s off)
+object-beside : (slots : Slots) (slot : ℕ) (capability : Cap) (parent : Option ℕ) (s : ℕ) → s ≢ slot →
+    object_at (inserted slots slot capability parent) s ≡ object_at slots s
+object-beside slots slot capability parent s off = ap (λ e. object_of (capability_of e))
+    (entry-other slots slot (Some (record { capability = capability; parent = parent })) s off)
 
 -- the object is new among the rows
 unnamed-rows : (slots : Slots) (rows : List Row) (slot : ℕ) (capability : Cap) (parent : Option ℕ) → rows_of rows slot ≡ 0 → IsUnnamed slots capability
-    → (key : ℕ) → object_at (inserted slots slot capability parent) slot ≡ Some key → NoneHas (object_at (inserted slots slot capability parent)) key (slots_of rows)
+    → (key : ℕ) → object_at (inserted slots slot capability parent) slot ≡ Some key →
+    NoneHas (object_at (inserted slots slot capability parent)) key (slots_of rows)
 unnamed-rows slots rows slot capability parent none unnamed key own s there has =
     unnamed key s (sym (object-own slots slot capability parent) ∙ own)
     (sym (object-beside slots slot capability parent s (λ same. absurd (omega (arith, there, ap (rows_of rows) same, none)))) ∙ has)
 
-runs-kept : (slots : Slots) (rows : List Row) (slot : ℕ) (capability : Cap) (parent : Option ℕ) → rows_of rows slot ≡ 0 → AreRuns (object_at slots) (slots_of rows)
+runs-kept : (slots : Slots) (rows : List Row) (slot : ℕ) (capability : Cap) (parent : Option ℕ) → rows_of rows slot ≡ 0 →
+    AreRuns (object_at slots) (slots_of rows)
     → AreRuns (object_at (inserted slots slot capability parent)) (slots_of rows)
 runs-kept slots rows slot capability parent none runs =
     runs-same (object_at slots) (object_at (inserted slots slot capability parent)) (slots_of rows)
     (λ s there. object-beside slots slot capability parent s (λ same. absurd (omega (arith, there, ap (rows_of rows) same, none)))) runs
 
-runs-behind : (slots : Slots) (rows : List Row) (at slot : ℕ) (capability : Cap) → rows_of rows slot ≡ 0 → 0 < rows_of rows at → IsKin slots capability (Some at)
+runs-behind : (slots : Slots) (rows : List Row) (at slot : ℕ) (capability : Cap) → rows_of rows slot ≡ 0 → 0 < rows_of rows at →
+    IsKin slots capability (Some at)
     → AreRuns (object_at slots) (slots_of rows) → AreRuns (object_at (inserted slots slot capability (Some at))) (slots_of (put_behind at slot rows))
 runs-behind slots rows at slot capability none there kin runs =
     let keys = object_at (inserted slots slot capability (Some at)) in
     let own = object-own slots slot capability (Some at) in
-    let above : keys at ≡ object_at slots at = object-beside slots slot capability (Some at) at (λ same. absurd (omega (arith, there, ap (rows_of rows) same, none))) in
+    let above : keys at ≡ object_at slots at = object-beside slots slot capability (Some at) at
+    (λ same. absurd (omega (arith, there, ap (rows_of rows) same, none))) in
     let may : MayFollow keys at slot (slots_of rows) = elim kin [
       | inl same ↦ inl (own ∙ same ∙ sym above)
       | inr new ↦ inr (above ∙ new.0, unnamed-rows slots rows slot capability (Some at) none new.1)
@@ -176,7 +186,8 @@ runs-behind slots rows at slot capability none there kin runs =
 
 -- ---- after its parent
 
-pub none-row : (w : Words) (o : List Bool) (first : Option ℕ) (rows : List Row) (slot : ℕ) → IsPackedAs w o first rows → slots_as w o rows slot ≡ Some empty_entry → rows_of rows slot ≡ 0
+pub none-row : (w : Words) (o : List Bool) (first : Option ℕ) (rows : List Row) (slot : ℕ) → IsPackedAs w o first rows →
+    slots_as w o rows slot ≡ Some empty_entry → rows_of rows slot ≡ 0
 none-row w o first rows slot packed empty = no-row w o first rows slot packed (empty-not-full (slots_as w o rows) slot empty)
 
 pub not-in : (rows : List Row) (slot s : ℕ) → rows_of rows slot ≡ 0 → 0 < rows_of rows s → s ≢ slot
@@ -194,21 +205,30 @@ abbrev pub behind_words : Words → ℕ → ℕ → ℕ → ℕ → ℕ → Word
 behind_words w at slot head tail depth =
     with_more w slot head tail depth (put (put w.next at (Some slot)) slot (w.next at)) (put (put_at w.previous (w.next at) (Some slot)) slot (Some at))
 
-pub behind-chain : (w : Words) (xs : List ℕ) (at slot : ℕ) → IsChain w.next w.previous None xs → ((s : ℕ) → times_in xs s ≤ 1) → times_in xs slot ≡ 0 → 0 < times_in xs at
+pub behind-chain : (w : Words) (xs : List ℕ) (at slot : ℕ) → IsChain w.next w.previous None xs → ((s : ℕ) → times_in xs s ≤ 1) → times_in xs slot ≡ 0 →
+    0 < times_in xs at
     → IsChain (put (put w.next at (Some slot)) slot (w.next at)) (put (put_at w.previous (w.next at) (Some slot)) slot (Some at)) None (put_after at slot xs)
 behind-chain w xs at slot chain once none there =
     chain-put_after xs w.next w.previous None at slot chain once (λ same. none-clash slot same) (λ b same. none-clash b same) none there
 
 behind-linked : (w : Words) (rows : List Row) (at slot : ℕ) → IsLinked w.next w.previous w.depth rows → rows_of rows slot ≡ 0 → 0 < rows_of rows at
-    → IsLinked (put (put w.next at (Some slot)) slot (w.next at)) (put (put_at w.previous (w.next at) (Some slot)) slot (Some at)) (put w.depth slot (w.depth at + 1)) (put_behind at slot rows)
+    → IsLinked (put (put w.next at (Some slot)) slot (w.next at)) (put (put_at w.previous (w.next at) (Some slot)) slot (Some at))
+    (put w.depth slot (w.depth at + 1)) (put_behind at slot rows)
 behind-linked w rows at slot linked none there = record {
-  chain = subst (IsChain (put (put w.next at (Some slot)) slot (w.next at)) (put (put_at w.previous (w.next at) (Some slot)) slot (Some at)) None) (sym (slots-put_behind rows at slot))
+  chain = subst (IsChain (put (put w.next at (Some slot)) slot (w.next at)) (put (put_at w.previous (w.next at) (Some slot)) slot (Some at)) None)
+      (sym (slots-put_behind rows at slot))
       (behind-chain w (slots_of rows) at slot linked.chain linked.once none there);
   deep = deep-put_behind rows w.depth (put w.depth slot (w.depth at + 1)) at slot linked.deep
       (λ s is. put-off w.depth slot s (w.depth at + 1) (not-in rows slot s none is)) (put-here w.depth slot slot (w.depth at + 1) refl);
   rises = rises-put_behind rows 0 at slot linked.rises;
   once = λ s. elim (eqb_tells s slot) [
-    | inl here ↦ omega (arith, ap (λ l. times_in l s) (slots-put_behind rows at slot), ap (times_in (put_after at slot (slots_of rows))) here.1, times-put_after_own (slots_of rows) at slot there, none)
+    | inl here ↦ omega (
+      arith,
+      ap (λ l. times_in l s) (slots-put_behind rows at slot),
+      ap (times_in (put_after at slot (slots_of rows))) here.1,
+      times-put_after_own (slots_of rows) at slot there,
+      none,
+    )
     | inr off ↦ omega (arith, ap (λ l. times_in l s) (slots-put_behind rows at slot), times-put_after (slots_of rows) at slot s off.1, linked.once s)
   ];
 }
@@ -223,7 +243,8 @@ behind-more rows at slot w linked none there = record {
   times = λ s off. ap (λ l. times_in l s) (slots-put_behind rows at slot) ∙ times-put_after (slots_of rows) at slot s off;
 }
 
-pub behind-slots : (w : Words) (o : List Bool) (first : Option ℕ) (rows : List Row) (at slot : ℕ) (capability : Cap) (head tail : ℕ) → IsPut w o first rows slot capability head tail
+pub behind-slots : (w : Words) (o : List Bool) (first : Option ℕ) (rows : List Row) (at slot : ℕ) (capability : Cap) (head tail : ℕ) →
+    IsPut w o first rows slot capability head tail
     → IsFull (slots_as w o rows) at
     → slots_as (behind_words w at slot head tail (w.depth at + 1)) o (put_behind at slot rows) ≡ inserted (slots_as w o rows) slot capability (Some at)
 behind-slots w o first rows at slot capability head tail is full =
@@ -231,7 +252,8 @@ behind-slots w o first rows at slot capability head tail is full =
     (put (put w.next at (Some slot)) slot (w.next at)) (put (put_at w.previous (w.next at) (Some slot)) slot (Some at)) is
     (behind-more rows at slot w is.packed.linked (none-row w o first rows slot is.packed is.empty) (omega (arith, full-row w o first rows at is.packed full)))
 
-pub behind-packs : (w : Words) (o : List Bool) (first : Option ℕ) (rows : List Row) (at slot : ℕ) (capability : Cap) (head tail : ℕ) → IsPut w o first rows slot capability head tail
+pub behind-packs : (w : Words) (o : List Bool) (first : Option ℕ) (rows : List Row) (at slot : ℕ) (capability : Cap) (head tail : ℕ) →
+    IsPut w o first rows slot capability head tail
     → IsFull (slots_as w o rows) at → depth_of (slots_as w o rows) at < 255 → IsKin (slots_as w o rows) capability (Some at)
     → IsPackedAs (behind_words w at slot head tail (w.depth at + 1)) o first (put_behind at slot rows)
 behind-packs w o first rows at slot capability head tail is full room kin =
@@ -251,7 +273,8 @@ behind-packs w o first rows at slot capability head tail is full room kin =
 abbrev pub first_words : Words → Option ℕ → ℕ → ℕ → ℕ → Words
 first_words w first slot head tail = with_more w slot head tail 0 (put w.next slot first) (put (put_at w.previous first (Some slot)) slot None)
 
-first-more : (rows : List Row) (slot : ℕ) (w : Words) → IsLinked w.next w.previous w.depth rows → rows_of rows slot ≡ 0 → AreMore rows (first_row slot ∷ rows) slot None
+first-more : (rows : List Row) (slot : ℕ) (w : Words) → IsLinked w.next w.previous w.depth rows → rows_of rows slot ≡ 0 →
+    AreMore rows (first_row slot ∷ rows) slot None
 first-more rows slot w linked none = record {
   own = first-own rows slot;
   others = λ s off. first-others rows slot s linked.rises off;
@@ -259,14 +282,16 @@ first-more rows slot w linked none = record {
   times = λ s off. ap (λ b. if b then rows_of rows s + 1 else rows_of rows s) (ne_eqb slot s (λ same. off (sym same)));
 }
 
-first-linked : (w : Words) (rows : List Row) (slot : ℕ) (first : Option ℕ) → IsLinked w.next w.previous w.depth rows → first ≡ first_of (slots_of rows) → rows_of rows slot ≡ 0
+first-linked : (w : Words) (rows : List Row) (slot : ℕ) (first : Option ℕ) → IsLinked w.next w.previous w.depth rows → first ≡ first_of (slots_of rows) →
+    rows_of rows slot ≡ 0
     → IsLinked (put w.next slot first) (put (put_at w.previous first (Some slot)) slot None) (put w.depth slot 0) (first_row slot ∷ rows)
 first-linked w rows slot first linked begins none =
     let more = first-more rows slot w linked none in
     record {
       chain = subst (λ (f : Option ℕ). IsChain (put w.next slot f) (put (put_at w.previous f (Some slot)) slot None) None (slot ∷ slots_of rows)) (sym begins)
           (chain-first (slots_of rows) w.next w.previous slot linked.chain linked.once none);
-      deep = deep-first rows w.depth (put w.depth slot 0) slot linked.deep (λ s is. put-off w.depth slot s 0 (not-in rows slot s none is)) (put-here w.depth slot slot 0 refl);
+      deep = deep-first rows w.depth (put w.depth slot 0) slot linked.deep (λ s is. put-off w.depth slot s 0 (not-in rows slot s none is))
+          (put-here w.depth slot slot 0 refl);
       rises = rises-first rows slot linked.rises;
       once = λ s. elim (eqb_tells s slot) [
         | inl here ↦ omega (arith, ap (rows_of (first_row slot ∷ rows)) here.1, more.once)
@@ -274,18 +299,23 @@ first-linked w rows slot first linked begins none =
       ];
     }
 
-pub first-slots : (w : Words) (o : List Bool) (first : Option ℕ) (rows : List Row) (slot : ℕ) (capability : Cap) (head tail : ℕ) → IsPut w o first rows slot capability head tail
+pub first-slots : (w : Words) (o : List Bool) (first : Option ℕ) (rows : List Row) (slot : ℕ) (capability : Cap) (head tail : ℕ) →
+    IsPut w o first rows slot capability head tail
     → slots_as (first_words w first slot head tail) o (first_row slot ∷ rows) ≡ inserted (slots_as w o rows) slot capability None
 first-slots w o first rows slot capability head tail is =
-    put-slots w o first rows (first_row slot ∷ rows) slot capability head tail 0 None (put w.next slot first) (put (put_at w.previous first (Some slot)) slot None) is
+    put-slots w o first rows (first_row slot ∷ rows) slot capability head tail 0 None (put w.next slot first)
+    (put (put_at w.previous first (Some slot)) slot None) is
     (first-more rows slot w is.packed.linked (none-row w o first rows slot is.packed is.empty))
 
-pub first-packs : (w : Words) (o : List Bool) (first : Option ℕ) (rows : List Row) (slot : ℕ) (capability : Cap) (head tail : ℕ) → IsPut w o first rows slot capability head tail
+pub first-packs : (w : Words) (o : List Bool) (first : Option ℕ) (rows : List Row) (slot : ℕ) (capability : Cap) (head tail : ℕ) →
+    IsPut w o first rows slot capability head tail
     → IsKin (slots_as w o rows) capability None → IsPackedAs (first_words w first slot head tail) o (Some slot) (first_row slot ∷ rows)
 first-packs w o first rows slot capability head tail is kin =
     let none = none-row w o first rows slot is.packed is.empty in
-    put-packs w o first rows (first_row slot ∷ rows) slot capability head tail 0 None (put w.next slot first) (put (put_at w.previous first (Some slot)) slot None) is
+    put-packs w o first rows (first_row slot ∷ rows) slot capability head tail 0 None (put w.next slot first)
+    (put (put_at w.previous first (Some slot)) slot None) is
     (first-more rows slot w is.packed.linked none) (Some slot) (first-linked w rows slot first is.packed.linked is.packed.begins none) refl
     (λ p same. none-clash p same) (λ p same. none-clash p same)
-    (runs-first (object_at (inserted (slots_as w o rows) slot capability None)) slot (slots_of rows) (unnamed-rows (slots_as w o rows) rows slot capability None none kin)
+    (runs-first (object_at (inserted (slots_as w o rows) slot capability None)) slot (slots_of rows)
+    (unnamed-rows (slots_as w o rows) rows slot capability None none kin)
     (runs-kept (slots_as w o rows) rows slot capability None none is.packed.runs))

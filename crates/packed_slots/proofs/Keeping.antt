@@ -19,7 +19,8 @@ use Rattle.slots.specs.preorder.Preorder.{Row, parents_of, rows_of, slots_of}
 use Rattle.packed_slots.specs.Packing.{IsPackedAs, is_open_in, slots_as}
 use Rattle.packed_slots.specs.Words.{Words, capability_in}
 use Rattle.packed_slots.proofs.Inserting.{put-here, put-off}
-use Rattle.packed_slots.proofs.PackedFacts.{as-closed, as-open, closed-from, closed-row, entry_as, open-full, packs, parent-as, row-open, zero-empty, zero-whole}
+use Rattle.packed_slots.proofs.PackedFacts.{as-closed, as-open, closed-from, closed-row, entry_as, open-full, packs, parent-as, row-open, zero-empty}
+use Rattle.packed_slots.proofs.PackedFacts.{zero-whole}
 use Rattle.packed_slots.proofs.WordWrites.{zeroed}
 
 -- the words of a slot are the same
@@ -49,7 +50,8 @@ whole-same old new s same whole =
 
 -- ---- nothing changes where a slot is open
 
-pub same-slots : (old new : Words) (o : List Bool) (rows : List Row) → ((s : ℕ) → is_open_in o s ≡ true → AreSame old new s) → slots_as new o rows ≡ slots_as old o rows
+pub same-slots : (old new : Words) (o : List Bool) (rows : List Row) → ((s : ℕ) → is_open_in o s ≡ true → AreSame old new s) →
+    slots_as new o rows ≡ slots_as old o rows
 same-slots old new o rows same = λ i s. at s i
   where
     at : (s : ℕ) → slots_as new o rows s ≡ slots_as old o rows s
@@ -101,7 +103,8 @@ module _ (w : Words) (o : List Bool) (first : Option ℕ) (rows : List Row) (slo
         | inr off ↦
             elim (is_open_in o s) as (λ b. is_open_in o s ≡ b → slots_as new o rows s ≡ slots s) [
               | true ↦ λ is.
-                  as-open new o rows s is ∙ ap (λ (c : Cap). Some (record { capability = c; parent = parents_of rows s })) (capability-same w new s (other-same s off.1))
+                  as-open new o rows s is ∙ ap (λ (c : Cap). Some (record { capability = c; parent = parents_of rows s }))
+                  (capability-same w new s (other-same s off.1))
                   ∙ sym (as-open w o rows s is)
               | false ↦ λ is. as-closed new o rows s is ∙ sym (as-closed w o rows s is)
             ] refl
@@ -111,12 +114,14 @@ module _ (w : Words) (o : List Bool) (first : Option ℕ) (rows : List Row) (slo
   pub capped-slots : slots_as new o rows ≡ recapped (slots_as w o rows) slot capability
   capped-slots = λ i s. capped-at s i
 
-  object-capped : object_of capability ≡ object_at (slots_as w o rows) slot → (s : ℕ) → object_at (recapped (slots_as w o rows) slot capability) s ≡ object_at (slots_as w o rows) s
+  object-capped : object_of capability ≡ object_at (slots_as w o rows) slot → (s : ℕ) →
+      object_at (recapped (slots_as w o rows) slot capability) s ≡ object_at (slots_as w o rows) s
   object-capped alike s =
       let slots = slots_as w o rows in
       let held : Entry = record { capability = capability; parent = parent_at slots slot } in
       elim (eqb_tells s slot) [
-        | inl here ↦ ap (object_at (recapped slots slot capability)) here.1 ∙ ap (λ e. object_of (capability_of e)) (entry-same slots slot (Some held)) ∙ alike ∙ ap (object_at slots) (sym here.1)
+        | inl here ↦ ap (object_at (recapped slots slot capability)) here.1 ∙ ap (λ e. object_of (capability_of e)) (entry-same slots slot (Some held)) ∙ alike
+            ∙ ap (object_at slots) (sym here.1)
         | inr off ↦ ap (λ e. object_of (capability_of e)) (entry-other slots slot (Some held) s off.1)
       ]
 
@@ -154,7 +159,8 @@ module _ (w : Words) (o o' : List Bool) (first : Option ℕ) (rows : List Row) (
 
   opened-at : (s : ℕ) → slots_as blank_words o' rows s ≡ opened (slots_as w o rows) from count s
   opened-at s =
-      elim (is_within from count s) as (λ b. is_within from count s ≡ b → slots_as blank_words o' rows s ≡ (if b then Some empty_entry else slots_as w o rows s)) [
+      elim (is_within from count s) as (λ b. is_within from count s ≡ b →
+      slots_as blank_words o' rows s ≡ (if b then Some empty_entry else slots_as w o rows s)) [
         | true ↦ λ is.
             let head : blank_words.head s ≡ 0 = ap (λ b. if b then 0 else w.head s) is in
             let tail : blank_words.tail s ≡ 0 = ap (λ b. if b then 0 else w.tail s) is in
@@ -166,7 +172,8 @@ module _ (w : Words) (o o' : List Bool) (first : Option ℕ) (rows : List Row) (
         | false ↦ λ off.
             let same : is_open_in o' s ≡ is_open_in o s = opens s ∙ ap (λ b. if b then true else is_open_in o s) off in
             ap (λ b. if b then Some (entry_as blank_words rows s) else None) same
-            ∙ ap (λ (c : Cap). if is_open_in o s then Some (record { capability = c; parent = parents_of rows s }) else None) (capability-same w blank_words s (beside s off))
+            ∙ ap (λ (c : Cap). if is_open_in o s then Some (record { capability = c; parent = parents_of rows s }) else None)
+            (capability-same w blank_words s (beside s off))
       ] refl
 
   pub opened-slots : slots_as blank_words o' rows ≡ opened (slots_as w o rows) from count
@@ -184,13 +191,16 @@ module _ (w : Words) (o o' : List Bool) (first : Option ℕ) (rows : List Row) (
         | false ↦ λ off. beside s off
       ] refl))
       packed.begins (λ s. packed.listed s ∙ sym (ap (λ b. if b then 1 else 0) (full-opened s)))
-      (λ s is. elim (is_within from count s) as (λ b. is_within from count s ≡ b → blank_words.head s ∷ blank_words.tail s ∷ [] ≡ words_of (capability_in blank_words s)) [
-        | true ↦ λ inside. zero-whole (blank_words.head s) (blank_words.tail s) (ap (λ b. if b then 0 else w.head s) inside) (ap (λ b. if b then 0 else w.tail s) inside)
+      (λ s is. elim (is_within from count s) as (λ b. is_within from count s ≡ b →
+      blank_words.head s ∷ blank_words.tail s ∷ [] ≡ words_of (capability_in blank_words s)) [
+        | true ↦ λ inside. zero-whole (blank_words.head s) (blank_words.tail s) (ap (λ b. if b then 0 else w.head s) inside)
+            (ap (λ b. if b then 0 else w.tail s) inside)
         | false ↦ λ off. whole-same w blank_words s (beside s off) (packed.whole s (sym (opens s ∙ ap (λ b. if b then true else is_open_in o s) off) ∙ is))
       ] refl)
       (λ s is empty. elim (is_within from count s) as (λ b. is_within from count s ≡ b → blank_words.depth s ≡ 0) [
         | true ↦ λ inside. ap (λ b. if b then 0 else w.depth s) inside
-        | false ↦ λ off. (beside s off).depth ∙ packed.blank s (sym (opens s ∙ ap (λ b. if b then true else is_open_in o s) off) ∙ is) (sym (full-opened s) ∙ empty)
+        | false ↦ λ off. (beside s off).depth ∙ packed.blank s (sym (opens s ∙ ap (λ b. if b then true else is_open_in o s) off) ∙ is)
+            (sym (full-opened s) ∙ empty)
       ] refl)
       (derivation-opened (slots_as w o rows) from count packed.derivation was)
       (runs-same (object_at (slots_as w o rows)) (object_at (opened (slots_as w o rows) from count)) (slots_of rows)

@@ -1,5 +1,6 @@
 -- What a slot holds is moved to an empty one.
-use Rattle.std.proofs.Common.{ℕ, ◌≡◌, ◌≢◌, ◌∙◌, ◌+◌, ◌<◌, ◌≤◌, inl, inr, Bool, true, false, not, if◌then◌else◌, Option, Some, None, List, [], ◌∷◌, refl, sym, ap, arith}
+use Rattle.std.proofs.Common.{ℕ, ◌≡◌, ◌≢◌, ◌∙◌, ◌+◌, ◌<◌, ◌≤◌, inl, inr, Bool, true, false, not, if◌then◌else◌, Option, Some, None, List, [], ◌∷◌, refl, sym}
+use Rattle.std.proofs.Common.{ap, arith}
 use Rattle.std.specs.Option.{option_map}
 use Rattle.std.proofs.lemmas.Bool.Decides.{eqb_tells}
 use Rattle.std.proofs.lemmas.Bool.{ne_eqb}
@@ -13,7 +14,8 @@ use Rattle.model.specs.Capabilities.Orders.{first_of}
 use Rattle.model.specs.Capabilities.Slots.{IsDerivation, Slots, adopted, empty_entry, is_empty, is_full, parent_at, relocated, with_entry, with_parent}
 use Rattle.model.specs.Shared.Lists.{times_in, without}
 use Rattle.model.specs.declared.capabilities.Cap.{Cap}
-use Rattle.slots.proofs.Laws.{deep-renamed, none-without, renamed-here, renamed-other, renamed-parents, rises-renamed, runs-renamed, runs-same, slots-renamed, times-put_after, times-put_after_own}
+use Rattle.slots.proofs.Laws.{deep-renamed, none-without, renamed-here, renamed-other, renamed-parents, rises-renamed, runs-renamed, runs-same, slots-renamed}
+use Rattle.slots.proofs.Laws.{times-put_after, times-put_after_own}
 use Rattle.slots.specs.preorder.Chains.{IsChain, IsLinked, put_after}
 use Rattle.model.specs.Kernel.State.{put}
 use Rattle.slots.specs.Kin.{object_at}
@@ -23,7 +25,8 @@ use Rattle.packed_slots.specs.Packing.{IsPackedAs, is_open_in, slots_as}
 use Rattle.packed_slots.specs.Words.{Words, capability_in, first_without}
 use Rattle.packed_slots.proofs.Inserting.{behind-chain, behind_words, empty-not-full, first-behind, none-row, not-in, put-here, put-off}
 use Rattle.packed_slots.proofs.PackedFacts.{adopted-as, as-closed, as-open, full-row, open-from, open-full, packs, parent-as, zero-empty}
-use Rattle.packed_slots.proofs.Splicing.{capability-gone, capability-off, first-without, linked-unlinked, times-without, times-without_other, unlinked_words, whole-unlinked, zeroed-here, zeroed-off}
+use Rattle.packed_slots.proofs.Splicing.{capability-gone, capability-off, first-without, linked-unlinked, times-without, times-without_other, unlinked_words}
+use Rattle.packed_slots.proofs.Splicing.{whole-unlinked, zeroed-here, zeroed-off}
 
 -- no slot is its own parent
 pub not-own : (slots : Slots) (s : ℕ) → IsDerivation slots → parent_at slots s ≢ Some s
@@ -81,7 +84,8 @@ module _ (w : Words) (o : List Bool) (first : Option ℕ) (rows : List Row) (fro
   capability-to : capability_in new to ≡ capability_in w from
   capability-to =
       capability-off moved from to apart'
-      ∙ ap (λ h. fields_of h (moved.tail to)) (put-here w.head to to (w.head from) refl) ∙ ap (fields_of (w.head from)) (put-here w.tail to to (w.tail from) refl)
+      ∙ ap (λ h. fields_of h (moved.tail to)) (put-here w.head to to (w.head from) refl)
+      ∙ ap (fields_of (w.head from)) (put-here w.tail to to (w.tail from) refl)
 
   capability-other : (s : ℕ) → s ≢ from → s ≢ to → capability_in new s ≡ capability_in w s
   capability-other s off off' =
@@ -244,11 +248,15 @@ module _ (w : Words) (o : List Bool) (first : Option ℕ) (rows : List Row) (fro
       moved-lists (whole-unlinked moved o from moved-whole) moved-blank
       (derivation-relocated slots from to packed.derivation full empty) moved-runs
 
-pub move-slots : (w : Words) (o : List Bool) (first : Option ℕ) (rows : List Row) (from to : ℕ) → IsPackedAs w o first rows → is_full (slots_as w o rows) from ≡ true
-    → slots_as w o rows to ≡ Some empty_entry → slots_as (unlinked_words (moved_words w from to) from) o (renamed from to rows) ≡ relocated (slots_as w o rows) from to
+pub move-slots : (w : Words) (o : List Bool) (first : Option ℕ) (rows : List Row) (from to : ℕ) → IsPackedAs w o first rows →
+    is_full (slots_as w o rows) from ≡ true
+    → slots_as w o rows to ≡ Some empty_entry → slots_as (unlinked_words (moved_words w from to) from) o (renamed from to rows) ≡ relocated (slots_as w o rows)
+    from to
 move-slots w o first rows from to packed full empty = moved-is w o first rows from to packed full empty
 
-pub move-packs : (w : Words) (o : List Bool) (first : Option ℕ) (rows : List Row) (from to : ℕ) → IsPackedAs w o first rows → is_full (slots_as w o rows) from ≡ true
+pub move-packs : (w : Words) (o : List Bool) (first : Option ℕ) (rows : List Row) (from to : ℕ) → IsPackedAs w o first rows →
+    is_full (slots_as w o rows) from ≡ true
     → slots_as w o rows to ≡ Some empty_entry
-    → IsPackedAs (unlinked_words (moved_words w from to) from) o (first_without ((moved_words w from to).previous from) ((moved_words w from to).next from) first) (renamed from to rows)
+    → IsPackedAs (unlinked_words (moved_words w from to) from) o
+    (first_without ((moved_words w from to).previous from) ((moved_words w from to).next from) first) (renamed from to rows)
 move-packs w o first rows from to packed full empty = moved-packs w o first rows from to packed full empty

@@ -1,5 +1,6 @@
 -- What follows from words and rows that say the same.
-use Rattle.std.proofs.Common.{ℕ, ◌≡◌, ◌≢◌, ◌∙◌, ◌+◌, ◌*◌, ◌^◌, ◌<◌, ◌≤◌, inl, inr, Bool, true, false, not, if◌then◌else◌, Option, Some, None, List, [], ◌∷◌, length, refl, sym, ap, subst, arith}
+use Rattle.std.proofs.Common.{ℕ, ◌≡◌, ◌≢◌, ◌∙◌, ◌+◌, ◌*◌, ◌^◌, ◌<◌, ◌≤◌, inl, inr, Bool, true, false, not, if◌then◌else◌, Option, Some, None, List, [], ◌∷◌}
+use Rattle.std.proofs.Common.{length, refl, sym, ap, subst, arith}
 use Rattle.std.proofs.lemmas.Bool.Decides.{eqb_tells, nat_tests}
 use Rattle.std.proofs.lemmas.Bool.{cases_lt}
 use Rattle.std.proofs.lemmas.List.{get_or_past}
@@ -63,13 +64,16 @@ open-near o s is = elim (cases_lt s (length o)) [
 
 -- ---- rows and slots
 
-pub full-row : (w : Words) (o : List Bool) (first : Option ℕ) (rows : List Row) (s : ℕ) → IsPackedAs w o first rows → is_full (slots_as w o rows) s ≡ true → rows_of rows s ≡ 1
+pub full-row : (w : Words) (o : List Bool) (first : Option ℕ) (rows : List Row) (s : ℕ) → IsPackedAs w o first rows → is_full (slots_as w o rows) s ≡ true →
+    rows_of rows s ≡ 1
 full-row w o first rows s packed full = packed.listed s ∙ ap (λ b. if b then 1 else 0) full
 
-pub no-row : (w : Words) (o : List Bool) (first : Option ℕ) (rows : List Row) (s : ℕ) → IsPackedAs w o first rows → is_full (slots_as w o rows) s ≡ false → rows_of rows s ≡ 0
+pub no-row : (w : Words) (o : List Bool) (first : Option ℕ) (rows : List Row) (s : ℕ) → IsPackedAs w o first rows → is_full (slots_as w o rows) s ≡ false →
+    rows_of rows s ≡ 0
 no-row w o first rows s packed empty = packed.listed s ∙ ap (λ b. if b then 1 else 0) empty
 
-pub row-full : (w : Words) (o : List Bool) (first : Option ℕ) (rows : List Row) (s : ℕ) → IsPackedAs w o first rows → 0 < rows_of rows s → is_full (slots_as w o rows) s ≡ true
+pub row-full : (w : Words) (o : List Bool) (first : Option ℕ) (rows : List Row) (s : ℕ) → IsPackedAs w o first rows → 0 < rows_of rows s →
+    is_full (slots_as w o rows) s ≡ true
 row-full w o first rows s packed there =
     elim (is_full (slots_as w o rows) s) as (λ b. is_full (slots_as w o rows) s ≡ b → b ≡ true) [
       | true ↦ λ is. refl
@@ -79,11 +83,13 @@ row-full w o first rows s packed there =
 pub row-open : (w : Words) (o : List Bool) (first : Option ℕ) (rows : List Row) (s : ℕ) → IsPackedAs w o first rows → 0 < rows_of rows s → is_open_in o s ≡ true
 row-open w o first rows s packed there = open-full w o rows s (row-full w o first rows s packed there)
 
-pub closed-row : (w : Words) (o : List Bool) (first : Option ℕ) (rows : List Row) (s : ℕ) → IsPackedAs w o first rows → is_open_in o s ≡ false → rows_of rows s ≡ 0
+pub closed-row : (w : Words) (o : List Bool) (first : Option ℕ) (rows : List Row) (s : ℕ) → IsPackedAs w o first rows → is_open_in o s ≡ false →
+    rows_of rows s ≡ 0
 closed-row w o first rows s packed closed = no-row w o first rows s packed (ap (λ e. not (is_empty (capability_of e))) (as-closed w o rows s closed))
 
 -- parents are those of the rows
-pub parent-as : (w : Words) (o : List Bool) (first : Option ℕ) (rows : List Row) (s : ℕ) → IsPackedAs w o first rows → parent_at (slots_as w o rows) s ≡ parents_of rows s
+pub parent-as : (w : Words) (o : List Bool) (first : Option ℕ) (rows : List Row) (s : ℕ) → IsPackedAs w o first rows →
+    parent_at (slots_as w o rows) s ≡ parents_of rows s
 parent-as w o first rows s packed =
     elim (is_open_in o s) as (λ b. is_open_in o s ≡ b → parent_at (slots_as w o rows) s ≡ parents_of rows s) [
       | true ↦ λ is. ap parent_of (as-open w o rows s is)
@@ -91,14 +97,16 @@ parent-as w o first rows s packed =
     ] refl
 
 -- the neighbours of a row
-pub next-open : (w : Words) (o : List Bool) (first : Option ℕ) (rows : List Row) (s n : ℕ) → IsPackedAs w o first rows → 0 < rows_of rows s → w.next s ≡ Some n → is_open_in o n ≡ true
+pub next-open : (w : Words) (o : List Bool) (first : Option ℕ) (rows : List Row) (s n : ℕ) → IsPackedAs w o first rows → 0 < rows_of rows s →
+    w.next s ≡ Some n → is_open_in o n ≡ true
 next-open w o first rows s n packed there is = elim (next-in (slots_of rows) w.next w.previous None s packed.linked.chain there) [
   | inl end ↦ absurd (let clash : None ≡ Some n = sym end ∙ is in cc)
   | inr some ↦ (let same : some.slot ≡ n = (let e : Some some.slot ≡ Some n = sym some.is ∙ is in cc) in
       ap (is_open_in o) (sym same) ∙ row-open w o first rows some.slot packed some.there)
 ]
 
-pub previous-open : (w : Words) (o : List Bool) (first : Option ℕ) (rows : List Row) (s n : ℕ) → IsPackedAs w o first rows → 0 < rows_of rows s → w.previous s ≡ Some n → is_open_in o n ≡ true
+pub previous-open : (w : Words) (o : List Bool) (first : Option ℕ) (rows : List Row) (s n : ℕ) → IsPackedAs w o first rows → 0 < rows_of rows s →
+    w.previous s ≡ Some n → is_open_in o n ≡ true
 previous-open w o first rows s n packed there is = elim (previous-in (slots_of rows) w.next w.previous None s packed.linked.chain there) [
   | inl end ↦ absurd (let clash : None ≡ Some n = sym end ∙ is in cc)
   | inr some ↦ (let same : some.slot ≡ n = (let e : Some some.slot ≡ Some n = sym some.is ∙ is in cc) in
@@ -117,10 +125,12 @@ first-open w o first (r ∷ rest) n packed is =
 -- ---- what a change leaves
 
 -- words and rows that represent slots of which all this is known
-pub packs : (w : Words) (o : List Bool) (first : Option ℕ) (rows : List Row) (slots : Slots) → slots_as w o rows ≡ slots → IsLinked w.next w.previous w.depth rows
+pub packs : (w : Words) (o : List Bool) (first : Option ℕ) (rows : List Row) (slots : Slots) → slots_as w o rows ≡ slots →
+    IsLinked w.next w.previous w.depth rows
     → first ≡ first_of (slots_of rows) → IsOrderOf (slots_of rows) slots
     → ((s : ℕ) → is_open_in o s ≡ true → w.head s ∷ w.tail s ∷ [] ≡ words_of (capability_in w s))
-    → ((s : ℕ) → is_open_in o s ≡ true → is_full slots s ≡ false → w.depth s ≡ 0) → IsDerivation slots → AreRuns (object_at slots) (slots_of rows) → IsPackedAs w o first rows
+    → ((s : ℕ) → is_open_in o s ≡ true → is_full slots s ≡ false → w.depth s ≡ 0) → IsDerivation slots → AreRuns (object_at slots) (slots_of rows) →
+    IsPackedAs w o first rows
 packs w o first rows slots is linked begins lists whole blank sound runs = record {
   linked = linked;
   begins = begins;
@@ -175,7 +185,8 @@ zero-empty = refl
 
 pub zero-whole : (head tail : ℕ) → head ≡ 0 → tail ≡ 0 → head ∷ tail ∷ [] ≡ words_of (fields_of head tail)
 unfolding fields_of_kind
-zero-whole head tail h t = ap (λ x. x ∷ tail ∷ []) h ∙ ap (λ x. 0 ∷ x ∷ []) t ∙ sym (ap (λ x. words_of (fields_of x tail)) h ∙ ap (λ x. words_of (fields_of 0 x)) t)
+zero-whole head tail h t = ap (λ x. x ∷ tail ∷ []) h ∙ ap (λ x. 0 ∷ x ∷ []) t
+    ∙ sym (ap (λ x. words_of (fields_of x tail)) h ∙ ap (λ x. words_of (fields_of 0 x)) t)
 
 pub within-here : (s x : ℕ) → x ≡ s → is_within s 1 x ≡ true
 within-here s x here = grind (arith, nat_tests)

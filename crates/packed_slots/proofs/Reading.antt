@@ -1,5 +1,6 @@
 -- What reads of slots that are packed find.
-use Rattle.std.proofs.Common.{ℕ, zero, suc, ◌≡◌, ◌∙◌, ◌&&◌, ◌+◌, ◌-◌, ◌*◌, ◌/◌, ◌^◌, ◌<◌, ◌≤◌, nat_lt, inl, inr, Bool, true, false, not, if◌then◌else◌, Option, Some, None, is_some, List, [], length, replicate, slice_index, refl, sym, ap, subst, arith}
+use Rattle.std.proofs.Common.{ℕ, zero, suc, ◌≡◌, ◌∙◌, ◌&&◌, ◌+◌, ◌-◌, ◌*◌, ◌/◌, ◌^◌, ◌<◌, ◌≤◌, nat_lt, inl, inr, Bool, true, false, not, if◌then◌else◌, Option}
+use Rattle.std.proofs.Common.{Some, None, is_some, List, [], length, replicate, slice_index, refl, sym, ap, subst, arith}
 use Rattle.std.proofs.lemmas.Bool.{cases_lt, le-ltb}
 use Rattle.std.proofs.lemmas.List.{get_or-replicate, get_or_past, length-replicate}
 use Rattle.std.proofs.lemmas.Nat.{pow-add}
@@ -9,7 +10,8 @@ use Rattle.model.proofs.Depths.{depth-none}
 use Rattle.model.proofs.SlotChanges.{capability_of, parent_of}
 use Rattle.model.specs.Capabilities.CapabilityWords.{IsCapability}
 use Rattle.model.specs.Capabilities.Orders.{next_after}
-use Rattle.model.specs.Capabilities.Slots.{IsDerivation, IsFull, IsOpen, OutsideSlots, Slots, capability_at, depth_of, is_descendant, is_empty, is_full, parent_at}
+use Rattle.model.specs.Capabilities.Slots.{IsDerivation, IsFull, IsOpen, OutsideSlots, Slots, capability_at, depth_of, is_descendant, is_empty, is_full}
+use Rattle.model.specs.Capabilities.Slots.{parent_at}
 use Rattle.model.specs.Shared.Bytes.{written}
 use Rattle.model.specs.declared.capabilities.Cap.TheVariants.{Empty}
 use Rattle.slots.proofs.Laws.{descends-back, linked-next, none-without, parents-back}
@@ -55,7 +57,8 @@ pub back_none : (previous : Links) (depths : ℕ → ℕ) (n d : ℕ) (o : Optio
 back_none previous depths n d o is = sym (ap (λ e. back_above previous depths n e o) is ∙ back-zero previous depths n o)
 
 pub parent-found : (p : Packed) (s : ℕ) → IsPacked p → is_open_in p.open_slots s ≡ true
-    → parents_of (packed_rows p) s ≡ back_above (words_in p.memory).previous (words_in p.memory).depth (length p.open_slots) ((words_in p.memory).depth s) ((words_in p.memory).previous s)
+    → parents_of (packed_rows p) s ≡ back_above (words_in p.memory).previous (words_in p.memory).depth (length p.open_slots) ((words_in p.memory).depth s)
+    ((words_in p.memory).previous s)
 parent-found p s is there =
     let w = words_in p.memory in
     let rows = packed_rows p in
@@ -74,14 +77,16 @@ parent-found p s is there =
 pub next-found : (p : Packed) (s : ℕ) → IsPacked p → IsFull (packed_slots p) s → (words_in p.memory).next s ≡ next_after (packed_order p) s
 next-found p s is full =
     let w = words_in p.memory in
-    sym (linked-next (packed_order p) w.next w.previous None s is.packed.linked.chain (omega (arith, full-row w p.open_slots p.first (packed_rows p) s is.packed full)))
+    sym (linked-next (packed_order p) w.next w.previous None s is.packed.linked.chain
+    (omega (arith, full-row w p.open_slots p.first (packed_rows p) s is.packed full)))
 
 -- ---- descent
 
 pub descent-found : (p : Packed) (root s : ℕ) → IsPacked p → is_open_in p.open_slots s ≡ true
     → is_descendant (packed_slots p) root s
     ≡ (nat_lt ((words_in p.memory).depth root) ((words_in p.memory).depth s)
-    && is_one root (back_above (words_in p.memory).previous (words_in p.memory).depth (length p.open_slots) ((words_in p.memory).depth root + 1) ((words_in p.memory).previous s)))
+    && is_one root (back_above (words_in p.memory).previous (words_in p.memory).depth (length p.open_slots) ((words_in p.memory).depth root + 1)
+    ((words_in p.memory).previous s)))
 descent-found p root s is there =
     let w = words_in p.memory in
     let rows = packed_rows p in
@@ -116,12 +121,14 @@ written-kept p offset piece m is within outside same =
     ∙ elim (cases_lt place offset) [
       | inl less ↦ slice_index-written_before old offset piece place within less
       | inr least ↦ elim (cases_lt place (offset + length piece)) [
-        | inl inside ↦ absurd (let clash : None ≡ Some (entry_as w rows (place / 16)) = sym (outside place least inside) ∙ as-open w o rows (place / 16) there in cc)
+        | inl inside ↦ absurd (let clash : None ≡ Some (entry_as w rows (place / 16)) = sym (outside place least inside)
+            ∙ as-open w o rows (place / 16) there in cc)
         | inr past ↦ slice_index-written_behind old offset piece place within past
       ]
     ] in
     let words : (s k : ℕ) → is_open_in o s ≡ true → k < 4 → word_of m s k ≡ word_of old s k = λ s k there small.
-    word_at-same old m (16 * s + 4 * k) (λ place low high. bytes place (ap (is_open_in o) (let e : place / 16 ≡ s = omega (arith, low, high, small) in e) ∙ there)) in
+    word_at-same old m (16 * s + 4 * k) (λ place low high.
+    bytes place (ap (is_open_in o) (let e : place / 16 ≡ s = omega (arith, low, high, small) in e) ∙ there)) in
     let alike : (s : ℕ) → is_open_in o s ≡ true → AreSame w new s = λ s there. record {
       head = words s 0 there (omega arith);
       tail = words s 1 there (omega arith);
@@ -165,7 +172,8 @@ sound-none slots none = record {
   shallow = λ s. omega (arith, depth-none 256 (parent_at slots) s (ap parent_of (none s)));
 }
 
-pub packed-new : (m : List ℕ) (o : List Bool) (bits count : ℕ) → 4 ≤ bits → length m ≡ 2 ^ bits → length m ≤ 2 ^ 24 → count ≡ length m / 16 → o ≡ replicate count false
+pub packed-new : (m : List ℕ) (o : List Bool) (bits count : ℕ) → 4 ≤ bits → length m ≡ 2 ^ bits → length m ≤ 2 ^ 24 → count ≡ length m / 16 →
+    o ≡ replicate count false
     → IsPacked (packing m o None)
 packed-new m o bits count least size most is made =
     let w = words_in m in

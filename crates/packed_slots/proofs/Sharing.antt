@@ -6,7 +6,8 @@ use Rattle.std.specs.Option.{option_map_or}
 use Rattle.model.specs.Capabilities.CapabilityKinds.{object_of}
 use Rattle.model.specs.Capabilities.Slots.{IsFull, Slots, capability_at, is_empty, is_full}
 use Rattle.model.specs.declared.capabilities.Cap.{Cap}
-use Rattle.model.specs.declared.capabilities.Cap.TheVariants.{Empty, Untyped, Endpoint, Notification, CNode, Frame, PageTable, Tcb, RootTable, InterruptControl, InterruptHandler}
+use Rattle.model.specs.declared.capabilities.Cap.TheVariants.{Empty, Untyped, Endpoint, Notification, CNode, Frame, PageTable, Tcb, RootTable, InterruptControl}
+use Rattle.model.specs.declared.capabilities.Cap.TheVariants.{InterruptHandler}
 use Rattle.slots.proofs.Laws.{another-beside, next-another, previous-another}
 use Rattle.slots.specs.Kin.{IsShared, object_at}
 use Rattle.slots.specs.preorder.Preorder.{rows_of, slots_of}
@@ -26,7 +27,8 @@ named-so (Some x) offset is = elim (eqb_tells x offset) [
 pub so-named : (o : Option ℕ) (offset : ℕ) → o ≡ Some offset → option_map_or (λ named. named == offset) o false ≡ true
 so-named o offset is = ap (λ o. option_map_or (λ named. named == offset) o false) is ∙ eq-eqb offset offset refl
 
-pub at-found : (slots : Slots) (offset : ℕ) (found : Option ℕ) → is_named_at slots offset found ≡ true → (s : ℕ) × (found ≡ Some s) × (object_at slots s ≡ Some offset)
+pub at-found : (slots : Slots) (offset : ℕ) (found : Option ℕ) → is_named_at slots offset found ≡ true → (s : ℕ) × (found ≡ Some s)
+    × (object_at slots s ≡ Some offset)
 at-found slots offset None is = absurd (let clash : false ≡ true = is in cc)
 at-found slots offset (Some s) is = (s, refl, named-so (object_at slots s) offset is)
 
@@ -60,9 +62,11 @@ named-full InterruptControl offset is = refl
 named-full (InterruptHandler _) offset is = refl
 
 with-offset : (p : Packed) (slot offset : ℕ) → object_at (packed_slots p) slot ≡ Some offset
-    → has_like_neighbour p slot ≡ (is_named_at (packed_slots p) offset ((words_in p.memory).previous slot) || is_named_at (packed_slots p) offset ((words_in p.memory).next slot))
+    → has_like_neighbour p slot ≡ (is_named_at (packed_slots p) offset ((words_in p.memory).previous slot)
+    || is_named_at (packed_slots p) offset ((words_in p.memory).next slot))
 with-offset p slot offset is =
-    ap (λ (o : Option ℕ). option_map_or (λ offset. is_named_at (packed_slots p) offset ((words_in p.memory).previous slot) || is_named_at (packed_slots p) offset ((words_in p.memory).next slot)) o false) is
+    ap (λ (o : Option ℕ). option_map_or (λ offset. is_named_at (packed_slots p) offset ((words_in p.memory).previous slot)
+    || is_named_at (packed_slots p) offset ((words_in p.memory).next slot)) o false) is
 
 pub shared-so : (p : Packed) (slot : ℕ) → IsPacked p → IsFull (packed_slots p) slot → has_like_neighbour p slot ≡ true → IsShared (packed_slots p) slot
 shared-so p slot is full like =
@@ -72,15 +76,31 @@ shared-so p slot is full like =
     let there : 0 < rows_of rows slot = omega (arith, full-row w p.open_slots p.first rows slot is.packed full) in
     elim (object_at (packed_slots p) slot) as (λ o. object_at (packed_slots p) slot ≡ o → IsShared (packed_slots p) slot) [
       | None ↦ λ none. absurd (let clash : false ≡ true =
-          sym (ap (λ (o : Option ℕ). option_map_or (λ offset. is_named_at (packed_slots p) offset (w.previous slot) || is_named_at (packed_slots p) offset (w.next slot)) o false) none) ∙ like in cc)
+          sym (ap (λ (o : Option ℕ). option_map_or (λ offset. is_named_at (packed_slots p) offset (w.previous slot)
+          || is_named_at (packed_slots p) offset (w.next slot)) o false) none) ∙ like in cc)
       | Some offset ↦ λ own.
-          elim (either (is_named_at (packed_slots p) offset (w.previous slot)) (is_named_at (packed_slots p) offset (w.next slot)) (sym (with-offset p slot offset own) ∙ like)) [
+          elim (either (is_named_at (packed_slots p) offset (w.previous slot)) (is_named_at (packed_slots p) offset (w.next slot))
+          (sym (with-offset p slot offset own) ∙ like)) [
             | inl before ↦
                 let found = at-found (packed_slots p) offset (w.previous slot) before in
-                record { offset = offset; own = own; other = found.0; apart = (previous-another (slots_of rows) w.next w.previous slot found.0 linked.chain linked.once there found.1).1; names = found.2 }
+                record {
+                  offset = offset;
+                  own = own;
+                  other = found.0;
+                  apart =
+                      (previous-another (slots_of rows) w.next w.previous slot found.0 linked.chain linked.once there found.1).1;
+                  names = found.2;
+                }
             | inr behind ↦
                 let found = at-found (packed_slots p) offset (w.next slot) behind in
-                record { offset = offset; own = own; other = found.0; apart = (next-another (slots_of rows) w.next w.previous None slot found.0 linked.chain linked.once there found.1).1; names = found.2 }
+                record {
+                  offset = offset;
+                  own = own;
+                  other = found.0;
+                  apart =
+                      (next-another (slots_of rows) w.next w.previous None slot found.0 linked.chain linked.once there found.1).1;
+                  names = found.2;
+                }
           ]
     ] refl
 
@@ -96,7 +116,8 @@ alone-so p slot is full none shared =
     let behind = is_named_at slots shared.offset (w.next slot) in
     let like : has_like_neighbour p slot ≡ true =
     with-offset p slot shared.offset shared.own
-    ∙ elim (another-beside (object_at slots) shared.offset (slots_of rows) w.next w.previous None slot shared.other is.packed.linked.chain is.packed.runs there shared.own found shared.apart shared.names) [
+    ∙ elim (another-beside (object_at slots) shared.offset (slots_of rows) w.next w.previous None slot shared.other is.packed.linked.chain is.packed.runs there
+    shared.own found shared.apart shared.names) [
       | inl has ↦ or-left before behind (found-at slots shared.offset (w.previous slot) has)
       | inr has ↦ or-right before behind (found-at slots shared.offset (w.next slot) has)
     ] in

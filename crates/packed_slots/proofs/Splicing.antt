@@ -1,5 +1,6 @@
 -- A slot is taken out, and its descendants become one less deep.
-use Rattle.std.proofs.Common.{ℕ, ◌≡◌, ◌≢◌, ◌∙◌, ◌==◌, ◌+◌, ◌<◌, ◌≤◌, inl, inr, Bool, true, false, not, cond, if◌then◌else◌, Option, Some, None, List, [], ◌∷◌, length, refl, sym, ap, subst, arith}
+use Rattle.std.proofs.Common.{ℕ, ◌≡◌, ◌≢◌, ◌∙◌, ◌==◌, ◌+◌, ◌<◌, ◌≤◌, inl, inr, Bool, true, false, not, cond, if◌then◌else◌, Option, Some, None, List, [], ◌∷◌}
+use Rattle.std.proofs.Common.{length, refl, sym, ap, subst, arith}
 use Rattle.std.specs.Option.{option_map}
 use Rattle.std.proofs.lemmas.Bool.Decides.{eqb_tells}
 use Rattle.std.proofs.lemmas.Bool.{eq-eqb, ne_eqb}
@@ -14,13 +15,15 @@ use Rattle.model.specs.Capabilities.Orders.{first_of}
 use Rattle.model.specs.Capabilities.Slots.{Slots, adopted, empty_entry, is_full, is_within, parent_at, spliced, with_parent}
 use Rattle.model.specs.Shared.Lists.{times_in, without}
 use Rattle.model.specs.declared.capabilities.Cap.{Cap}
-use Rattle.slots.proofs.Laws.{chain-same, chain-without, deep-same, deep-taken_out, low-beside, none-without, previous-in, rises-taken_out, runs-same, runs-taken_out, slots-taken_out, taken-out}
+use Rattle.slots.proofs.Laws.{chain-same, chain-without, deep-same, deep-taken_out, low-beside, none-without, previous-in, rises-taken_out, runs-same}
+use Rattle.slots.proofs.Laws.{runs-taken_out, slots-taken_out, taken-out}
 use Rattle.slots.specs.preorder.Chains.{IsChain, IsLinked, Links, lowered_depths, put_at}
 use Rattle.slots.specs.Kin.{object_at}
 use Rattle.slots.specs.preorder.Preorder.{Row, parents_of, rows_of, slots_of, taken_out}
 use Rattle.packed_slots.specs.Packing.{IsPackedAs, is_open_in, slots_as}
 use Rattle.packed_slots.specs.Words.{Words, capability_in, first_without}
-use Rattle.packed_slots.proofs.PackedFacts.{adopted-as, as-closed, as-open, full-row, no-row, open-full, packs, parent-as, within-here, within-off, zero-empty, zero-whole}
+use Rattle.packed_slots.proofs.PackedFacts.{adopted-as, as-closed, as-open, full-row, no-row, open-full, packs, parent-as, within-here, within-off, zero-empty}
+use Rattle.packed_slots.proofs.PackedFacts.{zero-whole}
 use Rattle.packed_slots.proofs.WordWrites.{zeroed}
 
 -- ---- lists without a slot
@@ -47,7 +50,8 @@ first-without (x ∷ rest) next previous gone chain once there =
           ∙ sym (ap (λ o. first_without o (next gone) (Some x)) (ap previous (sym here.1) ∙ chain.0))
       | inr other ↦
           ap (λ b. first_of (cond (not b) (x ∷ few) few)) other.0
-          ∙ elim (previous-in rest next previous (Some x) gone chain.2 (omega (arith, there, ap (λ b. if b then times_in rest gone + 1 else times_in rest gone) other.0))) [
+          ∙ elim (previous-in rest next previous (Some x) gone chain.2
+          (omega (arith, there, ap (λ b. if b then times_in rest gone + 1 else times_in rest gone) other.0))) [
             | inl front ↦ sym (ap (λ o. first_without o (next gone) (Some x)) front)
             | inr some ↦ sym (ap (λ o. first_without o (next gone) (Some x)) some.is)
           ]
@@ -77,9 +81,11 @@ capability-gone w gone s here =
 
 -- the words of a slot are those of its capability still
 pub whole-unlinked : (w : Words) (o : List Bool) (gone : ℕ) → ((s : ℕ) → is_open_in o s ≡ true → w.head s ∷ w.tail s ∷ [] ≡ words_of (capability_in w s))
-    → (s : ℕ) → is_open_in o s ≡ true → (unlinked_words w gone).head s ∷ (unlinked_words w gone).tail s ∷ [] ≡ words_of (capability_in (unlinked_words w gone) s)
+    → (s : ℕ) → is_open_in o s ≡ true → (unlinked_words w gone).head s ∷ (unlinked_words w gone).tail s ∷ [] ≡ words_of
+    (capability_in (unlinked_words w gone) s)
 whole-unlinked w o gone whole s there = elim (eqb_tells s gone) [
-  | inl here ↦ zero-whole ((unlinked_words w gone).head s) ((unlinked_words w gone).tail s) (zeroed-here w.head 0 gone s here.1) (zeroed-here w.tail 0 gone s here.1)
+  | inl here ↦ zero-whole ((unlinked_words w gone).head s) ((unlinked_words w gone).tail s) (zeroed-here w.head 0 gone s here.1)
+      (zeroed-here w.tail 0 gone s here.1)
   | inr off ↦
       ap (λ h. h ∷ (unlinked_words w gone).tail s ∷ []) (zeroed-off w.head 0 gone s off.1) ∙ ap (λ t. w.head s ∷ t ∷ []) (zeroed-off w.tail 0 gone s off.1)
       ∙ whole s there ∙ ap words_of (sym (capability-off w gone s off.1))
@@ -128,7 +134,8 @@ module _ (w : Words) (o : List Bool) (first : Option ℕ) (rows : List Row) (gon
       elim (eqb_tells s gone) [
         | inl here ↦
             as-open new o left s (ap (is_open_in o) here.1 ∙ open-full w o rows gone full)
-            ∙ ap (λ (c : Cap). Some (record { capability = c; parent = parents_of left s })) (capability-gone (lowered_words w gone n) gone s here.1 ∙ zero-empty)
+            ∙ ap (λ (c : Cap). Some (record { capability = c; parent = parents_of left s }))
+            (capability-gone (lowered_words w gone n) gone s here.1 ∙ zero-empty)
             ∙ ap (λ (p : Option ℕ). Some (record empty_entry { parent = p })) (ap (parents_of left) here.1 ∙ none-without left (λ i. None) gone none-left)
             ∙ sym (ap (spliced slots gone) here.1 ∙ entry-same (with_parent slots gone above) gone (Some empty_entry))
         | inr off ↦
@@ -190,10 +197,12 @@ module _ (w : Words) (o : List Bool) (first : Option ℕ) (rows : List Row) (gon
       (runs-same (object_at slots) (object_at (spliced slots gone)) (slots_of left) object-left
       (runs-taken_out rows (object_at slots) gone (packed.linked.once gone) packed.runs))
 
-pub splice-slots : (w : Words) (o : List Bool) (first : Option ℕ) (rows : List Row) (gone n : ℕ) → IsPackedAs w o first rows → is_full (slots_as w o rows) gone ≡ true
+pub splice-slots : (w : Words) (o : List Bool) (first : Option ℕ) (rows : List Row) (gone n : ℕ) → IsPackedAs w o first rows →
+    is_full (slots_as w o rows) gone ≡ true
     → length rows ≤ n → slots_as (unlinked_words (lowered_words w gone n) gone) o (taken_out gone rows) ≡ spliced (slots_as w o rows) gone
 splice-slots w o first rows gone n packed full few = spliced-is w o first rows gone n packed full few
 
-pub splice-packs : (w : Words) (o : List Bool) (first : Option ℕ) (rows : List Row) (gone n : ℕ) → IsPackedAs w o first rows → is_full (slots_as w o rows) gone ≡ true
+pub splice-packs : (w : Words) (o : List Bool) (first : Option ℕ) (rows : List Row) (gone n : ℕ) → IsPackedAs w o first rows →
+    is_full (slots_as w o rows) gone ≡ true
     → length rows ≤ n → IsPackedAs (unlinked_words (lowered_words w gone n) gone) o (first_without (w.previous gone) (w.next gone) first) (taken_out gone rows)
 splice-packs w o first rows gone n packed full few = spliced-packs w o first rows gone n packed full few

@@ -17,4 +17,5 @@ unfolding lowered_memory
 lower_step depth n m slot memory size deep =
     let word = word_of memory slot 2 in
     ap (λ k. lowered_memory depth k (Some slot) memory) size
-    ∙ ap (λ b. if b then lowered_memory depth m (next_in word) (with_link memory slot (next_in word) (depth_in word - 1)) else memory) (lt-ltb depth (depth_in word) deep)
+    ∙ ap (λ b. if b then lowered_memory depth m (next_in word) (with_link memory slot (next_in word) (depth_in word - 1)) else memory)
+    (lt-ltb depth (depth_in word) deep)

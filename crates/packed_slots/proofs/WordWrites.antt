@@ -1,5 +1,6 @@
 -- What writes make of the words of all slots.
-use Rattle.std.proofs.Common.{ℕ, zero, suc, ◌≡◌, ◌≢◌, ◌∙◌, ◌==◌, ◌+◌, ◌-◌, ◌*◌, ◌/◌, ◌%◌, ◌^◌, ◌<◌, ◌≤◌, inl, inr, true, false, if◌then◌else◌, Option, Some, None, List, length, replicate, slice_index, refl, sym, ap, arith}
+use Rattle.std.proofs.Common.{ℕ, zero, suc, ◌≡◌, ◌≢◌, ◌∙◌, ◌==◌, ◌+◌, ◌-◌, ◌*◌, ◌/◌, ◌%◌, ◌^◌, ◌<◌, ◌≤◌, inl, inr, true, false, if◌then◌else◌, Option, Some}
+use Rattle.std.proofs.Common.{None, List, length, replicate, slice_index, refl, sym, ap, arith}
 use Rattle.std.proofs.lemmas.Bool.Decides.{eqb_tells, nat_tests}
 use Rattle.std.proofs.lemmas.Bool.{cases_lt, eq-eqb, ne_eqb, lt-ltb, le-ltb}
 use Rattle.std.proofs.lemmas.List.{get_or-replicate, length-replicate}
@@ -9,7 +10,8 @@ use Rattle.model.specs.Capabilities.Slots.{is_within}
 use Rattle.model.specs.Kernel.State.{put}
 use Rattle.model.specs.Shared.Bytes.{word_bytes}
 use Rattle.slots.specs.preorder.Chains.{Links, lowered_depths, put_at}
-use Rattle.packed_slots.specs.Words.{Words, back_word, blanked, depth_in, link_word, linked_behind, linked_first, lowered_memory, next_in, previous_in, unlinked, with_back, with_back_at, with_cap, with_link, with_next_at, with_word, word_of, words_in}
+use Rattle.packed_slots.specs.Words.{Words, back_word, blanked, depth_in, link_word, linked_behind, linked_first, lowered_memory, next_in, previous_in}
+use Rattle.packed_slots.specs.Words.{unlinked, with_back, with_back_at, with_cap, with_link, with_next_at, with_word, word_of, words_in}
 use Rattle.packed_slots.proofs.WordsBehind.{deep_inside}
 
 -- ---- the fields of a word
@@ -140,11 +142,13 @@ words-cap m s head tail inside fits fits' =
       | inl here ↦
           before x 0 (λ same. absurd (omega (arith, same))) ∙ ap (λ y. word_of first y 0) here.1 ∙ word-own m s 0 head inside (omega arith) fits
           ∙ sym (put-here (words_in m).head s x head here.1)
-      | inr off ↦ other x 0 (λ same. absurd (omega (arith, same))) (λ same. absurd (omega (arith, same, off.1))) ∙ sym (put-off (words_in m).head s x head off.1)
+      | inr off ↦ other x 0 (λ same. absurd (omega (arith, same))) (λ same. absurd (omega (arith, same, off.1)))
+          ∙ sym (put-off (words_in m).head s x head off.1)
     ] in
     let tails : (x : ℕ) → word_of new x 1 ≡ put (words_in m).tail s tail x = λ x. elim (eqb_tells x s) [
       | inl here ↦ ap (λ y. word_of new y 1) here.1 ∙ word-own first s 1 tail inside' (omega arith) fits' ∙ sym (put-here (words_in m).tail s x tail here.1)
-      | inr off ↦ other x 1 (λ same. absurd (omega (arith, same, off.1))) (λ same. absurd (omega (arith, same))) ∙ sym (put-off (words_in m).tail s x tail off.1)
+      | inr off ↦ other x 1 (λ same. absurd (omega (arith, same, off.1))) (λ same. absurd (omega (arith, same)))
+          ∙ sym (put-off (words_in m).tail s x tail off.1)
     ] in
     λ i. record {
       head = λ x. heads x i;
@@ -197,7 +201,8 @@ pub size-blanked : (m : List ℕ) (first count : ℕ) → 16 * (first + count) �
 size-blanked m first count inside =
     length-written m (16 * first) (replicate (16 * count) 0) (omega (arith, inside, length-replicate {A = ℕ} (16 * count) 0))
 
-blank-word : (m : List ℕ) (first count x j : ℕ) → 16 * (first + count) ≤ length m → j < 4 → first ≤ x → x < first + count → word_of (blanked m first count) x j ≡ 0
+blank-word : (m : List ℕ) (first count x j : ℕ) → 16 * (first + count) ≤ length m → j < 4 → first ≤ x → x < first + count →
+    word_of (blanked m first count) x j ≡ 0
 blank-word m first count x j inside small low high =
     let n = 16 * count in
     let size = length-replicate {A = ℕ} n 0 in
@@ -212,7 +217,8 @@ blank-word m first count x j inside small low high =
     let four = at (place + 3) (omega (arith, low)) (omega (arith, high, small)) in
     omega (arith, one, two, three, four)
 
-blank-other : (m : List ℕ) (first count x j : ℕ) → 16 * (first + count) ≤ length m → j < 4 → is_within first count x ≡ false → word_of (blanked m first count) x j ≡ word_of m x j
+blank-other : (m : List ℕ) (first count x j : ℕ) → 16 * (first + count) ≤ length m → j < 4 → is_within first count x ≡ false →
+    word_of (blanked m first count) x j ≡ word_of m x j
 blank-other m first count x j inside small outside =
     let size = length-replicate {A = ℕ} (16 * count) 0 in
     elim (cases_lt x first) [
@@ -224,7 +230,8 @@ blank-other m first count x j inside small outside =
 blank-at : {A : Type 0} (read : ℕ → A) (m : List ℕ) (first count x j : ℕ) → 16 * (first + count) ≤ length m → j < 4
     → read (word_of (blanked m first count) x j) ≡ (if is_within first count x then read 0 else read (word_of m x j))
 blank-at read m first count x j inside small =
-    elim (is_within first count x) as (λ b. is_within first count x ≡ b → read (word_of (blanked m first count) x j) ≡ (if b then read 0 else read (word_of m x j))) [
+    elim (is_within first count x) as (λ b. is_within first count x ≡ b →
+    read (word_of (blanked m first count) x j) ≡ (if b then read 0 else read (word_of m x j))) [
       | true ↦ λ is. let bounds = within-bounds first count x is in ap read (blank-word m first count x j inside small bounds.0 bounds.1)
       | false ↦ λ is. ap read (blank-other m first count x j inside small is)
     ] refl
@@ -267,7 +274,12 @@ words-behind m at slot d inside own near low low' few =
     ∙ ap (λ (w : Words). record w { previous = put w.previous slot (Some at) }) (words-back_at two after (Some slot) near' (some-small slot low'))
     ∙ ap (λ (w : Words). record w { previous = put (put_at w.previous after (Some slot)) slot (Some at) })
     (words-link one slot after d (omega (arith, own, size)) (λ n is. next-small (word_of m at 2) n is) few)
-    ∙ ap (λ (w : Words). record w { next = put w.next slot after; depth = put w.depth slot d; previous = put (put_at w.previous after (Some slot)) slot (Some at) })
+    ∙ ap (λ (w : Words). record w {
+      next = put w.next slot after;
+      depth = put w.depth slot d;
+      previous =
+          put (put_at w.previous after (Some slot)) slot (Some at);
+    })
     (words-link m at (Some slot) (words.depth at) inside (some-small slot low') (depth-small (word_of m at 2)))
     ∙ (λ i. record words {
       next = put (put words.next at (Some slot)) slot after;
@@ -360,7 +372,8 @@ words-lowered d (suc n) (Some s) m whole =
 
 -- ---- memory keeps its size
 
-pub size-behind : (m : List ℕ) (at slot d : ℕ) → 16 * (at + 1) ≤ length m → 16 * (slot + 1) ≤ length m → ((s : ℕ) → (words_in m).next at ≡ Some s → 16 * (s + 1) ≤ length m)
+pub size-behind : (m : List ℕ) (at slot d : ℕ) → 16 * (at + 1) ≤ length m → 16 * (slot + 1) ≤ length m →
+    ((s : ℕ) → (words_in m).next at ≡ Some s → 16 * (s + 1) ≤ length m)
     → length (linked_behind m at slot d) ≡ length m
 size-behind m at slot d inside own near =
     let after = (words_in m).next at in

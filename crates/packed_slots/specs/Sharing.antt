@@ -14,7 +14,8 @@ is_named_at slots offset found = option_map_or (λ s. names_object offset (capab
 -- a neighbour of a slot names the object that this names
 abbrev pub has_like_neighbour : Packed → ℕ → Bool
 has_like_neighbour p slot =
-    option_map_or (λ offset. is_named_at (packed_slots p) offset ((words_in p.memory).previous slot) || is_named_at (packed_slots p) offset ((words_in p.memory).next slot))
+    option_map_or (λ offset. is_named_at (packed_slots p) offset ((words_in p.memory).previous slot)
+    || is_named_at (packed_slots p) offset ((words_in p.memory).next slot))
     (object_at (packed_slots p) slot) false
 
 -- a root, or the slot after the last one that descends from it, names the object that a slot names

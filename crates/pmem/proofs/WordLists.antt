@@ -1,5 +1,6 @@
 -- Words of memory one after the other: how they are read and written.
-use Rattle.std.proofs.Common.{ℕ, zero, suc, ◌≡◌, ◌∙◌, ◌+◌, ◌*◌, ◌^◌, ◌<◌, ◌≤◌, List, [], ◌∷◌, ◌++◌, length, slice_index, take, drop, refl, sym, ap, append_assoc, length-append, arith}
+use Rattle.std.proofs.Common.{ℕ, zero, suc, ◌≡◌, ◌∙◌, ◌+◌, ◌*◌, ◌^◌, ◌<◌, ◌≤◌, List, [], ◌∷◌, ◌++◌, length, slice_index, take, drop, refl, sym, ap}
+use Rattle.std.proofs.Common.{append_assoc, length-append, arith}
 use Rattle.std.proofs.Math.Seq.{take-append_seam}
 use Rattle.std.proofs.lemmas.Grind.{common_steps, same_number_lists}
 use Rattle.std.proofs.lemmas.List.{get_or-drop, get_or-take, length-take-le}
@@ -15,7 +16,8 @@ pub words-same : (old new : List ℕ) (at n : ℕ) → ((place : ℕ) → at ≤
 words-same old new at zero same = refl
 words-same old new at (suc n) same =
     let first : word_at new at ≡ word_at old at = word_at-same old new at (λ place least less. same place least (omega (arith, less))) in
-    let rest : words_at new (at + 4) n ≡ words_at old (at + 4) n = words-same old new (at + 4) n (λ place least less. same place (omega (arith, least)) (omega (arith, less))) in
+    let rest : words_at new (at + 4) n ≡ words_at old (at + 4) n =
+    words-same old new (at + 4) n (λ place least less. same place (omega (arith, least)) (omega (arith, less))) in
     ap (λ (w : ℕ). w ∷ words_at new (at + 4) n) first ∙ ap (λ (ws : List ℕ). word_at old at ∷ ws) rest
 
 -- what is written in two pieces
@@ -26,7 +28,8 @@ written-append m at first rest inside =
     let end = at + length first in
     let long : length left ≡ end = length-append (take at m) first ∙ ap (λ (n : ℕ). n + length first) (length-take-le at m (omega (arith, inside))) in
     let front : take end (left ++ drop end m) ≡ left = ap (λ (n : ℕ). take n (left ++ drop end m)) (sym long) ∙ take-append_seam left (drop end m) in
-    let back : drop (end + length rest) (left ++ drop end m) ≡ drop (end + length rest) m = drop-append-drop end m left (end + length rest) (omega arith) long in
+    let back : drop (end + length rest) (left ++ drop end m) ≡ drop (end + length rest) m =
+    drop-append-drop end m left (end + length rest) (omega arith) long in
     let both : at + length (first ++ rest) ≡ end + length rest = ap (λ (n : ℕ). at + n) (length-append first rest) ∙ omega arith in
     ap (λ (n : ℕ). take at m ++ (first ++ rest) ++ drop n m) both
     ∙ ap (λ (xs : List ℕ). xs ++ drop (end + length rest) m) (sym (append_assoc (take at m) first rest))
@@ -45,11 +48,13 @@ words-written m at (w ∷ ws) inside fits =
     let one = written m at (word_bytes w) in
     let size : length one ≡ length m = length-written m at (word_bytes w) (omega (arith, inside)) in
     let long = length-words_bytes ws in
-    let split : written m at (words_bytes (w ∷ ws)) ≡ written one (at + 4) (words_bytes ws) = written-append m at (word_bytes w) (words_bytes ws) (omega (arith, inside)) in
+    let split : written m at (words_bytes (w ∷ ws)) ≡ written one (at + 4) (words_bytes ws) =
+    written-append m at (word_bytes w) (words_bytes ws) (omega (arith, inside)) in
     let first : word_at (written one (at + 4) (words_bytes ws)) at ≡ w =
     word_at-written_before one (at + 4) (words_bytes ws) at (omega (arith, inside, long, size)) (omega arith)
     ∙ word_at-written m at w (omega (arith, inside)) (fits 0) in
-    let rest : words_at (written one (at + 4) (words_bytes ws)) (at + 4) (length ws) ≡ ws = words-written one (at + 4) ws (omega (arith, inside, size)) (λ k. fits (suc k)) in
+    let rest : words_at (written one (at + 4) (words_bytes ws)) (at + 4) (length ws) ≡ ws =
+    words-written one (at + 4) ws (omega (arith, inside, size)) (λ k. fits (suc k)) in
     ap (λ (n : List ℕ). words_at n at (length (w ∷ ws))) split
     ∙ ap (λ (x : ℕ). x ∷ words_at (written one (at + 4) (words_bytes ws)) (at + 4) (length ws)) first
     ∙ ap (λ (xs : List ℕ). w ∷ xs) rest
@@ -73,7 +78,8 @@ part-word m at count k less =
     let byte : (j : ℕ) → j < 4 → slice_index (drop (4 * k) (take (4 * count) (drop at m))) j ≡ slice_index m (at + 4 * k + j) =
     λ j few. get_or-drop (4 * k) (take (4 * count) (drop at m)) j 0 ∙ get_or-take (4 * count) (drop at m) (4 * k + j) 0 (omega (arith, less, few))
     ∙ get_or-drop at m (4 * k + j) 0 ∙ ap (slice_index m) (omega arith) in
-    let first : slice_index (drop (4 * k) (take (4 * count) (drop at m))) 0 ≡ slice_index m (at + 4 * k) = byte 0 (omega arith) ∙ ap (slice_index m) (omega arith) in
+    let first : slice_index (drop (4 * k) (take (4 * count) (drop at m))) 0 ≡ slice_index m (at + 4 * k) = byte 0 (omega arith)
+    ∙ ap (slice_index m) (omega arith) in
     let second = byte 1 (omega arith) in
     let third = byte 2 (omega arith) in
     let fourth = byte 3 (omega arith) in

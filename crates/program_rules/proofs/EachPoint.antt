@@ -28,9 +28,11 @@ noted-or-same image t (Some r) x y same = refl
 
 -- ---- a log that grows
 
-pub same-grown : (slots : List NotedSlot) (old new : List LogEntry) (point : ℕ) (k : Kept) → KeepsParts old new → IsSound old point k → noted_by slots new k ≡ noted_by slots old k
+pub same-grown : (slots : List NotedSlot) (old new : List LogEntry) (point : ℕ) (k : Kept) → KeepsParts old new → IsSound old point k →
+    noted_by slots new k ≡ noted_by slots old k
 same-grown slots old new point (kept.Known k) keeps sound =
-    ap (λ (changes : List LogEntry). Known (record { ranges = k.bounds; slots = replayed slots changes; measure = measure_of k.measure })) (keeps k.part sound.0).1
+    ap (λ (changes : List LogEntry). Known (record { ranges = k.bounds; slots = replayed slots changes; measure = measure_of k.measure }))
+    (keeps k.part sound.0).1
 same-grown slots old new point kept.Missing keeps sound = refl
 same-grown slots old new point kept.Unmeasured keeps sound = refl
 
@@ -39,7 +41,8 @@ sound-grown old new point (kept.Known k) keeps sound = ((keeps k.part sound.0).0
 sound-grown old new point kept.Missing keeps sound = tt
 sound-grown old new point kept.Unmeasured keeps sound = tt
 
-pub clean-grown : (image : Image) (t : Thread) (slots : List NotedSlot) (old new : List LogEntry) (point : ℕ) (k : Kept) → KeepsParts old new → IsSound old point k
+pub clean-grown : (image : Image) (t : Thread) (slots : List NotedSlot) (old new : List LogEntry) (point : ℕ) (k : Kept) → KeepsParts old new →
+    IsSound old point k
     → IsCleanIn image t slots old k → IsCleanIn image t slots new k
 clean-grown image t slots old new point (kept.Known k) keeps sound clean =
     λ is. subst (λ (changes : List LogEntry). NoneStray image t (replayed slots changes)) (sym (keeps k.part sound.0).1) (clean is)
@@ -67,7 +70,8 @@ pub next-before : (image : Image) (t : Numbered) (point : ℕ) → follows image
 next-before image t point = ap (before image t) (let next : suc point ≡ point + 1 = omega arith in next)
 
 -- the next point that follows from one
-pub next-point : (image : Image) (t : Numbered) (slots : List NotedSlot) (log : List LogEntry) (point : ℕ) (k next : Kept) → IsPlain t.thread point → IsKeptAt image t slots log point k
+pub next-point : (image : Image) (t : Numbered) (slots : List NotedSlot) (log : List LogEntry) (point : ℕ) (k next : Kept) → IsPlain t.thread point →
+    IsKeptAt image t slots log point k
     → noted_by slots log next ≡ follows image t point (noted_by slots log k) → IsSound log (point + 1) next → IsCleanIn image t.thread slots log next
     → IsKeptAt image t slots log (point + 1) next
 next-point image t slots log point k next plain is follow sound clean = record {

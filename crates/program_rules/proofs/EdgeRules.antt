@@ -6,7 +6,8 @@ use Rattle.model.specs.Acceptance.CallRules.{AfterCall}
 use Rattle.model.specs.Acceptance.Edges.{Edge, after, behind, branch_edge, branch_ranges}
 use Rattle.model.specs.Acceptance.Measures.{Form, Measure, falls, stays_below}
 use Rattle.model.specs.Acceptance.NotedStates.{NotedSlot, PointState, are_same_slots}
-use Rattle.model.specs.Acceptance.PointRules.{ProgramEdge, are_ranges_within, call_edge, call_edges, edge_rules, kept_at, edges_at, edges_of, noted_at, refused_call, rules_on_edges}
+use Rattle.model.specs.Acceptance.PointRules.{ProgramEdge, are_ranges_within, call_edge, call_edges, edge_rules, kept_at, edges_at, edges_of, noted_at}
+use Rattle.model.specs.Acceptance.PointRules.{refused_call, rules_on_edges}
 use Rattle.model.specs.Acceptance.PointStates.{Noted, address_of, call_at, instruction_at, point_of}
 use Rattle.model.specs.Acceptance.Rules.{Rule, first_broken, refuse_if}
 use Rattle.model.specs.Images.Described.{Numbered}
@@ -38,12 +39,14 @@ kept-beside t at m edge ranges here there measure same =
 -- ---- one way
 
 -- the same edge
-pub same-rules : (u : Thread) (at at' : Point) (m : Measure) (target : ℕ) (before before' ranges ranges' : List Range) (slots : List NotedSlot) (value value' : ℕ → Form) (n n' : Noted)
+pub same-rules : (u : Thread) (at at' : Point) (m : Measure) (target : ℕ) (before before' ranges ranges' : List Range) (slots : List NotedSlot)
+    (value value' : ℕ → Form) (n n' : Noted)
     → at ≡ at' → before ≡ before' → ranges ≡ ranges' → ((k : ℕ) → value k ≡ value' k) → n ≡ n'
     → first_broken (edge_rules u at m (record { target = target; before = before; ranges = ranges; slots = slots; value_of = value; is_wait = false }) n)
     ≡ first_broken (edge_rules u at' m (record { target = target; before = before'; ranges = ranges'; slots = slots; value_of = value'; is_wait = false }) n')
 same-rules u at at' m target before before' ranges ranges' slots value value' n n' a b r v same =
-    λ i. first_broken (edge_rules u (a i) m (record { target = target; before = b i; ranges = r i; slots = slots; value_of = λ k. v k i; is_wait = false }) (same i))
+    λ i. first_broken (edge_rules u (a i) m (record { target = target; before = b i; ranges = r i; slots = slots; value_of = λ k. v k i; is_wait = false })
+    (same i))
 
 -- ---- the ranges before it
 
@@ -108,11 +111,13 @@ abbrev rules_on : Image → Numbered → ℕ → PointState → List ProgramEdge
 rules_on image t point s edges = flat_map (λ edge. edge_rules t.thread (point_of t point) s.measure edge (noted_at image t edge.target)) edges
 
 two-ways : (image : Image) (t : Numbered) (point : ℕ) (s : PointState) (instr : Instr) (taken fall : Option Edge)
-    → rules_on image t point s (edges_of instr s.slots (record { taken = taken; fall_through = fall })) ≡ way_rules image t point s instr taken ++ way_rules image t point s instr fall
+    → rules_on image t point s (edges_of instr s.slots (record { taken = taken; fall_through = fall })) ≡ way_rules image t point s instr taken
+    ++ way_rules image t point s instr fall
 two-ways image t point s instr None None = refl
 two-ways image t point s instr (Some a) None = refl
 two-ways image t point s instr None (Some b) = nil-right (way_rules image t point s instr (Some b))
-two-ways image t point s instr (Some a) (Some b) = ap (λ (rules : List Rule). way_rules image t point s instr (Some a) ++ rules) (nil-right (way_rules image t point s instr (Some b)))
+two-ways image t point s instr (Some a) (Some b) = ap (λ (rules : List Rule). way_rules image t point s instr (Some a) ++ rules)
+    (nil-right (way_rules image t point s instr (Some b)))
 
 -- the first broken rule is that of the taken way, or else that of the other
 pub first-way : (image : Image) (t : Numbered) (point : ℕ) (s : PointState) (instr : Instr) → instr ≢ Ecall → instruction_at t.thread point ≡ Some instr
@@ -133,18 +138,22 @@ abbrev pub told_of : Image → Numbered → ℕ → PointState → Option (Resul
 told_of image t point s None = None
 told_of image t point s (Some (Err refusal)) = Some refusal
 told_of image t point s (Some (Ok a)) =
-    first_broken (edge_rules t.thread (point_of t point) s.measure (call_edge (address_of t.thread point) s.ranges a) (noted_at image t (address_of t.thread point + 4)))
+    first_broken (edge_rules t.thread (point_of t point) s.measure (call_edge (address_of t.thread point) s.ranges a)
+    (noted_at image t (address_of t.thread point + 4)))
 
 by-outcome : (image : Image) (t : Numbered) (point : ℕ) (s : PointState) (o : Option (Result AfterCall Refusal))
     → first_broken (refused_call o ∷ rules_on image t point s (call_edges (address_of t.thread point) s.ranges o)) ≡ told_of image t point s o
 by-outcome image t point s None = refl
 by-outcome image t point s (Some (Err refusal)) = refl
-by-outcome image t point s (Some (Ok a)) = ap first_broken (nil-right (edge_rules t.thread (point_of t point) s.measure (call_edge (address_of t.thread point) s.ranges a) (noted_at image t (address_of t.thread point + 4))))
+by-outcome image t point s (Some (Ok a)) =
+    ap first_broken (nil-right (edge_rules t.thread (point_of t point) s.measure (call_edge (address_of t.thread point) s.ranges a)
+    (noted_at image t (address_of t.thread point + 4))))
 
 pub call-told : (image : Image) (t : Numbered) (point : ℕ) (s : PointState) (o : Option (Result AfterCall Refusal)) → instruction_at t.thread point ≡ Some Ecall
     → call_at image t point s ≡ o → first_broken (later_rules image t point s (Some Ecall)) ≡ told_of image t point s o
 unfolding edges_at
 call-told image t point s o is told =
     ap (λ (i : Option Instr). first_broken (refused_call (call_at image t point s) ∷ rules_on image t point s (edges_at image t point s i))) is
-    ∙ ap (λ (o : Option (Result AfterCall Refusal)). first_broken (refused_call o ∷ rules_on image t point s (call_edges (address_of t.thread point) s.ranges o))) told
+    ∙ ap (λ (o : Option (Result AfterCall Refusal)).
+    first_broken (refused_call o ∷ rules_on image t point s (call_edges (address_of t.thread point) s.ranges o))) told
     ∙ by-outcome image t point s o

@@ -30,12 +30,14 @@ IsAtLeast bound Missing = Unit {0}
 IsAtLeast bound Unmeasured = Unit {0}
 
 -- what is kept of what is left is what it is
-pub kept-same : (slots : List NotedSlot) (log : List LogEntry) (n : Left) (part : Part) (clean : Bool) → noted_by slots log (kept_as n part clean) ≡ left_with (replayed slots (part_of log part)) n
+pub kept-same : (slots : List NotedSlot) (log : List LogEntry) (n : Left) (part : Part) (clean : Bool) →
+    noted_by slots log (kept_as n part clean) ≡ left_with (replayed slots (part_of log part)) n
 kept-same slots log (left.Known bounds measure) part clean = refl
 kept-same slots log left.Missing part clean = refl
 kept-same slots log left.Unmeasured part clean = refl
 
-pub kept-sound : (slots : List NotedSlot) (log : List LogEntry) (point : ℕ) (n : Left) (part : Part) (clean : Bool) → Holds log part → IsAtLeast (negsuc (2 ^ 62 + point)) (left_with slots n) → IsSound log point (kept_as n part clean)
+pub kept-sound : (slots : List NotedSlot) (log : List LogEntry) (point : ℕ) (n : Left) (part : Part) (clean : Bool) → Holds log part →
+    IsAtLeast (negsuc (2 ^ 62 + point)) (left_with slots n) → IsSound log point (kept_as n part clean)
 kept-sound slots log point (left.Known bounds measure) part clean held least = (held, least)
 kept-sound slots log point left.Missing part clean held least = tt
 kept-sound slots log point left.Unmeasured part clean held least = tt
@@ -53,7 +55,8 @@ one-less point (pos n) low = grind (arith, ints)
 one-less point (negsuc n) low = grind (arith, ints, low)
 
 edge-low : (s : PointState) (edge : Edge) (point : ℕ) (b : Bool) → negsuc (2 ^ 62 + point) ≤ℤ s.measure.constant
-    → IsAtLeast (negsuc (2 ^ 62 + (point + 1))) (if b then Unmeasured else Known (record { ranges = edge.ranges; slots = s.slots; measure = lowered s.measure (pos 1) }))
+    → IsAtLeast (negsuc (2 ^ 62 + (point + 1))) (if b then Unmeasured else
+    Known (record { ranges = edge.ranges; slots = s.slots; measure = lowered s.measure (pos 1) }))
 edge-low s edge point true low = tt
 edge-low s edge point false low = one-less point s.measure.constant low
 
@@ -68,7 +71,8 @@ call-low t m a point true c low = grind (arith, ints)
 call-low t m a point false true low = tt
 call-low t m a point false false low = one-less point m.constant low
 
-pub call-least : (t : Thread) (m : Measure) (a : AfterCall) (point : ℕ) → negsuc (2 ^ 62 + point) ≤ℤ m.constant → IsAtLeast (negsuc (2 ^ 62 + (point + 1))) (behind_call t m a)
+pub call-least : (t : Thread) (m : Measure) (a : AfterCall) (point : ℕ) → negsuc (2 ^ 62 + point) ≤ℤ m.constant →
+    IsAtLeast (negsuc (2 ^ 62 + (point + 1))) (behind_call t m a)
 call-least t m a point low = call-low t m a point a.is_wait (list_any (λ x. has_term m x.0) a.written) low
 
 -- changes that follow others

@@ -5,7 +5,8 @@ use Rattle.model.specs.Acceptance.CallRules.{AfterCall}
 use Rattle.model.specs.Acceptance.Edges.{Edge, after, behind, branch_edge, branch_ranges}
 use Rattle.model.specs.Acceptance.NotedStates.{PointState, record_of}
 use Rattle.model.specs.Acceptance.PointRules.{call_edge, edge_rules, noted_at, point_at, program_edge}
-use Rattle.model.specs.Acceptance.PointStates.{Noted, Known, Missing, Unmeasured, address_of, behind_call, call_at, follows, follows_call, follows_edge, follows_instruction, instruction_at, noted, noted_or, point_of}
+use Rattle.model.specs.Acceptance.PointStates.{Noted, Known, Missing, Unmeasured, address_of, behind_call, call_at, follows, follows_call, follows_edge}
+use Rattle.model.specs.Acceptance.PointStates.{follows_instruction, instruction_at, noted, noted_or, point_of}
 use Rattle.model.specs.Acceptance.Rules.{first_broken}
 use Rattle.model.specs.Images.Described.{Numbered}
 use Rattle.model.specs.Images.Image.{Image, StateRecord, Thread}
@@ -97,7 +98,8 @@ module _ (law : (t : Thread) (at : Point) (instr : Instr) (state next : PointSta
   to-state t at instr s edge Missing is has = absurd (let clash : false ≡ true = has in cc)
   to-state t at instr s edge Unmeasured is has = absurd (let clash : false ≡ true = has in cc)
 
-  on-edge : (image : Image) (t : Numbered) (point target : ℕ) (s : PointState) (instr : Instr) (e : Option Edge) → GoesTo target e → noted_at image t target ≡ follows_edge instr s e
+  on-edge : (image : Image) (t : Numbered) (point target : ℕ) (s : PointState) (instr : Instr) (e : Option Edge) → GoesTo target e →
+      noted_at image t target ≡ follows_edge instr s e
       → has_state (follows_edge instr s e) ≡ true → first_broken (way_rules image t point s instr e) ≡ None
   on-edge image t point target s instr None goes is has = refl
   on-edge image t point target s instr (Some edge) goes is has =
@@ -113,7 +115,8 @@ module _ (law : (t : Thread) (at : Point) (instr : Instr) (state next : PointSta
       let target = behind (address_of t.thread point) in
       let as-plain = plain-follows image t point s instr plain in
       let place : target ≡ address_of t.thread point + 4 = omega (arith, less) in
-      on-edge image t point target s instr (after (address_of t.thread point) instr s.ranges).fall_through (goes-behind (address_of t.thread point) instr s.ranges)
+      on-edge image t point target s instr (after (address_of t.thread point) instr s.ranges).fall_through
+      (goes-behind (address_of t.thread point) instr s.ranges)
       (next-at image t point s instr known is none target place at ∙ as-plain)
       (sym (ap has_state (left-next image t point s instr known is none ∙ as-plain)) ∙ has)
 
@@ -127,7 +130,8 @@ module _ (law : (t : Thread) (at : Point) (pc : ℕ) (state next : PointState) (
   behind-state t at pc s a Missing is has = absurd (let clash : false ≡ true = has in cc)
   behind-state t at pc s a Unmeasured is has = absurd (let clash : false ≡ true = has in cc)
 
-  on-call : (image : Image) (t : Numbered) (point : ℕ) (s : PointState) (o : Option (Result AfterCall Refusal)) → noted_at image t (address_of t.thread point + 4) ≡ follows_call t.thread s.measure o
+  on-call : (image : Image) (t : Numbered) (point : ℕ) (s : PointState) (o : Option (Result AfterCall Refusal)) →
+      noted_at image t (address_of t.thread point + 4) ≡ follows_call t.thread s.measure o
       → has_state (follows_call t.thread s.measure o) ≡ true → told_of image t point s o ≡ None
   on-call image t point s None found has = absurd (let clash : false ≡ true = has in cc)
   on-call image t point s (Some (Err refusal)) found has = absurd (let clash : false ≡ true = has in cc)

@@ -1,5 +1,6 @@
 -- The records of a certificate, gone through in the order of their points.
-use Rattle.std.proofs.Common.{ℕ, suc, ◌≡◌, ◌∙◌, ◌==◌, ◌+◌, ◌<◌, ◌≤◌, inl, inr, Bool, if◌then◌else◌, Option, Some, None, is_some, true, false, List, [], ◌∷◌, refl, sym, ap, subst, arith}
+use Rattle.std.proofs.Common.{ℕ, suc, ◌≡◌, ◌∙◌, ◌==◌, ◌+◌, ◌<◌, ◌≤◌, inl, inr, Bool, if◌then◌else◌, Option, Some, None, is_some, true, false, List, [], ◌∷◌}
+use Rattle.std.proofs.Common.{refl, sym, ap, subst, arith}
 use Rattle.std.specs.Iterator.{YieldsFirst}
 use Rattle.std.specs.Prelude.{find, slice_get}
 use Rattle.std.proofs.lemmas.Bool.Decides.{eqb_tells}
@@ -46,7 +47,8 @@ none-below : (least other : ℕ) (rs : List StateRecord) → Rise least rs → o
 none-below least other [] rising lt = refl
 none-below least other (r ∷ rs) rising lt = elim (eqb_tells r.header.point other) [
   | inl here ↦ absurd (let same : r.header.point ≡ other = here.1 in omega (arith, lt, rising.0, same))
-  | inr apart ↦ ap (λ (b : Bool). if b then Some r else found other rs) apart.0 ∙ none-below (r.header.point + 1) other rs rising.1 (omega (arith, lt, rising.0))
+  | inr apart ↦ ap (λ (b : Bool). if b then Some r else found other rs) apart.0
+      ∙ none-below (r.header.point + 1) other rs rising.1 (omega (arith, lt, rising.0))
 ]
 
 -- the record of the point, if it has one, and the records behind it
@@ -56,7 +58,8 @@ next-record t point [] left =
     (left.same point (omega arith), record { rising = tt; same = λ other le. left.same other (omega (arith, le)) })
 next-record t point (r ∷ rest) left = elim (eqb_tells r.header.point point) [
   | inl here ↦ (
-    left.same point (omega arith) ∙ ap (λ (b : Bool). if b then Some r else found point rest) here.0 ∙ sym (ap (λ (b : Bool). if b then Some r else None) here.0),
+    left.same point (omega arith) ∙ ap (λ (b : Bool). if b then Some r else found point rest) here.0
+        ∙ sym (ap (λ (b : Bool). if b then Some r else None) here.0),
     subst (λ (b : Bool). AreLeft t (point + 1) (if b then rest else r ∷ rest)) (sym here.0) (record {
       rising = subst (λ (n : ℕ). Rise (n + 1) rest) here.1 left.rising.1;
       same = λ other le. elim (eqb_tells r.header.point other) [
@@ -67,7 +70,8 @@ next-record t point (r ∷ rest) left = elim (eqb_tells r.header.point point) [
   )
   | inr apart ↦
       let above : point + 1 ≤ r.header.point = omega (arith, left.rising.0, apart.1) in (
-        left.same point (omega arith) ∙ none-below (point + 1) point (r ∷ rest) (above, left.rising.1) (omega arith) ∙ sym (ap (λ (b : Bool). if b then Some r else None) apart.0),
+        left.same point (omega arith) ∙ none-below (point + 1) point (r ∷ rest) (above, left.rising.1) (omega arith)
+            ∙ sym (ap (λ (b : Bool). if b then Some r else None) apart.0),
         subst (λ (b : Bool). AreLeft t (point + 1) (if b then rest else r ∷ rest)) (sym apart.0)
             (record { rising = (above, left.rising.1); same = λ other le. left.same other (omega (arith, le)) }),
       )
@@ -79,14 +83,16 @@ found-fits : (words point : ℕ) (rs : List StateRecord) (r : StateRecord) → (
 found-fits words point [] r fit is = absurd (let clash : ◌≡◌ {A = Option StateRecord} None (Some r) = is in cc)
 found-fits words point (s ∷ rest) r fit is = elim (eqb_tells s.header.point point) [
   | inl here ↦ fit 0 r (sym (ap (λ (b : Bool). if b then Some s else found point rest) here.0) ∙ is)
-  | inr apart ↦ found-fits words point rest r (λ k other at. fit (suc k) other at) (sym (ap (λ (b : Bool). if b then Some s else found point rest) apart.0) ∙ is)
+  | inr apart ↦ found-fits words point rest r (λ k other at. fit (suc k) other at)
+      (sym (ap (λ (b : Bool). if b then Some s else found point rest) apart.0) ∙ is)
 ]
 
 pub record-fits : (t : Thread) (point : ℕ) (r : StateRecord) → CertificateFits t → record_of t point ≡ Some r → RecordFits t.header.words r
 record-fits t point r fits is = found-fits t.header.words point t.records r fits.each is
 
 -- whether the next point has a record, by the records that are left
-pub is-next : (t : Thread) (point : ℕ) (rest next : List StateRecord) (is : Bool) → AreLeft t point rest → next ≡ behind point rest → is ≡ is_some (taken (point + 1) next)
+pub is-next : (t : Thread) (point : ℕ) (rest next : List StateRecord) (is : Bool) → AreLeft t point rest → next ≡ behind point rest →
+    is ≡ is_some (taken (point + 1) next)
     → is ≡ is_some (record_of t (point + 1))
 is-next t point rest next is left same found =
     found ∙ ap (λ (rs : List StateRecord). is_some (taken (point + 1) rs)) same

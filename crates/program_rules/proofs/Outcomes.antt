@@ -23,7 +23,8 @@ told breach (Ok x) is = sym is
 told breach (Err refusal) is = inr (sym is)
 
 -- what a `?` passes on
-pub passed-on : (breach : Option Refusal) (result : Result (Unit {0}) Refusal) (refusal : Refusal) → IsErrAnd result (λ g. g ≡ refusal) → Answers breach (Err refusal) → Answers breach result
+pub passed-on : (breach : Option Refusal) (result : Result (Unit {0}) Refusal) (refusal : Refusal) → IsErrAnd result (λ g. g ≡ refusal) →
+    Answers breach (Err refusal) → Answers breach result
 passed-on breach (Ok x) refusal is answers = absurd is
 passed-on breach (Err other) refusal is answers = subst (λ (r : Refusal). Answers breach (Err r)) (sym is) answers
 

@@ -1,5 +1,6 @@
 -- What is kept of some points, and where the others begin, as points are put behind.
-use Rattle.std.proofs.Common.{ℕ, zero, suc, ◌≡◌, ◌∙◌, ◌⊎◌, ◌+◌, ◌-◌, ◌<◌, ◌≤◌, ◌++◌, inl, inr, Bool, Option, Some, None, List, [], ◌∷◌, length, refl, sym, ap, subst, arith}
+use Rattle.std.proofs.Common.{ℕ, zero, suc, ◌≡◌, ◌∙◌, ◌⊎◌, ◌+◌, ◌-◌, ◌<◌, ◌≤◌, ◌++◌, inl, inr, Bool, Option, Some, None, List, [], ◌∷◌, length, refl, sym, ap}
+use Rattle.std.proofs.Common.{subst, arith}
 use Rattle.std.proofs.lemmas.Bool.{cases_lt}
 use Rattle.std.proofs.lemmas.List.{get_or-append-add, get_or_append_left, length-append}
 use Rattle.std.specs.Prelude.{slice_get, slice_index_or}
@@ -13,7 +14,8 @@ use Rattle.program_rules.specs.declared.kept.Kept.{Kept}
 use Rattle.program_rules.specs.declared.kept_points.KeptPoint.{KeptPoint}
 use Rattle.typestate.specs.declared.log_entries.LogEntry.{LogEntry}
 
-pushed : {A : Type 0} (xs : List A) (x : A) (point : ℕ) (k : A) → slice_get (xs ++ x ∷ []) point ≡ Some k → (slice_get xs point ≡ Some k) ⊎ ((point ≡ length xs) × (k ≡ x))
+pushed : {A : Type 0} (xs : List A) (x : A) (point : ℕ) (k : A) → slice_get (xs ++ x ∷ []) point ≡ Some k →
+    (slice_get xs point ≡ Some k) ⊎ ((point ≡ length xs) × (k ≡ x))
 pushed {A} [] x zero k h = inr (refl, let same : ◌≡◌ {A = Option A} (Some x) (Some k) = h in sym (let is : x ≡ k = cc same in is))
 pushed {A} [] x (suc point) k h = absurd (let clash : ◌≡◌ {A = Option A} None (Some k) = h in cc)
 pushed (y ∷ xs) x zero k h = inl h
@@ -57,13 +59,15 @@ abbrev pub ArePlaced : Thread → List KeptPoint → List ℕ → Type 0
 ArePlaced t ks places = (point place : ℕ) → slice_get places point ≡ Some place → IsPlaced t ks point place
 
 -- a point that follows is put behind
-pub placed-later : (t : Thread) (ks : List KeptPoint) (places : List ℕ) (point place : ℕ) → length places ≡ point → 1 ≤ point → slice_get places (point - 1) ≡ Some place
+pub placed-later : (t : Thread) (ks : List KeptPoint) (places : List ℕ) (point place : ℕ) → length places ≡ point → 1 ≤ point →
+    slice_get places (point - 1) ≡ Some place
     → IsPlain t (point - 1) → ArePlaced t ks places → ArePlaced t ks (places ++ place ∷ [])
 placed-later t ks places point place count some at plain are other found is = elim (pushed places place other found is) [
   | inl known ↦ are other found known
   | inr here ↦
       let same : (point - 1) + 1 ≡ other = let first = here.0 in omega (arith, first, count, some) in
-      subst (λ (n : ℕ). IsPlaced t ks other n) (sym here.1) (subst (λ (n : ℕ). IsPlaced t ks n place) same (one-later t ks (point - 1) place (are (point - 1) place at) plain))
+      subst (λ (n : ℕ). IsPlaced t ks other n) (sym here.1)
+      (subst (λ (n : ℕ). IsPlaced t ks n place) same (one-later t ks (point - 1) place (are (point - 1) place at) plain))
 ]
 
 -- a point that is kept is put behind
@@ -84,7 +88,8 @@ any-default [] place d e less = absurd (omega (arith, less))
 any-default (k ∷ ks) zero d e less = refl
 any-default (k ∷ ks) (suc place) d e less = any-default ks place d e (omega (arith, less))
 
-pub kept-there : (ks : List KeptPoint) (place : ℕ) (k : KeptPoint) (has : Bool) → place < length ks → k ≡ slice_index_or ks place k → is_known k.kept ≡ has → HasKept ks place has
+pub kept-there : (ks : List KeptPoint) (place : ℕ) (k : KeptPoint) (has : Bool) → place < length ks → k ≡ slice_index_or ks place k → is_known k.kept ≡ has →
+    HasKept ks place has
 kept-there ks place k has less is known = λ d.
     ap (λ (e : KeptPoint). is_known e.kept) (any-default ks place d k less) ∙ ap (λ (e : KeptPoint). is_known e.kept) (sym is) ∙ known
 
@@ -97,7 +102,8 @@ abbrev pub AreAlike : Image → Numbered → List KeptPoint → List ℕ → Typ
 AreAlike image t ks places = (point place : ℕ) → slice_get places point ≡ Some place → HasKept ks place (has_state (noted image t point))
 
 -- a point that follows is put behind
-pub alike-later : (image : Image) (t : Numbered) (ks : List KeptPoint) (places : List ℕ) (point place : ℕ) → length places ≡ point → HasKept ks place (has_state (noted image t point))
+pub alike-later : (image : Image) (t : Numbered) (ks : List KeptPoint) (places : List ℕ) (point place : ℕ) → length places ≡ point →
+    HasKept ks place (has_state (noted image t point))
     → AreAlike image t ks places → AreAlike image t ks (places ++ place ∷ [])
 alike-later image t ks places point place count here are other found is = elim (pushed places place other found is) [
   | inl known ↦ are other found known
@@ -107,10 +113,12 @@ alike-later image t ks places point place count here are other found is = elim (
 ]
 
 -- a point that is kept is put behind
-pub alike-kept : (image : Image) (t : Numbered) (ks : List KeptPoint) (places : List ℕ) (k : KeptPoint) → length places ≡ k.point → is_known k.kept ≡ has_state (noted image t k.point)
+pub alike-kept : (image : Image) (t : Numbered) (ks : List KeptPoint) (places : List ℕ) (k : KeptPoint) → length places ≡ k.point →
+    is_known k.kept ≡ has_state (noted image t k.point)
     → ArePlaced t.thread ks places → AreAlike image t ks places → AreAlike image t (ks ++ k ∷ []) (places ++ length ks ∷ [])
 alike-kept image t ks places k count has placed are other found is = elim (pushed places (length ks) other found is) [
-  | inl known ↦ λ d. ap (λ (e : KeptPoint). is_known e.kept) (get_or_append_left ks (k ∷ []) d found (placed other found known).inside) ∙ are other found known d
+  | inl known ↦ λ d. ap (λ (e : KeptPoint). is_known e.kept) (get_or_append_left ks (k ∷ []) d found (placed other found known).inside)
+      ∙ are other found known d
   | inr last ↦
       subst (λ (n : ℕ). HasKept (ks ++ k ∷ []) n (has_state (noted image t other))) (sym last.1)
       (subst (λ (n : ℕ). HasKept (ks ++ k ∷ []) (length ks) (has_state (noted image t n))) (sym (last.0 ∙ count))

@@ -1,5 +1,6 @@
 -- The first broken rule of the points of a program, one after another.
-use Rattle.std.proofs.Common.{ℕ, zero, suc, ◌≡◌, ◌≢◌, ◌∙◌, ◌+◌, ◌-◌, ◌<◌, ◌++◌, inl, inr, Option, Some, None, Result, Err, List, [], ◌∷◌, refl, sym, ap, subst, arith}
+use Rattle.std.proofs.Common.{ℕ, zero, suc, ◌≡◌, ◌≢◌, ◌∙◌, ◌+◌, ◌-◌, ◌<◌, ◌++◌, inl, inr, Option, Some, None, Result, Err, List, [], ◌∷◌, refl, sym, ap, subst}
+use Rattle.std.proofs.Common.{arith}
 use Rattle.std.specs.List.{range_with_len}
 use Rattle.std.specs.Option.{option_or}
 use Rattle.std.specs.Prelude.{flat_map}
@@ -32,13 +33,15 @@ pub later-answers : (image : Image) (t : Numbered) (point : ℕ) (given s : Poin
     → Answers (first_broken (later_rules image t point s instr)) result → Answers (first_broken (state_rules image t point s)) result
 later-answers image t point given s read instr result is same state kept answers =
     let own : None ≡ first_broken (own_rules image t point s instr) =
-    kept ∙ ap (λ (p : PointState). first_broken (own_rules image t point p read)) state ∙ ap (λ (i : Option Instr). first_broken (own_rules image t point s i)) same in
+    kept ∙ ap (λ (p : PointState). first_broken (own_rules image t point p read)) state
+    ∙ ap (λ (i : Option Instr). first_broken (own_rules image t point s i)) same in
     subst (λ (broken : Option Refusal). Answers broken result)
     (ap (λ (o : Option Refusal). option_or o (first_broken (later_rules image t point s instr))) own ∙ sym (state-first image t point s instr (is ∙ same)))
     answers
 
 -- a point without an instruction does not keep its own rules
-pub illegal-breaks : (image : Image) (t : Numbered) (point : ℕ) (s : PointState) (read : Option Instr) → read ≡ None → None ≡ first_broken (own_rules image t point s read) → ⊥
+pub illegal-breaks : (image : Image) (t : Numbered) (point : ℕ) (s : PointState) (read : Option Instr) → read ≡ None →
+    None ≡ first_broken (own_rules image t point s read) → ⊥
 illegal-breaks image t point s None is kept = let clash : ◌≡◌ {A = Option Refusal} None (Some (IllegalInstruction (point_of t point))) = kept in cc
 illegal-breaks image t point s (Some instr) is kept = let clash : ◌≡◌ {A = Option Instr} (Some instr) None = is in cc
 
@@ -77,7 +80,8 @@ split first (suc a) b =
     ap (range_with_len first) count
     ∙ ap (λ (xs : List ℕ). first ∷ xs) (split (first + 1) a b ∙ ap (λ (n : ℕ). range_with_len (first + 1) a ++ range_with_len n b) next)
 
-flat-both : (f : ℕ → List Rule) (xs ys : List ℕ) → first_broken (flat_map f (xs ++ ys)) ≡ option_or (first_broken (flat_map f xs)) (first_broken (flat_map f ys))
+flat-both : (f : ℕ → List Rule) (xs ys : List ℕ) → first_broken (flat_map f (xs ++ ys)) ≡ option_or (first_broken (flat_map f xs))
+    (first_broken (flat_map f ys))
 flat-both f [] ys = refl
 flat-both f (x ∷ xs) ys =
     first-both (f x) (flat_map f (xs ++ ys)) ∙ ap (option_or (first_broken (f x))) (flat-both f xs ys)
@@ -98,13 +102,15 @@ module _ (f : ℕ → List Rule) (point : ℕ) (none : first_broken (flat_map f 
       ∙ ap (λ (n : ℕ). first_broken (flat_map f (n ∷ []))) here ∙ first-both (f point) [] ∙ ap (λ (o : Option Refusal). option_or o None) kept
 
   -- the first that is broken is one of this point
-  broken-here : (words : ℕ) (refusal : Refusal) → point < words → first_broken (f point) ≡ Some refusal → first_broken (flat_map f (range_with_len 0 words)) ≡ Some refusal
+  broken-here : (words : ℕ) (refusal : Refusal) → point < words → first_broken (f point) ≡ Some refusal →
+      first_broken (flat_map f (range_with_len 0 words)) ≡ Some refusal
   broken-here words refusal less broken =
       let rest = words - point - 1 in
       let count : words ≡ point + suc rest = omega (arith, less) in
       let here : 0 + point ≡ point = omega arith in
       ap (λ (n : ℕ). first_broken (flat_map f (range_with_len 0 n))) count
-      ∙ ap (λ (xs : List ℕ). first_broken (flat_map f xs)) (split 0 point (suc rest)) ∙ flat-both f (range_with_len 0 point) (range_with_len (0 + point) (suc rest))
+      ∙ ap (λ (xs : List ℕ). first_broken (flat_map f xs)) (split 0 point (suc rest))
+      ∙ flat-both f (range_with_len 0 point) (range_with_len (0 + point) (suc rest))
       ∙ ap (λ (o : Option Refusal). option_or o (first_broken (flat_map f (range_with_len (0 + point) (suc rest))))) none
       ∙ ap (λ (n : ℕ). first_broken (flat_map f (range_with_len n (suc rest)))) here
       ∙ first-both (f point) (flat_map f (range_with_len (point + 1) rest))
@@ -125,6 +131,8 @@ refused-here f point words refusal none less (inr broken) = inr (broken-here f p
 
 -- the entry comes before the points
 pub program-first : (image : Image) (t : Numbered) → first_broken (rules_of_program image t)
-    ≡ option_or (first_broken (entry_rules image t (noted image t t.thread.header.entry))) (first_broken (flat_map (point_rules image t) (range_with_len 0 t.thread.header.words)))
+    ≡ option_or (first_broken (entry_rules image t (noted image t t.thread.header.entry)))
+    (first_broken (flat_map (point_rules image t) (range_with_len 0 t.thread.header.words)))
 unfolding rules_of_program
-program-first image t = first-both (entry_rules image t (noted image t t.thread.header.entry)) (flat_map (point_rules image t) (range_with_len 0 t.thread.header.words))
+program-first image t = first-both (entry_rules image t (noted image t t.thread.header.entry))
+    (flat_map (point_rules image t) (range_with_len 0 t.thread.header.words))

@@ -1,5 +1,6 @@
 -- The rules on the programs of the threads that are left.
-use Rattle.std.proofs.Common.{ℕ, suc, ◌≡◌, ◌∙◌, ◌+◌, inl, inr, Some, None, Option, Err, List, [], ◌∷◌, add-one, drop, drop-cons, get_or, length, map, sym, ap, subst, arith}
+use Rattle.std.proofs.Common.{ℕ, suc, ◌≡◌, ◌∙◌, ◌+◌, inl, inr, Some, None, Option, Err, List, [], ◌∷◌, add-one, drop, drop-cons, get_or, length, map, sym, ap}
+use Rattle.std.proofs.Common.{subst, arith}
 use Rattle.std.specs.Prelude.{flat_map, slice_get}
 use Rattle.std.specs.Option.{option_or}
 use Rattle.std.specs.List.{enumerate_from}
@@ -15,7 +16,8 @@ use Rattle.program_rules.proofs.FirstBroken.{first-both, refused-first}
 use Rattle.wellformed.specs.Answering.{Answers}
 
 abbrev pub rules_from : Image → ℕ → List Thread → List Rule
-rules_from image n threads = flat_map (rules_of_program image) (map (λ (t : ℕ × Thread). let u : Numbered = record { number = t.0; thread = t.1 } in u) (enumerate_from n threads))
+rules_from image n threads = flat_map (rules_of_program image)
+    (map (λ (t : ℕ × Thread). let u : Numbered = record { number = t.0; thread = t.1 } in u) (enumerate_from n threads))
 
 module _ (image : Image) (n : ℕ) (t : Thread) (rest : List Thread) where
   abbrev own : List Rule
@@ -30,8 +32,10 @@ module _ (image : Image) (n : ℕ) (t : Thread) (rest : List Thread) where
   pub next-kept : (total : Option Refusal) → first_broken own ≡ None → first_broken (rules_from image n (t ∷ rest)) ≡ total → later ≡ total
   next-kept total kept so = ap (λ o. option_or o later) (sym kept) ∙ parted total so
 
-  pub one-refused : (total : Option Refusal) (refusal : Refusal) → Answers (first_broken own) (Err refusal) → first_broken (rules_from image n (t ∷ rest)) ≡ total → Answers total (Err refusal)
-  one-refused total refusal answers so = subst (λ (o : Option Refusal). Answers o (Err refusal)) (parted total so) (refused-first (first_broken own) later refusal answers)
+  pub one-refused : (total : Option Refusal) (refusal : Refusal) → Answers (first_broken own) (Err refusal) →
+      first_broken (rules_from image n (t ∷ rest)) ≡ total → Answers total (Err refusal)
+  one-refused total refusal answers so = subst (λ (o : Option Refusal). Answers o (Err refusal)) (parted total so)
+      (refused-first (first_broken own) later refusal answers)
 
 -- the thread at hand, and those behind it
 pub head-of : {A : Type 0} (n : ℕ) (xs ys : List A) (x : A) → drop n xs ≡ x ∷ ys → (slice_get xs n ≡ Some x) × (drop (n + 1) xs ≡ ys)

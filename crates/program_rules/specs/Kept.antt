@@ -1,5 +1,6 @@
 -- What is kept of points, and what it says that the certificate notes of them.
-use Rattle.std.specs.Prelude.{ℕ, zero, suc, ◌≡◌, ◌+◌, ◌≢◌, ◌^◌, ◌<◌, ◌≤◌, ◌≤ℤ◌, negsuc, Bool, true, false, Option, Some, None, Result, Ok, Err, List, length, slice_get, slice_index_or}
+use Rattle.std.specs.Prelude.{ℕ, zero, suc, ◌≡◌, ◌+◌, ◌≢◌, ◌^◌, ◌<◌, ◌≤◌, ◌≤ℤ◌, negsuc, Bool, true, false, Option, Some, None, Result, Ok, Err, List, length}
+use Rattle.std.specs.Prelude.{slice_get, slice_index_or}
 use Rattle.std.specs.List.{All}
 use Rattle.measure.specs.Measures.{measure_of}
 use Rattle.model.specs.Acceptance.NotedStates.{NotedSlot, PointState, record_of}
@@ -119,7 +120,8 @@ before image t zero = Missing
 before image t (suc point) = follows image t point (noted image t point)
 
 -- the points up to this one, and what is left for it, if it has no record
-pub record IsReadTo (image : Image) (t : Numbered) (slots : List NotedSlot) (point : ℕ) (log : List LogEntry) (kept : KeptPoints) (derived : Kept) : Type 0 where
+pub record IsReadTo (image : Image) (t : Numbered) (slots : List NotedSlot) (point : ℕ) (log : List LogEntry) (kept : KeptPoints) (derived : Kept) : Type
+    0 where
   pub count : length kept.places.items ≡ point
   pub noted : AreKept image t slots log kept
   pub same : record_of t.thread point ≡ None → noted_by slots log derived ≡ before image t point

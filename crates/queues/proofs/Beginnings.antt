@@ -35,9 +35,11 @@ module _ (m : List ℕ) (thread : ℕ) (within : thread + 512 ≤ length m) wher
   begun-ready : link_at 256 (without_links m thread) thread 0 ≡ None
   begun-ready = ap somebody (word_at-written one (thread + (256 + 4 * 0)) 0 (omega (arith, within, size-one)) (omega arith))
 
-  begun-bytes : (place : ℕ) → (IsLinkByte 244 thread place → ⊥) → (IsLinkByte 256 thread place → ⊥) → slice_index (without_links m thread) place ≡ slice_index m place
+  begun-bytes : (place : ℕ) → (IsLinkByte 244 thread place → ⊥) → (IsLinkByte 256 thread place → ⊥) →
+      slice_index (without_links m thread) place ≡ slice_index m place
   begun-bytes place off off' =
-      off-link 256 one thread 0 0 place (omega (arith, within, size-one)) (omega arith) (omega arith) off' ∙ off-link 244 m thread 0 0 place within (omega arith) (omega arith) off
+      off-link 256 one thread 0 0 place (omega (arith, within, size-one)) (omega arith) (omega arith) off'
+      ∙ off-link 244 m thread 0 0 place within (omega arith) (omega arith) off
 
 module _ (m : List ℕ) (head : ℕ) (within : head + 8 ≤ length m) where
   abbrev first : List ℕ
@@ -84,8 +86,10 @@ last-none p m queue stands none = stands.linked.queues.last queue ∙ ap (last_o
 
 pub nobody_named : NobodyNamed
 nobody_named = record {
-  idle = λ p m thread stands out. unowned.none (waiting_in p m) (length m) thread stands.linked (λ queue. ap (λ l. times_in l thread) (sym (queue-is p m queue)) ∙ out queue);
-  unready = λ p ends m thread stands out. unowned.none (ready_in p ends m) (length m) thread stands.linked (λ priority. ap (λ l. times_in l thread) (sym (ready-is p ends m priority)) ∙ out priority);
+  idle = λ p m thread stands out. unowned.none (waiting_in p m) (length m) thread stands.linked
+      (λ queue. ap (λ l. times_in l thread) (sym (queue-is p m queue)) ∙ out queue);
+  unready = λ p ends m thread stands out. unowned.none (ready_in p ends m) (length m) thread stands.linked
+      (λ priority. ap (λ l. times_in l thread) (sym (ready-is p ends m priority)) ∙ out priority);
   empty = λ p m queue stands none k low. elim (cases_lt k 1) [
     | inl less ↦ let is : k ≡ 0 = omega (arith, less) in ap (λ (n : ℕ). end_in p.heads m n queue) is ∙ first-none p m queue none
     | inr least ↦ let is : k ≡ 1 = omega (arith, least, low) in ap (λ (n : ℕ). end_in p.heads m n queue) is ∙ last-none p m queue stands none

@@ -1,5 +1,6 @@
 -- What stays of queues where other bytes change, and where threads and objects come and go that are in no queue.
-use Rattle.std.proofs.Common.{ℕ, ◌≡◌, ◌∙◌, ◌+◌, ◌*◌, ◌<◌, ◌⊎◌, inl, inr, Bool, true, if◌then◌else◌, Option, Some, None, List, length, refl, sym, ap, subst, arith}
+use Rattle.std.proofs.Common.{ℕ, ◌≡◌, ◌∙◌, ◌+◌, ◌*◌, ◌<◌, ◌⊎◌, inl, inr, Bool, true, if◌then◌else◌, Option, Some, None, List, length, refl, sym, ap, subst}
+use Rattle.std.proofs.Common.{arith}
 use Rattle.model.specs.Capabilities.Slots.{Slots}
 use Rattle.model.specs.Shared.Lists.{times_in}
 use Rattle.model.proofs.BytesLemmas.{word_at-same}
@@ -62,7 +63,8 @@ module _ (p n : Places) (old new : List ℕ) (size : length new ≡ length old)
   pub waiting-stays : QueuesStand p old → (queue : ℕ) → queue_of n new queue ≡ queue_of p old queue
   unfolding queue_of
   waiting-stays stands queue =
-      ap (λ (s : ℕ). listed (waiting_in n new) s queue) size ∙ only_owned.queues (waiting_in p old) (waiting_in n new) (length old) stands.linked same-waiting queue
+      ap (λ (s : ℕ). listed (waiting_in n new) s queue) size
+      ∙ only_owned.queues (waiting_in p old) (waiting_in n new) (length old) stands.linked same-waiting queue
 
 module _ (p n : Places) (ends : List Ends) (old new : List ℕ) (size : length new ≡ length old)
     (threads : (thread : ℕ) → IsKept 256 p.threads n.threads old new thread ⊎ IsOut 256 p.threads n.threads old new thread) where
@@ -77,13 +79,15 @@ module _ (p n : Places) (ends : List Ends) (old new : List ℕ) (size : length n
 
   pub ready-stands : ReadyStands p ends old → ReadyStands n ends new
   ready-stands stands = record {
-    linked = subst (AreLinked (ready_in n ends new)) (sym size) (only_owned.linked (ready_in p ends old) (ready_in n ends new) (length old) stands.linked same-ready);
+    linked = subst (AreLinked (ready_in n ends new)) (sym size)
+        (only_owned.linked (ready_in p ends old) (ready_in n ends new) (length old) stands.linked same-ready);
   }
 
   pub ready-stays : ReadyStands p ends old → (priority : ℕ) → ready_of n ends new priority ≡ ready_of p ends old priority
   unfolding ready_of
   ready-stays stands priority =
-      ap (λ (s : ℕ). listed (ready_in n ends new) s priority) size ∙ only_owned.queues (ready_in p ends old) (ready_in n ends new) (length old) stands.linked same-ready priority
+      ap (λ (s : ℕ). listed (ready_in n ends new) s priority) size
+      ∙ only_owned.queues (ready_in p ends old) (ready_in n ends new) (length old) stands.linked same-ready priority
 
 -- ---- one kind of queues changes beside the other
 
@@ -125,12 +129,14 @@ module _ (p : Places) (slots : Slots) (old new : List ℕ) (laid : AreLaidOut p 
 
 -- ---- who is in queues
 
-pub waiting-threads : (p : Places) (memory : List ℕ) → QueuesStand p memory → (queue thread : ℕ) → 0 < times_in (queue_of p memory queue) thread → p.threads thread ≡ true
+pub waiting-threads : (p : Places) (memory : List ℕ) → QueuesStand p memory → (queue thread : ℕ) → 0 < times_in (queue_of p memory queue) thread →
+    p.threads thread ≡ true
 waiting-threads p memory stands queue thread some =
     linked-thread 244 p.threads memory 0 thread queue
     (stands.linked.queues.owned queue thread (subst (λ (l : List ℕ). 0 < times_in l thread) (queue-is p memory queue) some))
 
-pub ready-threads : (p : Places) (ends : List Ends) (memory : List ℕ) → ReadyStands p ends memory → (priority thread : ℕ) → 0 < times_in (ready_of p ends memory priority) thread
+pub ready-threads : (p : Places) (ends : List Ends) (memory : List ℕ) → ReadyStands p ends memory → (priority thread : ℕ) →
+    0 < times_in (ready_of p ends memory priority) thread
     → p.threads thread ≡ true
 ready-threads p ends memory stands priority thread some =
     linked-thread 256 p.threads memory 0 thread priority

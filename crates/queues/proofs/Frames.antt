@@ -49,7 +49,8 @@ off-ends m head ends place within off =
     off-end one head 1 (word_of ends.last) place (omega (arith, within, size)) (omega arith) off
     ∙ off-end m head 0 (word_of ends.first) place within (omega arith) off
 
-pub size-last : (base : ℕ) (m : List ℕ) (last : Option ℕ) (queue thread : ℕ) → thread + 512 ≤ length m → ((t : ℕ) → last ≡ Some t → t + 512 ≤ length m) → base ≤ 256
+pub size-last : (base : ℕ) (m : List ℕ) (last : Option ℕ) (queue thread : ℕ) → thread + 512 ≤ length m → ((t : ℕ) → last ≡ Some t → t + 512 ≤ length m) →
+    base ≤ 256
     → length (linked_last base m last queue thread) ≡ length m
 size-last base m last queue thread within behind most =
     let one = with_link base m thread 0 (word_of (Some queue)) in
@@ -60,7 +61,8 @@ size-last base m last queue thread within behind most =
     let size'' = size-link base two thread 2 (word_of last) (omega (arith, within, size')) most (omega arith) ∙ size' in
     size-link_at base three last 1 (word_of (Some thread)) (λ t is. omega (arith, behind t is, size'')) most (omega arith) ∙ size''
 
-pub off-last : (base : ℕ) (m : List ℕ) (last : Option ℕ) (queue thread place : ℕ) → thread + 512 ≤ length m → ((t : ℕ) → last ≡ Some t → t + 512 ≤ length m) → base ≤ 256
+pub off-last : (base : ℕ) (m : List ℕ) (last : Option ℕ) (queue thread place : ℕ) → thread + 512 ≤ length m → ((t : ℕ) → last ≡ Some t → t + 512 ≤ length m) →
+    base ≤ 256
     → (IsLinkByte base thread place → ⊥) → ((t : ℕ) → last ≡ Some t → IsLinkByte base t place → ⊥)
     → slice_index (linked_last base m last queue thread) place ≡ slice_index m place
 off-last base m last queue thread place within behind most off off' =

@@ -1,5 +1,6 @@
 -- What leaving makes of those that wait.
-use Rattle.std.proofs.Common.{ℕ, ◌≡◌, ◌∙◌, ◌==◌, ◌+◌, ◌^◌, ◌<◌, ◌≤◌, inl, inr, Bool, true, if◌then◌else◌, Option, Some, None, List, length, sym, ap, subst, arith}
+use Rattle.std.proofs.Common.{ℕ, ◌≡◌, ◌∙◌, ◌==◌, ◌+◌, ◌^◌, ◌<◌, ◌≤◌, inl, inr, Bool, true, if◌then◌else◌, Option, Some, None, List, length, sym, ap, subst}
+use Rattle.std.proofs.Common.{arith}
 use Rattle.model.specs.Capabilities.Slots.{Slots}
 use Rattle.model.specs.Kernel.State.{put}
 use Rattle.model.specs.Shared.Lists.{times_in, without}
@@ -31,7 +32,8 @@ left-memory m link new head thread before behind read linked-so ends-so written-
     written-so ∙ ap (λ l. with_ends l head behind) linked-so
     ∙ ap (with_ends (taken_out 244 m thread) head) (ends-so ∙ ap (left_ends m thread) read)
 
-ends-threads : (threads : ℕ → Bool) (towards away end : Option ℕ) → AreThreads threads away → AreThreads threads end → AreThreads threads (end_without towards away end)
+ends-threads : (threads : ℕ → Bool) (towards away end : Option ℕ) → AreThreads threads away → AreThreads threads end →
+    AreThreads threads (end_without towards away end)
 ends-threads threads None away end are are' = are
 ends-threads threads (Some x) away end are are' = are'
 
@@ -108,11 +110,13 @@ module _ (places : Places) (slots : Slots) (m : List ℕ) (laid : AreLaidOut pla
 
   end-mid : (k x : ℕ) → k < 2 → end_in places.heads mid k x ≡ end_in places.heads m k x
   end-mid k x low = end-stays places.heads m mid k x low (λ place at kept from below.
-      let off : (t : ℕ) → places.threads t ≡ true → (t + 244 ≤ at) × (at < t + 244 + 12) → ⊥ = λ t thread-there held. elim (laid.beside x place t kept thread-there) [
+      let off : (t : ℕ) → places.threads t ≡ true → (t + 244 ≤ at) × (at < t + 244 + 12) → ⊥ = λ t thread-there held.
+      elim (laid.beside x place t kept thread-there) [
         | inl earlier ↦ absurd (omega (arith, earlier, below, held.0))
         | inr past ↦ absurd (omega (arith, past, from, held.1))
       ] in
-      off-out 244 m thread at near behind front (omega arith) (off thread there) (λ t same. off t (after-thread t same)) (λ t same. off t (before-thread t same)))
+      off-out 244 m thread at near behind front (omega arith) (off thread there) (λ t same. off t (after-thread t same))
+      (λ t same. off t (before-thread t same)))
 
   left-is : waiting_in places end ≡ left w queue thread
   left-is =

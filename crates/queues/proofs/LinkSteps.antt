@@ -3,7 +3,8 @@ use Rattle.std.proofs.Common.{ℕ, ◌≡◌, ◌∙◌, ◌+◌, ◌-◌, ◌^�
 use Rattle.model.specs.Kernel.State.{put}
 use Rattle.slots.specs.preorder.Chains.{put_at}
 use Rattle.queues.specs.Words.{LinksIn, link_at, link_in, linked_last, links_in, somebody, taken_out, with_link, with_link_at, word_of}
-use Rattle.queues.proofs.MemoryWrites.{AreInPlace, fits-word, links-next, links-next_at, links-owner, links-previous, links-previous_at, size-link, size-link_at, somebody-back, somebody-there}
+use Rattle.queues.proofs.MemoryWrites.{AreInPlace, fits-word, links-next, links-next_at, links-owner, links-previous, links-previous_at, size-link}
+use Rattle.queues.proofs.MemoryWrites.{size-link_at, somebody-back, somebody-there}
 
 -- whoever is named is a thread
 abbrev pub AreThreads : (ℕ → Bool) → Option ℕ → Type 0
@@ -18,7 +19,8 @@ back-word threads size o places are = somebody-back o (λ x is. fits-thread thre
 near-named : (threads : ℕ → Bool) (size : ℕ) (o : Option ℕ) → AreInPlace threads size → AreThreads threads o → (x : ℕ) → o ≡ Some x → x + 512 ≤ size
 near-named threads size o places are x is = places.within x (are x is)
 
-module _ (base : ℕ) (threads : ℕ → Bool) (m : List ℕ) (places : AreInPlace threads (length m)) (thread : ℕ) (is : threads thread ≡ true) (most : base ≤ 256) where
+module _ (base : ℕ) (threads : ℕ → Bool) (m : List ℕ) (places : AreInPlace threads (length m)) (thread : ℕ) (is : threads thread ≡ true)
+    (most : base ≤ 256) where
   abbrev links : LinksIn
   links = links_in base threads m
 
@@ -39,7 +41,8 @@ module _ (base : ℕ) (threads : ℕ → Bool) (m : List ℕ) (places : AreInPla
       let owner = links-owner base threads m thread (word_of (Some queue)) places is most (fits-word (Some queue)) in
       let next = links-next base threads one thread 0 (subst (AreInPlace threads) (sym size) places) is most (omega arith) in
       let previous = links-previous base threads two thread (word_of last) (subst (AreInPlace threads) (sym size') places) is most (fits-word last) in
-      let behind = links-next_at base threads three last (word_of (Some thread)) (subst (AreInPlace threads) (sym size'') places) named most (fits-word (Some thread)) in
+      let behind = links-next_at base threads three last (word_of (Some thread)) (subst (AreInPlace threads) (sym size'') places) named most
+      (fits-word (Some thread)) in
       let back = back-word threads (length m) last places named in
       let own = somebody-there thread (fits-thread threads (length m) thread places is) in
       let named-queue = somebody-there queue fits in

@@ -1,5 +1,6 @@
 -- The highest priority that is marked, and who is the first at it.
-use Rattle.std.proofs.Common.{ℕ, zero, suc, ◌≡◌, ◌≢◌, ◌∙◌, ◌==◌, ◌+◌, ◌*◌, ◌/◌, ◌%◌, ◌^◌, ◌<◌, ◌≤◌, inl, inr, true, false, Option, Some, None, is_some, List, length, replicate, set, slice_index, refl, sym, ap, arith}
+use Rattle.std.proofs.Common.{ℕ, zero, suc, ◌≡◌, ◌≢◌, ◌∙◌, ◌==◌, ◌+◌, ◌*◌, ◌/◌, ◌%◌, ◌^◌, ◌<◌, ◌≤◌, inl, inr, true, false, Option, Some, None, is_some, List}
+use Rattle.std.proofs.Common.{length, replicate, set, slice_index, refl, sym, ap, arith}
 use Rattle.std.proofs.Common.{pow_pos, div-lt_iff_lt-mul, le-div_iff_mul-le}
 use Rattle.std.proofs.Math.Nat.{two-pow-succ}
 use Rattle.std.specs.Int.{bit_at}
@@ -27,7 +28,8 @@ above-top : (word k i : ℕ) → word < 2 * 2 ^ k → k < i → bit_at word i �
 above-top word k i high above = bit_at_above word (suc k) i (omega (arith, high, two-pow-succ k)) (omega (arith, above))
 
 -- the mark of a priority in a word
-mark-is : (marks : List ℕ) (number word place : ℕ) → slice_index marks number ≡ word → place < 64 → is_marked marks (64 * number + place) ≡ (bit_at word place == 1)
+mark-is : (marks : List ℕ) (number word place : ℕ) → slice_index marks number ≡ word → place < 64 →
+    is_marked marks (64 * number + place) ≡ (bit_at word place == 1)
 mark-is marks number word place is low =
     ap (λ n. bit_at (slice_index marks n) ((64 * number + place) % 64) == 1) (omega (arith, low))
     ∙ ap (λ n. bit_at (slice_index marks number) n == 1) (omega (arith, low))
@@ -36,10 +38,12 @@ mark-is marks number word place is low =
 place-is : (number other : ℕ) → 64 * number ≤ other → other < 64 * (number + 1) → (place : ℕ) × (other ≡ 64 * number + place) × (place < 64)
 place-is number other from below = (other % 64, omega (arith, from, below), omega arith)
 
-mark-clear : (marks : List ℕ) (number word place : ℕ) → slice_index marks number ≡ word → place < 64 → bit_at word place ≡ 0 → is_marked marks (64 * number + place) ≡ false
+mark-clear : (marks : List ℕ) (number word place : ℕ) → slice_index marks number ≡ word → place < 64 → bit_at word place ≡ 0 →
+    is_marked marks (64 * number + place) ≡ false
 mark-clear marks number word place is low none = mark-is marks number word place is low ∙ ap (λ b. b == 1) none
 
-pub empty-word : (marks : List ℕ) (number : ℕ) (below : Option ℕ) → slice_index marks number ≡ 0 → IsHighest (64 * number) marks below → IsHighest (64 * (number + 1)) marks below
+pub empty-word : (marks : List ℕ) (number : ℕ) (below : Option ℕ) → slice_index marks number ≡ 0 → IsHighest (64 * number) marks below →
+    IsHighest (64 * (number + 1)) marks below
 empty-word marks number below none known =
     let clear : (other : ℕ) → 64 * number ≤ other → other < 64 * (number + 1) → is_marked marks other ≡ false = λ other from under.
     let at = place-is number other from under in
@@ -81,14 +85,16 @@ none-marked = record {
 }
 
 -- a priority has other ends, and its mark with them
-pub marked-put : (ends : List Ends) (marks new : List ℕ) (priority : ℕ) (e : Ends) → AreMarked ends marks → priority < 256 → is_marked new priority ≡ is_some e.first
+pub marked-put : (ends : List Ends) (marks new : List ℕ) (priority : ℕ) (e : Ends) → AreMarked ends marks → priority < 256 →
+    is_marked new priority ≡ is_some e.first
     → ((other : ℕ) → other ≢ priority → is_marked new other ≡ is_marked marks other) → AreMarked (set ends priority e) new
 marked-put ends marks new priority e known low own others = record {
   long = length-set ends priority e ∙ known.long;
   bits = λ other below. elim (eqb_tells other priority) [
     | inl same ↦
         ap (is_marked new) same.1 ∙ own
-        ∙ sym (ap (λ (x : Ends). is_some x.first) (ap (ends_of (set ends priority e)) same.1 ∙ get_or-set_same ends priority e nobody (omega (arith, low, known.long))))
+        ∙ sym (ap (λ (x : Ends). is_some x.first) (ap (ends_of (set ends priority e)) same.1
+        ∙ get_or-set_same ends priority e nobody (omega (arith, low, known.long))))
     | inr apart ↦
         others other apart.1 ∙ known.bits other below
         ∙ sym (ap (λ (x : Ends). is_some x.first) (get_or-set_other ends priority other e nobody apart.1))
@@ -133,7 +139,8 @@ clear-head : (places : Places) (ends : List Ends) (m marks : List ℕ) (priority
 clear-head places ends m marks priority known low clear =
     ready-first places ends m priority ∙ clear-none (ends_of ends priority).first (sym (known.bits priority low) ∙ clear)
 
-pub nobody-first : (places : Places) (ends : List Ends) (m marks : List ℕ) → AreMarked ends marks → IsHighest 256 marks None → None ≡ first_below 256 (ready_of places ends m)
+pub nobody-first : (places : Places) (ends : List Ends) (m marks : List ℕ) → AreMarked ends marks → IsHighest 256 marks None →
+    None ≡ first_below 256 (ready_of places ends m)
 nobody-first places ends m marks known none =
     sym (none-below 256 (ready_of places ends m) (λ priority low. clear-head places ends m marks priority known low (none priority low)))
 

@@ -1,8 +1,10 @@
 -- What writes make of the links of all threads, and of the ends of all queues.
-use Rattle.std.proofs.Common.{ℕ, ◌≡◌, ◌≢◌, ◌∙◌, ◌+◌, ◌-◌, ◌*◌, ◌%◌, ◌^◌, ◌<◌, ◌≤◌, ◌⊎◌, inl, inr, Bool, true, false, if◌then◌else◌, Option, Some, None, List, length, slice_index, refl, sym, ap, arith}
+use Rattle.std.proofs.Common.{ℕ, ◌≡◌, ◌≢◌, ◌∙◌, ◌+◌, ◌-◌, ◌*◌, ◌%◌, ◌^◌, ◌<◌, ◌≤◌, ◌⊎◌, inl, inr, Bool, true, false, if◌then◌else◌, Option, Some, None, List}
+use Rattle.std.proofs.Common.{length, slice_index, refl, sym, ap, arith}
 use Rattle.std.proofs.lemmas.Bool.Decides.{eqb_tells}
 use Rattle.std.proofs.lemmas.Bool.{cases_lt, ne_eqb}
-use Rattle.model.proofs.BytesLemmas.{length-written, slice_index-written_before, slice_index-written_behind, word_at-same, word_at-written, word_at-written_before, word_at-written_behind}
+use Rattle.model.proofs.BytesLemmas.{length-written, slice_index-written_before, slice_index-written_behind, word_at-same, word_at-written}
+use Rattle.model.proofs.BytesLemmas.{word_at-written_before, word_at-written_behind}
 use Rattle.model.specs.Kernel.State.{put}
 use Rattle.model.specs.Shared.Bytes.{word_at, word_bytes, written}
 use Rattle.slots.specs.preorder.Chains.{put_at}
@@ -11,7 +13,8 @@ use Rattle.queues.specs.Words.{end_in, end_of, link_at, link_in, links_in, someb
 
 -- ---- one word
 
-pub word-beside : (m : List ℕ) (at word place : ℕ) → at + 4 ≤ length m → (place + 4 ≤ at) ⊎ (at + 4 ≤ place) → word_at (written m at (word_bytes word)) place ≡ word_at m place
+pub word-beside : (m : List ℕ) (at word place : ℕ) → at + 4 ≤ length m → (place + 4 ≤ at) ⊎ (at + 4 ≤ place) →
+    word_at (written m at (word_bytes word)) place ≡ word_at m place
 word-beside m at word place inside apart = elim apart [
   | inl before ↦ word_at-written_before m at (word_bytes word) place (omega (arith, inside)) before
   | inr behind ↦ word_at-written_behind m at (word_bytes word) place (omega (arith, inside)) (omega (arith, behind))
@@ -20,7 +23,8 @@ word-beside m at word place inside apart = elim apart [
 pub size-word : (m : List ℕ) (at word : ℕ) → at + 4 ≤ length m → length (written m at (word_bytes word)) ≡ length m
 size-word m at word inside = length-written m at (word_bytes word) (omega (arith, inside))
 
-pub byte-beside : (m : List ℕ) (at word place : ℕ) → at + 4 ≤ length m → (place < at) ⊎ (at + 4 ≤ place) → slice_index (written m at (word_bytes word)) place ≡ slice_index m place
+pub byte-beside : (m : List ℕ) (at word place : ℕ) → at + 4 ≤ length m → (place < at) ⊎ (at + 4 ≤ place) →
+    slice_index (written m at (word_bytes word)) place ≡ slice_index m place
 byte-beside m at word place inside apart = elim apart [
   | inl before ↦ slice_index-written_before m at (word_bytes word) place (omega (arith, inside)) before
   | inr behind ↦ slice_index-written_behind m at (word_bytes word) place (omega (arith, inside)) (omega (arith, behind))
@@ -73,7 +77,8 @@ apart-words base x t j k own other most few few' apart = elim (eqb_tells x t) [
   ]
 ]
 
-pub link-own : (base : ℕ) (threads : ℕ → Bool) (m : List ℕ) (t k word x : ℕ) → AreInPlace threads (length m) → threads t ≡ true → base ≤ 256 → k < 3 → word < 2 ^ 32
+pub link-own : (base : ℕ) (threads : ℕ → Bool) (m : List ℕ) (t k word x : ℕ) → AreInPlace threads (length m) → threads t ≡ true → base ≤ 256 → k < 3 →
+    word < 2 ^ 32
     → link_in base threads (with_link base m t k word) k x ≡ put (link_in base threads m k) t (somebody word) x
 link-own base threads m t k word x places is most few fits =
     let new = with_link base m t k word in
@@ -90,7 +95,8 @@ link-own base threads m t k word x places is most few fits =
           ∙ sym (put-off (link_in base threads m k) t (somebody word) x off.1)
     ]
 
-pub link-other : (base : ℕ) (threads : ℕ → Bool) (m : List ℕ) (t k word j x : ℕ) → AreInPlace threads (length m) → threads t ≡ true → base ≤ 256 → k < 3 → j < 3 → j ≢ k
+pub link-other : (base : ℕ) (threads : ℕ → Bool) (m : List ℕ) (t k word j x : ℕ) → AreInPlace threads (length m) → threads t ≡ true → base ≤ 256 → k < 3 →
+    j < 3 → j ≢ k
     → link_in base threads (with_link base m t k word) j x ≡ link_in base threads m j x
 link-other base threads m t k word j x places is most few few' off =
     let inside : t + (base + 4 * k) + 4 ≤ length m = omega (arith, places.within t is, most, few) in
@@ -115,7 +121,8 @@ links-next base threads m t word places is most fits = λ i. record {
 }
 
 pub links-previous : (base : ℕ) (threads : ℕ → Bool) (m : List ℕ) (t word : ℕ) → AreInPlace threads (length m) → threads t ≡ true → base ≤ 256 → word < 2 ^ 32
-    → links_in base threads (with_link base m t 2 word) ≡ record (links_in base threads m) { previous = put (links_in base threads m).previous t (somebody word) }
+    → links_in base threads (with_link base m t 2 word) ≡ record (links_in base threads m)
+    { previous = put (links_in base threads m).previous t (somebody word) }
 links-previous base threads m t word places is most fits = λ i. record {
   owner = λ x. link-other base threads m t 2 word 0 x places is most (omega arith) (omega arith) (λ same. absurd (omega (arith, same))) i;
   next = λ x. link-other base threads m t 2 word 1 x places is most (omega arith) (omega arith) (λ same. absurd (omega (arith, same))) i;
@@ -125,20 +132,23 @@ links-previous base threads m t word places is most fits = λ i. record {
 -- where there is a thread
 pub links-next_at : (base : ℕ) (threads : ℕ → Bool) (m : List ℕ) (at : Option ℕ) (word : ℕ) → AreInPlace threads (length m)
     → ((t : ℕ) → at ≡ Some t → threads t ≡ true) → base ≤ 256 → word < 2 ^ 32
-    → links_in base threads (with_link_at base m at 1 word) ≡ record (links_in base threads m) { next = put_at (links_in base threads m).next at (somebody word) }
+    → links_in base threads (with_link_at base m at 1 word) ≡ record (links_in base threads m)
+    { next = put_at (links_in base threads m).next at (somebody word) }
 links-next_at base threads m None word places is most fits = refl
 links-next_at base threads m (Some t) word places is most fits = links-next base threads m t word places (is t refl) most fits
 
 pub links-previous_at : (base : ℕ) (threads : ℕ → Bool) (m : List ℕ) (at : Option ℕ) (word : ℕ) → AreInPlace threads (length m)
     → ((t : ℕ) → at ≡ Some t → threads t ≡ true) → base ≤ 256 → word < 2 ^ 32
-    → links_in base threads (with_link_at base m at 2 word) ≡ record (links_in base threads m) { previous = put_at (links_in base threads m).previous at (somebody word) }
+    → links_in base threads (with_link_at base m at 2 word) ≡ record (links_in base threads m)
+    { previous = put_at (links_in base threads m).previous at (somebody word) }
 links-previous_at base threads m None word places is most fits = refl
 links-previous_at base threads m (Some t) word places is most fits = links-previous base threads m t word places (is t refl) most fits
 
 pub size-link : (base : ℕ) (m : List ℕ) (t k word : ℕ) → t + 512 ≤ length m → base ≤ 256 → k < 3 → length (with_link base m t k word) ≡ length m
 size-link base m t k word within most few = size-word m (t + (base + 4 * k)) word (omega (arith, within, most, few))
 
-pub size-link_at : (base : ℕ) (m : List ℕ) (at : Option ℕ) (k word : ℕ) → ((t : ℕ) → at ≡ Some t → t + 512 ≤ length m) → base ≤ 256 → k < 3 → length (with_link_at base m at k word) ≡ length m
+pub size-link_at : (base : ℕ) (m : List ℕ) (at : Option ℕ) (k word : ℕ) → ((t : ℕ) → at ≡ Some t → t + 512 ≤ length m) → base ≤ 256 → k < 3 →
+    length (with_link_at base m at k word) ≡ length m
 size-link_at base m None k word within most few = refl
 size-link_at base m (Some t) k word within most few = size-link base m t k word (within t refl) most few
 
@@ -162,5 +172,6 @@ pub end-stays : (heads : ℕ → Option ℕ) (old new : List ℕ) (k queue : ℕ
 end-stays heads old new k queue few same =
     elim (heads queue) as (λ o. heads queue ≡ o → end_of new k o ≡ end_of old k o) [
       | None ↦ λ is. refl
-      | Some head ↦ λ is. ap somebody (word_at-same old new (head + 4 * k) (λ place from below. same head place is (omega (arith, from)) (omega (arith, below, few))))
+      | Some head ↦ λ is. ap somebody (word_at-same old new (head + 4 * k)
+          (λ place from below. same head place is (omega (arith, from)) (omega (arith, below, few))))
     ] refl

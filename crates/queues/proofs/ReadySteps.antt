@@ -1,5 +1,6 @@
 -- What pushing and leaving make of those that are ready.
-use Rattle.std.proofs.Common.{ℕ, suc, ◌≡◌, ◌∙◌, ◌+◌, ◌^◌, ◌<◌, ◌≤◌, inl, inr, true, false, if◌then◌else◌, Option, Some, None, List, [], ◌∷◌, ◌++◌, length, slice_set, refl, sym, ap, subst, arith}
+use Rattle.std.proofs.Common.{ℕ, suc, ◌≡◌, ◌∙◌, ◌+◌, ◌^◌, ◌<◌, ◌≤◌, inl, inr, true, false, if◌then◌else◌, Option, Some, None, List, [], ◌∷◌, ◌++◌, length}
+use Rattle.std.proofs.Common.{slice_set, refl, sym, ap, subst, arith}
 use Rattle.std.proofs.lemmas.Bool.Decides.{eqb_tells}
 use Rattle.std.proofs.lemmas.Bool.{cases_lt}
 use Rattle.std.proofs.lemmas.List.{get_or-set_other, get_or-set_same, get_or_past}
@@ -48,12 +49,14 @@ last-set ends priority e low other = elim (eqb_tells other priority) [
 
 -- ---- who has which number
 
-pub ready-is : (places : Places) (ends : List Ends) (m : List ℕ) (priority : ℕ) → ready_of places ends m priority ≡ listed (ready_in places ends m) (length m) priority
+pub ready-is : (places : Places) (ends : List Ends) (m : List ℕ) (priority : ℕ) →
+    ready_of places ends m priority ≡ listed (ready_in places ends m) (length m) priority
 unfolding ready_of
 ready-is places ends m priority = refl
 
 -- a thread is ready at a priority that the table has
-pub numbered : (places : Places) (ends : List Ends) (m : List ℕ) (thread priority : ℕ) → ReadyStands places ends m → (ready_in places ends m).owner thread ≡ Some priority
+pub numbered : (places : Places) (ends : List Ends) (m : List ℕ) (thread priority : ℕ) → ReadyStands places ends m →
+    (ready_in places ends m).owner thread ≡ Some priority
     → priority < length ends
 numbered places ends m thread priority stands owned = elim (cases_lt priority (length ends)) [
   | inl inside ↦ inside
@@ -68,14 +71,17 @@ pub idle-ready : (places : Places) (ends : List Ends) (m : List ℕ) (thread : �
     → (other : ℕ) → ready_of places ends m other ≡ without thread (ready_of places ends m other)
 unfolding ready_of
 idle-ready places ends m thread stands none other =
-    sym (without-absent thread (listed (ready_in places ends m) (length m) other) (unowned.out (ready_in places ends m) (length m) thread stands.linked none other))
+    sym (without-absent thread (listed (ready_in places ends m) (length m) other)
+    (unowned.out (ready_in places ends m) (length m) thread stands.linked none other))
 
 -- no thread is there
-pub none-ready : (places : Places) (ends : List Ends) (m : List ℕ) → ((priority : ℕ) → ends_of ends priority ≡ nobody) → (priority : ℕ) → ready_of places ends m priority ≡ []
+pub none-ready : (places : Places) (ends : List Ends) (m : List ℕ) → ((priority : ℕ) → ends_of ends priority ≡ nobody) → (priority : ℕ) →
+    ready_of places ends m priority ≡ []
 unfolding ready_of
 none-ready places ends m none priority = ap (λ (e : Ends). linked (ready_in places ends m).next (suc (length m)) e.first) (none priority)
 
-pub nobody-ready : (places : Places) (ends : List Ends) (m : List ℕ) → ((offset : ℕ) → places.threads offset ≡ false) → ((priority : ℕ) → ends_of ends priority ≡ nobody)
+pub nobody-ready : (places : Places) (ends : List Ends) (m : List ℕ) → ((offset : ℕ) → places.threads offset ≡ false) →
+    ((priority : ℕ) → ends_of ends priority ≡ nobody)
     → ReadyStands places ends m
 nobody-ready places ends m free none = record {
   linked = nobody-linked (ready_in places ends m) (length m)
@@ -85,7 +91,8 @@ nobody-ready places ends m free none = record {
 
 -- ---- what changes
 
-stands-as : (places : Places) (ends : List Ends) (old new : List ℕ) (w : Threaded) → ready_in places ends new ≡ w → length new ≡ length old → AreLinked w (length old)
+stands-as : (places : Places) (ends : List Ends) (old new : List ℕ) (w : Threaded) → ready_in places ends new ≡ w → length new ≡ length old →
+    AreLinked w (length old)
     → ReadyStands places ends new
 stands-as places ends old new w is size known = record {
   linked = subst (AreLinked (ready_in places ends new)) (sym size) (subst (λ (v : Threaded). AreLinked v (length old)) (sym is) known);
@@ -121,7 +128,11 @@ abbrev pub fewer_ends : List Ends → List ℕ → ℕ → ℕ → List Ends
 fewer_ends ends m priority thread =
     let next = link_at 256 m thread 1 in
     let previous = link_at 256 m thread 2 in
-    slice_set ends priority (record { first = end_without previous next (ends_of ends priority).first; last = end_without next previous (ends_of ends priority).last })
+    slice_set ends priority (record {
+      first = end_without previous next (ends_of ends priority).first;
+      last =
+          end_without next previous (ends_of ends priority).last;
+    })
 
 pub fewer-ends : (inside ends now : List Ends) (m : List ℕ) (priority thread : ℕ) (behind : Ends) → inside ≡ ends
     → behind ≡ record {
@@ -191,7 +202,8 @@ module _ (places : Places) (slots : Slots) (ends : List Ends) (m : List ℕ) (la
     push-stands = stands-as places joined m longer (pushed w priority thread) (joined-is fits) size-longer
         (pushing.linked w (length m) priority thread stands.linked (unready apart) (omega (arith, near)))
 
-    pub push-ready : (other : ℕ) → ready_of places joined longer other ≡ put (ready_of places ends m) priority (ready_of places ends m priority ++ thread ∷ []) other
+    pub push-ready : (other : ℕ) → ready_of places joined longer other ≡ put (ready_of places ends m) priority (ready_of places ends m priority ++ thread ∷ [])
+        other
     unfolding ready_of
     push-ready other = ready-as places joined m longer (pushed w priority thread) (joined-is fits) size-longer other
         ∙ pushing.queues w (length m) priority thread stands.linked (unready apart) (omega (arith, near)) other
@@ -272,7 +284,8 @@ module _ (places : Places) (slots : Slots) (ends : List Ends) (m : List ℕ) (la
         })
 
     pub leave-stands : ReadyStands places fewer shorter
-    leave-stands = stands-as places fewer m shorter (left w priority thread) fewer-is size-shorter (leaving.linked w (length m) priority thread stands.linked owned)
+    leave-stands = stands-as places fewer m shorter (left w priority thread) fewer-is size-shorter
+        (leaving.linked w (length m) priority thread stands.linked owned)
 
     pub leave-ready : (other : ℕ) → ready_of places fewer shorter other ≡ without thread (ready_of places ends m other)
     unfolding ready_of

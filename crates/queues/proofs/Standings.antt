@@ -1,5 +1,6 @@
 -- What pushing and leaving make of those that wait.
-use Rattle.std.proofs.Common.{ℕ, suc, ◌≡◌, ◌≢◌, ◌∙◌, ◌==◌, ◌+◌, ◌*◌, ◌^◌, ◌<◌, ◌≤◌, inl, inr, Bool, true, false, if◌then◌else◌, Option, Some, None, List, [], ◌∷◌, ◌++◌, drop, length, refl, sym, ap, subst, arith}
+use Rattle.std.proofs.Common.{ℕ, suc, ◌≡◌, ◌≢◌, ◌∙◌, ◌==◌, ◌+◌, ◌*◌, ◌^◌, ◌<◌, ◌≤◌, inl, inr, Bool, true, false, if◌then◌else◌, Option, Some, None, List, []}
+use Rattle.std.proofs.Common.{◌∷◌, ◌++◌, drop, length, refl, sym, ap, subst, arith}
 use Rattle.std.proofs.lemmas.Bool.Decides.{eqb_tells}
 use Rattle.model.specs.Capabilities.Slots.{Slots}
 use Rattle.model.specs.Kernel.Scheduling.{head_of}
@@ -96,12 +97,14 @@ module _ (places : Places) (slots : Slots) (m : List ℕ) (laid : AreLaidOut pla
 
 -- ---- what is linked
 
-pub stands-as : (places : Places) (old new : List ℕ) (w : Threaded) → waiting_in places new ≡ w → length new ≡ length old → AreLinked w (length old) → QueuesStand places new
+pub stands-as : (places : Places) (old new : List ℕ) (w : Threaded) → waiting_in places new ≡ w → length new ≡ length old → AreLinked w (length old) →
+    QueuesStand places new
 stands-as places old new w is size known = record {
   linked = subst (AreLinked (waiting_in places new)) (sym size) (subst (λ (v : Threaded). AreLinked v (length old)) (sym is) known);
 }
 
-pub queue-as : (places : Places) (old new : List ℕ) (w : Threaded) → waiting_in places new ≡ w → length new ≡ length old → (other : ℕ) → queue_of places new other ≡ listed w (length old) other
+pub queue-as : (places : Places) (old new : List ℕ) (w : Threaded) → waiting_in places new ≡ w → length new ≡ length old → (other : ℕ) →
+    queue_of places new other ≡ listed w (length old) other
 unfolding queue_of
 queue-as places old new w is size other = ap (λ n. listed (waiting_in places new) n other) size ∙ ap (λ (v : Threaded). listed v (length old) other) is
 
@@ -130,7 +133,8 @@ first-found places m queue =
     elim (end_in places.heads m 0 queue) as (λ o. head_of (linked (waiting_in places m).next (suc (length m)) o) ≡ o) [ None ↦ refl | Some x ↦ refl ]
 
 -- a thread is in no queue of what has no place for it
-pub headed : (places : Places) (m : List ℕ) (queue thread : ℕ) → QueuesStand places m → (waiting_in places m).owner thread ≡ Some queue → places.heads queue ≢ None
+pub headed : (places : Places) (m : List ℕ) (queue thread : ℕ) → QueuesStand places m → (waiting_in places m).owner thread ≡ Some queue →
+    places.heads queue ≢ None
 headed places m queue thread stands owned none =
     let w = waiting_in places m in
     let some = stands.linked.queues.stands queue thread owned in
@@ -240,7 +244,8 @@ module _ (places : Places) (slots : Slots) (m : List ℕ) (laid : AreLaidOut pla
 
   pub pushed-is : waiting_in places end ≡ pushed w queue thread
   pushed-is =
-      let links = ends-links places slots mid laid-mid (omega (arith, few, size-mid)) queue head is ends joined-thread own-thread 244 (omega arith) (omega arith)
+      let links = ends-links places slots mid laid-mid (omega (arith, few, size-mid)) queue head is ends joined-thread own-thread 244 (omega arith)
+      (omega arith)
       ∙ links-joined 244 places.threads m spaces thread there (omega arith) last queue last-thread (omega (arith, laid.named queue head is, few)) in
       let firsts : (x : ℕ) → end_in places.heads end 0 x ≡ put w.first queue (first_joined first thread) x = λ x.
       ends-first places slots mid laid-mid (omega (arith, few, size-mid)) queue head is ends joined-thread own-thread x

@@ -35,13 +35,15 @@ KeepHeads p n old new = (queue : ℕ) → KeepsWaiting p.heads n.heads old new q
 
 -- those that wait still do
 pub record WaitingStays : Type 0 where
-  pub stands : (p n : Places) (old new : List ℕ) → length new ≡ length old → KeepThreads 244 p n old new → KeepHeads p n old new → QueuesStand p old → QueuesStand n new
+  pub stands : (p n : Places) (old new : List ℕ) → length new ≡ length old → KeepThreads 244 p n old new → KeepHeads p n old new → QueuesStand p old →
+      QueuesStand n new
   pub queues : (p n : Places) (old new : List ℕ) → length new ≡ length old → KeepThreads 244 p n old new → KeepHeads p n old new → QueuesStand p old
       → (queue : ℕ) → queue_of n new queue ≡ queue_of p old queue
 
 -- those that are ready still are
 pub record ReadyStays : Type 0 where
-  pub stands : (p n : Places) (ends : List Ends) (old new : List ℕ) → length new ≡ length old → KeepThreads 256 p n old new → ReadyStands p ends old → ReadyStands n ends new
+  pub stands : (p n : Places) (ends : List Ends) (old new : List ℕ) → length new ≡ length old → KeepThreads 256 p n old new → ReadyStands p ends old →
+      ReadyStands n ends new
   pub queues : (p n : Places) (ends : List Ends) (old new : List ℕ) → length new ≡ length old → KeepThreads 256 p n old new → ReadyStands p ends old
       → (priority : ℕ) → ready_of n ends new priority ≡ ready_of p ends old priority
 
@@ -69,7 +71,8 @@ pub record NobodyNamed : Type 0 where
       → link_in 244 p.threads memory 0 thread ≡ None
   pub unready : (p : Places) (ends : List Ends) (memory : List ℕ) (thread : ℕ) → ReadyStands p ends memory
       → ((priority : ℕ) → times_in (ready_of p ends memory priority) thread ≡ 0) → link_in 256 p.threads memory 0 thread ≡ None
-  pub empty : (p : Places) (memory : List ℕ) (queue : ℕ) → QueuesStand p memory → queue_of p memory queue ≡ [] → (k : ℕ) → k < 2 → end_in p.heads memory k queue ≡ None
+  pub empty : (p : Places) (memory : List ℕ) (queue : ℕ) → QueuesStand p memory → queue_of p memory queue ≡ [] → (k : ℕ) → k < 2 →
+      end_in p.heads memory k queue ≡ None
 
 -- a thread, or an object at which threads may wait, begins with nobody named
 pub record BeginsEmpty : Type 0 where

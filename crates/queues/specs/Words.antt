@@ -71,7 +71,8 @@ with_ends memory head ends = with_end (with_end memory head 0 (word_of ends.firs
 -- a thread linked after the last one of a queue
 abbrev pub linked_last : ℕ → List ℕ → Option ℕ → ℕ → ℕ → List ℕ
 linked_last base memory last queue thread =
-    with_link_at base (with_link base (with_link base (with_link base memory thread 0 (word_of (Some queue))) thread 1 0) thread 2 (word_of last)) last 1 (word_of (Some thread))
+    with_link_at base (with_link base (with_link base (with_link base memory thread 0 (word_of (Some queue))) thread 1 0) thread 2 (word_of last)) last 1
+    (word_of (Some thread))
 
 -- a thread taken out from between two others
 abbrev pub taken_between : ℕ → List ℕ → ℕ → Option ℕ → Option ℕ → List ℕ

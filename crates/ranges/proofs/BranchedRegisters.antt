@@ -1,5 +1,6 @@
 -- The way that a branch goes stays possible, and the registers lie in the ranges on it.
-use Rattle.std.proofs.Common.{ℕ, ◌≡◌, ◌≢◌, ◌∙◌, ◌==◌, ◌||◌, ◌-◌, ◌^◌, ◌<◌, Bool, true, false, if◌then◌else◌, inl, inr, List, length, Some, None, get_or, refl, sym, ap, subst, arith}
+use Rattle.std.proofs.Common.{ℕ, ◌≡◌, ◌≢◌, ◌∙◌, ◌==◌, ◌||◌, ◌-◌, ◌^◌, ◌<◌, Bool, true, false, if◌then◌else◌, inl, inr, List, length, Some, None, get_or, refl}
+use Rattle.std.proofs.Common.{sym, ap, subst, arith}
 use Rattle.std.specs.Prelude.{slice_set}
 use Rattle.std.proofs.lemmas.Bool.{eqb-true, le-ltb, ne_eqb, or_from}
 use Rattle.std.proofs.lemmas.Bool.Decides.{eqb_tells}
@@ -66,7 +67,8 @@ replaced_within r ranges x out long fits before value =
           let same : with_range ranges x out ≡ ranges = ap (λ (b : Bool). if b then ranges else slice_set ranges (x.0 - 1) out) none.0 in
           subst (λ (s : List Range). LieWithin r s) (sym same) before
       | inr some ↦ λ k less.
-          let same : with_range ranges x out ≡ slice_set ranges (x.0 - 1) out = ap (λ (b : Bool). if b then ranges else slice_set ranges (x.0 - 1) out) some.0 in
+          let same : with_range ranges x out ≡ slice_set ranges (x.0 - 1) out =
+          ap (λ (b : Bool). if b then ranges else slice_set ranges (x.0 - 1) out) some.0 in
           subst (λ (s : List Range). LiesIn (read r (register_numbered k)) (range_of s (register_numbered k))) (sym same)
           (replaced_at r ranges x out k long fits some.1 less before value)
     ]
@@ -106,6 +108,7 @@ pub branch_kept : (r : RegisterFile) (ranges : List Range) (op : BranchOp) (rs1 
 branch_kept r ranges op rs1 rs2 taken long small first second before goes =
     let sides : Range × Range = narrowed op taken (range_of ranges rs1) (range_of ranges rs2) in
     let inside : AreInside (read r rs1) (read r rs2) sides =
-    narrowed_kept op taken (read r rs1) (read r rs2) (range_of ranges rs1) (range_of ranges rs2) (small rs1) (small rs2) (before rs1.0 first) (before rs2.0 second) goes in
+    narrowed_kept op taken (read r rs1) (read r rs2) (range_of ranges rs1) (range_of ranges rs2) (small rs1) (small rs2) (before rs1.0 first)
+    (before rs2.0 second) goes in
     sides_kept r ranges rs1 rs2 (joined (rs1.0 == rs2.0) sides) long first second before
     (both_kept (read r rs1) (read r rs2) sides (rs1.0 == rs2.0) (λ same. ap (λ (n : ℕ). read r (register_numbered n)) (eqb-true rs1.0 rs2.0 same)) inside)

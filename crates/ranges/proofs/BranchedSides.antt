@@ -1,11 +1,13 @@
 -- The ranges that a branch leaves its two sides hold the values of the sides.
-use Rattle.std.proofs.Common.{ℕ, ◌≡◌, ◌≢◌, ◌==◌, ◌&&◌, ◌||◌, ◌+◌, ◌-◌, ◌^◌, ◌<◌, ◌≤◌, min, Bool, true, false, if◌then◌else◌, int_lt, nat_lt, nat_le, refl, sym, ◌∙◌, arith}
+use Rattle.std.proofs.Common.{ℕ, ◌≡◌, ◌≢◌, ◌==◌, ◌&&◌, ◌||◌, ◌+◌, ◌-◌, ◌^◌, ◌<◌, ◌≤◌, min, Bool, true, false, if◌then◌else◌, int_lt, nat_lt, nat_le, refl, sym}
+use Rattle.std.proofs.Common.{◌∙◌, arith}
 use Rattle.std.proofs.lemmas.Int.{ints}
 use Rattle.std.proofs.lemmas.Bool.{and_parts, eqb-true, eqb-false, ltb-true, ltb-false, leb-true, not-true, not-false}
 use Rattle.model.specs.declared.instructions.BranchOp.{BranchOp}
 use Rattle.model.specs.declared.instructions.BranchOp.TheVariants.{Beq, Bne, Blt, Bge, Bltu, Bgeu}
 use Rattle.model.specs.declared.ranges.Range.{Range}
-use Rattle.model.specs.Acceptance.Edges.{empty_range, equal_sides, have_one_sign, if_one_sign, joined, lesser_sides, narrowed, not_lesser_sides, unequal_side, unequal_sides, without}
+use Rattle.model.specs.Acceptance.Edges.{empty_range, equal_sides, have_one_sign, if_one_sign, joined, lesser_sides, narrowed, not_lesser_sides, unequal_side}
+use Rattle.model.specs.Acceptance.Edges.{unequal_sides, without}
 use Rattle.model.specs.Machine.Effects.{is_taken}
 use Rattle.model.specs.Machine.Instructions.{signed}
 use Rattle.model.specs.Acceptance.RangeRules.{is_single, range}
@@ -18,8 +20,10 @@ AreInside a b sides = LiesIn a sides.0 × LiesIn b sides.1
 -- ---- equal sides
 
 pub equal_kept : (a b : ℕ) (r s : Range) → a ≡ b → LiesIn a r → LiesIn b s → AreInside a b (equal_sides r s)
-equal_kept a b r s same first second =
-    ((omega (arith, same, first.0, second.0), omega (arith, same, first.1, second.1)), (omega (arith, same, first.0, second.0), omega (arith, same, first.1, second.1)))
+equal_kept a b r s same first second = (
+  (omega (arith, same, first.0, second.0), omega (arith, same, first.1, second.1)),
+  (omega (arith, same, first.0, second.0), omega (arith, same, first.1, second.1)),
+)
 
 -- ---- unequal sides
 

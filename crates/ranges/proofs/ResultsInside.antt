@@ -1,5 +1,6 @@
 -- The results of operations lie in the ranges of the rules: one lemma a case, over plain numbers.
-use Rattle.std.proofs.Common.{ℕ, zero, suc, ◌≡◌, ◌∙◌, ◌&&◌, ◌+◌, ◌-◌, ◌*◌, ◌/◌, ◌%◌, ◌^◌, ◌<◌, ◌≤◌, ℤ, pos, negsuc, Bool, true, false, if◌then◌else◌, nat_lt, nat_le, inl, inr, refl, sym, ap, subst, arith}
+use Rattle.std.proofs.Common.{ℕ, zero, suc, ◌≡◌, ◌∙◌, ◌&&◌, ◌+◌, ◌-◌, ◌*◌, ◌/◌, ◌%◌, ◌^◌, ◌<◌, ◌≤◌, ℤ, pos, negsuc, Bool, true, false, if◌then◌else◌, nat_lt}
+use Rattle.std.proofs.Common.{nat_le, inl, inr, refl, sym, ap, subst, arith}
 use Rattle.std.specs.Prelude.{bit_and, bit_or, bit_xor, int_lt, max}
 use Rattle.std.proofs.lemmas.Bool.{eqb-true, and_parts, ltb-true, leb-true}
 use Rattle.std.proofs.lemmas.Bool.Decides.{leb_tells}
@@ -18,7 +19,8 @@ use Rattle.model.specs.declared.ranges.Range.{Range}
 use Rattle.model.specs.Machine.Instructions.{IsImmediate, signed, word_of}
 use Rattle.model.specs.Machine.ProgramMemory.{FitsSize}
 use Rattle.model.specs.Machine.Effects.{immediate_result, load_result, load_size, one_if, plus, register_result, shift_result}
-use Rattle.model.specs.Acceptance.RangeRules.{and_range, difference_range, if_positive, immediate_range, is_single, left_by, left_range, load_range, ones_above, ones_within, or_range, range, register_range, right_by, right_range, shift_range, sum_range, xor_range}
+use Rattle.model.specs.Acceptance.RangeRules.{and_range, difference_range, if_positive, immediate_range, is_single, left_by, left_range, load_range, ones_above}
+use Rattle.model.specs.Acceptance.RangeRules.{ones_within, or_range, range, register_range, right_by, right_range, shift_range, sum_range, xor_range}
 use Rattle.model.specs.Acceptance.Ranges.{full, moved, single}
 use Rattle.ranges.specs.Inside.{LiesIn}
 
@@ -64,7 +66,12 @@ unfolding ones_within
 ones-in zero n = record { size = 0; covers = λ a under less. less; form = refl }
 ones-in (suc count) n =
     elim (leb_tells (2 ^ count) n) [
-      | inl above ↦ record { size = suc count; covers = λ a under less. less; form = ap (λ (b : Bool). if b then 2 ^ suc count - 1 else ones_within count n) above.0 }
+      | inl above ↦ record {
+        size = suc count;
+        covers = λ a under less. less;
+        form =
+            ap (λ (b : Bool). if b then 2 ^ suc count - 1 else ones_within count n) above.0;
+      }
       | inr below ↦
           let rest = ones-in count n in
           record {
@@ -151,7 +158,8 @@ arithmetic-in a count r out small here inside =
     let fits = ltb-true r.high (2 ^ 31) h in
     subst (λ (n : ℕ). LiesIn n out) (sym (unsigned-shift a count (omega (arith, fits, here.1)))) inside)
 
-pub shifts-in : (op : ShiftOp) (a amount : ℕ) (r : Range) → a < 2 ^ 32 → amount < 2 ^ 5 → LiesIn a r → LiesIn (shift_result op a amount) (shift_range op r amount)
+pub shifts-in : (op : ShiftOp) (a amount : ℕ) (r : Range) → a < 2 ^ 32 → amount < 2 ^ 5 → LiesIn a r →
+    LiesIn (shift_result op a amount) (shift_range op r amount)
 shifts-in Slli a amount r small less here = left-in a amount r here
 shifts-in Srli a amount r small less here = right-in a amount r here
 shifts-in Srai a amount r small less here = arithmetic-in a amount r (right_range r amount) small here (right-in a amount r here)
@@ -175,7 +183,8 @@ right-by-in a b r s here there =
 
 -- ---- operations of two registers
 
-pub registers-in : (op : RegisterOp) (a b : ℕ) (r s : Range) → a < 2 ^ 32 → b < 2 ^ 32 → LiesIn a r → LiesIn b s → LiesIn (register_result op a b) (register_range op r s)
+pub registers-in : (op : RegisterOp) (a b : ℕ) (r s : Range) → a < 2 ^ 32 → b < 2 ^ 32 → LiesIn a r → LiesIn b s →
+    LiesIn (register_result op a b) (register_range op r s)
 registers-in Add a b r s small less here there = sum-in a b r s here there
 registers-in Sub a b r s small less here there = difference-in a b r s small less here there
 registers-in Sll a b r s small less here there = left-by-in a b r s here there

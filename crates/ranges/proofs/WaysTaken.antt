@@ -1,5 +1,6 @@
 -- An instruction that goes on, and is no computed jump, takes one of its ways and keeps the registers in the ranges there.
-use Rattle.std.proofs.Common.{ℕ, ◌≡◌, ◌==◌, ◌+◌, ◌%◌, ◌^◌, Bool, true, false, if◌then◌else◌, inl, inr, List, length, Result, Ok, Err, Option, Some, refl, sym, subst}
+use Rattle.std.proofs.Common.{ℕ, ◌≡◌, ◌==◌, ◌+◌, ◌%◌, ◌^◌, Bool, true, false, if◌then◌else◌, inl, inr, List, length, Result, Ok, Err, Option, Some, refl, sym}
+use Rattle.std.proofs.Common.{subst}
 use Rattle.std.specs.Prelude.{ℤ, option_map, slice_set}
 use Rattle.model.specs.declared.instructions.Access.TheVariants as accesses
 use Rattle.model.specs.declared.instructions.BranchOp.{BranchOp}
@@ -33,13 +34,15 @@ behind-written r x value = elim (x.0 == 0) as (λ b. ((if b then r else record r
 jump-leads : (r : RegisterFile) (content : Content) (written : RegisterFile) (target : ℕ) → (jumps r content written target).exec ≡ outcomes.Next
     → (jumps r content written target).registers.pc ≡ target
 jump-leads r content written target goes =
-    elim (target % 4 == 0) as (λ b. (if b then goes_on (record written { pc = target }) content else stays r content (outcomes.Trap Misaligned)).exec ≡ outcomes.Next
+    elim (target % 4 == 0) as (λ b. (if b then goes_on (record written { pc = target }) content else stays r content (outcomes.Trap Misaligned)).exec
+    ≡ outcomes.Next
     → (if b then goes_on (record written { pc = target }) content else stays r content (outcomes.Trap Misaligned)).registers.pc ≡ target) [
       | true ↦ λ h. refl
       | false ↦ λ h. absurd (let clash : ◌≡◌ {A = Exec} (outcomes.Trap Misaligned) outcomes.Next = h in cc)
     ] goes
 
-load-leads : (r : RegisterFile) (content : Content) (op : LoadOp) (rd : Register) (found : Result ℕ MemoryFault) → (loads r content op rd found).exec ≡ outcomes.Next
+load-leads : (r : RegisterFile) (content : Content) (op : LoadOp) (rd : Register) (found : Result ℕ MemoryFault) →
+    (loads r content op rd found).exec ≡ outcomes.Next
     → (loads r content op rd found).registers.pc ≡ behind r.pc
 load-leads r content op rd (Ok n) goes = behind-written r rd _
 load-leads r content op rd (Err fault) goes = absurd (let clash : ◌≡◌ {A = Exec} (outcomes.Memory fault.address fault.access) outcomes.Next = goes in cc)
@@ -56,7 +59,8 @@ stands-on : (r : RegisterFile) (target : ℕ) (found : Option (List Range)) (kep
 stands-on r target found kept is there within =
     subst (λ (o : Option (List Range)). StandsOn r (option_map way_of (branch_edge target o))) (sym is) (there, within)
 
-branch-takes : (r : RegisterFile) (content : Content) (ranges : List Range) (op : BranchOp) (rs1 rs2 : Register) (offset : ℤ) (taken : Bool) → AreWords r content → length ranges ≡ 31
+branch-takes : (r : RegisterFile) (content : Content) (ranges : List Range) (op : BranchOp) (rs1 rs2 : Register) (offset : ℤ) (taken : Bool) →
+    AreWords r content → length ranges ≡ 31
     → IsInstr (Branch op rs1 rs2 offset) → LieWithin r ranges → is_taken op (read r rs1) (read r rs2) ≡ taken
     → (branches r content taken (plus r.pc offset)).exec ≡ outcomes.Next
     → TakesWay (branches r content taken (plus r.pc offset)).registers (ways_of (after r.pc (Branch op rs1 rs2 offset) ranges))
@@ -79,14 +83,23 @@ unfolding effect after
 takes-way r content ranges (Upper op rd immediate) are long fits straight before goes =
     inl (behind-written r rd _, instruction-keeps r content ranges (Upper op rd immediate) are.count long are.words are.bytes fits before goes)
 takes-way r content ranges (Jal rd offset) are long fits straight before goes =
-    inr (jump-leads r content (write r rd (next_pc r)) (plus r.pc offset) goes, instruction-keeps r content ranges (Jal rd offset) are.count long are.words are.bytes fits before goes)
+    inr (
+      jump-leads r content (write r rd (next_pc r)) (plus r.pc offset) goes,
+      instruction-keeps r content ranges (Jal rd offset) are.count long are.words are.bytes fits before goes,
+    )
 takes-way r content ranges (Jalr rd rs1 offset) are long fits straight before goes = absurd cc
 takes-way r content ranges (Branch op rs1 rs2 offset) are long fits straight before goes =
     branch-takes r content ranges op rs1 rs2 offset (is_taken op (read r rs1) (read r rs2)) are long fits before refl goes
 takes-way r content ranges (Load op rd rs1 offset) are long fits straight before goes =
-    inl (load-leads r content op rd (loaded content accesses.Load (load_size op) (plus (read r rs1) offset)) goes, instruction-keeps r content ranges (Load op rd rs1 offset) are.count long are.words are.bytes fits before goes)
+    inl (
+      load-leads r content op rd (loaded content accesses.Load (load_size op) (plus (read r rs1) offset)) goes,
+      instruction-keeps r content ranges (Load op rd rs1 offset) are.count long are.words are.bytes fits before goes,
+    )
 takes-way r content ranges (Store op rs1 rs2 offset) are long fits straight before goes =
-    inl (store-leads r content (stored content (store_size op) (plus (read r rs1) offset) (read r rs2)) goes, instruction-keeps r content ranges (Store op rs1 rs2 offset) are.count long are.words are.bytes fits before goes)
+    inl (
+      store-leads r content (stored content (store_size op) (plus (read r rs1) offset) (read r rs2)) goes,
+      instruction-keeps r content ranges (Store op rs1 rs2 offset) are.count long are.words are.bytes fits before goes,
+    )
 takes-way r content ranges (Immediate op rd rs1 immediate) are long fits straight before goes =
     inl (behind-written r rd _, instruction-keeps r content ranges (Immediate op rd rs1 immediate) are.count long are.words are.bytes fits before goes)
 takes-way r content ranges (Shift op rd rs1 amount) are long fits straight before goes =

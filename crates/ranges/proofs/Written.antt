@@ -1,5 +1,6 @@
 -- An instruction that goes on keeps the registers in the ranges after it, so what it writes lies in its range.
-use Rattle.std.proofs.Common.{ℕ, zero, suc, ◌≡◌, ◌∙◌, ◌==◌, ◌&&◌, ◌-◌, ◌%◌, ◌^◌, ◌<◌, Bool, true, false, if◌then◌else◌, List, [], ◌∷◌, length, get_or, map, Result, Ok, Err, Some, ap, subst, arith}
+use Rattle.std.proofs.Common.{ℕ, zero, suc, ◌≡◌, ◌∙◌, ◌==◌, ◌&&◌, ◌-◌, ◌%◌, ◌^◌, ◌<◌, Bool, true, false, if◌then◌else◌, List, [], ◌∷◌, length, get_or, map}
+use Rattle.std.proofs.Common.{Result, Ok, Err, Some, ap, subst, arith}
 use Rattle.std.specs.Int.{byte_len, from_le_bytes}
 use Rattle.std.proofs.lemmas.Bool.{and_parts}
 use Rattle.ranges.proofs.WrittenRegisters.{written_within}
@@ -21,7 +22,8 @@ use Rattle.model.specs.declared.ranges.Range.{Range}
 use Rattle.std.specs.Prelude.{ℤ}
 use Rattle.model.specs.Machine.Instructions.{IsImmediate, IsInstr, IsRegister}
 use Rattle.model.specs.Machine.ProgramMemory.{Content, FitsSize, RegisterFile, ◌>>=◌, places_from, read, stored, width_of, write}
-use Rattle.model.specs.Machine.Effects.{branches, effect, goes_on, immediate_result, is_taken, jumps, load_result, load_size, loads, next_pc, plus, register_result, shift_result, stays, store_size, stores, upper_result}
+use Rattle.model.specs.Machine.Effects.{branches, effect, goes_on, immediate_result, is_taken, jumps, load_result, load_size, loads, next_pc, plus}
+use Rattle.model.specs.Machine.Effects.{register_result, shift_result, stays, store_size, stores, upper_result}
 use Rattle.model.specs.Acceptance.RangeRules.{destination, immediate_range, is_single, load_range, ranges_after, register_range, shift_range, value_or}
 use Rattle.model.specs.Acceptance.Ranges.{range_of, single, with_range}
 use Rattle.model.specs.Acceptance.ThreadInvariants.{LieWithin}
@@ -64,32 +66,43 @@ bytes-small content [] i small = omega arith
 bytes-small content (place ∷ places) zero small = small place
 bytes-small content (place ∷ places) (suc i) small = bytes-small content places i small
 
-number-fits : (content : Content) (size : AccessSize) (places : List ℕ) → HasBytes content → FitsSize size (from_le_bytes (width_of size) (map content.byte places))
+number-fits : (content : Content) (size : AccessSize) (places : List ℕ) → HasBytes content →
+    FitsSize size (from_le_bytes (width_of size) (map content.byte places))
 number-fits content Byte places small = omega (arith, bytes-small content places 0 small)
 number-fits content Halfword places small = omega (arith, bytes-small content places 0 small, bytes-small content places 1 small)
 number-fits content Word places small =
-    omega (arith, bytes-small content places 0 small, bytes-small content places 1 small, bytes-small content places 2 small, bytes-small content places 3 small)
+    omega (
+      arith,
+      bytes-small content places 0 small,
+      bytes-small content places 1 small,
+      bytes-small content places 2 small,
+      bytes-small content places 3 small,
+    )
 
 -- ---- the ways on
 
-loaded-keeps : (r : RegisterFile) (content : Content) (ranges : List Range) (op : LoadOp) (rd : Register) (places : Result (List ℕ) MemoryFault) → length r.words ≡ 32 → length ranges ≡ 31
+loaded-keeps : (r : RegisterFile) (content : Content) (ranges : List Range) (op : LoadOp) (rd : Register) (places : Result (List ℕ) MemoryFault) →
+    length r.words ≡ 32 → length ranges ≡ 31
     → HasBytes content → IsRegister rd → LieWithin r ranges
     → (loads r content op rd (places >>= (λ (found : List ℕ). Ok (from_le_bytes (width_of (load_size op)) (map content.byte found))))).exec ≡ outcomes.Next
-    → LieWithin (loads r content op rd (places >>= (λ (found : List ℕ). Ok (from_le_bytes (width_of (load_size op)) (map content.byte found))))).registers (with_range ranges rd (load_range op))
+    → LieWithin (loads r content op rd (places >>= (λ (found : List ℕ). Ok (from_le_bytes (width_of (load_size op)) (map content.byte found))))).registers
+    (with_range ranges rd (load_range op))
 loaded-keeps r content ranges op rd (Ok places) words long small target before goes =
     let n : ℕ = from_le_bytes (width_of (load_size op)) (map content.byte places) in
     written_within r ranges rd (load_result op n) (load_range op) words long target before (loads-in op n (number-fits content (load_size op) places small))
 loaded-keeps r content ranges op rd (Err fault) words long small target before goes =
     absurd (let clash : ◌≡◌ {A = Exec} (outcomes.Memory fault.address fault.access) outcomes.Next = goes in cc)
 
-stored-keeps : (r : RegisterFile) (content : Content) (ranges : List Range) (after : Result Content MemoryFault) → LieWithin r ranges → LieWithin (stores r content after).registers ranges
+stored-keeps : (r : RegisterFile) (content : Content) (ranges : List Range) (after : Result Content MemoryFault) → LieWithin r ranges →
+    LieWithin (stores r content after).registers ranges
 stored-keeps r content ranges (Ok after) before = before
 stored-keeps r content ranges (Err fault) before = before
 
 pub jump-keeps : (r : RegisterFile) (content : Content) (written : RegisterFile) (target : ℕ) (behind : List Range) → LieWithin written behind
     → (jumps r content written target).exec ≡ outcomes.Next → LieWithin (jumps r content written target).registers behind
 jump-keeps r content written target behind kept goes =
-    elim (target % 4 == 0) as (λ b. (if b then goes_on (record written { pc = target }) content else stays r content (outcomes.Trap Misaligned)).exec ≡ outcomes.Next
+    elim (target % 4 == 0) as (λ b. (if b then goes_on (record written { pc = target }) content else stays r content (outcomes.Trap Misaligned)).exec
+    ≡ outcomes.Next
     → LieWithin (if b then goes_on (record written { pc = target }) content else stays r content (outcomes.Trap Misaligned)).registers behind) [
       | true ↦ λ h. kept
       | false ↦ λ h. absurd (let clash : ◌≡◌ {A = Exec} (outcomes.Trap Misaligned) outcomes.Next = h in cc)
@@ -107,7 +120,8 @@ pub instruction-keeps : (r : RegisterFile) (content : Content) (ranges : List Ra
     → LieWithin (effect r content instr).registers (ranges_after r.pc instr ranges)
 unfolding effect ranges_after
 instruction-keeps r content ranges (Upper op rd immediate) words long small bytes fits before goes =
-    written_within r ranges rd (upper_result op r.pc immediate) (single (upper_result op r.pc immediate)) words long fits.0 before (single-in (upper_result op r.pc immediate))
+    written_within r ranges rd (upper_result op r.pc immediate) (single (upper_result op r.pc immediate)) words long fits.0 before
+    (single-in (upper_result op r.pc immediate))
 instruction-keeps r content ranges (Jal rd offset) words long small bytes fits before goes =
     jump-keeps r content (write r rd (next_pc r)) (plus r.pc offset) (with_range ranges rd (single (next_pc r)))
     (written_within r ranges rd (next_pc r) (single (next_pc r)) words long fits.0 before (single-in (next_pc r))) goes
@@ -117,12 +131,14 @@ instruction-keeps r content ranges (Jalr rd rs1 offset) words long small bytes f
 instruction-keeps r content ranges (Branch op rs1 rs2 offset) words long small bytes fits before goes =
     branch-keeps r content ranges (is_taken op (read r rs1) (read r rs2)) (plus r.pc offset) before goes
 instruction-keeps r content ranges (Load op rd rs1 offset) words long small bytes fits before goes =
-    loaded-keeps r content ranges op rd (places_from content accesses.Load (plus (read r rs1) offset) (byte_len (width_of (load_size op)))) words long bytes fits.0 before goes
+    loaded-keeps r content ranges op rd (places_from content accesses.Load (plus (read r rs1) offset) (byte_len (width_of (load_size op)))) words long bytes
+    fits.0 before goes
 instruction-keeps r content ranges (Store op rs1 rs2 offset) words long small bytes fits before goes =
     stored-keeps r content ranges (stored content (store_size op) (plus (read r rs1) offset) (read r rs2)) before
 instruction-keeps r content ranges (Immediate op rd rs1 immediate) words long small bytes fits before goes =
     let s = range_of ranges rs1 in
-    written_within r ranges rd (immediate_result op (read r rs1) immediate) (value_or (is_single s) (immediate_result op s.low immediate) (immediate_range op s immediate))
+    written_within r ranges rd (immediate_result op (read r rs1) immediate)
+    (value_or (is_single s) (immediate_result op s.low immediate) (immediate_range op s immediate))
     words long fits.0 before (immediate-valued op (read r rs1) immediate s (small rs1) fits.2 (before rs1.0 fits.1))
 instruction-keeps r content ranges (Shift op rd rs1 amount) words long small bytes fits before goes =
     let s = range_of ranges rs1 in
@@ -131,7 +147,8 @@ instruction-keeps r content ranges (Shift op rd rs1 amount) words long small byt
 instruction-keeps r content ranges (Registers op rd rs1 rs2) words long small bytes fits before goes =
     let s = range_of ranges rs1 in
     let t = range_of ranges rs2 in
-    written_within r ranges rd (register_result op (read r rs1) (read r rs2)) (value_or (is_single s && is_single t) (register_result op s.low t.low) (register_range op s t))
+    written_within r ranges rd (register_result op (read r rs1) (read r rs2))
+    (value_or (is_single s && is_single t) (register_result op s.low t.low) (register_range op s t))
     words long fits.0 before (register-valued op (read r rs1) (read r rs2) s t (small rs1) (small rs2) (before rs1.0 fits.1) (before rs2.0 fits.2))
 instruction-keeps r content ranges Fence words long small bytes fits before goes = before
 instruction-keeps r content ranges Ecall words long small bytes fits before goes = before
@@ -157,5 +174,6 @@ pub written-in : (r : RegisterFile) (content : Content) (ranges : List Range) (i
     → ((x : Register) → read r x < 2 ^ 32) → HasBytes content → IsInstr instr → LieWithin r ranges → destination instr ≡ Some rd
     → (effect r content instr).exec ≡ outcomes.Next → LiesIn (read (effect r content instr).registers rd) (range_of (ranges_after r.pc instr ranges) rd)
 written-in r content ranges instr rd words long small bytes fits before is goes =
-    let kept : LieWithin (effect r content instr).registers (ranges_after r.pc instr ranges) = instruction-keeps r content ranges instr words long small bytes fits before goes in
+    let kept : LieWithin (effect r content instr).registers (ranges_after r.pc instr ranges) =
+    instruction-keeps r content ranges instr words long small bytes fits before goes in
     kept rd.0 (target-fits instr rd fits is)

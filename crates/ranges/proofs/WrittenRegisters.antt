@@ -48,17 +48,21 @@ written_kept : (r : RegisterFile) (ranges : List Range) (rd : Register) (v : ℕ
 written_kept r ranges rd v out k words long fits target other less before value =
     elim (eqb_tells k rd.0) [
       | inl here ↦
-          let word : get_or (slice_set r.words rd.0 v) k 0 ≡ v = ap (λ (n : ℕ). get_or (slice_set r.words rd.0 v) n 0) here.1 ∙ get_or-set_same r.words rd.0 v 0 (omega (arith, words, fits)) in
+          let word : get_or (slice_set r.words rd.0 v) k 0 ≡ v = ap (λ (n : ℕ). get_or (slice_set r.words rd.0 v) n 0) here.1
+          ∙ get_or-set_same r.words rd.0 v 0 (omega (arith, words, fits)) in
           let place : k - 1 ≡ rd.0 - 1 = ap (λ (n : ℕ). n - 1) here.1 in
           let range : get_or (slice_set ranges (rd.0 - 1) out) (k - 1) full ≡ out =
-          ap (λ (n : ℕ). get_or (slice_set ranges (rd.0 - 1) out) n full) place ∙ get_or-set_same ranges (rd.0 - 1) out full (omega (arith, long, fits, target)) in
+          ap (λ (n : ℕ). get_or (slice_set ranges (rd.0 - 1) out) n full) place
+          ∙ get_or-set_same ranges (rd.0 - 1) out full (omega (arith, long, fits, target)) in
           subst (λ (x : Range). LiesIn (get_or (slice_set r.words rd.0 v) k 0) x) (sym range) (subst (λ (n : ℕ). LiesIn n out) (sym word) value)
       | inr apart ↦
           let differ : k - 1 ≢ rd.0 - 1 = λ same. apart.1 (omega (arith, same, target, other)) in
           let word : get_or (slice_set r.words rd.0 v) k 0 ≡ get_or r.words k 0 = get_or-set_other r.words rd.0 k v 0 apart.1 in
-          let range : get_or (slice_set ranges (rd.0 - 1) out) (k - 1) full ≡ get_or ranges (k - 1) full = get_or-set_other ranges (rd.0 - 1) (k - 1) out full differ in
+          let range : get_or (slice_set ranges (rd.0 - 1) out) (k - 1) full ≡ get_or ranges (k - 1) full =
+          get_or-set_other ranges (rd.0 - 1) (k - 1) out full differ in
           let kept : LiesIn (get_or r.words k 0) (get_or ranges (k - 1) full) = kept_word r ranges k other (before k less) in
-          subst (λ (x : Range). LiesIn (get_or (slice_set r.words rd.0 v) k 0) x) (sym range) (subst (λ (n : ℕ). LiesIn n (get_or ranges (k - 1) full)) (sym word) kept)
+          subst (λ (x : Range). LiesIn (get_or (slice_set r.words rd.0 v) k 0) x) (sym range)
+          (subst (λ (n : ℕ). LiesIn n (get_or ranges (k - 1) full)) (sym word) kept)
     ]
 
 -- a register is written with a value of a range

@@ -1,5 +1,6 @@
 -- Untyped memory loses its last child with one slot of a set, or with the others once that one is empty.
-use Rattle.std.proofs.Common.{ℕ, ◌≡◌, ◌≢◌, ◌∙◌, ◌==◌, ◌/◌, ◌^◌, ◌<◌, ◌&&◌, ◌||◌, ◌⊎◌, inl, inr, Bool, true, false, not, if◌then◌else◌, Option, Some, None, refl, sym, ap}
+use Rattle.std.proofs.Common.{ℕ, ◌≡◌, ◌≢◌, ◌∙◌, ◌==◌, ◌/◌, ◌^◌, ◌<◌, ◌&&◌, ◌||◌, ◌⊎◌, inl, inr, Bool, true, false, not, if◌then◌else◌, Option, Some, None, refl}
+use Rattle.std.proofs.Common.{sym, ap}
 use Rattle.std.proofs.Math.Bool.{and-false, or-true}
 use Rattle.std.proofs.lemmas.Bool.{eq-eqb, ne_eqb}
 use Rattle.std.proofs.lemmas.Bool.Decides.{eqb_tells}
@@ -43,7 +44,8 @@ here-at y x is = elim (eqb_tells y x) [ inl at ↦ at.1 | inr other ↦ absurd (
 apart-at : (y x : ℕ) → (y == x) ≡ false → y ≢ x
 apart-at y x is = elim (eqb_tells y x) [ inl at ↦ absurd (let clash : true ≡ false = sym at.0 ∙ is in cc) | inr apart ↦ apart.1 ]
 
-module _ (s : State) (set : SlotSet) (x : ℕ) (tree : IsDerivation s.slots) (near : (y : ℕ) → IsFull s.slots y → y < 2 ^ s.memory_bits / 16) (member : set x ≡ true) (full : IsFull s.slots x) (u : ℕ) (stays : set u ≡ false) where
+module _ (s : State) (set : SlotSet) (x : ℕ) (tree : IsDerivation s.slots) (near : (y : ℕ) → IsFull s.slots y → y < 2 ^ s.memory_bits / 16)
+    (member : set x ≡ true) (full : IsFull s.slots x) (u : ℕ) (stays : set u ≡ false) where
   abbrev one : State
   one = splits.one s set x tree near member full
 
@@ -117,7 +119,8 @@ module _ (s : State) (set : SlotSet) (x : ℕ) (tree : IsDerivation s.slots) (ne
       let parts = both (set c.0) _ c.1 in
       let below = some-slot u _ parts.1 in
       elim (eqb_tells c.0 x) [
-        | inl at ↦ ap (λ e. e || a2) (found-at s.memory_bits c.0 (λ y. alone x y && is_some_slot u (parent_at s.slots y)) (near c.0 (tree.child_full c.0 u below)) (join (alone x c.0) _ at.0 parts.1))
+        | inl at ↦ ap (λ e. e || a2) (found-at s.memory_bits c.0 (λ y. alone x y && is_some_slot u (parent_at s.slots y))
+            (near c.0 (tree.child_full c.0 u below)) (join (alone x c.0) _ at.0 parts.1))
         | inr away ↦ ap (λ e. a1 || e) (at-a2 c.0 (is-rest c.0 away.1 parts.0) (kept-child c.0 away.1 below)) ∙ or-true a1
       ])
       (λ is. elim (or-cases a1 a2 is) [
@@ -125,19 +128,26 @@ module _ (s : State) (set : SlotSet) (x : ℕ) (tree : IsDerivation s.slots) (ne
             let c = found-where s.memory_bits _ one_is in
             let parts = both (alone x c.0) _ c.1 in
             found-at s.memory_bits c.0 (λ y. set y && is_some_slot u (parent_at s.slots y)) (near c.0 (tree.child_full c.0 u (some-slot u _ parts.1)))
-            (join (set c.0) _ (elim (eqb_tells c.0 x) [ inl at ↦ ap set at.1 ∙ member | inr away ↦ absurd (let clash : false ≡ true = sym away.0 ∙ parts.0 in cc) ]) parts.1)
+            (join (set c.0) _ (elim (eqb_tells c.0 x) [
+              | inl at ↦ ap set at.1 ∙ member
+              | inr away ↦
+                  absurd (let clash : false ≡ true = sym away.0 ∙ parts.0 in cc)
+            ]) parts.1)
         | inr two_is ↦
             let c = found-where s.memory_bits _ two_is in
             let parts = both (rest c.0) _ c.1 in
             let inner = of-rest c.0 parts.0 in
             let was = was-child c.0 inner.1 (some-slot u _ parts.1) in
             elim was.1 [
-              | inl direct ↦ found-at s.memory_bits c.0 (λ y. set y && is_some_slot u (parent_at s.slots y)) (near c.0 was.0) (join (set c.0) _ inner.0 (slot-some u _ direct))
-              | inr through ↦ found-at s.memory_bits x (λ y. set y && is_some_slot u (parent_at s.slots y)) (near x full) (join (set x) _ member (slot-some u _ through))
+              | inl direct ↦ found-at s.memory_bits c.0 (λ y. set y && is_some_slot u (parent_at s.slots y)) (near c.0 was.0)
+                  (join (set c.0) _ inner.0 (slot-some u _ direct))
+              | inr through ↦ found-at s.memory_bits x (λ y. set y && is_some_slot u (parent_at s.slots y)) (near x full)
+                  (join (set x) _ member (slot-some u _ through))
             ]
       ])
 
-  out-at : (c : ℕ) (in_set : Bool) → set c ≡ in_set → (not in_set && is_some_slot u (new_parent s (alone x) c)) ≡ (not in_set && is_some_slot u (parent_at one.slots c))
+  out-at : (c : ℕ) (in_set : Bool) → set c ≡ in_set → (not in_set && is_some_slot u (new_parent s (alone x) c))
+      ≡ (not in_set && is_some_slot u (parent_at one.slots c))
   out-at c true is = refl
   out-at c false is = ap (is_some_slot u) (sym (parent-out s (alone x) c (ne_eqb c x (not-x c is))))
 
@@ -153,7 +163,8 @@ module _ (s : State) (set : SlotSet) (x : ℕ) (tree : IsDerivation s.slots) (ne
   split-b2 =
       found-same s.memory_bits _ _ (λ c.
       left-at (set c) (c == x) (is_some_slot u (new_parent s set c)) (is_some_slot u (new_parent one rest c)) (λ is. ap set (here-at c x is) ∙ member)
-      (λ is. ap (λ p. is_some_slot u (ancestor_outside 256 rest one.slots p)) (ap (parent_at one.slots) (here-at c x is) ∙ splits.root-now s set x tree near member full) ∙ ap (is_some_slot u) (outside-none 256 rest one.slots))
+      (λ is. ap (λ p. is_some_slot u (ancestor_outside 256 rest one.slots p))
+      (ap (parent_at one.slots) (here-at c x is) ∙ splits.root-now s set x tree near member full) ∙ ap (is_some_slot u) (outside-none 256 rest one.slots))
       (λ is. ap (is_some_slot u) (sym (splits.new-parent-split s set x tree near member full c (apart-at c x is)))))
 
   forth : d ≡ true → b ≡ true
@@ -168,17 +179,20 @@ module _ (s : State) (set : SlotSet) (x : ℕ) (tree : IsDerivation s.slots) (ne
       ∙ ap (ancestor_outside 256 rest one.slots) below
       ∙ outside-out 255 rest one.slots u (ap (λ e. e && not (u == x)) stays)
       in
-      found-at s.memory_bits c.0 (λ y. not (set y) && is_some_slot u (new_parent s set y)) (near c.0 (was-child c.0 away below).0) (join (not (set c.0)) _ parts.0 (slot-some u _ above))
+      found-at s.memory_bits c.0 (λ y. not (set y) && is_some_slot u (new_parent s set y)) (near c.0 (was-child c.0 away below).0)
+      (join (not (set c.0)) _ parts.0 (slot-some u _ above))
 
   back : b ≡ true → (a2 || d) ≡ true
   back is =
       let c = found-where s.memory_bits _ is in
       let parts = both (not (set c.0)) _ c.1 in
       let away = not-x c.0 (not-not (set c.0) parts.0) in
-      let found_up : ancestor_outside 256 rest one.slots (parent_at one.slots c.0) ≡ Some u = sym (splits.new-parent-split s set x tree near member full c.0 away) ∙ some-slot u _ parts.1 in
+      let found_up : ancestor_outside 256 rest one.slots (parent_at one.slots c.0) ≡ Some u =
+      sym (splits.new-parent-split s set x tree near member full c.0 away) ∙ some-slot u _ parts.1 in
       elim (outside-found 256 rest one.slots (parent_at one.slots c.0) u found_up) [
         | inl direct ↦
-            ap (λ e. a2 || e) (found-at s.memory_bits c.0 (λ y. not (set y) && is_some_slot u (parent_at one.slots y)) (near c.0 (was-child c.0 away direct).0) (join (not (set c.0)) _ parts.0 (slot-some u _ direct)))
+            ap (λ e. a2 || e) (found-at s.memory_bits c.0 (λ y. not (set y) && is_some_slot u (parent_at one.slots y)) (near c.0 (was-child c.0 away direct).0)
+            (join (not (set c.0)) _ parts.0 (slot-some u _ direct)))
             ∙ or-true a2
         | inr z ↦ ap (λ e. e || d) (at-a2 z.0 z.1 z.2)
       ]

@@ -1,11 +1,13 @@
 -- A slot is emptied: the states that the steps leave.
-use Rattle.std.proofs.Common.{ℕ, ◌≡◌, ◌≢◌, ◌∙◌, ◌==◌, ◌/◌, ◌^◌, ◌<◌, ◌&&◌, inl, inr, Bool, true, false, not, if◌then◌else◌, Option, Some, None, refl, sym, ap, subst}
+use Rattle.std.proofs.Common.{ℕ, ◌≡◌, ◌≢◌, ◌∙◌, ◌==◌, ◌/◌, ◌^◌, ◌<◌, ◌&&◌, inl, inr, Bool, true, false, not, if◌then◌else◌, Option, Some, None, refl, sym, ap}
+use Rattle.std.proofs.Common.{subst}
 use Rattle.std.specs.Option.{option_map_or}
 use Rattle.std.proofs.Math.Bool.{and-false, and-true}
 use Rattle.std.proofs.lemmas.Bool.{eq-eqb, ne_eqb}
 use Rattle.std.proofs.lemmas.Bool.Decides.{eqb_tells}
 use Rattle.model.specs.declared.capabilities.Cap.{Cap}
-use Rattle.model.specs.declared.capabilities.Cap.TheVariants.{Empty, Untyped, Endpoint, Notification, CNode, Frame, PageTable, Tcb, RootTable, InterruptControl, InterruptHandler}
+use Rattle.model.specs.declared.capabilities.Cap.TheVariants.{Empty, Untyped, Endpoint, Notification, CNode, Frame, PageTable, Tcb, RootTable, InterruptControl}
+use Rattle.model.specs.declared.capabilities.Cap.TheVariants.{InterruptHandler}
 use Rattle.model.specs.Capabilities.CapabilityKinds.{names_object, object_of, root_of, unmapped}
 use Rattle.model.specs.Capabilities.Slots.{IsDerivation, IsFull, Slots, capability_at, is_empty, parent_at, spliced}
 use Rattle.model.specs.Kernel.MappingCalls.{lies_in_region}
@@ -105,7 +107,9 @@ module _ (s : State) (x : ℕ) (tree : IsDerivation s.slots) (near : (y : ℕ) �
   root-inside n = ap (λ b. b && not (some_outside s (alone x) (is_root_at n))) (inside-one s x near full (is_root_at n) refl)
 
   not-itself : (o y : ℕ) → names_object o (capability_at left y) ≡ true → y ≢ x
-  not-itself o y is same = absurd (let clash : false ≡ true = sym (ap (λ n. names_object o (capability_of (left n))) same ∙ ap (λ e. names_object o (capability_of e)) (spliced-itself bare x)) ∙ is in cc)
+  not-itself o y is same =
+      absurd (let clash : false ≡ true = sym (ap (λ n. names_object o (capability_of (left n))) same
+      ∙ ap (λ e. names_object o (capability_of e)) (spliced-itself bare x)) ∙ is in cc)
 
   outside-at : (test : Cap → Bool) (y : ℕ) → y ≢ x → IsFull s.slots y → test (capability_at s.slots y) ≡ true → some_outside s (alone x) test ≡ true
   outside-at test y other filled passes = found-at s.memory_bits y _ (near y filled) (join (not (alone x y)) _ (ap not (ne_eqb y x other)) passes)
@@ -125,11 +129,13 @@ module _ (s : State) (x : ℕ) (tree : IsDerivation s.slots) (near : (y : ℕ) �
       | inl same ↦
           let found_y = named o is in
           let other = not-itself o found_y.0 found_y.1 in
-          let there : names_object n (capability_at s.slots found_y.0) ≡ true = sym (named-left n found_y.0 other) ∙ ap (λ m. names_object m (capability_at left found_y.0)) (sym same.1) ∙ found_y.1 in
+          let there : names_object n (capability_at s.slots found_y.0) ≡ true = sym (named-left n found_y.0 other)
+          ∙ ap (λ m. names_object m (capability_at left found_y.0)) (sym same.1) ∙ found_y.1 in
           names-inside n
           ∙ ap (λ b. names_object n held && not b) (outside-at (names_object n) found_y.0 other (named-full n _ there) there)
           ∙ and-false (names_object n held)
-      | inr apart ↦ names-inside n ∙ ap (λ p. option_map_or (λ m. m == n) p false && not (some_outside s (alone x) (names_object n))) is ∙ ap (λ b. b && not (some_outside s (alone x) (names_object n))) apart.0
+      | inr apart ↦ names-inside n ∙ ap (λ p. option_map_or (λ m. m == n) p false && not (some_outside s (alone x) (names_object n))) is
+          ∙ ap (λ b. b && not (some_outside s (alone x) (names_object n))) apart.0
     ]
 
     root-stays : (r : ℕ) → ends_root s (alone x) r ≡ false
@@ -169,7 +175,8 @@ module _ (s : State) (x : ℕ) (tree : IsDerivation s.slots) (near : (y : ℕ) �
       | inl same ↦
           names-inside n
           ∙ ap (λ p. option_map_or (λ m. m == n) p false && not (some_outside s (alone x) (names_object n))) object
-          ∙ ap (λ b. (o == n) && not b) (nothing-outside (names_object n) (λ y other. ap (λ m. names_object m (capability_at s.slots y)) (sym same.1) ∙ unnamed-before y other))
+          ∙ ap (λ b. (o == n) && not b)
+          (nothing-outside (names_object n) (λ y other. ap (λ m. names_object m (capability_at s.slots y)) (sym same.1) ∙ unnamed-before y other))
           ∙ and-true (o == n)
       | inr apart ↦
           names-inside n
@@ -192,7 +199,8 @@ module _ (s : State) (x : ℕ) (tree : IsDerivation s.slots) (near : (y : ℕ) �
     by-root r (InterruptHandler _) = refl
 
     roots-removed : (r : ℕ) → root_gone removed r ≡ is_root_at r held
-    roots-removed r = ap (λ (q : Option ℕ). option_map_or (λ m. m == r) q false) (ap root_of (unmapped-itself s.slots x held refl).0 ∙ (object-unmapped held).1) ∙ sym (by-root r held)
+    roots-removed r = ap (λ (q : Option ℕ). option_map_or (λ m. m == r) q false) (ap root_of (unmapped-itself s.slots x held refl).0 ∙ (object-unmapped held).1)
+        ∙ sym (by-root r held)
 
     root-goes : (r : ℕ) → ends_root s (alone x) r ≡ root_gone removed r
     root-goes r = elim (is_root_at r held) as (λ b. is_root_at r held ≡ b → ends_root s (alone x) r ≡ root_gone removed r) [
@@ -201,8 +209,11 @@ module _ (s : State) (x : ℕ) (tree : IsDerivation s.slots) (near : (y : ℕ) �
           let same : Some r ≡ Some o = sym (ap object_of root.0) ∙ object in
           let here : r ≡ o = cc in
           root-inside r
-          ∙ ap (λ b. is_root_at r held && not b) (nothing-outside (is_root_at r) (λ y other. elim (is_root_at r (capability_at s.slots y)) as (λ b. is_root_at r (capability_at s.slots y) ≡ b → b ≡ false) [
-            | true ↦ λ another. absurd (let clash : true ≡ false = sym (root-named r _ another).1 ∙ ap (λ m. names_object m (capability_at s.slots y)) here ∙ unnamed-before y other in cc)
+          ∙ ap (λ b. is_root_at r held && not b)
+          (nothing-outside (is_root_at r)
+          (λ y other. elim (is_root_at r (capability_at s.slots y)) as (λ b. is_root_at r (capability_at s.slots y) ≡ b → b ≡ false) [
+            | true ↦ λ another. absurd (let clash : true ≡ false = sym (root-named r _ another).1 ∙ ap (λ m. names_object m (capability_at s.slots y)) here
+                ∙ unnamed-before y other in cc)
             | false ↦ λ none. refl
           ] refl))
           ∙ and-true (is_root_at r held)
@@ -210,7 +221,8 @@ module _ (s : State) (x : ℕ) (tree : IsDerivation s.slots) (near : (y : ℕ) �
       | false ↦ λ is. root-inside r ∙ ap (λ b. b && not (some_outside s (alone x) (is_root_at r))) is ∙ sym is ∙ sym (roots-removed r)
     ] refl
 
-    pub emptied-ending : (p : Option ℕ) (now : Slots) → parent_at s.slots x ≡ p → Rewinds p (ended (with_slots s left) removed).slots now → with_slots (ended (with_slots s left) removed) now ≡ emptied s (alone x)
+    pub emptied-ending : (p : Option ℕ) (now : Slots) → parent_at s.slots x ≡ p → Rewinds p (ended (with_slots s left) removed).slots now →
+        with_slots (ended (with_slots s left) removed) now ≡ emptied s (alone x)
     emptied-ending p now is rewinds =
         let whole : ended (with_slots s left) removed ≡ with_slots (object_ended (with_slots s left) o) (slots_ended removed left) =
         ap (λ q. option_map_or (λ offset. with_slots (object_ended (with_slots s left) offset) (slots_ended removed left)) q (with_slots s left)) object-removed

@@ -1,5 +1,6 @@
 -- What a removal of a sound state closes and wakes is what it leaves without an object.
-use Rattle.std.proofs.Common.{ℕ, suc, ◌≡◌, ◌∙◌, ◌==◌, ◌+◌, ◌*◌, ◌/◌, ◌%◌, ◌^◌, ◌<◌, ◌≤◌, ◌&&◌, ◌||◌, inl, inr, Bool, true, false, not, nat_le, nat_lt, if◌then◌else◌, Option, Some, None, is_some, option_map, refl, sym, ap, arith}
+use Rattle.std.proofs.Common.{ℕ, suc, ◌≡◌, ◌∙◌, ◌==◌, ◌+◌, ◌*◌, ◌/◌, ◌%◌, ◌^◌, ◌<◌, ◌≤◌, ◌&&◌, ◌||◌, inl, inr, Bool, true, false, not, nat_le, nat_lt}
+use Rattle.std.proofs.Common.{if◌then◌else◌, Option, Some, None, is_some, option_map, refl, sym, ap, arith}
 use Rattle.std.specs.Prelude.{filter, fold}
 use Rattle.std.specs.Option.{option_map_or}
 use Rattle.std.specs.List.{list_any}
@@ -9,15 +10,19 @@ use Rattle.std.proofs.lemmas.Bool.Decides.{eqb_tells, leb_tells}
 use Rattle.std.proofs.lemmas.Nat.{mod-pow-add, pow-add}
 use Rattle.model.specs.Capabilities.CapabilityWords.{IsCapability}
 use Rattle.model.specs.declared.capabilities.Cap.{Cap}
-use Rattle.model.specs.declared.capabilities.Cap.TheVariants.{Empty, Untyped, Endpoint, Notification, CNode, Frame, PageTable, Tcb, RootTable, InterruptControl, InterruptHandler}
+use Rattle.model.specs.declared.capabilities.Cap.TheVariants.{Empty, Untyped, Endpoint, Notification, CNode, Frame, PageTable, Tcb, RootTable, InterruptControl}
+use Rattle.model.specs.declared.capabilities.Cap.TheVariants.{InterruptHandler}
 use Rattle.model.specs.Capabilities.CapabilityKinds.{object_of}
 use Rattle.model.specs.Capabilities.Slots.{IsFull, IsOpen, capability_at, is_empty, is_within}
 use Rattle.model.specs.Kernel.Kinds.{Names, Piece, kind_of, object_named, piece_of, piece_of_object, used_of}
-use Rattle.model.specs.Kernel.Removal.{SlotSet, closes, emptied, ends, is_ending_thread, is_set_back, is_slot_of, kept_entry, slot_count, thread_places, waits_on_ended, without_slots}
+use Rattle.model.specs.Kernel.Removal.{SlotSet, closes, emptied, ends, is_ending_thread, is_set_back, is_slot_of, kept_entry, slot_count, thread_places}
+use Rattle.model.specs.Kernel.Removal.{waits_on_ended, without_slots}
 use Rattle.model.specs.Kernel.Retype.{NewObject, object_bits}
 use Rattle.model.specs.Kernel.Scheduling.{wake, without_threads}
 use Rattle.model.specs.Kernel.Soundness.{HasSlot, IsSound, apart, around, is_blocked_on, of_boot_area, of_object, same, waiting_at, waits_at, within}
-use Rattle.model.specs.Kernel.State.{State, Status, Inactive, Runnable, Blocked, AwaitsReply, AwaitsHandler, Object, ThreadObject, EndpointObject, NotificationObject, CNodeObject, FrameObject, PageTableObject, RootTableObject, ThreadState, as_thread, boot_area_slots, slots_of}
+use Rattle.model.specs.Kernel.State.{State, Status, Inactive, Runnable, Blocked, AwaitsReply, AwaitsHandler, Object, ThreadObject, EndpointObject}
+use Rattle.model.specs.Kernel.State.{NotificationObject, CNodeObject, FrameObject, PageTableObject, RootTableObject, ThreadState, as_thread, boot_area_slots}
+use Rattle.model.specs.Kernel.State.{slots_of}
 use Rattle.removal_laws.specs.Finishing.{has_slot, is_stranded, settled, waits_nowhere, without_strays}
 use Rattle.model.specs.declared.slot_entries.Entry.{Entry}
 use Rattle.model.specs.Shared.Lists.{times_in}
@@ -37,7 +42,11 @@ pub within-bounds : (first count slot : ℕ) → is_within first count slot ≡ 
 within-bounds first count slot is =
     let parts = both (nat_le first slot) (nat_lt slot (first + count)) is in (
       elim (leb_tells first slot) [ inl low ↦ low.1 | inr high ↦ absurd (let clash : false ≡ true = sym high.0 ∙ parts.0 in cc) ],
-      elim (leb_tells (slot + 1) (first + count)) [ inl low ↦ omega (arith, low.1) | inr high ↦ absurd (let clash : false ≡ true = sym high.0 ∙ ap (λ (n : ℕ). nat_le n (first + count)) (omega arith) ∙ parts.1 in cc) ],
+      elim (leb_tells (slot + 1) (first + count)) [
+        | inl low ↦ omega (arith, low.1)
+        | inr high ↦
+            absurd (let clash : false ≡ true = sym high.0 ∙ ap (λ (n : ℕ). nat_le n (first + count)) (omega arith) ∙ parts.1 in cc)
+      ],
     )
 
 pub bounds-within : (first count slot : ℕ) → first ≤ slot → slot < first + count → is_within first count slot ≡ true
@@ -136,7 +145,8 @@ module _ (s : State) (sound : IsSound s) where
   -- and none beyond the end of memory
   -- and all its slots are in memory
   pub in-memory-whole : (o y : ℕ) → Holder o y → y < 2 ^ s.memory_bits / 16
-  in-memory-whole o y h = let place = sound.memory.inside h.1 _ (piece-named _ h.0 o h.2) in let low : 16 * y + 16 ≤ 2 ^ s.memory_bits = omega (arith, place.1, h.3, h.4) in omega (arith, low)
+  in-memory-whole o y h = let place = sound.memory.inside h.1 _ (piece-named _ h.0 o h.2) in let low : 16 * y + 16 ≤ 2 ^ s.memory_bits =
+      omega (arith, place.1, h.3, h.4) in omega (arith, low)
 
   pub in-memory : (o y : ℕ) → Holder o y → o / 16 < 2 ^ s.memory_bits / 16
   in-memory o y h = let place = sound.memory.inside h.1 _ (piece-named _ h.0 o h.2) in omega (arith, place.1, h.3, h.4)
@@ -154,10 +164,11 @@ count-threads gone (Some PageTableObject) = refl
 count-threads gone (Some RootTableObject) = refl
 
 pub kept-count : (s : State) (set : SlotSet) (o : ℕ) → slot_count ((emptied s set).objects o) ≡ (if ends s set o then 0 else slot_count (s.objects o))
-kept-count s set o = elim (ends s set o) as (λ b. slot_count (if b then None else option_map (without_threads (is_ending_thread s set)) (s.objects o)) ≡ (if b then 0 else slot_count (s.objects o))) [
-  | true ↦ refl
-  | false ↦ count-threads (is_ending_thread s set) (s.objects o)
-]
+kept-count s set o = elim (ends s set o) as (λ b. slot_count (if b then None else option_map (without_threads (is_ending_thread s set)) (s.objects o))
+    ≡ (if b then 0 else slot_count (s.objects o))) [
+      | true ↦ refl
+      | false ↦ count-threads (is_ending_thread s set) (s.objects o)
+    ]
 
 no-slot : (first slot : ℕ) → is_within first 0 slot ≡ true → ⊥
 no-slot first slot is = let bounds = within-bounds first 0 slot is in omega (arith, bounds.0, bounds.1)
@@ -165,7 +176,8 @@ no-slot first slot is = let bounds = within-bounds first 0 slot is in omega (ari
 -- a slot of what is left was that object's, which has not ended
 pub slot-left : (s : State) (set : SlotSet) (o y : ℕ) → is_slot_of (emptied s set) o y ≡ true → (ends s set o ≡ false) × (is_slot_of s o y ≡ true)
 slot-left s set o y is =
-    let kept : is_within (o / 16) (if ends s set o then 0 else slot_count (s.objects o)) y ≡ true = ap (λ (c : ℕ). is_within (o / 16) c y) (sym (kept-count s set o)) ∙ is in
+    let kept : is_within (o / 16) (if ends s set o then 0 else slot_count (s.objects o)) y ≡ true =
+    ap (λ (c : ℕ). is_within (o / 16) c y) (sym (kept-count s set o)) ∙ is in
     elim (ends s set o) as (λ b. ends s set o ≡ b → (b ≡ false) × (is_slot_of s o y ≡ true)) [
       | true ↦ λ gone. absurd (no-slot (o / 16) y (ap (λ b. is_within (o / 16) (if b then 0 else slot_count (s.objects o)) y) (sym gone) ∙ kept))
       | false ↦ λ stays. (refl, ap (λ b. is_within (o / 16) (if b then 0 else slot_count (s.objects o)) y) (sym stays) ∙ kept)
@@ -175,13 +187,18 @@ slot-stays : (s : State) (set : SlotSet) (o y : ℕ) → ends s set o ≡ false 
 slot-stays s set o y stays is = ap (λ (c : ℕ). is_within (o / 16) c y) (kept-count s set o ∙ ap (λ b. if b then 0 else slot_count (s.objects o)) stays) ∙ is
 
 -- the object of a capability that passes
-pub closing-object : (s : State) (set : SlotSet) (y : ℕ) (o : Option ℕ) → option_map_or (λ offset. ends s set offset && is_slot_of s offset y) o false ≡ true → (offset : ℕ) × (o ≡ Some offset) × (ends s set offset ≡ true) × (is_slot_of s offset y ≡ true)
+pub closing-object : (s : State) (set : SlotSet) (y : ℕ) (o : Option ℕ) → option_map_or (λ offset. ends s set offset && is_slot_of s offset y) o false ≡ true →
+    (offset : ℕ) × (o ≡ Some offset) × (ends s set offset ≡ true) × (is_slot_of s offset y ≡ true)
 closing-object s set y None is = absurd (let clash : false ≡ true = is in cc)
 closing-object s set y (Some offset) is = let parts = both (ends s set offset) (is_slot_of s offset y) is in (offset, refl, parts.0, parts.1)
 
 object-named : (o : ℕ) (found : Option ℕ) → option_map_or (λ named. named == o) found false ≡ true → found ≡ Some o
 object-named o None is = absurd (let clash : false ≡ true = is in cc)
-object-named o (Some n) is = elim (eqb_tells n o) [ inl here ↦ ap (λ m. Some m) here.1 | inr other ↦ absurd (let clash : false ≡ true = sym other.0 ∙ is in cc) ]
+object-named o (Some n) is = elim (eqb_tells n o) [
+  | inl here ↦ ap (λ m. Some m) here.1
+  | inr other ↦
+      absurd (let clash : false ≡ true = sym other.0 ∙ is in cc)
+]
 
 pub named-full : (o : ℕ) (c : Cap) → object_of c ≡ Some o → not (is_empty c) ≡ true
 named-full o Empty is = absurd (let clash : None ≡ Some o = is in cc)
@@ -210,13 +227,15 @@ either-none false o none = none
 
 module _ (s : State) (sound : IsSound s) (set : SlotSet) (near : (y : ℕ) → IsFull s.slots y → y < 2 ^ s.memory_bits / 16) where
   in-boot : (y : ℕ) → y < boot_area_slots s.boot_radix → closes s set y ≡ false
-  in-boot y early = found-none s.memory_bits _ (λ z. elim (option_map_or (λ offset. ends s set offset && is_slot_of s offset y) (object_of (capability_at s.slots z)) false) as (λ b. option_map_or (λ offset. ends s set offset && is_slot_of s offset y) (object_of (capability_at s.slots z)) false ≡ b → (set z && b) ≡ false) [
-    | true ↦ λ is.
-        let which = closing-object s set y (object_of (capability_at s.slots z)) is in
-        let late = behind-boot s sound which.0 y (holder s sound which.0 y which.3) in
-        absurd (omega (arith, early, late))
-    | false ↦ λ is. and-false (set z)
-  ] refl)
+  in-boot y early = found-none s.memory_bits _
+      (λ z. elim (option_map_or (λ offset. ends s set offset && is_slot_of s offset y) (object_of (capability_at s.slots z)) false)
+      as (λ b. option_map_or (λ offset. ends s set offset && is_slot_of s offset y) (object_of (capability_at s.slots z)) false ≡ b → (set z && b) ≡ false) [
+        | true ↦ λ is.
+            let which = closing-object s set y (object_of (capability_at s.slots z)) is in
+            let late = behind-boot s sound which.0 y (holder s sound which.0 y which.3) in
+            absurd (omega (arith, early, late))
+        | false ↦ λ is. and-false (set z)
+      ] refl)
 
   closes-ended : (o y : ℕ) → is_slot_of s o y ≡ true → ends s set o ≡ true → closes s set y ≡ true
   closes-ended o y inner ending =
@@ -224,22 +243,28 @@ module _ (s : State) (sound : IsSound s) (set : SlotSet) (near : (y : ℕ) → I
       let z = found-where s.memory_bits _ inside in
       let parts = both (set z.0) _ z.1 in
       let object = object-named o (object_of (capability_at s.slots z.0)) parts.1 in
-      found-at s.memory_bits z.0 (λ m. set m && option_map_or (λ offset. ends s set offset && is_slot_of s offset y) (object_of (capability_at s.slots m)) false) (near z.0 (named-full o _ object))
-      (join (set z.0) _ parts.0 (ap (λ q. option_map_or (λ offset. ends s set offset && is_slot_of s offset y) q false) object ∙ join (ends s set o) _ ending inner))
+      found-at s.memory_bits z.0 (λ m. set m && option_map_or (λ offset. ends s set offset && is_slot_of s offset y) (object_of (capability_at s.slots m))
+      false) (near z.0 (named-full o _ object))
+      (join (set z.0) _ parts.0 (ap (λ q. option_map_or (λ offset. ends s set offset && is_slot_of s offset y) q false) object
+      ∙ join (ends s set o) _ ending inner))
 
   not-closing : (o y : ℕ) → is_slot_of s o y ≡ true → ends s set o ≡ false → closes s set y ≡ false
-  not-closing o y inner stays = found-none s.memory_bits _ (λ z. elim (option_map_or (λ offset. ends s set offset && is_slot_of s offset y) (object_of (capability_at s.slots z)) false) as (λ b. option_map_or (λ offset. ends s set offset && is_slot_of s offset y) (object_of (capability_at s.slots z)) false ≡ b → (set z && b) ≡ false) [
-    | true ↦ λ is.
-        let which = closing-object s set y (object_of (capability_at s.slots z)) is in
-        let one = one-holder s sound which.0 o y (holder s sound which.0 y which.3) (holder s sound o y inner) in
-        absurd (let clash : true ≡ false = sym which.2 ∙ ap (ends s set) one ∙ stays in cc)
-    | false ↦ λ is. and-false (set z)
-  ] refl)
+  not-closing o y inner stays = found-none s.memory_bits _
+      (λ z. elim (option_map_or (λ offset. ends s set offset && is_slot_of s offset y) (object_of (capability_at s.slots z)) false)
+      as (λ b. option_map_or (λ offset. ends s set offset && is_slot_of s offset y) (object_of (capability_at s.slots z)) false ≡ b → (set z && b) ≡ false) [
+        | true ↦ λ is.
+            let which = closing-object s set y (object_of (capability_at s.slots z)) is in
+            let one = one-holder s sound which.0 o y (holder s sound which.0 y which.3) (holder s sound o y inner) in
+            absurd (let clash : true ≡ false = sym which.2 ∙ ap (ends s set) one ∙ stays in cc)
+        | false ↦ λ is. and-false (set z)
+      ] refl)
 
   has-none : (o y : ℕ) → is_slot_of s o y ≡ true → ends s set o ≡ true → has_slot (emptied s set) y ≡ false
   has-none o y inner ending =
       let h = holder s sound o y inner in
-      let late : nat_lt y (boot_area_slots s.boot_radix) ≡ false = elim (leb_tells (suc y) (boot_area_slots s.boot_radix)) [ inl low ↦ absurd (omega (arith, low.1, behind-boot s sound o y h)) | inr high ↦ high.0 ] in
+      let late : nat_lt y (boot_area_slots s.boot_radix) ≡ false =
+      elim (leb_tells (suc y) (boot_area_slots s.boot_radix))
+      [ inl low ↦ absurd (omega (arith, low.1, behind-boot s sound o y h)) | inr high ↦ high.0 ] in
       ap (λ b. b || list_any (λ n. is_slot_of (emptied s set) (16 * n) y) (slots_of s)) late
       ∙ found-none s.memory_bits _ (λ n. elim (is_slot_of (emptied s set) (16 * n) y) as (λ b. is_slot_of (emptied s set) (16 * n) y ≡ b → b ≡ false) [
         | true ↦ λ is.
@@ -254,12 +279,14 @@ module _ (s : State) (sound : IsSound s) (set : SlotSet) (near : (y : ℕ) → I
       let h = holder s sound o y inner in
       let whole : 16 * (o / 16) ≡ o = omega (arith, holder-aligned s sound o y h) in
       ap (λ b. nat_lt y (boot_area_slots s.boot_radix) || b)
-      (found-at s.memory_bits (o / 16) (λ n. is_slot_of (emptied s set) (16 * n) y) (in-memory s sound o y h) (ap (λ (n : ℕ). is_slot_of (emptied s set) n y) whole ∙ slot-stays s set o y stays inner))
+      (found-at s.memory_bits (o / 16) (λ n. is_slot_of (emptied s set) (16 * n) y) (in-memory s sound o y h)
+      (ap (λ (n : ℕ). is_slot_of (emptied s set) n y) whole ∙ slot-stays s set o y stays inner))
       ∙ or-true (nat_lt y (boot_area_slots s.boot_radix))
 
   pub closes-strays : (y : ℕ) → HasSlot s y → closes s set y ≡ not (has_slot (emptied s set) y)
   closes-strays y (of_boot_area early) =
-      in-boot y early ∙ sym (ap (λ b. not (b || list_any (λ n. is_slot_of (emptied s set) (16 * n) y) (slots_of s))) (le-leb (suc y) (boot_area_slots s.boot_radix) early))
+      in-boot y early ∙ sym (ap (λ b. not (b || list_any (λ n. is_slot_of (emptied s set) (16 * n) y) (slots_of s)))
+      (le-leb (suc y) (boot_area_slots s.boot_radix) early))
   closes-strays y (of_object o inner) = elim (ends s set o) as (λ b. ends s set o ≡ b → closes s set y ≡ not (has_slot (emptied s set) y)) [
     | true ↦ λ ending. closes-ended o y inner ending ∙ sym (ap not (has-none o y inner ending))
     | false ↦ λ stays. not-closing o y inner stays ∙ sym (ap not (has-one o y inner stays))
@@ -270,7 +297,8 @@ module _ (s : State) (sound : IsSound s) (set : SlotSet) (near : (y : ℕ) → I
   object-left : (q : ℕ) (o : Object) → s.objects q ≡ Some o → is_some ((emptied s set).objects q) ≡ not (ends s set q)
   object-left q o is =
       ap (λ (p : Option Object). is_some (if ends s set q then None else option_map (without_threads (is_ending_thread s set)) p)) is
-      ∙ elim (ends s set q) as (λ b. is_some (if b then None else option_map (without_threads (is_ending_thread s set)) (Some o)) ≡ not b) [ true ↦ refl | false ↦ refl ]
+      ∙ elim (ends s set q) as (λ b. is_some (if b then None else option_map (without_threads (is_ending_thread s set)) (Some o)) ≡ not b)
+      [ true ↦ refl | false ↦ refl ]
 
   -- a thread waits at something that is there
   queue-there : (t : ThreadState) (thread q : ℕ) → s.objects thread ≡ Some (ThreadObject t) → t.status ≡ Blocked q → (o : Object) × (s.objects q ≡ Some o)
@@ -284,7 +312,8 @@ module _ (s : State) (sound : IsSound s) (set : SlotSet) (near : (y : ℕ) → I
         | Some o ↦ λ some. (o, refl)
       ] refl
 
-  status-stranded : (t : ThreadState) (thread : ℕ) → s.objects thread ≡ Some (ThreadObject t) → (status : Status) → t.status ≡ status → waits_on_ended s set status ≡ waits_nowhere (emptied s set) status
+  status-stranded : (t : ThreadState) (thread : ℕ) → s.objects thread ≡ Some (ThreadObject t) → (status : Status) → t.status ≡ status →
+      waits_on_ended s set status ≡ waits_nowhere (emptied s set) status
   status-stranded t thread is (Blocked q) waits =
       let there = queue-there t thread q is waits in
       sym (ap not (object-left q there.0 there.1) ∙ not-twice (ends s set q))
@@ -294,34 +323,55 @@ module _ (s : State) (sound : IsSound s) (set : SlotSet) (near : (y : ℕ) → I
   status-stranded t thread is AwaitsHandler waits = refl
 
   stranded-thread : (t : ThreadState) (thread : ℕ) → s.objects thread ≡ Some (ThreadObject t) → (ending : Bool) → ends s set thread ≡ ending
-      → (waits_on_ended s set t.status && not ending) ≡ option_map_or (λ u. waits_nowhere (emptied s set) u.status) (as_thread (if ending then None else option_map (without_threads (is_ending_thread s set)) (Some (ThreadObject t)))) false
+      → (waits_on_ended s set t.status && not ending) ≡ option_map_or (λ u. waits_nowhere (emptied s set) u.status)
+      (as_thread (if ending then None else option_map (without_threads (is_ending_thread s set)) (Some (ThreadObject t)))) false
   stranded-thread t thread is true ends_is = and-false (waits_on_ended s set t.status)
   stranded-thread t thread is false ends_is = and-true (waits_on_ended s set t.status) ∙ status-stranded t thread is t.status refl
 
   stranded-object : (thread : ℕ) (o : Option Object) → s.objects thread ≡ o
-      → option_map_or (λ t. waits_on_ended s set t.status && not (ends s set thread)) (as_thread o) false ≡ option_map_or (λ u. waits_nowhere (emptied s set) u.status) (as_thread (if ends s set thread then None else option_map (without_threads (is_ending_thread s set)) o)) false
+      → option_map_or (λ t. waits_on_ended s set t.status && not (ends s set thread)) (as_thread o) false ≡ option_map_or
+      (λ u. waits_nowhere (emptied s set) u.status)
+      (as_thread (if ends s set thread then None else option_map (without_threads (is_ending_thread s set)) o)) false
   stranded-object thread (Some (ThreadObject t)) is = stranded-thread t thread is (ends s set thread) refl
-  stranded-object thread None is = elim (ends s set thread) as (λ b. false ≡ option_map_or (λ u. waits_nowhere (emptied s set) u.status) (as_thread (if b then None else None)) false) [ true ↦ refl | false ↦ refl ]
-  stranded-object thread (Some (EndpointObject e)) is = elim (ends s set thread) as (λ b. false ≡ option_map_or (λ u. waits_nowhere (emptied s set) u.status) (as_thread (if b then None else option_map (without_threads (is_ending_thread s set)) (Some (EndpointObject e)))) false) [ true ↦ refl | false ↦ refl ]
-  stranded-object thread (Some (NotificationObject n)) is = elim (ends s set thread) as (λ b. false ≡ option_map_or (λ u. waits_nowhere (emptied s set) u.status) (as_thread (if b then None else option_map (without_threads (is_ending_thread s set)) (Some (NotificationObject n)))) false) [ true ↦ refl | false ↦ refl ]
-  stranded-object thread (Some (CNodeObject radix)) is = elim (ends s set thread) as (λ b. false ≡ option_map_or (λ u. waits_nowhere (emptied s set) u.status) (as_thread (if b then None else Some (CNodeObject radix))) false) [ true ↦ refl | false ↦ refl ]
-  stranded-object thread (Some FrameObject) is = elim (ends s set thread) as (λ b. false ≡ option_map_or (λ u. waits_nowhere (emptied s set) u.status) (as_thread (if b then None else Some FrameObject)) false) [ true ↦ refl | false ↦ refl ]
-  stranded-object thread (Some PageTableObject) is = elim (ends s set thread) as (λ b. false ≡ option_map_or (λ u. waits_nowhere (emptied s set) u.status) (as_thread (if b then None else Some PageTableObject)) false) [ true ↦ refl | false ↦ refl ]
-  stranded-object thread (Some RootTableObject) is = elim (ends s set thread) as (λ b. false ≡ option_map_or (λ u. waits_nowhere (emptied s set) u.status) (as_thread (if b then None else Some RootTableObject)) false) [ true ↦ refl | false ↦ refl ]
+  stranded-object thread None is = elim (ends s set thread)
+      as (λ b. false ≡ option_map_or (λ u. waits_nowhere (emptied s set) u.status) (as_thread (if b then None else None)) false) [ true ↦ refl | false ↦ refl ]
+  stranded-object thread (Some (EndpointObject e)) is = elim (ends s set thread)
+      as (λ b. false ≡ option_map_or (λ u. waits_nowhere (emptied s set) u.status)
+      (as_thread (if b then None else option_map (without_threads (is_ending_thread s set)) (Some (EndpointObject e)))) false) [ true ↦ refl | false ↦ refl ]
+  stranded-object thread (Some (NotificationObject n)) is = elim (ends s set thread)
+      as (λ b. false ≡ option_map_or (λ u. waits_nowhere (emptied s set) u.status)
+      (as_thread (if b then None else option_map (without_threads (is_ending_thread s set)) (Some (NotificationObject n)))) false)
+      [ true ↦ refl | false ↦ refl ]
+  stranded-object thread (Some (CNodeObject radix)) is = elim (ends s set thread)
+      as (λ b. false ≡ option_map_or (λ u. waits_nowhere (emptied s set) u.status) (as_thread (if b then None else Some (CNodeObject radix))) false)
+      [ true ↦ refl | false ↦ refl ]
+  stranded-object thread (Some FrameObject) is = elim (ends s set thread)
+      as (λ b. false ≡ option_map_or (λ u. waits_nowhere (emptied s set) u.status) (as_thread (if b then None else Some FrameObject)) false)
+      [ true ↦ refl | false ↦ refl ]
+  stranded-object thread (Some PageTableObject) is = elim (ends s set thread)
+      as (λ b. false ≡ option_map_or (λ u. waits_nowhere (emptied s set) u.status) (as_thread (if b then None else Some PageTableObject)) false)
+      [ true ↦ refl | false ↦ refl ]
+  stranded-object thread (Some RootTableObject) is = elim (ends s set thread)
+      as (λ b. false ≡ option_map_or (λ u. waits_nowhere (emptied s set) u.status) (as_thread (if b then None else Some RootTableObject)) false)
+      [ true ↦ refl | false ↦ refl ]
 
   set-back-stranded : (thread : ℕ) → is_set_back s set thread ≡ is_stranded (emptied s set) thread
   set-back-stranded thread = stranded-object thread (s.objects thread) refl
 
   -- ---- the whole
 
-  pub slots-settled : ((y : ℕ) → set y ≡ true → IsOpen s.slots y) → (y : ℕ) → (if closes s set y then None else (emptied s set).slots y) ≡ (if not (has_slot (emptied s set) y) then None else (emptied s set).slots y)
-  slots-settled opens y = elim (s.slots y) as (λ o. s.slots y ≡ o → (if closes s set y then None else (emptied s set).slots y) ≡ (if not (has_slot (emptied s set) y) then None else (emptied s set).slots y)) [
-    | None ↦ λ none.
-        let out : set y ≡ false = elim (set y) as (λ b. set y ≡ b → b ≡ false) [ true ↦ λ member. absurd (let clash : true ≡ false = sym (opens y member) ∙ ap is_some none in cc) | false ↦ λ is. refl ] refl in
-        let closed : (emptied s set).slots y ≡ None = there-out s set y out ∙ ap (option_map (kept_entry s set y)) none in
-        either-none (closes s set y) ((emptied s set).slots y) closed ∙ sym (either-none (not (has_slot (emptied s set) y)) ((emptied s set).slots y) closed)
-    | Some h ↦ λ some. ap (λ b. if b then None else (emptied s set).slots y) (closes-strays y ((sound.slots.there y).0 (ap is_some some)))
-  ] refl
+  pub slots-settled : ((y : ℕ) → set y ≡ true → IsOpen s.slots y) → (y : ℕ) →
+      (if closes s set y then None else (emptied s set).slots y) ≡ (if not (has_slot (emptied s set) y) then None else (emptied s set).slots y)
+  slots-settled opens y = elim (s.slots y) as (λ o. s.slots y ≡ o →
+      (if closes s set y then None else (emptied s set).slots y) ≡ (if not (has_slot (emptied s set) y) then None else (emptied s set).slots y)) [
+        | None ↦ λ none.
+            let out : set y ≡ false = elim (set y) as (λ b. set y ≡ b → b ≡ false)
+            [ true ↦ λ member. absurd (let clash : true ≡ false = sym (opens y member) ∙ ap is_some none in cc) | false ↦ λ is. refl ] refl in
+            let closed : (emptied s set).slots y ≡ None = there-out s set y out ∙ ap (option_map (kept_entry s set y)) none in
+            either-none (closes s set y) ((emptied s set).slots y) closed
+            ∙ sym (either-none (not (has_slot (emptied s set) y)) ((emptied s set).slots y) closed)
+        | Some h ↦ λ some. ap (λ b. if b then None else (emptied s set).slots y) (closes-strays y ((sound.slots.there y).0 (ap is_some some)))
+      ] refl
 
   pub settles : ((y : ℕ) → set y ≡ true → IsOpen s.slots y) → without_slots s set ≡ settled (emptied s set)
   settles opens =

@@ -43,13 +43,14 @@ found-same bits a b same = λ i. list_any (λ slot. same slot i) (slot_numbers b
 
 any-or : (a b : ℕ → Bool) (ns : List ℕ) → list_any (λ n. a n || b n) ns ≡ (list_any a ns || list_any b ns)
 any-or a b [] = refl
-any-or a b (n ∷ ns) = ap (λ r. (a n || b n) || r) (any-or a b ns) ∙ elim (a n) as (λ x. ((x || b n) || (list_any a ns || list_any b ns)) ≡ ((x || list_any a ns) || (b n || list_any b ns))) [
-  | true ↦ refl
-  | false ↦ elim (b n) as (λ y. (y || (list_any a ns || list_any b ns)) ≡ (list_any a ns || (y || list_any b ns))) [
-    | true ↦ elim (list_any a ns) as (λ z. true ≡ (z || true)) [ true ↦ refl | false ↦ refl ]
-    | false ↦ refl
-  ]
-]
+any-or a b (n ∷ ns) = ap (λ r. (a n || b n) || r) (any-or a b ns)
+    ∙ elim (a n) as (λ x. ((x || b n) || (list_any a ns || list_any b ns)) ≡ ((x || list_any a ns) || (b n || list_any b ns))) [
+      | true ↦ refl
+      | false ↦ elim (b n) as (λ y. (y || (list_any a ns || list_any b ns)) ≡ (list_any a ns || (y || list_any b ns))) [
+        | true ↦ elim (list_any a ns) as (λ z. true ≡ (z || true)) [ true ↦ refl | false ↦ refl ]
+        | false ↦ refl
+      ]
+    ]
 
 pub found-or : (bits : ℕ) (a b : ℕ → Bool) → found bits (λ n. a n || b n) ≡ (found bits a || found bits b)
 found-or bits a b = any-or a b (slot_numbers bits)

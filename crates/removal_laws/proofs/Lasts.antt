@@ -46,7 +46,8 @@ splits true false false = refl
 splits false i o = refl
 
 -- one slot of a set is emptied, and what the others hold passes the test as before
-module _ (bits : ℕ) (set : ℕ → Bool) (x : ℕ) (held now : ℕ → Cap) (test : Cap → Bool) (member : set x ≡ true) (near : x < 2 ^ bits / 16) (gone : test (now x) ≡ false) (same : (y : ℕ) → y ≢ x → test (now y) ≡ test (held y)) where
+module _ (bits : ℕ) (set : ℕ → Bool) (x : ℕ) (held now : ℕ → Cap) (test : Cap → Bool) (member : set x ≡ true) (near : x < 2 ^ bits / 16)
+    (gone : test (now x) ≡ false) (same : (y : ℕ) → y ≢ x → test (now y) ≡ test (held y)) where
   here : (y : ℕ) → (y == x) ≡ true → y ≡ x
   here y is = elim (eqb_tells y x) [ inl at ↦ at.1 | inr other ↦ absurd (let clash : false ≡ true = sym other.0 ∙ is in cc) ]
 
@@ -75,7 +76,8 @@ module _ (bits : ℕ) (set : ℕ → Bool) (x : ℕ) (held now : ℕ → Cap) (t
 
   outside-left : outside bits (less set x) now test ≡ outside bits set held test
   outside-left =
-      found-same bits _ _ (λ y. left-at (set y) (y == x) (test (held y)) (test (now y)) (λ is. ap set (here y is) ∙ member) (λ is. ap (λ n. test (now n)) (here y is) ∙ gone) (λ is. same y (other y is)))
+      found-same bits _ _ (λ y. left-at (set y) (y == x) (test (held y)) (test (now y)) (λ is. ap set (here y is) ∙ member)
+      (λ is. ap (λ n. test (now n)) (here y is) ∙ gone) (λ is. same y (other y is)))
 
   pub last-split : last bits set held test ≡ (last bits (alone x) held test || last bits (less set x) now test)
   last-split =

@@ -1,14 +1,17 @@
 -- A set with its bindings, slot by slot: what one slot leaves of it.
-use Rattle.std.proofs.Common.{ℕ, ◌≡◌, ◌≢◌, ◌∙◌, ◌/◌, ◌^◌, ◌<◌, ◌&&◌, ◌||◌, ◌⊎◌, inl, inr, Bool, true, false, not, if◌then◌else◌, Option, Some, None, option_map, refl, sym, ap, arith}
+use Rattle.std.proofs.Common.{ℕ, ◌≡◌, ◌≢◌, ◌∙◌, ◌/◌, ◌^◌, ◌<◌, ◌&&◌, ◌||◌, ◌⊎◌, inl, inr, Bool, true, false, not, if◌then◌else◌, Option, Some, None, option_map}
+use Rattle.std.proofs.Common.{refl, sym, ap, arith}
 use Rattle.std.proofs.lemmas.Bool.{eq-eqb, ne_eqb}
 use Rattle.std.proofs.lemmas.Bool.Decides.{eqb_tells}
 use Rattle.model.specs.declared.capabilities.Cap.{Cap}
-use Rattle.model.specs.declared.capabilities.Cap.TheVariants.{Empty, Untyped, Endpoint, Notification, CNode, Frame, PageTable, Tcb, RootTable, InterruptControl, InterruptHandler}
+use Rattle.model.specs.declared.capabilities.Cap.TheVariants.{Empty, Untyped, Endpoint, Notification, CNode, Frame, PageTable, Tcb, RootTable, InterruptControl}
+use Rattle.model.specs.declared.capabilities.Cap.TheVariants.{InterruptHandler}
 use Rattle.model.specs.declared.slot_entries.Entry.{Entry}
 use Rattle.model.specs.Capabilities.CapabilityKinds.{names_object}
 use Rattle.model.specs.Capabilities.Slots.{Descendant, IsDerivation, IsFull, IsOpen, child, deeper, is_descendant, parent_at}
 use Rattle.model.specs.Kernel.AddressSpaces.{maps_region, region_pages}
-use Rattle.model.specs.Kernel.Removal.{SlotSet, ancestor_outside, emptied, ends, is_root_at, is_some_slot, kept, kept_entry, loses_last_child, new_parent, slots_emptied, some_inside, some_outside, takes_last}
+use Rattle.model.specs.Kernel.Removal.{SlotSet, ancestor_outside, emptied, ends, is_root_at, is_some_slot, kept, kept_entry, loses_last_child, new_parent}
+use Rattle.model.specs.Kernel.Removal.{slots_emptied, some_inside, some_outside, takes_last}
 use Rattle.model.specs.Kernel.State.{State}
 use Rattle.model.proofs.Ancestors.{descendant-from_test, test-from_descendant}
 use Rattle.model.proofs.Depths.{adopted_parent, depth-own_parent}
@@ -33,12 +36,14 @@ module _ (s : State) where
   last-nothing test = ap (λ b. b && not (some_outside s nothing test)) (inside-nothing test)
 
   loses-nothing : (u : ℕ) → loses_last_child s nothing u ≡ false
-  loses-nothing u = ap (λ b. b && not (found s.memory_bits (λ c. not (nothing c) && is_some_slot u (new_parent s nothing c)))) (found-none s.memory_bits _ (λ y. refl))
+  loses-nothing u = ap (λ b. b && not (found s.memory_bits (λ c. not (nothing c) && is_some_slot u (new_parent s nothing c))))
+      (found-none s.memory_bits _ (λ y. refl))
 
   kept-nothing : (y : ℕ) (c : Cap) → kept s nothing y c ≡ c
   kept-nothing y (Untyped o b w) = ap (λ l. Untyped o b (if l then 0 else w)) (loses-nothing y)
   kept-nothing y (Frame f r (Some m)) =
-      ap (λ l. if l || some_inside s nothing (maps_region m.root (m.page / region_pages)) then Frame f r None else Frame f r (Some m)) (last-nothing (is_root_at m.root))
+      ap (λ l. if l || some_inside s nothing (maps_region m.root (m.page / region_pages)) then Frame f r None else Frame f r (Some m))
+      (last-nothing (is_root_at m.root))
       ∙ ap (λ l. if l then Frame f r None else Frame f r (Some m)) (inside-nothing (maps_region m.root (m.page / region_pages)))
   kept-nothing y (PageTable t (Some m)) = ap (λ l. if l then PageTable t None else PageTable t (Some m)) (last-nothing (is_root_at m.root))
   kept-nothing y (Frame f r None) = refl
@@ -68,12 +73,15 @@ module _ (s : State) where
       ∙ (λ i. record s { slots = λ y. entry-nothing y (s.slots y) refl i })
 
 -- a set without full slots takes nothing
-pub emptied-none : (s : State) (set : SlotSet) → IsDerivation s.slots → ((y : ℕ) → IsFull s.slots y → set y ≡ false) → ((y : ℕ) → set y ≡ true → IsOpen s.slots y) → emptied s set ≡ s
-emptied-none s set tree none opens = emptied-same s tree set nothing none opens (λ y member. absurd (let clash : false ≡ true = member in cc)) ∙ emptied-nothing s
+pub emptied-none : (s : State) (set : SlotSet) → IsDerivation s.slots → ((y : ℕ) → IsFull s.slots y → set y ≡ false) →
+    ((y : ℕ) → set y ≡ true → IsOpen s.slots y) → emptied s set ≡ s
+emptied-none s set tree none opens = emptied-same s tree set nothing none opens (λ y member. absurd (let clash : false ≡ true = member in cc))
+    ∙ emptied-nothing s
 
 -- ---- descent
 
-module _ (s : State) (x : ℕ) (tree : IsDerivation s.slots) (near : (y : ℕ) → IsFull s.slots y → y < 2 ^ s.memory_bits / 16) (full : IsFull s.slots x) (root : ℕ) (apart : root ≢ x) where
+module _ (s : State) (x : ℕ) (tree : IsDerivation s.slots) (near : (y : ℕ) → IsFull s.slots y → y < 2 ^ s.memory_bits / 16) (full : IsFull s.slots x) (root : ℕ)
+    (apart : root ≢ x) where
   abbrev one : State
   one = emptied s (alone x)
 
@@ -81,24 +89,32 @@ module _ (s : State) (x : ℕ) (tree : IsDerivation s.slots) (near : (y : ℕ) �
   parent-one y other = parent-now s (alone x) x tree near (eq-eqb x x refl) full y other
 
   parent-kept : (y p : ℕ) → y ≢ x → p ≢ x → parent_at s.slots y ≡ Some p → parent_at one.slots y ≡ Some p
-  parent-kept y p other stays is = parent-one y other ∙ ap (adopted_parent x (parent_at s.slots x)) is ∙ ap (λ b. if b then parent_at s.slots x else Some p) (ne_eqb p x stays)
+  parent-kept y p other stays is = parent-one y other ∙ ap (adopted_parent x (parent_at s.slots x)) is
+      ∙ ap (λ b. if b then parent_at s.slots x else Some p) (ne_eqb p x stays)
 
   parent-through : (y : ℕ) → y ≢ x → parent_at s.slots y ≡ Some x → parent_at one.slots y ≡ parent_at s.slots x
-  parent-through y other is = parent-one y other ∙ ap (adopted_parent x (parent_at s.slots x)) is ∙ ap (λ b. if b then parent_at s.slots x else Some x) (eq-eqb x x refl)
+  parent-through y other is = parent-one y other ∙ ap (adopted_parent x (parent_at s.slots x)) is
+      ∙ ap (λ b. if b then parent_at s.slots x else Some x) (eq-eqb x x refl)
 
-  parent-was : (y p : ℕ) → y ≢ x → parent_at one.slots y ≡ Some p → (parent_at s.slots y ≡ Some p) ⊎ ((parent_at s.slots y ≡ Some x) × (parent_at s.slots x ≡ Some p))
+  parent-was : (y p : ℕ) → y ≢ x → parent_at one.slots y ≡ Some p →
+      (parent_at s.slots y ≡ Some p) ⊎ ((parent_at s.slots y ≡ Some x) × (parent_at s.slots x ≡ Some p))
   parent-was y p other is =
       let now : adopted_parent x (parent_at s.slots x) (parent_at s.slots y) ≡ Some p = sym (parent-one y other) ∙ is in
       elim (parent_at s.slots y) as (λ o. parent_at s.slots y ≡ o → (o ≡ Some p) ⊎ ((o ≡ Some x) × (parent_at s.slots x ≡ Some p))) [
         | None ↦ λ none. absurd (let clash : None ≡ Some p = ap (adopted_parent x (parent_at s.slots x)) (sym none) ∙ now in cc)
         | Some q ↦ λ some. elim (eqb_tells q x) [
-          | inl at ↦ inr (ap (λ n. Some n) at.1, ap (λ b. if b then parent_at s.slots x else Some q) (sym at.0) ∙ ap (adopted_parent x (parent_at s.slots x)) (sym some) ∙ now)
+          | inl at ↦ inr (
+            ap (λ n. Some n) at.1,
+            ap (λ b. if b then parent_at s.slots x else Some q) (sym at.0)
+                ∙ ap (adopted_parent x (parent_at s.slots x)) (sym some) ∙ now,
+          )
           | inr away ↦ inl (ap (λ b. if b then parent_at s.slots x else Some q) (sym away.0) ∙ ap (adopted_parent x (parent_at s.slots x)) (sym some) ∙ now)
         ]
       ] refl
 
   not-gone : (y p : ℕ) → parent_at one.slots y ≡ Some p → y ≢ x
-  not-gone y p is same = absurd (let clash : None ≡ Some p = sym (ap (parent_at one.slots) same ∙ root-now s (alone x) x tree near (eq-eqb x x refl) full) ∙ is in cc)
+  not-gone y p is same = absurd (let clash : None ≡ Some p = sym (ap (parent_at one.slots) same ∙ root-now s (alone x) x tree near (eq-eqb x x refl) full)
+      ∙ is in cc)
 
   no-circle : parent_at s.slots x ≢ Some x
   no-circle is = absurd (omega (arith, depth-own_parent 256 (parent_at s.slots) x is, tree.shallow x))

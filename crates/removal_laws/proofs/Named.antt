@@ -4,13 +4,15 @@ use Rattle.std.specs.Option.{option_map_or}
 use Rattle.std.proofs.lemmas.Bool.{eq-eqb}
 use Rattle.std.proofs.lemmas.Bool.Decides.{eqb_tells}
 use Rattle.model.specs.declared.capabilities.Cap.{Cap}
-use Rattle.model.specs.declared.capabilities.Cap.TheVariants.{Empty, Untyped, Endpoint, Notification, CNode, Frame, PageTable, Tcb, RootTable, InterruptControl, InterruptHandler}
+use Rattle.model.specs.declared.capabilities.Cap.TheVariants.{Empty, Untyped, Endpoint, Notification, CNode, Frame, PageTable, Tcb, RootTable, InterruptControl}
+use Rattle.model.specs.declared.capabilities.Cap.TheVariants.{InterruptHandler}
 use Rattle.model.specs.Capabilities.CapabilityKinds.{names_object, object_of, unmapped}
 use Rattle.model.specs.Capabilities.Slots.{Slots, capability_at}
 use Rattle.model.specs.Kernel.Kinds.{kind_of, object_named}
 use Rattle.model.specs.Kernel.Retype.{NewObject, NewThread, NewEndpoint, NewNotification, NewCNode, NewFrame, NewPageTable, NewRootTable}
 use Rattle.model.specs.Kernel.Scheduling.{without_threads}
-use Rattle.model.specs.Kernel.State.{State, with_slots, Object, ThreadObject, EndpointObject, NotificationObject, CNodeObject, FrameObject, PageTableObject, RootTableObject}
+use Rattle.model.specs.Kernel.State.{State, with_slots, Object, ThreadObject, EndpointObject, NotificationObject, CNodeObject, FrameObject, PageTableObject}
+use Rattle.model.specs.Kernel.State.{RootTableObject}
 use Rattle.removal_laws.specs.Steps.{IsReady, IsThere, unmapped_at}
 use Rattle.removal_laws.proofs.Emptyings.{object-unmapped}
 use Rattle.removal_laws.proofs.Stepwise.{unmapped-itself}
@@ -78,10 +80,12 @@ there-named s slot ready = λ o is.
     some-kind (s.objects o) k.0 (ready.named slot k.0 o k.1)
 
 -- and so is what a slot named that has been taken out
-pub there-taken : (s t : State) (slots taken : Slots) (x : ℕ) (removed : Cap) → s.slots ≡ slots → IsReady s → removed ≡ capability_at (unmapped_at slots x) x → t ≡ with_slots s taken → IsThere t removed
+pub there-taken : (s t : State) (slots taken : Slots) (x : ℕ) (removed : Cap) → s.slots ≡ slots → IsReady s → removed ≡ capability_at (unmapped_at slots x) x →
+    t ≡ with_slots s taken → IsThere t removed
 there-taken s t slots taken x removed has ready removed_is state = λ o is.
     let bare : capability_at (unmapped_at slots x) x ≡ unmapped (capability_at slots x) = (unmapped-itself slots x (capability_at slots x) refl).0 in
     let object : object_of (capability_at s.slots x) ≡ Some o =
-    ap (λ (n : Slots). object_of (capability_at n x)) has ∙ sym (object-unmapped (capability_at slots x)).0 ∙ sym (ap object_of bare) ∙ sym (ap object_of removed_is) ∙ is
+    ap (λ (n : Slots). object_of (capability_at n x)) has ∙ sym (object-unmapped (capability_at slots x)).0 ∙ sym (ap object_of bare)
+    ∙ sym (ap object_of removed_is) ∙ is
     in
     subst (λ (u : State). IsSome (u.objects o)) (sym state) (there-named s x ready o object)

@@ -1,21 +1,25 @@
 -- Emptying a set of slots at once is emptying one of them, and then the others.
-use Rattle.std.proofs.Common.{ℕ, ◌≡◌, ◌≢◌, ◌∙◌, ◌==◌, ◌-◌, ◌/◌, ◌%◌, ◌^◌, ◌<◌, ◌&&◌, ◌||◌, inl, inr, Bool, true, false, not, if◌then◌else◌, List, [], ◌∷◌, Option, Some, None, option_map, refl, sym, ap}
+use Rattle.std.proofs.Common.{ℕ, ◌≡◌, ◌≢◌, ◌∙◌, ◌==◌, ◌-◌, ◌/◌, ◌%◌, ◌^◌, ◌<◌, ◌&&◌, ◌||◌, inl, inr, Bool, true, false, not, if◌then◌else◌, List, [], ◌∷◌}
+use Rattle.std.proofs.Common.{Option, Some, None, option_map, refl, sym, ap}
 use Rattle.std.specs.Prelude.{filter, cond}
 use Rattle.std.proofs.Math.Bool.{and-false}
 use Rattle.std.specs.Option.{option_map_or}
 use Rattle.std.proofs.lemmas.Bool.{eq-eqb, ne_eqb}
 use Rattle.std.proofs.lemmas.Bool.Decides.{eqb_tells}
 use Rattle.model.specs.declared.capabilities.Cap.{Cap}
-use Rattle.model.specs.declared.capabilities.Cap.TheVariants.{Empty, Untyped, Endpoint, Notification, CNode, Frame, PageTable, Tcb, RootTable, InterruptControl, InterruptHandler}
+use Rattle.model.specs.declared.capabilities.Cap.TheVariants.{Empty, Untyped, Endpoint, Notification, CNode, Frame, PageTable, Tcb, RootTable, InterruptControl}
+use Rattle.model.specs.declared.capabilities.Cap.TheVariants.{InterruptHandler}
 use Rattle.model.specs.declared.capabilities.FrameMapping.{FrameMapping}
 use Rattle.model.specs.declared.capabilities.TableMapping.{TableMapping}
 use Rattle.model.specs.declared.rights.Rights.{Rights}
 use Rattle.model.specs.declared.slot_entries.Entry.{Entry}
 use Rattle.model.specs.Capabilities.Slots.{IsDerivation, IsFull, empty_entry, parent_at}
 use Rattle.model.specs.Kernel.AddressSpaces.{page_size}
-use Rattle.model.specs.Kernel.Removal.{SlotSet, ancestor_outside, bytes_kept, emptied, ends, frame_loses, is_ending_thread, kept, kept_entry, loses_last_child, new_parent, objects_kept, slots_emptied, table_loses}
+use Rattle.model.specs.Kernel.Removal.{SlotSet, ancestor_outside, bytes_kept, emptied, ends, frame_loses, is_ending_thread, kept, kept_entry, loses_last_child}
+use Rattle.model.specs.Kernel.Removal.{new_parent, objects_kept, slots_emptied, table_loses}
 use Rattle.model.specs.Kernel.Scheduling.{without_threads}
-use Rattle.model.specs.Kernel.State.{State, Object, ThreadObject, EndpointObject, NotificationObject, CNodeObject, FrameObject, PageTableObject, RootTableObject, Sender, as_thread}
+use Rattle.model.specs.Kernel.State.{State, Object, ThreadObject, EndpointObject, NotificationObject, CNodeObject, FrameObject, PageTableObject}
+use Rattle.model.specs.Kernel.State.{RootTableObject, Sender, as_thread}
 use Rattle.removal_laws.proofs.Children.{loses-split}
 use Rattle.removal_laws.proofs.Keeping.{there-in, there-out}
 use Rattle.removal_laws.specs.Steps.{alone, less}
@@ -35,21 +39,25 @@ filter-twice all first later either [] = refl
 filter-twice all first later either (n ∷ ns) =
     filter-step later n (filter (λ m. not (all m)) ns) (filter (λ m. not (first m)) ns) (all n) (first n) (either n) (filter-twice all first later either ns)
 
-caller-twice : (all first later : ℕ → Bool) → ((n : ℕ) → all n ≡ (first n || later n)) → (c : Option ℕ) (once : Option ℕ) → once ≡ (if option_map_or first c false then None else c)
+caller-twice : (all first later : ℕ → Bool) → ((n : ℕ) → all n ≡ (first n || later n)) → (c : Option ℕ) (once : Option ℕ) →
+    once ≡ (if option_map_or first c false then None else c)
     → (if option_map_or all c false then None else c) ≡ (if option_map_or later once false then None else once)
 caller-twice all first later either None once is = sym (ap (λ (o : Option ℕ). if option_map_or later o false then None else o) is)
 caller-twice all first later either (Some n) once is =
     ap (λ b. if b then None else Some n) (either n)
-    ∙ elim (first n) as (λ b. (if b || later n then None else Some n) ≡ (if option_map_or later (if b then None else Some n) false then None else (if b then None else Some n))) [
+    ∙ elim (first n) as (λ b. (if b || later n then None else Some n)
+    ≡ (if option_map_or later (if b then None else Some n) false then None else (if b then None else Some n))) [
       | true ↦ refl
       | false ↦ refl
     ]
     ∙ sym (ap (λ (o : Option ℕ). if option_map_or later o false then None else o) is)
 
-pub threads-twice : (all first later : ℕ → Bool) → ((n : ℕ) → all n ≡ (first n || later n)) → (o : Object) → without_threads all o ≡ without_threads later (without_threads first o)
+pub threads-twice : (all first later : ℕ → Bool) → ((n : ℕ) → all n ≡ (first n || later n)) → (o : Object) →
+    without_threads all o ≡ without_threads later (without_threads first o)
 threads-twice all first later either (ThreadObject t) = λ i. ThreadObject (record t { caller = caller-twice all first later either t.caller _ refl i })
 threads-twice all first later either (EndpointObject e) = λ i. EndpointObject (record {
-  senders = filter-twice (λ (sender : Sender). all sender.thread) (λ sender. first sender.thread) (λ sender. later sender.thread) (λ sender. either sender.thread) e.senders i;
+  senders = filter-twice (λ (sender : Sender). all sender.thread) (λ sender. first sender.thread) (λ sender. later sender.thread)
+      (λ sender. either sender.thread) e.senders i;
   receivers = filter-twice all first later either e.receivers i;
 })
 threads-twice all first later either (NotificationObject n) = λ i. NotificationObject (record n { waiters = filter-twice all first later either n.waiters i })
@@ -59,7 +67,8 @@ threads-twice all first later either PageTableObject = refl
 threads-twice all first later either RootTableObject = refl
 
 -- an object without threads is a thread where it was one
-as-thread-kept : (gone : ℕ → Bool) (o : Option Object) (answer : Bool) → option_map_or (λ _. answer) (as_thread (option_map (without_threads gone) o)) false ≡ option_map_or (λ _. answer) (as_thread o) false
+as-thread-kept : (gone : ℕ → Bool) (o : Option Object) (answer : Bool) →
+    option_map_or (λ _. answer) (as_thread (option_map (without_threads gone) o)) false ≡ option_map_or (λ _. answer) (as_thread o) false
 as-thread-kept gone None answer = refl
 as-thread-kept gone (Some (ThreadObject t)) answer = refl
 as-thread-kept gone (Some (EndpointObject e)) answer = refl
@@ -69,16 +78,21 @@ as-thread-kept gone (Some FrameObject) answer = refl
 as-thread-kept gone (Some PageTableObject) answer = refl
 as-thread-kept gone (Some RootTableObject) answer = refl
 
-thread-ends : (o : Option Object) (a b : Bool) → option_map_or (λ _. a || b) (as_thread o) false ≡ (option_map_or (λ _. a) (as_thread o) false || option_map_or (λ _. b) (as_thread o) false)
-thread-ends o a b = elim (as_thread o) as (λ t. option_map_or (λ _. a || b) t false ≡ (option_map_or (λ _. a) t false || option_map_or (λ _. b) t false)) [ None ↦ refl | Some t ↦ refl ]
+thread-ends : (o : Option Object) (a b : Bool) → option_map_or (λ _. a || b) (as_thread o) false
+    ≡ (option_map_or (λ _. a) (as_thread o) false || option_map_or (λ _. b) (as_thread o) false)
+thread-ends o a b = elim (as_thread o) as (λ t. option_map_or (λ _. a || b) t false ≡ (option_map_or (λ _. a) t false || option_map_or (λ _. b) t false))
+    [ None ↦ refl | Some t ↦ refl ]
 
 ending-cases : (gone : ℕ → Bool) (o : Option Object) (a b : Bool) → (option_map_or (λ _. a) (as_thread o) false || option_map_or (λ _. b) (as_thread o) false)
     ≡ (option_map_or (λ _. a) (as_thread o) false || option_map_or (λ _. b) (as_thread (if a then None else option_map (without_threads gone) o)) false)
-ending-cases gone o true b = elim (as_thread o) as (λ t. (option_map_or (λ _. true) t false || option_map_or (λ _. b) t false) ≡ (option_map_or (λ _. true) t false || false)) [ None ↦ refl | Some t ↦ refl ]
+ending-cases gone o true b =
+    elim (as_thread o) as (λ t. (option_map_or (λ _. true) t false || option_map_or (λ _. b) t false) ≡ (option_map_or (λ _. true) t false || false))
+    [ None ↦ refl | Some t ↦ refl ]
 ending-cases gone o false b = ap (λ e. option_map_or (λ _. false) (as_thread o) false || e) (sym (as-thread-kept gone o b))
 
 objects-cases : (all first later : ℕ → Bool) → ((n : ℕ) → all n ≡ (first n || later n)) → (a b : Bool) (o : Option Object)
-    → (if a || b then None else option_map (without_threads all) o) ≡ (if b then None else option_map (without_threads later) (if a then None else option_map (without_threads first) o))
+    → (if a || b then None else option_map (without_threads all) o)
+    ≡ (if b then None else option_map (without_threads later) (if a then None else option_map (without_threads first) o))
 objects-cases all first later either true true o = refl
 objects-cases all first later either true false o = refl
 objects-cases all first later either false true o = refl
@@ -97,7 +111,8 @@ watermarks true true w = refl
 watermarks true false w = refl
 watermarks false b w = refl
 
-module _ (s : State) (set : SlotSet) (x : ℕ) (tree : IsDerivation s.slots) (near : (y : ℕ) → IsFull s.slots y → y < 2 ^ s.memory_bits / 16) (member : set x ≡ true) (full : IsFull s.slots x) where
+module _ (s : State) (set : SlotSet) (x : ℕ) (tree : IsDerivation s.slots) (near : (y : ℕ) → IsFull s.slots y → y < 2 ^ s.memory_bits / 16)
+    (member : set x ≡ true) (full : IsFull s.slots x) where
   abbrev after : State
   after = emptied s (alone x)
 
@@ -135,9 +150,11 @@ module _ (s : State) (set : SlotSet) (x : ℕ) (tree : IsDerivation s.slots) (ne
   kept-twice y InterruptControl stays = refl
   kept-twice y (InterruptHandler line) stays = refl
 
-  entry-twice : (y : ℕ) → y ≢ x → set y ≡ false → (o : Option Entry) → option_map (kept_entry s set y) o ≡ option_map (kept_entry after others y) (option_map (kept_entry s (alone x) y) o)
+  entry-twice : (y : ℕ) → y ≢ x → set y ≡ false → (o : Option Entry) →
+      option_map (kept_entry s set y) o ≡ option_map (kept_entry after others y) (option_map (kept_entry s (alone x) y) o)
   entry-twice y apart stays None = refl
-  entry-twice y apart stays (Some held) = λ i. Some (record { capability = kept-twice y held.capability stays i; parent = new-parent-split s set x tree near member full y apart i })
+  entry-twice y apart stays (Some held) = λ i.
+      Some (record { capability = kept-twice y held.capability stays i; parent = new-parent-split s set x tree near member full y apart i })
 
   slots-other : (y : ℕ) → y ≢ x → (in_set : Bool) → set y ≡ in_set → slots_emptied s set y ≡ slots_emptied after others y
   slots-other y apart true is = there-in s set y is ∙ sym (there-in after others y (ap (λ b. set y && not b) (ne_eqb y x apart) ∙ ap (λ b. b && true) is))
@@ -149,10 +166,12 @@ module _ (s : State) (set : SlotSet) (x : ℕ) (tree : IsDerivation s.slots) (ne
 
   slots-here : (y : ℕ) → y ≡ x → slots_emptied s set y ≡ slots_emptied after others y
   slots-here y here =
-      let root : new_parent after others y ≡ None = ap (ancestor_outside 256 others after.slots) (ap (parent_at after.slots) here ∙ root-now s set x tree near member full) ∙ outside-none 256 others after.slots in
+      let root : new_parent after others y ≡ None = ap (ancestor_outside 256 others after.slots)
+      (ap (parent_at after.slots) here ∙ root-now s set x tree near member full) ∙ outside-none 256 others after.slots in
       let blank : option_map (kept_entry after others y) (Some empty_entry) ≡ Some empty_entry = λ i. Some (record { capability = Empty; parent = root i }) in
       there-in s set y (ap set here ∙ member)
-      ∙ sym (there-out after others y (ap (λ b. set y && not b) (eq-eqb y x here) ∙ and-false (set y)) ∙ ap (option_map (kept_entry after others y)) (there-in s (alone x) y (eq-eqb y x here)) ∙ blank)
+      ∙ sym (there-out after others y (ap (λ b. set y && not b) (eq-eqb y x here) ∙ and-false (set y))
+      ∙ ap (option_map (kept_entry after others y)) (there-in s (alone x) y (eq-eqb y x here)) ∙ blank)
 
   pub slots-twice : (y : ℕ) → slots_emptied s set y ≡ slots_emptied after others y
   slots-twice y = elim (eqb_tells y x) [ inl here ↦ slots-here y here.1 | inr apart ↦ slots-other y apart.1 (set y) refl ]
@@ -168,7 +187,8 @@ module _ (s : State) (set : SlotSet) (x : ℕ) (tree : IsDerivation s.slots) (ne
   objects-twice : (offset : ℕ) → objects_kept s set offset ≡ objects_kept after others offset
   objects-twice offset =
       ap (λ e. if e then None else option_map (without_threads (is_ending_thread s set)) (s.objects offset)) (ends-split s set x tree near member full offset)
-      ∙ objects-cases (is_ending_thread s set) (is_ending_thread s (alone x)) (is_ending_thread after others) ending-twice (ends s (alone x) offset) (ends after others offset) (s.objects offset)
+      ∙ objects-cases (is_ending_thread s set) (is_ending_thread s (alone x)) (is_ending_thread after others) ending-twice (ends s (alone x) offset)
+      (ends after others offset) (s.objects offset)
 
   bytes-twice : (place : ℕ) → bytes_kept s set place ≡ bytes_kept after others place
   bytes-twice place =

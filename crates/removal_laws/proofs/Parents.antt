@@ -1,5 +1,6 @@
 -- The nearest ancestor outside a set is the same once a slot of the set has been emptied.
-use Rattle.std.proofs.Common.{ℕ, zero, suc, ◌≡◌, ◌≢◌, ◌∙◌, ◌==◌, ◌+◌, ◌≤◌, ◌&&◌, ◌⊎◌, inl, inr, true, false, not, if◌then◌else◌, Option, Some, None, refl, sym, ap, arith}
+use Rattle.std.proofs.Common.{ℕ, zero, suc, ◌≡◌, ◌≢◌, ◌∙◌, ◌==◌, ◌+◌, ◌≤◌, ◌&&◌, ◌⊎◌, inl, inr, true, false, not, if◌then◌else◌, Option, Some, None, refl, sym}
+use Rattle.std.proofs.Common.{ap, arith}
 use Rattle.std.proofs.Math.Bool.{and-true}
 use Rattle.std.proofs.lemmas.Bool.Decides.{eqb_tells}
 use Rattle.model.specs.Capabilities.Slots.{Slots, depth_within, parent_at}
@@ -19,7 +20,8 @@ pub outside-zero : (set : SlotSet) (slots : Slots) (p : Option ℕ) → ancestor
 unfolding ancestor_outside
 outside-zero set slots p = refl
 
-pub outside-in : (n : ℕ) (set : SlotSet) (slots : Slots) (p : ℕ) → set p ≡ true → ancestor_outside (suc n) set slots (Some p) ≡ ancestor_outside n set slots (parent_at slots p)
+pub outside-in : (n : ℕ) (set : SlotSet) (slots : Slots) (p : ℕ) → set p ≡ true →
+    ancestor_outside (suc n) set slots (Some p) ≡ ancestor_outside n set slots (parent_at slots p)
 unfolding ancestor_outside
 outside-in n set slots p member = ap (λ b. if b then ancestor_outside n set slots (parent_at slots p) else Some p) member
 
@@ -32,13 +34,14 @@ pub outside-found : (n : ℕ) (set : SlotSet) (slots : Slots) (p : Option ℕ) (
     → (p ≡ Some u) ⊎ ((z : ℕ) × (set z ≡ true) × (parent_at slots z ≡ Some u))
 outside-found n set slots None u found = inl (sym (outside-none n set slots) ∙ found)
 outside-found zero set slots (Some q) u found = absurd (let clash : None ≡ Some u = sym (outside-zero set slots (Some q)) ∙ found in cc)
-outside-found (suc n) set slots (Some q) u found = elim (set q) as (λ b. set q ≡ b → (Some q ≡ Some u) ⊎ ((z : ℕ) × (set z ≡ true) × (parent_at slots z ≡ Some u))) [
-  | true ↦ λ is. elim (outside-found n set slots (parent_at slots q) u (sym (outside-in n set slots q is) ∙ found)) [
-    | inl above ↦ inr (q, is, above)
-    | inr further ↦ inr further
-  ]
-  | false ↦ λ is. inl (sym (outside-out n set slots q is) ∙ found)
-] refl
+outside-found (suc n) set slots (Some q) u found =
+    elim (set q) as (λ b. set q ≡ b → (Some q ≡ Some u) ⊎ ((z : ℕ) × (set z ≡ true) × (parent_at slots z ≡ Some u))) [
+      | true ↦ λ is. elim (outside-found n set slots (parent_at slots q) u (sym (outside-in n set slots q is) ∙ found)) [
+        | inl above ↦ inr (q, is, above)
+        | inr further ↦ inr further
+      ]
+      | false ↦ λ is. inl (sym (outside-out n set slots q is) ∙ found)
+    ] refl
 
 -- ---- how far a parent is from the top
 
@@ -58,20 +61,23 @@ height-up parents p shallow = elim (parents p) as (λ o. parents p ≡ o → hei
 ] refl
 
 -- more steps than that change nothing
-pub outside-stable : (n : ℕ) (set : SlotSet) (slots : Slots) (p : Option ℕ) → IsShallow (parent_at slots) → height (parent_at slots) p ≤ n → ancestor_outside (suc n) set slots p ≡ ancestor_outside n set slots p
+pub outside-stable : (n : ℕ) (set : SlotSet) (slots : Slots) (p : Option ℕ) → IsShallow (parent_at slots) → height (parent_at slots) p ≤ n →
+    ancestor_outside (suc n) set slots p ≡ ancestor_outside n set slots p
 outside-stable n set slots None shallow high = outside-none (suc n) set slots ∙ sym (outside-none n set slots)
 outside-stable zero set slots (Some p) shallow high = absurd (omega (arith, high))
-outside-stable (suc n) set slots (Some p) shallow high = elim (set p) as (λ b. set p ≡ b → ancestor_outside (suc (suc n)) set slots (Some p) ≡ ancestor_outside (suc n) set slots (Some p)) [
-  | true ↦ λ is.
-      outside-in (suc n) set slots p is
-      ∙ outside-stable n set slots (parent_at slots p) shallow (omega (arith, high, height-up (parent_at slots) p shallow))
-      ∙ sym (outside-in n set slots p is)
-  | false ↦ λ is. outside-out (suc n) set slots p is ∙ sym (outside-out n set slots p is)
-] refl
+outside-stable (suc n) set slots (Some p) shallow high =
+    elim (set p) as (λ b. set p ≡ b → ancestor_outside (suc (suc n)) set slots (Some p) ≡ ancestor_outside (suc n) set slots (Some p)) [
+      | true ↦ λ is.
+          outside-in (suc n) set slots p is
+          ∙ outside-stable n set slots (parent_at slots p) shallow (omega (arith, high, height-up (parent_at slots) p shallow))
+          ∙ sym (outside-in n set slots p is)
+      | false ↦ λ is. outside-out (suc n) set slots p is ∙ sym (outside-out n set slots p is)
+    ] refl
 
 -- ---- a slot of the set is emptied, and its children have its parent
 
-module _ (set : SlotSet) (x : ℕ) (slots now : Slots) (member : set x ≡ true) (shallow : IsShallow (parent_at slots)) (gone : parent_at now x ≡ None) (moved : (y : ℕ) → y ≢ x → parent_at now y ≡ adopted_parent x (parent_at slots x) (parent_at slots y)) where
+module _ (set : SlotSet) (x : ℕ) (slots now : Slots) (member : set x ≡ true) (shallow : IsShallow (parent_at slots)) (gone : parent_at now x ≡ None)
+    (moved : (y : ℕ) → y ≢ x → parent_at now y ≡ adopted_parent x (parent_at slots x) (parent_at slots y)) where
   shallow-now : IsShallow (parent_at now)
   shallow-now y = omega (arith, depth-spliced 256 (parent_at slots) (parent_at now) x gone moved y, shallow y)
 
@@ -91,7 +97,8 @@ module _ (set : SlotSet) (x : ℕ) (slots now : Slots) (member : set x ≡ true)
   low-now n None high = omega (arith, high)
   low-now n (Some p) high = omega (arith, high, depth-spliced 256 (parent_at slots) (parent_at now) x gone moved p)
 
-  pub outside-split : (n : ℕ) (p : Option ℕ) → height (parent_at slots) p ≤ n → ancestor_outside n set slots p ≡ ancestor_outside n (less set x) now (adopted_parent x (parent_at slots x) p)
+  pub outside-split : (n : ℕ) (p : Option ℕ) → height (parent_at slots) p ≤ n →
+      ancestor_outside n set slots p ≡ ancestor_outside n (less set x) now (adopted_parent x (parent_at slots x) p)
   outside-split n None high = outside-none n set slots ∙ sym (outside-none n (less set x) now)
   outside-split zero (Some q) high = absurd (omega (arith, high))
   outside-split (suc n) (Some q) high =
@@ -107,7 +114,8 @@ module _ (set : SlotSet) (x : ℕ) (slots now : Slots) (member : set x ≡ true)
             ∙ ap (λ b. ancestor_outside (suc n) (less set x) now (if b then parent_at slots x else Some q)) (sym same.0)
         | inr other ↦
             let kept : less set x q ≡ set q = ap (λ b. set q && not b) other.0 ∙ and-true (set q) in
-            elim (set q) as (λ b. set q ≡ b → ancestor_outside (suc n) set slots (Some q) ≡ ancestor_outside (suc n) (less set x) now (if q == x then parent_at slots x else Some q)) [
+            elim (set q) as (λ b. set q ≡ b → ancestor_outside (suc n) set slots (Some q) ≡ ancestor_outside (suc n) (less set x) now
+            (if q == x then parent_at slots x else Some q)) [
               | true ↦ λ is.
                   outside-in n set slots q is
                   ∙ outside-split n (parent_at slots q) above
@@ -122,7 +130,8 @@ module _ (set : SlotSet) (x : ℕ) (slots now : Slots) (member : set x ≡ true)
       ]
 
 -- the nearest ancestor that is not the one slot
-pub outside-one : (x : ℕ) (slots : Slots) (p : Option ℕ) → parent_at slots x ≢ Some x → ancestor_outside 256 (alone x) slots p ≡ adopted_parent x (parent_at slots x) p
+pub outside-one : (x : ℕ) (slots : Slots) (p : Option ℕ) → parent_at slots x ≢ Some x →
+    ancestor_outside 256 (alone x) slots p ≡ adopted_parent x (parent_at slots x) p
 outside-one x slots None apart = outside-none 256 (alone x) slots
 outside-one x slots (Some q) apart = elim (eqb_tells q x) [
   | inl same ↦

@@ -3,7 +3,8 @@ use Rattle.std.proofs.Common.{ℕ, ◌≡◌, ◌≢◌, ◌∙◌, inl, inr, Bo
 use Rattle.std.proofs.lemmas.Bool.{eq-eqb, ne_eqb}
 use Rattle.std.proofs.lemmas.Bool.Decides.{eqb_tells}
 use Rattle.model.specs.declared.capabilities.Cap.{Cap}
-use Rattle.model.specs.declared.capabilities.Cap.TheVariants.{Empty, Untyped, Endpoint, Notification, CNode, Frame, PageTable, Tcb, RootTable, InterruptControl, InterruptHandler}
+use Rattle.model.specs.declared.capabilities.Cap.TheVariants.{Empty, Untyped, Endpoint, Notification, CNode, Frame, PageTable, Tcb, RootTable, InterruptControl}
+use Rattle.model.specs.declared.capabilities.Cap.TheVariants.{InterruptHandler}
 use Rattle.model.specs.Capabilities.CapabilityKinds.{names_object}
 use Rattle.model.specs.Capabilities.CapabilityWords.{IsCapability}
 use Rattle.model.specs.Capabilities.Slots.{IsFull, capability_at, is_empty, is_full, parent_at}
@@ -80,13 +81,17 @@ ready-emptied s x ready full =
     let member : alone x x ≡ true = eq-eqb x x refl in
     let gone : capability_at one.slots x ≡ Empty = empty-now s (alone x) x tree ready.near member full in
     let root : parent_at one.slots x ≡ None = root-now s (alone x) x tree ready.near member full in
-    let stays : (y : ℕ) → y ≢ x → capability_at one.slots y ≡ kept s (alone x) y (capability_at s.slots y) = kept-now s (alone x) x tree ready.near member full in
-    let moved : (y : ℕ) → y ≢ x → parent_at one.slots y ≡ adopted_parent x (parent_at s.slots x) (parent_at s.slots y) = parent-now s (alone x) x tree ready.near member full in
-    let empty : (y : ℕ) → y ≢ x → is_empty (capability_at one.slots y) ≡ is_empty (capability_at s.slots y) = λ y other. ap is_empty (stays y other) ∙ kept-test is_empty (λ o b v w. refl) (λ f r m n. refl) (λ t m n. refl) s (alone x) y (capability_at s.slots y) in
+    let stays : (y : ℕ) → y ≢ x → capability_at one.slots y ≡ kept s (alone x) y (capability_at s.slots y) =
+    kept-now s (alone x) x tree ready.near member full in
+    let moved : (y : ℕ) → y ≢ x → parent_at one.slots y ≡ adopted_parent x (parent_at s.slots x) (parent_at s.slots y) =
+    parent-now s (alone x) x tree ready.near member full in
+    let empty : (y : ℕ) → y ≢ x → is_empty (capability_at one.slots y) ≡ is_empty (capability_at s.slots y) = λ y other. ap is_empty (stays y other)
+    ∙ kept-test is_empty (λ o b v w. refl) (λ f r m n. refl) (λ t m n. refl) s (alone x) y (capability_at s.slots y) in
     let full_now : (y : ℕ) → y ≢ x → IsFull s.slots y → IsFull one.slots y = λ y other filled. ap not (empty y other) ∙ filled in
     let full_was : (y : ℕ) → IsFull one.slots y → IsFull s.slots y = λ y filled. ap not (sym (empty y (full-apart s x y filled))) ∙ filled in
     let no_circle : parent_at s.slots x ≢ Some x = λ is. absurd (omega (arith, depth-own_parent 256 (parent_at s.slots) x is, tree.shallow x)) in
-    let not_gone : (y p : ℕ) → parent_at one.slots y ≡ Some p → y ≢ x = λ y p is same. absurd (let clash : None ≡ Some p = sym (ap (parent_at one.slots) same ∙ root) ∙ is in cc) in
+    let not_gone : (y p : ℕ) → parent_at one.slots y ≡ Some p → y ≢ x = λ y p is same.
+    absurd (let clash : None ≡ Some p = sym (ap (parent_at one.slots) same ∙ root) ∙ is in cc) in
     record {
       derivation = record {
         valid = λ y. elim (eqb_tells y x) [
@@ -104,7 +109,8 @@ ready-emptied s x ready full =
             elim (parent_at s.slots y) as (λ o. parent_at s.slots y ≡ o → IsFull one.slots p) [
               | None ↦ λ none. absurd (let clash : None ≡ Some p = ap (adopted_parent x (parent_at s.slots x)) (sym none) ∙ sym (moved y other) ∙ is in cc)
               | Some q ↦ λ some.
-                  let now : adopted_parent x (parent_at s.slots x) (Some q) ≡ Some p = ap (adopted_parent x (parent_at s.slots x)) (sym some) ∙ sym (moved y other) ∙ is in
+                  let now : adopted_parent x (parent_at s.slots x) (Some q) ≡ Some p = ap (adopted_parent x (parent_at s.slots x)) (sym some)
+                  ∙ sym (moved y other) ∙ is in
                   elim (eqb_tells q x) [
                     | inl at ↦
                         let up : parent_at s.slots x ≡ Some p = ap (λ b. if b then parent_at s.slots x else Some q) (sym at.0) ∙ now in
@@ -119,18 +125,27 @@ ready-emptied s x ready full =
       };
       near = λ y filled. ready.near y (full_was y filled);
       roots = λ a b r is named.
-          let a_other : a ≢ x = λ same. absurd (let clash : false ≡ true = sym (ap (names_object r) (ap (capability_at one.slots) same ∙ gone)) ∙ ap (names_object r) is ∙ eq-eqb r r refl in cc) in
-          let b_other : b ≢ x = λ same. absurd (let clash : false ≡ true = sym (ap (names_object r) (ap (capability_at one.slots) same ∙ gone)) ∙ named in cc) in
+          let a_other : a ≢ x = λ same. absurd (let clash : false ≡ true = sym (ap (names_object r) (ap (capability_at one.slots) same ∙ gone))
+          ∙ ap (names_object r) is ∙ eq-eqb r r refl in cc) in
+          let b_other : b ≢ x = λ same. absurd (let clash : false ≡ true = sym (ap (names_object r) (ap (capability_at one.slots) same ∙ gone)) ∙ named in
+          cc) in
           let was : capability_at s.slots a ≡ RootTable r = root-kept s (alone x) a r (capability_at s.slots a) (sym (stays a a_other) ∙ is) in
-          let named_was : names_object r (capability_at s.slots b) ≡ true = sym (kept-test (names_object r) (λ o c v w. refl) (λ f q m n. refl) (λ t m n. refl) s (alone x) b (capability_at s.slots b)) ∙ ap (names_object r) (sym (stays b b_other)) ∙ named in
+          let named_was : names_object r (capability_at s.slots b) ≡ true =
+          sym (kept-test (names_object r) (λ o c v w. refl) (λ f q m n. refl) (λ t m n. refl) s (alone x) b (capability_at s.slots b))
+          ∙ ap (names_object r) (sym (stays b b_other)) ∙ named in
           let root_was : capability_at s.slots b ≡ RootTable r = ready.roots a b r was named_was in
           stays b b_other ∙ ap (kept s (alone x) b) root_was;
       named = λ y k o is.
           let other : y ≢ x = λ same. absurd (let clash : None ≡ named_as k o = sym (ap object_named (ap (capability_at one.slots) same ∙ gone)) ∙ is in cc) in
-          let was : object_named (capability_at s.slots y) ≡ named_as k o = sym (kept-test object_named (λ p b v w. refl) (λ f q m n. refl) (λ t m n. refl) s (alone x) y (capability_at s.slots y)) ∙ ap object_named (sym (stays y other)) ∙ is in
+          let was : object_named (capability_at s.slots y) ≡ named_as k o =
+          sym (kept-test object_named (λ p b v w. refl) (λ f q m n. refl) (λ t m n. refl) s (alone x) y (capability_at s.slots y))
+          ∙ ap object_named (sym (stays y other)) ∙ is in
           let names : names_object o (capability_at s.slots y) ≡ true = kind-names (capability_at s.slots y) k o was in
-          let beside : some_outside s (alone x) (names_object o) ≡ true = found-at s.memory_bits y _ (ready.near y (named-full o (capability_at s.slots y) names)) (join (not (alone x y)) _ (ap not (ne_eqb y x other)) names) in
-          let stays_there : ends s (alone x) o ≡ false = ap (λ b. some_inside s (alone x) (names_object o) && not b) beside ∙ and-false (some_inside s (alone x) (names_object o)) in
+          let beside : some_outside s (alone x) (names_object o) ≡ true =
+          found-at s.memory_bits y _ (ready.near y (named-full o (capability_at s.slots y) names))
+          (join (not (alone x y)) _ (ap not (ne_eqb y x other)) names) in
+          let stays_there : ends s (alone x) o ≡ false = ap (λ b. some_inside s (alone x) (names_object o) && not b) beside
+          ∙ and-false (some_inside s (alone x) (names_object o)) in
           ap (λ b. option_map kind_of (if b then None else option_map (without_threads (is_ending_thread s (alone x))) (s.objects o))) stays_there
           ∙ kind-threads (is_ending_thread s (alone x)) (s.objects o)
           ∙ ready.named y k o was;
@@ -140,7 +155,8 @@ ready-emptied s x ready full =
 -- what is full then was full, and the slot itself is not
 pub full-was : (s : State) (x : ℕ) → IsReady s → IsFull s.slots x → (y : ℕ) → IsFull (emptied s (alone x)).slots y → IsFull s.slots y
 full-was s x ready full y filled =
-    ap not (sym (ap is_empty (kept-now s (alone x) x ready.derivation ready.near (eq-eqb x x refl) full y (full-apart s x y filled)) ∙ kept-test is_empty (λ o b v w. refl) (λ f r m n. refl) (λ t m n. refl) s (alone x) y (capability_at s.slots y)))
+    ap not (sym (ap is_empty (kept-now s (alone x) x ready.derivation ready.near (eq-eqb x x refl) full y (full-apart s x y filled))
+    ∙ kept-test is_empty (λ o b v w. refl) (λ f r m n. refl) (λ t m n. refl) s (alone x) y (capability_at s.slots y)))
     ∙ filled
 
 pub not-full : (s : State) (x : ℕ) → is_full (emptied s (alone x)).slots x ≡ false

@@ -1,5 +1,6 @@
 -- One round of a removal's loops.
-use Rattle.std.proofs.Common.{ℕ, suc, ◌≡◌, ◌≢◌, ◌∙◌, ◌==◌, ◌/◌, ◌^◌, ◌<◌, ◌&&◌, ◌||◌, inl, inr, Bool, true, false, not, nat_le, Option, Some, None, is_some, option_map, get_or, refl, sym, ap, subst, arith}
+use Rattle.std.proofs.Common.{ℕ, suc, ◌≡◌, ◌≢◌, ◌∙◌, ◌==◌, ◌/◌, ◌^◌, ◌<◌, ◌&&◌, ◌||◌, inl, inr, Bool, true, false, not, nat_le, Option, Some, None, is_some}
+use Rattle.std.proofs.Common.{option_map, get_or, refl, sym, ap, subst, arith}
 use Rattle.std.specs.List.{list_any, range_with_len}
 use Rattle.std.proofs.Math.Bool.{and-false, and-true}
 use Rattle.std.proofs.lemmas.Bool.{eq-eqb, le-leb, ne_eqb}
@@ -23,12 +24,14 @@ use Rattle.removal_laws.proofs.SameFull.{emptied-same}
 pub open-kept : (s : State) (set : SlotSet) (y : ℕ) → IsOpen s.slots y → IsOpen (emptied s set).slots y
 open-kept s set y opens = elim (set y) as (λ b. set y ≡ b → IsOpen (emptied s set).slots y) [
   | true ↦ λ member. ap is_some (there-in s set y member)
-  | false ↦ λ out. ap is_some (there-out s set y out) ∙ elim (s.slots y) as (λ o. is_some o ≡ true → is_some (option_map (kept_entry s set y) o) ≡ true) [ None ↦ λ h. h | Some e ↦ λ h. refl ] opens
+  | false ↦ λ out. ap is_some (there-out s set y out) ∙ elim (s.slots y) as (λ o. is_some o ≡ true → is_some (option_map (kept_entry s set y) o) ≡ true)
+      [ None ↦ λ h. h | Some e ↦ λ h. refl ] opens
 ] refl
 
 pub full-apart : (s : State) (x y : ℕ) → IsFull (emptied s (alone x)).slots y → y ≢ x
 full-apart s x y full same =
-    let gone : is_full (emptied s (alone x)).slots y ≡ false = ap (λ (n : ℕ). is_full (emptied s (alone x)).slots n) same ∙ ap (λ (o : Option Entry). not (is_empty (capability_of o))) (there-in s (alone x) x (eq-eqb x x refl)) in
+    let gone : is_full (emptied s (alone x)).slots y ≡ false = ap (λ (n : ℕ). is_full (emptied s (alone x)).slots n) same
+    ∙ ap (λ (o : Option Entry). not (is_empty (capability_of o))) (there-in s (alone x) x (eq-eqb x x refl)) in
     let clash : false ≡ true = sym gone ∙ full in
     cc
 
@@ -39,8 +42,10 @@ less-member : (set : SlotSet) (x y : ℕ) → less set x y ≡ true → set y �
 less-member set x y is = (both (set y) _ is).0
 
 -- a slot of a set is emptied, and what is left of the set is the same on full slots
-pub round : (s : State) (x : ℕ) (set left more : SlotSet) → IsDerivation s.slots → IsDerivation (emptied s (alone x)).slots → ((y : ℕ) → IsFull s.slots y → y < 2 ^ s.memory_bits / 16) → IsFull s.slots x → set x ≡ true
-    → ((y : ℕ) → IsFull (emptied s (alone x)).slots y → left y ≡ set y) → ((y : ℕ) → joined set more y ≡ true → IsOpen s.slots y) → ((y : ℕ) → joined left more y ≡ true → IsOpen s.slots y)
+pub round : (s : State) (x : ℕ) (set left more : SlotSet) → IsDerivation s.slots → IsDerivation (emptied s (alone x)).slots →
+    ((y : ℕ) → IsFull s.slots y → y < 2 ^ s.memory_bits / 16) → IsFull s.slots x → set x ≡ true
+    → ((y : ℕ) → IsFull (emptied s (alone x)).slots y → left y ≡ set y) → ((y : ℕ) → joined set more y ≡ true → IsOpen s.slots y) →
+    ((y : ℕ) → joined left more y ≡ true → IsOpen s.slots y)
     → emptied s (joined set more) ≡ emptied (emptied s (alone x)) (joined left more)
 round s x set left more tree tree_now near full member same opens opens_left =
     one-by-one s (joined set more) x tree near (ap (λ b. b || more x) member) full
@@ -64,14 +69,16 @@ line-apart s taken l y k none = elim (eqb_tells k l) [
       ])
 ]
 
-pub next-line : (s : State) (taken : ℕ → Bool) (l y : ℕ) → (y == binding_slot s l && taken l) ≡ false → bindings_from s taken l y ≡ bindings_from s taken (suc l) y
+pub next-line : (s : State) (taken : ℕ → Bool) (l y : ℕ) → (y == binding_slot s l && taken l) ≡ false →
+    bindings_from s taken l y ≡ bindings_from s taken (suc l) y
 next-line s taken l y none = λ i. list_any (λ k. line-apart s taken l y k none i) (range_with_len 0 64)
 
 line-member : (s : State) (taken : ℕ → Bool) (l : ℕ) → l < 64 → taken l ≡ true → bindings_from s taken l (binding_slot s l) ≡ true
 line-member s taken l few is =
     let test : ℕ → Bool = λ k. nat_le l k && (binding_slot s l == binding_slot s k && taken k) in
     let here : get_or (range_with_len 0 64) l 0 ≡ l = get_or-range_with_len 0 64 l 0 few ∙ omega arith in
-    let passes : test l ≡ true = join (nat_le l l) _ (le-leb l l (omega arith)) (join (binding_slot s l == binding_slot s l) _ (eq-eqb (binding_slot s l) _ refl) is) in
+    let passes : test l ≡ true = join (nat_le l l) _ (le-leb l l (omega arith))
+    (join (binding_slot s l == binding_slot s l) _ (eq-eqb (binding_slot s l) _ refl) is) in
     list_any_at test (range_with_len 0 64) l 0 (rw (length-range_with_len 0 64) few) (ap test here ∙ passes)
 
 pub no-lines : (s : State) (taken : ℕ → Bool) (y : ℕ) → bindings_from s taken 64 y ≡ false
@@ -94,13 +101,15 @@ line-of s taken first y is =
       | inr away ↦ absurd (let clash : false ≡ true = sym away.0 ∙ there.0 in cc)
     ]
 
-pub line-open : (s : State) (taken : ℕ → Bool) (first y : ℕ) → ((l : ℕ) → l < 64 → IsOpen s.slots (binding_slot s l)) → bindings_from s taken first y ≡ true → IsOpen s.slots y
+pub line-open : (s : State) (taken : ℕ → Bool) (first y : ℕ) → ((l : ℕ) → l < 64 → IsOpen s.slots (binding_slot s l)) → bindings_from s taken first y ≡ true →
+    IsOpen s.slots y
 line-open s taken first y opens is =
     let line = line-of s taken first y is in
     subst (λ (n : ℕ). IsOpen s.slots n) (sym line.2) (opens line.0 line.1)
 
 -- the binding of a line is taken along
-pub line-taken : (s : State) (taken : ℕ → Bool) (l : ℕ) → l < 64 → IsDerivation s.slots → IsDerivation (emptied s (alone (binding_slot s l))).slots → ((y : ℕ) → IsFull s.slots y → y < 2 ^ s.memory_bits / 16)
+pub line-taken : (s : State) (taken : ℕ → Bool) (l : ℕ) → l < 64 → IsDerivation s.slots → IsDerivation (emptied s (alone (binding_slot s l))).slots →
+    ((y : ℕ) → IsFull s.slots y → y < 2 ^ s.memory_bits / 16)
     → ((k : ℕ) → k < 64 → IsOpen s.slots (binding_slot s k)) → taken l ≡ true → IsFull s.slots (binding_slot s l)
     → emptied s (bindings_from s taken l) ≡ emptied (emptied s (alone (binding_slot s l))) (bindings_from s taken (suc l))
 line-taken s taken l few tree tree_now near opens is full =
@@ -114,7 +123,8 @@ line-taken s taken l few tree tree_now near opens is full =
     (λ y member. open-kept s (alone b) y (line-open s taken (suc l) y opens member))
 
 -- or there is nothing to take
-pub line-left : (s : State) (taken : ℕ → Bool) (l : ℕ) → IsDerivation s.slots → ((k : ℕ) → k < 64 → IsOpen s.slots (binding_slot s k)) → (taken l ≡ true → is_full s.slots (binding_slot s l) ≡ false)
+pub line-left : (s : State) (taken : ℕ → Bool) (l : ℕ) → IsDerivation s.slots → ((k : ℕ) → k < 64 → IsOpen s.slots (binding_slot s k)) →
+    (taken l ≡ true → is_full s.slots (binding_slot s l) ≡ false)
     → emptied s (bindings_from s taken l) ≡ emptied s (bindings_from s taken (suc l))
 line-left s taken l tree opens none =
     emptied-same s tree (bindings_from s taken l) (bindings_from s taken (suc l))
@@ -130,10 +140,12 @@ line-left s taken l tree opens none =
 
 -- no lines are left
 pub lines-done : (s : State) (taken : ℕ → Bool) → IsDerivation s.slots → emptied s (bindings_from s taken 64) ≡ s
-lines-done s taken tree = emptied-none s (bindings_from s taken 64) tree (λ y filled. no-lines s taken y) (λ y member. absurd (let clash : false ≡ true = sym (no-lines s taken y) ∙ member in cc))
+lines-done s taken tree = emptied-none s (bindings_from s taken 64) tree (λ y filled. no-lines s taken y)
+    (λ y member. absurd (let clash : false ≡ true = sym (no-lines s taken y) ∙ member in cc))
 
 -- once the set itself is gone, its bindings are left
-pub set-done : (s : State) (set : SlotSet) (taken : ℕ → Bool) → IsDerivation s.slots → ((y : ℕ) → IsFull s.slots y → set y ≡ false) → ((y : ℕ) → set y ≡ true → IsOpen s.slots y) → ((k : ℕ) → k < 64 → IsOpen s.slots (binding_slot s k))
+pub set-done : (s : State) (set : SlotSet) (taken : ℕ → Bool) → IsDerivation s.slots → ((y : ℕ) → IsFull s.slots y → set y ≡ false) →
+    ((y : ℕ) → set y ≡ true → IsOpen s.slots y) → ((k : ℕ) → k < 64 → IsOpen s.slots (binding_slot s k))
     → emptied s (joined set (bindings_from s taken 0)) ≡ emptied s (bindings_from s taken 0)
 set-done s set taken tree none opens lines_open =
     emptied-same s tree (joined set (bindings_from s taken 0)) (bindings_from s taken 0)

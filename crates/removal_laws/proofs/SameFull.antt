@@ -1,14 +1,17 @@
 -- Only the full slots of a set count.
-use Rattle.std.proofs.Common.{ℕ, zero, suc, ◌≡◌, ◌≢◌, ◌∙◌, ◌/◌, ◌&&◌, ◌||◌, Bool, true, false, not, if◌then◌else◌, Option, Some, None, is_some, option_map, refl, sym, ap}
+use Rattle.std.proofs.Common.{ℕ, zero, suc, ◌≡◌, ◌≢◌, ◌∙◌, ◌/◌, ◌&&◌, ◌||◌, Bool, true, false, not, if◌then◌else◌, Option, Some, None, is_some, option_map}
+use Rattle.std.proofs.Common.{refl, sym, ap}
 use Rattle.std.proofs.Math.Bool.{and-false}
 use Rattle.model.specs.declared.capabilities.Cap.{Cap}
-use Rattle.model.specs.declared.capabilities.Cap.TheVariants.{Empty, Untyped, Endpoint, Notification, CNode, Frame, PageTable, Tcb, RootTable, InterruptControl, InterruptHandler}
+use Rattle.model.specs.declared.capabilities.Cap.TheVariants.{Empty, Untyped, Endpoint, Notification, CNode, Frame, PageTable, Tcb, RootTable, InterruptControl}
+use Rattle.model.specs.declared.capabilities.Cap.TheVariants.{InterruptHandler}
 use Rattle.model.specs.declared.capabilities.FrameMapping.{FrameMapping}
 use Rattle.model.specs.declared.slot_entries.Entry.{Entry}
 use Rattle.model.specs.Capabilities.CapabilityKinds.{names_object}
 use Rattle.model.specs.Capabilities.Slots.{IsDerivation, IsFull, IsOpen, capability_at, empty_entry, is_empty, parent_at}
 use Rattle.model.specs.Kernel.AddressSpaces.{maps_region, region_pages}
-use Rattle.model.specs.Kernel.Removal.{SlotSet, ancestor_outside, emptied, ends, ends_root, frame_loses, is_root_at, is_some_slot, kept, kept_entry, loses_last_child, new_parent, slots_emptied, some_inside, some_outside, takes_last}
+use Rattle.model.specs.Kernel.Removal.{SlotSet, ancestor_outside, emptied, ends, ends_root, frame_loses, is_root_at, is_some_slot, kept, kept_entry}
+use Rattle.model.specs.Kernel.Removal.{loses_last_child, new_parent, slots_emptied, some_inside, some_outside, takes_last}
 use Rattle.model.specs.Kernel.State.{State}
 use Rattle.model.proofs.SlotChanges.{capability_of}
 use Rattle.removal_laws.proofs.Found.{found, found-same}
@@ -31,13 +34,15 @@ empty-is (InterruptHandler _) is = absurd (let clash : false ≡ true = is in cc
 
 module _ (s : State) (tree : IsDerivation s.slots) (one two : SlotSet) (same : (y : ℕ) → IsFull s.slots y → one y ≡ two y) where
   -- what an empty slot would not pass
-  tested : (test : Cap → Bool) → test Empty ≡ false → (of : Bool → Bool) → (y : ℕ) → (of (one y) && test (capability_at s.slots y)) ≡ (of (two y) && test (capability_at s.slots y))
-  tested test none of y = elim (is_empty (capability_at s.slots y)) as (λ b. is_empty (capability_at s.slots y) ≡ b → (of (one y) && test (capability_at s.slots y)) ≡ (of (two y) && test (capability_at s.slots y))) [
-    | true ↦ λ is.
-        let fails : test (capability_at s.slots y) ≡ false = ap test (empty-is (capability_at s.slots y) is) ∙ none in
-        ap (λ b. of (one y) && b) fails ∙ and-false (of (one y)) ∙ sym (ap (λ b. of (two y) && b) fails ∙ and-false (of (two y)))
-    | false ↦ λ is. ap (λ b. of b && test (capability_at s.slots y)) (same y (ap not is))
-  ] refl
+  tested : (test : Cap → Bool) → test Empty ≡ false → (of : Bool → Bool) → (y : ℕ) →
+      (of (one y) && test (capability_at s.slots y)) ≡ (of (two y) && test (capability_at s.slots y))
+  tested test none of y = elim (is_empty (capability_at s.slots y))
+      as (λ b. is_empty (capability_at s.slots y) ≡ b → (of (one y) && test (capability_at s.slots y)) ≡ (of (two y) && test (capability_at s.slots y))) [
+        | true ↦ λ is.
+            let fails : test (capability_at s.slots y) ≡ false = ap test (empty-is (capability_at s.slots y) is) ∙ none in
+            ap (λ b. of (one y) && b) fails ∙ and-false (of (one y)) ∙ sym (ap (λ b. of (two y) && b) fails ∙ and-false (of (two y)))
+        | false ↦ λ is. ap (λ b. of b && test (capability_at s.slots y)) (same y (ap not is))
+      ] refl
 
   pub inside-same : (test : Cap → Bool) → test Empty ≡ false → some_inside s one test ≡ some_inside s two test
   inside-same test none = found-same s.memory_bits _ _ (tested test none (λ b. b))
@@ -55,13 +60,14 @@ module _ (s : State) (tree : IsDerivation s.slots) (one two : SlotSet) (same : (
   above-same : (n : ℕ) (p : Option ℕ) → ((q : ℕ) → p ≡ Some q → IsFull s.slots q) → ancestor_outside n one s.slots p ≡ ancestor_outside n two s.slots p
   above-same n None full = outside-none n one s.slots ∙ sym (outside-none n two s.slots)
   above-same zero (Some q) full = outside-zero one s.slots (Some q) ∙ sym (outside-zero two s.slots (Some q))
-  above-same (suc n) (Some q) full = elim (one q) as (λ b. one q ≡ b → ancestor_outside (suc n) one s.slots (Some q) ≡ ancestor_outside (suc n) two s.slots (Some q)) [
-    | true ↦ λ is.
-        outside-in n one s.slots q is
-        ∙ above-same n (parent_at s.slots q) (λ r is_parent. tree.parent_full q r is_parent)
-        ∙ sym (outside-in n two s.slots q (sym (same q (full q refl)) ∙ is))
-    | false ↦ λ is. outside-out n one s.slots q is ∙ sym (outside-out n two s.slots q (sym (same q (full q refl)) ∙ is))
-  ] refl
+  above-same (suc n) (Some q) full =
+      elim (one q) as (λ b. one q ≡ b → ancestor_outside (suc n) one s.slots (Some q) ≡ ancestor_outside (suc n) two s.slots (Some q)) [
+        | true ↦ λ is.
+            outside-in n one s.slots q is
+            ∙ above-same n (parent_at s.slots q) (λ r is_parent. tree.parent_full q r is_parent)
+            ∙ sym (outside-in n two s.slots q (sym (same q (full q refl)) ∙ is))
+        | false ↦ λ is. outside-out n one s.slots q is ∙ sym (outside-out n two s.slots q (sym (same q (full q refl)) ∙ is))
+      ] refl
 
   parent-same : (y : ℕ) → new_parent s one y ≡ new_parent s two y
   parent-same y = above-same 256 (parent_at s.slots y) (λ q is. tree.parent_full y q is)
@@ -114,19 +120,22 @@ module _ (s : State) (tree : IsDerivation s.slots) (one two : SlotSet) (same : (
   entry-same y (Some h) = λ i. Some (record { capability = kept-same y h.capability i; parent = parent-same y i })
 
   -- an empty slot is left as it is, and is what emptying one leaves
-  blank : (set : SlotSet) (y : ℕ) (o : Option Entry) → s.slots y ≡ o → is_some o ≡ true → is_empty (capability_of o) ≡ true → option_map (kept_entry s set y) o ≡ Some empty_entry
+  blank : (set : SlotSet) (y : ℕ) (o : Option Entry) → s.slots y ≡ o → is_some o ≡ true → is_empty (capability_of o) ≡ true →
+      option_map (kept_entry s set y) o ≡ Some empty_entry
   blank set y None is opens empty = absurd (let clash : false ≡ true = opens in cc)
   blank set y (Some h) is opens empty =
       let nothing : h.capability ≡ Empty = empty-is h.capability empty in
       let root : new_parent s set y ≡ None = elim (parent_at s.slots y) as (λ p. parent_at s.slots y ≡ p → new_parent s set y ≡ None) [
         | None ↦ λ none. ap (ancestor_outside 256 set s.slots) none ∙ outside-none 256 set s.slots
-        | Some q ↦ λ some. absurd (let clash : false ≡ true = ap not (sym (ap (λ (e : Option Entry). is_empty (capability_of e)) is ∙ empty)) ∙ tree.child_full y q some in cc)
+        | Some q ↦ λ some. absurd (let clash : false ≡ true = ap not (sym (ap (λ (e : Option Entry). is_empty (capability_of e)) is ∙ empty))
+            ∙ tree.child_full y q some in cc)
       ] refl in
       λ i. Some (record { capability = ap (kept s set y) nothing i; parent = root i })
 
   module _ (first_open : (y : ℕ) → one y ≡ true → IsOpen s.slots y) (second_open : (y : ℕ) → two y ≡ true → IsOpen s.slots y) where
     closed-out : (set : SlotSet) (y : ℕ) → ((z : ℕ) → set z ≡ true → IsOpen s.slots z) → s.slots y ≡ None → set y ≡ false
-    closed-out set y opens none = elim (set y) as (λ b. set y ≡ b → b ≡ false) [ true ↦ λ member. absurd (let clash : false ≡ true = sym (ap is_some none) ∙ opens y member in cc) | false ↦ λ is. refl ] refl
+    closed-out set y opens none = elim (set y) as (λ b. set y ≡ b → b ≡ false)
+        [ true ↦ λ member. absurd (let clash : false ≡ true = sym (ap is_some none) ∙ opens y member in cc) | false ↦ λ is. refl ] refl
 
     pub emptied-blank : (set : SlotSet) (y : ℕ) (h : Entry) → s.slots y ≡ Some h → is_empty h.capability ≡ true → slots_emptied s set y ≡ Some empty_entry
     emptied-blank set y h is empty = elim (set y) as (λ b. set y ≡ b → slots_emptied s set y ≡ Some empty_entry) [

@@ -1,16 +1,19 @@
 -- What goes with a set of slots goes with one slot of it, or with the others once that one is empty.
-use Rattle.std.proofs.Common.{ℕ, ◌≡◌, ◌≢◌, ◌∙◌, ◌==◌, ◌/◌, ◌^◌, ◌<◌, ◌≤◌, ◌&&◌, ◌||◌, inl, inr, Bool, true, false, if◌then◌else◌, Option, Some, None, refl, sym, ap, arith}
+use Rattle.std.proofs.Common.{ℕ, ◌≡◌, ◌≢◌, ◌∙◌, ◌==◌, ◌/◌, ◌^◌, ◌<◌, ◌≤◌, ◌&&◌, ◌||◌, inl, inr, Bool, true, false, if◌then◌else◌, Option, Some, None, refl, sym}
+use Rattle.std.proofs.Common.{ap, arith}
 use Rattle.std.proofs.lemmas.Bool.{eq-eqb, ne_eqb}
 use Rattle.std.proofs.lemmas.Bool.Decides.{eqb_tells}
 use Rattle.model.specs.declared.capabilities.Cap.{Cap}
-use Rattle.model.specs.declared.capabilities.Cap.TheVariants.{Empty, Untyped, Endpoint, Notification, CNode, Frame, PageTable, Tcb, RootTable, InterruptControl, InterruptHandler}
+use Rattle.model.specs.declared.capabilities.Cap.TheVariants.{Empty, Untyped, Endpoint, Notification, CNode, Frame, PageTable, Tcb, RootTable, InterruptControl}
+use Rattle.model.specs.declared.capabilities.Cap.TheVariants.{InterruptHandler}
 use Rattle.model.specs.declared.capabilities.FrameMapping.{FrameMapping}
 use Rattle.model.specs.declared.capabilities.TableMapping.{TableMapping}
 use Rattle.model.specs.declared.rights.Rights.{Rights}
 use Rattle.model.specs.Capabilities.CapabilityKinds.{names_object, is_handler_of}
 use Rattle.model.specs.Capabilities.Slots.{IsDerivation, IsFull, capability_at, parent_at}
 use Rattle.model.specs.Kernel.AddressSpaces.{maps_region, region_pages}
-use Rattle.model.specs.Kernel.Removal.{SlotSet, ancestor_outside, emptied, ends, ends_root, frame_loses, is_root_at, kept, new_parent, some_inside, table_loses, takes_last}
+use Rattle.model.specs.Kernel.Removal.{SlotSet, ancestor_outside, emptied, ends, ends_root, frame_loses, is_root_at, kept, new_parent, some_inside, table_loses}
+use Rattle.model.specs.Kernel.Removal.{takes_last}
 use Rattle.model.specs.Kernel.State.{State}
 use Rattle.model.proofs.Ancestors.{depth-child}
 use Rattle.model.proofs.Depths.{adopted_parent, depth-own_parent}
@@ -20,7 +23,8 @@ use Rattle.removal_laws.specs.Steps.{alone, less}
 use Rattle.removal_laws.proofs.Lasts.{inside, inside-alone, inside-split, last-split}
 use Rattle.removal_laws.proofs.Parents.{height, outside-one, outside-split}
 
-module _ (s : State) (set : SlotSet) (x : ℕ) (tree : IsDerivation s.slots) (near : (y : ℕ) → IsFull s.slots y → y < 2 ^ s.memory_bits / 16) (member : set x ≡ true) (full : IsFull s.slots x) where
+module _ (s : State) (set : SlotSet) (x : ℕ) (tree : IsDerivation s.slots) (near : (y : ℕ) → IsFull s.slots y → y < 2 ^ s.memory_bits / 16)
+    (member : set x ≡ true) (full : IsFull s.slots x) where
   abbrev pub one : State
   one = emptied s (alone x)
 
@@ -53,9 +57,11 @@ module _ (s : State) (set : SlotSet) (x : ℕ) (tree : IsDerivation s.slots) (ne
 
   -- ---- the last of some capabilities
 
-  pub takes-last-split : (test : Cap → Bool) → test Empty ≡ false → ((c : Cap) (y : ℕ) → test (kept s (alone x) y c) ≡ test c) → takes_last s set test ≡ (takes_last s (alone x) test || takes_last one rest test)
+  pub takes-last-split : (test : Cap → Bool) → test Empty ≡ false → ((c : Cap) (y : ℕ) → test (kept s (alone x) y c) ≡ test c) →
+      takes_last s set test ≡ (takes_last s (alone x) test || takes_last one rest test)
   takes-last-split test none same =
-      last-split s.memory_bits set x (capability_at s.slots) (capability_at one.slots) test member (near x full) (ap test empty-now ∙ none) (λ y apart. ap test (kept-now y apart) ∙ same (capability_at s.slots y) y)
+      last-split s.memory_bits set x (capability_at s.slots) (capability_at one.slots) test member (near x full) (ap test empty-now ∙ none)
+      (λ y apart. ap test (kept-now y apart) ∙ same (capability_at s.slots y) y)
 
   pub ends-split : (offset : ℕ) → ends s set offset ≡ (ends s (alone x) offset || ends one rest offset)
   ends-split offset =
@@ -65,7 +71,8 @@ module _ (s : State) (set : SlotSet) (x : ℕ) (tree : IsDerivation s.slots) (ne
   ends-root-split root =
       takes-last-split (is_root_at root) refl (λ c y. kept-test (is_root_at root) (λ o b v w. refl) (λ f r m n. refl) (λ t m n. refl) s (alone x) y c)
 
-  pub handlers-split : (line : ℕ) → takes_last s set (is_handler_of line) ≡ (takes_last s (alone x) (is_handler_of line) || takes_last one rest (is_handler_of line))
+  pub handlers-split : (line : ℕ) → takes_last s set (is_handler_of line)
+      ≡ (takes_last s (alone x) (is_handler_of line) || takes_last one rest (is_handler_of line))
   handlers-split line =
       takes-last-split (is_handler_of line) refl (λ c y. kept-test (is_handler_of line) (λ o b v w. refl) (λ f r m n. refl) (λ t m n. refl) s (alone x) y c)
 
@@ -75,16 +82,19 @@ module _ (s : State) (set : SlotSet) (x : ℕ) (tree : IsDerivation s.slots) (ne
       → maps_region root region (if table_loses s (alone x) m then PageTable t None else PageTable t (Some m)) ≡ maps_region root region (PageTable t (Some m))
   region-of-table root region t m stays = elim (eqb_tells m.root root) [
     | inl same ↦ ap (λ b. maps_region root region (if b then PageTable t None else PageTable t (Some m))) (ap (ends_root s (alone x)) same.1 ∙ stays)
-    | inr other ↦ elim (table_loses s (alone x) m) as (λ b. maps_region root region (if b then PageTable t None else PageTable t (Some m)) ≡ maps_region root region (PageTable t (Some m))) [
-      | true ↦ sym (ap (λ b. b && (m.region == region)) other.0)
-      | false ↦ refl
-    ]
+    | inr other ↦ elim (table_loses s (alone x) m)
+        as (λ b. maps_region root region (if b then PageTable t None else PageTable t (Some m)) ≡ maps_region root region (PageTable t (Some m))) [
+          | true ↦ sym (ap (λ b. b && (m.region == region)) other.0)
+          | false ↦ refl
+        ]
   ]
 
   region-of-frame : (root region f : ℕ) (r : Rights) (m : FrameMapping) → maps_region root region (kept s (alone x) 0 (Frame f r (Some m))) ≡ false
-  region-of-frame root region f r m = elim (frame_loses s (alone x) m) as (λ b. maps_region root region (if b then Frame f r None else Frame f r (Some m)) ≡ false) [ true ↦ refl | false ↦ refl ]
+  region-of-frame root region f r m = elim (frame_loses s (alone x) m)
+      as (λ b. maps_region root region (if b then Frame f r None else Frame f r (Some m)) ≡ false) [ true ↦ refl | false ↦ refl ]
 
-  regions-kept : (root region : ℕ) → ends_root s (alone x) root ≡ false → (y : ℕ) (c : Cap) → maps_region root region (kept s (alone x) y c) ≡ maps_region root region c
+  regions-kept : (root region : ℕ) → ends_root s (alone x) root ≡ false → (y : ℕ) (c : Cap) →
+      maps_region root region (kept s (alone x) y c) ≡ maps_region root region c
   regions-kept root region stays y (PageTable t (Some m)) = region-of-table root region t m stays
   regions-kept root region stays y (Frame f r (Some m)) = region-of-frame root region f r m
   regions-kept root region stays y (PageTable t None) = refl
@@ -103,9 +113,11 @@ module _ (s : State) (set : SlotSet) (x : ℕ) (tree : IsDerivation s.slots) (ne
       → some_inside s set (maps_region root region) ≡ (some_inside s (alone x) (maps_region root region) || some_inside one rest (maps_region root region))
   region-split root region stays =
       let test : Cap → Bool = maps_region root region in
-      let same : (y : ℕ) → y ≢ x → test (capability_at one.slots y) ≡ test (capability_at s.slots y) = λ y apart. ap test (kept-now y apart) ∙ regions-kept root region stays y (capability_at s.slots y) in
+      let same : (y : ℕ) → y ≢ x → test (capability_at one.slots y) ≡ test (capability_at s.slots y) = λ y apart. ap test (kept-now y apart)
+      ∙ regions-kept root region stays y (capability_at s.slots y) in
       inside-split s.memory_bits set x (capability_at s.slots) (capability_at one.slots) test member (near x full) (ap test empty-now) same
-      ∙ ap (λ b. b || inside s.memory_bits rest (capability_at one.slots) test) (sym (inside-alone s.memory_bits set x (capability_at s.slots) (capability_at one.slots) test member (near x full) (ap test empty-now) same))
+      ∙ ap (λ b. b || inside s.memory_bits rest (capability_at one.slots) test)
+      (sym (inside-alone s.memory_bits set x (capability_at s.slots) (capability_at one.slots) test member (near x full) (ap test empty-now) same))
 
   either : (e1 e2 i1 i2 : Bool) → ((e1 || e2) || (i1 || i2)) ≡ ((e1 || i1) || (e2 || i2))
   either true e2 i1 i2 = refl
@@ -116,7 +128,8 @@ module _ (s : State) (set : SlotSet) (x : ℕ) (tree : IsDerivation s.slots) (ne
   pub frame-loses-split : (m : FrameMapping) → frame_loses s set m ≡ (frame_loses s (alone x) m || frame_loses one rest m)
   frame-loses-split m =
       let test : Cap → Bool = maps_region m.root (m.page / region_pages) in
-      elim (ends_root s (alone x) m.root) as (λ b. ends_root s (alone x) m.root ≡ b → frame_loses s set m ≡ (frame_loses s (alone x) m || frame_loses one rest m)) [
+      elim (ends_root s (alone x) m.root) as (λ b. ends_root s (alone x) m.root ≡ b →
+      frame_loses s set m ≡ (frame_loses s (alone x) m || frame_loses one rest m)) [
         | true ↦ λ is.
             ap (λ b. b || some_inside s set test) (ends-root-split m.root ∙ ap (λ b. b || ends_root one rest m.root) is)
             ∙ sym (ap (λ b. (b || some_inside s (alone x) test) || frame_loses one rest m) is)

@@ -1,11 +1,13 @@
 -- The steps in which a slot is emptied leave what emptying it means.
-use Rattle.std.proofs.Common.{ℕ, ◌≡◌, ◌≢◌, ◌∙◌, ◌==◌, ◌/◌, ◌^◌, ◌<◌, ◌&&◌, ◌||◌, inl, inr, Bool, true, false, not, if◌then◌else◌, Option, Some, None, is_some, option_map, refl, sym, ap, subst, arith}
+use Rattle.std.proofs.Common.{ℕ, ◌≡◌, ◌≢◌, ◌∙◌, ◌==◌, ◌/◌, ◌^◌, ◌<◌, ◌&&◌, ◌||◌, inl, inr, Bool, true, false, not, if◌then◌else◌, Option, Some, None, is_some}
+use Rattle.std.proofs.Common.{option_map, refl, sym, ap, subst, arith}
 use Rattle.std.specs.Option.{option_map_or}
 use Rattle.std.proofs.Math.Bool.{and-false, or-true}
 use Rattle.std.proofs.lemmas.Bool.{eq-eqb, ne_eqb}
 use Rattle.std.proofs.lemmas.Bool.Decides.{eqb_tells}
 use Rattle.model.specs.declared.capabilities.Cap.{Cap}
-use Rattle.model.specs.declared.capabilities.Cap.TheVariants.{Empty, Untyped, Endpoint, Notification, CNode, Frame, PageTable, Tcb, RootTable, InterruptControl, InterruptHandler}
+use Rattle.model.specs.declared.capabilities.Cap.TheVariants.{Empty, Untyped, Endpoint, Notification, CNode, Frame, PageTable, Tcb, RootTable, InterruptControl}
+use Rattle.model.specs.declared.capabilities.Cap.TheVariants.{InterruptHandler}
 use Rattle.model.specs.declared.capabilities.FrameMapping.{FrameMapping}
 use Rattle.model.specs.declared.capabilities.TableMapping.{TableMapping}
 use Rattle.model.specs.declared.rights.Rights.{Rights}
@@ -19,7 +21,8 @@ use Rattle.model.specs.Kernel.State.{State}
 use Rattle.model.proofs.Depths.{adopted_parent, depth-own_parent}
 use Rattle.model.proofs.SlotChanges.{capability_of, capability-adopted, entry-other, entry-same, parent_of, parent-adopted}
 use Rattle.model.proofs.Ancestors.{full-open}
-use Rattle.removal_laws.specs.Steps.{IsChildless, Rewinds, WithWatermark, is_under, no_untyped, reset, slots_ended, slots_unmapped, still, unused, uprooted, without_root}
+use Rattle.removal_laws.specs.Steps.{IsChildless, Rewinds, WithWatermark, is_under, no_untyped, reset, slots_ended, slots_unmapped, still, unused, uprooted}
+use Rattle.removal_laws.specs.Steps.{without_root}
 use Rattle.removal_laws.proofs.Found.{found, found-at, found-none, join}
 use Rattle.removal_laws.proofs.Keeping.{capability-out, parent-out, there-in, there-out}
 use Rattle.removal_laws.specs.Steps.{alone}
@@ -55,7 +58,8 @@ table-parent m None = refl
 table-parent m (Some h) = refl
 
 pub unmapped-other : (slots : Slots) (x : ℕ) (c : Cap) (y : ℕ) → y ≢ x
-    → (is_some (slots_unmapped slots x c y) ≡ is_some (slots y)) × (capability_at (slots_unmapped slots x c) y ≡ region_lost c (capability_at slots y)) × (parent_at (slots_unmapped slots x c) y ≡ parent_at slots y)
+    → (is_some (slots_unmapped slots x c y) ≡ is_some (slots y)) × (capability_at (slots_unmapped slots x c) y ≡ region_lost c (capability_at slots y))
+    × (parent_at (slots_unmapped slots x c) y ≡ parent_at slots y)
 unmapped-other slots x (Frame f r m) y other =
     let same = entry-other slots x (Some (record { capability = Frame f r None; parent = parent_at slots x })) y other in
     (ap is_some same, ap capability_of same, ap parent_of same)
@@ -77,7 +81,8 @@ unmapped-other slots x InterruptControl y other = (refl, refl, refl)
 unmapped-other slots x (InterruptHandler line) y other = (refl, refl, refl)
 
 -- the slot itself
-pub unmapped-itself : (slots : Slots) (x : ℕ) (c : Cap) → capability_at slots x ≡ c → (capability_at (slots_unmapped slots x c) x ≡ unmapped c) × (parent_at (slots_unmapped slots x c) x ≡ parent_at slots x)
+pub unmapped-itself : (slots : Slots) (x : ℕ) (c : Cap) → capability_at slots x ≡ c → (capability_at (slots_unmapped slots x c) x ≡ unmapped c)
+    × (parent_at (slots_unmapped slots x c) x ≡ parent_at slots x)
 unmapped-itself slots x (Frame f r m) is =
     let same = entry-same slots x (Some (record { capability = Frame f r None; parent = parent_at slots x })) in
     (ap capability_of same, ap parent_of same)
@@ -100,7 +105,8 @@ unmapped-itself slots x (InterruptHandler line) is = (is, refl)
 -- ---- the slot is taken out
 
 pub spliced-other : (slots : Slots) (x y : ℕ) → y ≢ x
-    → (is_some (spliced slots x y) ≡ is_some (slots y)) × (capability_at (spliced slots x) y ≡ capability_at slots y) × (parent_at (spliced slots x) y ≡ adopted_parent x (parent_at slots x) (parent_at slots y))
+    → (is_some (spliced slots x y) ≡ is_some (slots y)) × (capability_at (spliced slots x) y ≡ capability_at slots y)
+    × (parent_at (spliced slots x) y ≡ adopted_parent x (parent_at slots x) (parent_at slots y))
 spliced-other slots x y other =
     let same = entry-other (with_parent slots x (parent_at slots x)) x (Some empty_entry) y other in (
       ap is_some same ∙ open-mapped (adopted x (parent_at slots x)) (slots y),
@@ -116,7 +122,8 @@ spliced-itself slots x = entry-same (with_parent slots x (parent_at slots x)) x 
 abbrev pub root_lost : Cap → Cap → Cap
 root_lost c other = option_map_or (λ root. if is_under root other then unmapped other else other) (root_of c) other
 
-uprooted-capability : (root : ℕ) (o : Option Entry) → capability_of (option_map (uprooted root) o) ≡ (if is_under root (capability_of o) then unmapped (capability_of o) else capability_of o)
+uprooted-capability : (root : ℕ) (o : Option Entry) → capability_of (option_map (uprooted root) o)
+    ≡ (if is_under root (capability_of o) then unmapped (capability_of o) else capability_of o)
 uprooted-capability root None = refl
 uprooted-capability root (Some h) = refl
 
@@ -125,11 +132,15 @@ uprooted-parent root None = refl
 uprooted-parent root (Some h) = refl
 
 pub ended-at : (c : Cap) (slots : Slots) (y : ℕ)
-    → (is_some (slots_ended c slots y) ≡ is_some (slots y)) × (capability_at (slots_ended c slots) y ≡ root_lost c (capability_at slots y)) × (parent_at (slots_ended c slots) y ≡ parent_at slots y)
-ended-at c slots y = elim (root_of c) as (λ o. (is_some ((option_map_or (λ root. without_root root slots) o slots) y) ≡ is_some (slots y)) × (capability_at (option_map_or (λ root. without_root root slots) o slots) y ≡ option_map_or (λ root. if is_under root (capability_at slots y) then unmapped (capability_at slots y) else capability_at slots y) o (capability_at slots y)) × (parent_at (option_map_or (λ root. without_root root slots) o slots) y ≡ parent_at slots y)) [
-  | None ↦ (refl, refl, refl)
-  | Some root ↦ (open-mapped (uprooted root) (slots y), uprooted-capability root (slots y), uprooted-parent root (slots y))
-]
+    → (is_some (slots_ended c slots y) ≡ is_some (slots y)) × (capability_at (slots_ended c slots) y ≡ root_lost c (capability_at slots y))
+    × (parent_at (slots_ended c slots) y ≡ parent_at slots y)
+ended-at c slots y = elim (root_of c) as (λ o. (is_some ((option_map_or (λ root. without_root root slots) o slots) y) ≡ is_some (slots y))
+    × (capability_at (option_map_or (λ root. without_root root slots) o slots) y ≡ option_map_or
+    (λ root. if is_under root (capability_at slots y) then unmapped (capability_at slots y) else capability_at slots y) o (capability_at slots y))
+    × (parent_at (option_map_or (λ root. without_root root slots) o slots) y ≡ parent_at slots y)) [
+      | None ↦ (refl, refl, refl)
+      | Some root ↦ (open-mapped (uprooted root) (slots y), uprooted-capability root (slots y), uprooted-parent root (slots y))
+    ]
 
 -- ---- what the steps take from a capability
 
@@ -143,16 +154,25 @@ eqb-sym a b = elim (eqb_tells a b) [
 abbrev pub root_gone : Cap → ℕ → Bool
 root_gone gone root = option_map_or (λ o. o == root) (root_of gone) false
 
-lost-twice : (gone : Cap) (f : ℕ) (r : Rights) (mp : FrameMapping) (l : Bool) → (if root_gone gone mp.root || l then Frame f r None else Frame f r (Some mp)) ≡ root_lost gone (if l then Frame f r None else Frame f r (Some mp))
-lost-twice gone f r mp l = elim (root_of gone) as (λ o. (if option_map_or (λ q. q == mp.root) o false || l then Frame f r None else Frame f r (Some mp)) ≡ option_map_or (λ root. if is_under root (if l then Frame f r None else Frame f r (Some mp)) then unmapped (if l then Frame f r None else Frame f r (Some mp)) else (if l then Frame f r None else Frame f r (Some mp))) o (if l then Frame f r None else Frame f r (Some mp))) [
-  | None ↦ refl
-  | Some q ↦ elim l as (λ b. (if (q == mp.root) || b then Frame f r None else Frame f r (Some mp)) ≡ (if is_under q (if b then Frame f r None else Frame f r (Some mp)) then unmapped (if b then Frame f r None else Frame f r (Some mp)) else (if b then Frame f r None else Frame f r (Some mp)))) [
-    | true ↦ ap (λ b. if b then Frame f r None else Frame f r (Some mp)) (or-true (q == mp.root))
-    | false ↦ elim (q == mp.root) as (λ b. (if b || false then Frame f r None else Frame f r (Some mp)) ≡ (if b then Frame f r None else Frame f r (Some mp))) [ true ↦ refl | false ↦ refl ]
-  ]
-]
+lost-twice : (gone : Cap) (f : ℕ) (r : Rights) (mp : FrameMapping) (l : Bool) →
+    (if root_gone gone mp.root || l then Frame f r None else Frame f r (Some mp)) ≡ root_lost gone (if l then Frame f r None else Frame f r (Some mp))
+lost-twice gone f r mp l =
+    elim (root_of gone) as (λ o. (if option_map_or (λ q. q == mp.root) o false || l then Frame f r None else Frame f r (Some mp)) ≡ option_map_or
+    (λ root. if is_under root (if l then Frame f r None else Frame f r (Some mp)) then unmapped (if l then Frame f r None else Frame f r (Some mp)) else
+    (if l then Frame f r None else Frame f r (Some mp))) o (if l then Frame f r None else Frame f r (Some mp))) [
+      | None ↦ refl
+      | Some q ↦ elim l as (λ b. (if (q == mp.root) || b then Frame f r None else Frame f r (Some mp))
+          ≡ (if is_under q (if b then Frame f r None else Frame f r (Some mp)) then unmapped (if b then Frame f r None else Frame f r (Some mp)) else
+          (if b then Frame f r None else Frame f r (Some mp)))) [
+            | true ↦ ap (λ b. if b then Frame f r None else Frame f r (Some mp)) (or-true (q == mp.root))
+            | false ↦ elim (q == mp.root) as (λ b. (if b || false then Frame f r None else Frame f r (Some mp))
+                ≡ (if b then Frame f r None else Frame f r (Some mp)))
+                [ true ↦ refl | false ↦ refl ]
+          ]
+    ]
 
-frame-region : (c : Cap) (f : ℕ) (r : Rights) (mp : FrameMapping) → region_lost c (Frame f r (Some mp)) ≡ (if maps_region mp.root (mp.page / region_pages) c then Frame f r None else Frame f r (Some mp))
+frame-region : (c : Cap) (f : ℕ) (r : Rights) (mp : FrameMapping) →
+    region_lost c (Frame f r (Some mp)) ≡ (if maps_region mp.root (mp.page / region_pages) c then Frame f r None else Frame f r (Some mp))
 frame-region (PageTable t (Some m)) f r mp =
     ap (λ b. if b && (mp.page / region_pages == m.region) then Frame f r None else Frame f r (Some mp)) (eqb-sym mp.root m.root)
     ∙ ap (λ b. if (m.root == mp.root) && b then Frame f r None else Frame f r (Some mp)) (eqb-sym (mp.page / region_pages) m.region)
@@ -170,7 +190,8 @@ frame-region (InterruptHandler line) f r mp = refl
 
 -- what is no mapped frame loses nothing with a region, and what is not mapped loses nothing with a root table
 region-keeps : (c other : Cap) → unmapped other ≡ other → region_lost c other ≡ other
-region-keeps (PageTable t (Some m)) other same = elim (lies_in_region m other) as (λ b. (if b then unmapped other else other) ≡ other) [ true ↦ same | false ↦ refl ]
+region-keeps (PageTable t (Some m)) other same = elim (lies_in_region m other) as (λ b. (if b then unmapped other else other) ≡ other)
+    [ true ↦ same | false ↦ refl ]
 region-keeps (PageTable t None) other same = refl
 region-keeps Empty other same = refl
 region-keeps (Untyped o b w) other same = refl
@@ -203,11 +224,14 @@ root-keeps gone other same = elim (root_of gone) as (λ o. option_map_or (λ roo
   | Some root ↦ elim (is_under root other) as (λ b. (if b then unmapped other else other) ≡ other) [ true ↦ same | false ↦ refl ]
 ]
 
-root-table : (gone : Cap) (t : ℕ) (m : TableMapping) → root_lost gone (PageTable t (Some m)) ≡ (if root_gone gone m.root then PageTable t None else PageTable t (Some m))
-root-table gone t m = elim (root_of gone) as (λ o. option_map_or (λ root. if is_under root (PageTable t (Some m)) then unmapped (PageTable t (Some m)) else PageTable t (Some m)) o (PageTable t (Some m)) ≡ (if option_map_or (λ q. q == m.root) o false then PageTable t None else PageTable t (Some m))) [
-  | None ↦ refl
-  | Some root ↦ refl
-]
+root-table : (gone : Cap) (t : ℕ) (m : TableMapping) → root_lost gone (PageTable t (Some m))
+    ≡ (if root_gone gone m.root then PageTable t None else PageTable t (Some m))
+root-table gone t m =
+    elim (root_of gone) as (λ o. option_map_or (λ root. if is_under root (PageTable t (Some m)) then unmapped (PageTable t (Some m)) else PageTable t (Some m))
+    o (PageTable t (Some m)) ≡ (if option_map_or (λ q. q == m.root) o false then PageTable t None else PageTable t (Some m))) [
+      | None ↦ refl
+      | Some root ↦ refl
+    ]
 
 -- ---- watermarks
 
@@ -246,11 +270,13 @@ rewound-any : (loses : Bool) (c : Cap) → unused c ≡ c → rewound loses c �
 rewound-any true c same = rewound-true c ∙ same
 rewound-any false c same = rewound-false c
 
-unused-frame : (f : ℕ) (r : Rights) (mp : FrameMapping) (b : Bool) → unused (if b then Frame f r None else Frame f r (Some mp)) ≡ (if b then Frame f r None else Frame f r (Some mp))
+unused-frame : (f : ℕ) (r : Rights) (mp : FrameMapping) (b : Bool) →
+    unused (if b then Frame f r None else Frame f r (Some mp)) ≡ (if b then Frame f r None else Frame f r (Some mp))
 unused-frame f r mp true = refl
 unused-frame f r mp false = refl
 
-unused-table : (t : ℕ) (m : TableMapping) (b : Bool) → unused (if b then PageTable t None else PageTable t (Some m)) ≡ (if b then PageTable t None else PageTable t (Some m))
+unused-table : (t : ℕ) (m : TableMapping) (b : Bool) → unused (if b then PageTable t None else PageTable t (Some m))
+    ≡ (if b then PageTable t None else PageTable t (Some m))
 unused-table t m true = refl
 unused-table t m false = refl
 
@@ -264,7 +290,8 @@ module _ (s : State) (x : ℕ) (near : (y : ℕ) → IsFull s.slots y → y < 2 
       (ap (λ b. test (if b then Empty else capability_at s.slots x)) (eq-eqb x x refl) ∙ none)
       (λ y other. ap (λ b. test (if b then Empty else capability_at s.slots y)) (ne_eqb y x other))
 
-module _ (s : State) (x : ℕ) (tree : IsDerivation s.slots) (near : (y : ℕ) → IsFull s.slots y → y < 2 ^ s.memory_bits / 16) (full : IsFull s.slots x) (gone : Cap) (roots : (root : ℕ) → ends_root s (alone x) root ≡ root_gone gone root) where
+module _ (s : State) (x : ℕ) (tree : IsDerivation s.slots) (near : (y : ℕ) → IsFull s.slots y → y < 2 ^ s.memory_bits / 16) (full : IsFull s.slots x)
+    (gone : Cap) (roots : (root : ℕ) → ends_root s (alone x) root ≡ root_gone gone root) where
   region-inside : (root region : ℕ) → some_inside s (alone x) (maps_region root region) ≡ maps_region root region (capability_at s.slots x)
   region-inside root region = inside-one s x near full (maps_region root region) refl
 
@@ -276,7 +303,8 @@ module _ (s : State) (x : ℕ) (tree : IsDerivation s.slots) (near : (y : ℕ) �
       let lost : Cap = root_lost gone (region_lost (capability_at s.slots x) (Frame f r (Some mp))) in
       let test : Bool = root_gone gone mp.root || maps_region mp.root (mp.page / region_pages) (capability_at s.slots x) in
       let whole : (if test then Frame f r None else Frame f r (Some mp)) ≡ lost =
-      lost-twice gone f r mp (maps_region mp.root (mp.page / region_pages) (capability_at s.slots x)) ∙ ap (root_lost gone) (sym (frame-region (capability_at s.slots x) f r mp))
+      lost-twice gone f r mp (maps_region mp.root (mp.page / region_pages) (capability_at s.slots x))
+      ∙ ap (root_lost gone) (sym (frame-region (capability_at s.slots x) f r mp))
       in
       ap (λ b. if b || some_inside s (alone x) (maps_region mp.root (mp.page / region_pages)) then Frame f r None else Frame f r (Some mp)) (roots mp.root)
       ∙ ap (λ b. if root_gone gone mp.root || b then Frame f r None else Frame f r (Some mp)) (region-inside mp.root (mp.page / region_pages))
@@ -350,10 +378,11 @@ module _ (s : State) (x : ℕ) (tree : IsDerivation s.slots) (near : (y : ℕ) �
   -- ---- the watermark of a parent
 
   not-lost : (y : ℕ) → is_some_slot y (parent_at s.slots x) ≡ false → loses_last_child s (alone x) y ≡ false
-  not-lost y apart = ap (λ b. b && not (found s.memory_bits (λ c. not (alone x c) && is_some_slot y (new_parent s (alone x) c)))) (found-none s.memory_bits _ (λ c. elim (eqb_tells c x) [
-    | inl here ↦ ap (λ b. b && is_some_slot y (parent_at s.slots c)) here.0 ∙ ap (λ n. is_some_slot y (parent_at s.slots n)) here.1 ∙ apart
-    | inr other ↦ ap (λ b. b && is_some_slot y (parent_at s.slots c)) other.0
-  ]))
+  not-lost y apart = ap (λ b. b && not (found s.memory_bits (λ c. not (alone x c) && is_some_slot y (new_parent s (alone x) c))))
+      (found-none s.memory_bits _ (λ c. elim (eqb_tells c x) [
+        | inl here ↦ ap (λ b. b && is_some_slot y (parent_at s.slots c)) here.0 ∙ ap (λ n. is_some_slot y (parent_at s.slots n)) here.1 ∙ apart
+        | inr other ↦ ap (λ b. b && is_some_slot y (parent_at s.slots c)) other.0
+      ]))
 
   still-child : (y z : ℕ) → parent_at third z ≡ Some y → loses_last_child s (alone x) y ≡ false
   still-child y z is =
@@ -367,7 +396,8 @@ module _ (s : State) (x : ℕ) (tree : IsDerivation s.slots) (near : (y : ℕ) �
 
   lost-child : (y : ℕ) → parent_at s.slots x ≡ Some y → IsChildless third y → loses_last_child s (alone x) y ≡ true
   lost-child y is childless =
-      let none : found s.memory_bits (λ c. not (alone x c) && is_some_slot y (new_parent s (alone x) c)) ≡ false = found-none s.memory_bits _ (λ c. elim (eqb_tells c x) [
+      let none : found s.memory_bits (λ c. not (alone x c) && is_some_slot y (new_parent s (alone x) c)) ≡ false =
+      found-none s.memory_bits _ (λ c. elim (eqb_tells c x) [
         | inl here ↦ ap (λ b. not b && is_some_slot y (new_parent s (alone x) c)) here.0
         | inr other ↦ elim (is_some_slot y (new_parent s (alone x) c)) as (λ b. is_some_slot y (new_parent s (alone x) c) ≡ b → (not (alone x c) && b) ≡ false) [
           | true ↦ λ passes. absurd (childless c (third-parent c other.1 ∙ some-slot y _ passes))
@@ -381,14 +411,16 @@ module _ (s : State) (x : ℕ) (tree : IsDerivation s.slots) (near : (y : ℕ) �
   -- ---- the slots afterwards
 
   SameAs : ℕ → Option Entry → Type 0
-  SameAs y e = (is_some e ≡ is_some (third y)) × (capability_of e ≡ rewound (loses_last_child s (alone x) y) (capability_at third y)) × (parent_of e ≡ parent_at third y)
+  SameAs y e = (is_some e ≡ is_some (third y)) × (capability_of e ≡ rewound (loses_last_child s (alone x) y) (capability_at third y))
+      × (parent_of e ≡ parent_at third y)
 
   parts-same : (y : ℕ) (e : Option Entry) → y ≢ x → SameAs y e → e ≡ (emptied s (alone x)).slots y
   unfolding SameAs
   parts-same y e other same =
       entry-parts e ((emptied s (alone x)).slots y)
       (same.0 ∙ third-open y other ∙ sym (open-mapped (kept_entry s (alone x) y) (s.slots y)) ∙ ap is_some (sym (there-out s (alone x) y (ne_eqb y x other))))
-      (same.1 ∙ ap (rewound (loses_last_child s (alone x) y)) (third-capability y other) ∙ sym (kept-steps y (capability_at s.slots y)) ∙ sym (capability-out s (alone x) y (ne_eqb y x other)))
+      (same.1 ∙ ap (rewound (loses_last_child s (alone x) y)) (third-capability y other) ∙ sym (kept-steps y (capability_at s.slots y))
+      ∙ sym (capability-out s (alone x) y (ne_eqb y x other)))
       (same.2 ∙ third-parent y other ∙ sym (parent-out s (alone x) y (ne_eqb y x other)))
 
   untouched : (y : ℕ) → rewound (loses_last_child s (alone x) y) (capability_at third y) ≡ capability_at third y → SameAs y (third y)
@@ -396,7 +428,8 @@ module _ (s : State) (x : ℕ) (tree : IsDerivation s.slots) (near : (y : ℕ) �
   untouched y same = (refl, sym same, refl)
 
   elsewhere : (y p : ℕ) → parent_at s.slots x ≡ Some p → (p == y) ≡ false → SameAs y (third y)
-  elsewhere y p is apart = untouched y (ap (λ b. rewound b (capability_at third y)) (not-lost y (ap (is_some_slot y) is ∙ apart)) ∙ rewound-false (capability_at third y))
+  elsewhere y p is apart = untouched y (ap (λ b. rewound b (capability_at third y)) (not-lost y (ap (is_some_slot y) is ∙ apart))
+      ∙ rewound-false (capability_at third y))
 
   rewound-here : (y : ℕ) → y ≢ x → parent_at s.slots x ≡ Some y → IsChildless third y → SameAs y (recapped third y (unused (capability_at third y)) y)
   unfolding SameAs
@@ -410,11 +443,13 @@ module _ (s : State) (x : ℕ) (tree : IsDerivation s.slots) (near : (y : ℕ) �
 
   with-watermark : (y p : ℕ) (now : Slots) → y ≢ x → parent_at s.slots x ≡ Some p → WithWatermark third p now → SameAs y (now y)
   with-watermark y p now other is (still z child same) = subst (λ (n : Slots). SameAs y (n y)) (sym same) (elim (eqb_tells p y) [
-    | inl here ↦ untouched y (ap (λ b. rewound b (capability_at third y)) (still-child y z (child ∙ ap (λ n. Some n) here.1)) ∙ rewound-false (capability_at third y))
+    | inl here ↦ untouched y (ap (λ b. rewound b (capability_at third y)) (still-child y z (child ∙ ap (λ n. Some n) here.1))
+        ∙ rewound-false (capability_at third y))
     | inr apart ↦ elsewhere y p is apart.0
   ])
   with-watermark y p now other is (no_untyped used same) = subst (λ (n : Slots). SameAs y (n y)) (sym same) (elim (eqb_tells p y) [
-    | inl here ↦ untouched y (rewound-any (loses_last_child s (alone x) y) (capability_at third y) (subst (λ (n : ℕ). unused (capability_at third n) ≡ capability_at third n) here.1 used))
+    | inl here ↦ untouched y (rewound-any (loses_last_child s (alone x) y) (capability_at third y)
+        (subst (λ (n : ℕ). unused (capability_at third n) ≡ capability_at third n) here.1 used))
     | inr apart ↦ elsewhere y p is apart.0
   ])
   with-watermark y p now other is (reset childless same) = subst (λ (n : Slots). SameAs y (n y)) (sym same) (elim (eqb_tells p y) [
@@ -422,7 +457,9 @@ module _ (s : State) (x : ℕ) (tree : IsDerivation s.slots) (near : (y : ℕ) �
         subst (λ (n : ℕ). SameAs y (recapped third n (unused (capability_at third n)) y)) (sym here.1)
         (rewound-here y other (is ∙ ap (λ n. Some n) here.1) (subst (λ (n : ℕ). IsChildless third n) here.1 childless))
     | inr apart ↦
-        subst (λ (e : Option Entry). SameAs y e) (sym (entry-other third p (Some (record { capability = unused (capability_at third p); parent = parent_at third p })) y (λ same. apart.1 (sym same)))) (elsewhere y p is apart.0)
+        subst (λ (e : Option Entry). SameAs y e)
+        (sym (entry-other third p (Some (record { capability = unused (capability_at third p); parent = parent_at third p })) y
+        (λ same. apart.1 (sym same)))) (elsewhere y p is apart.0)
   ])
 
   itself : (p : ℕ) (now : Slots) → parent_at s.slots x ≡ Some p → WithWatermark third p now → now x ≡ Some empty_entry
@@ -430,13 +467,17 @@ module _ (s : State) (x : ℕ) (tree : IsDerivation s.slots) (near : (y : ℕ) �
   itself p now is (no_untyped used same) = ap (λ (n : Slots). n x) same ∙ third-itself
   itself p now is (reset childless same) =
       ap (λ (n : Slots). n x) same
-      ∙ entry-other third p (Some (record { capability = unused (capability_at third p); parent = parent_at third p })) x (λ at. no-circle (is ∙ ap (λ n. Some n) (sym at)))
+      ∙ entry-other third p (Some (record { capability = unused (capability_at third p); parent = parent_at third p })) x
+      (λ at. no-circle (is ∙ ap (λ n. Some n) (sym at)))
       ∙ third-itself
 
   pub stepped : (p : Option ℕ) (now : Slots) → parent_at s.slots x ≡ p → Rewinds p third now → (y : ℕ) → now y ≡ (emptied s (alone x)).slots y
   stepped None now is rewinds y = elim (eqb_tells y x) [
-    | inl here ↦ ap now here.1 ∙ ap (λ (n : Slots). n x) rewinds ∙ third-itself ∙ sym (there-in s (alone x) x (eq-eqb x x refl)) ∙ ap (emptied s (alone x)).slots (sym here.1)
-    | inr other ↦ parts-same y (now y) other.1 (subst (λ (n : Slots). SameAs y (n y)) (sym rewinds) (untouched y (ap (λ b. rewound b (capability_at third y)) (not-lost y (ap (is_some_slot y) is)) ∙ rewound-false (capability_at third y))))
+    | inl here ↦ ap now here.1 ∙ ap (λ (n : Slots). n x) rewinds ∙ third-itself ∙ sym (there-in s (alone x) x (eq-eqb x x refl))
+        ∙ ap (emptied s (alone x)).slots (sym here.1)
+    | inr other ↦ parts-same y (now y) other.1
+        (subst (λ (n : Slots). SameAs y (n y)) (sym rewinds)
+        (untouched y (ap (λ b. rewound b (capability_at third y)) (not-lost y (ap (is_some_slot y) is)) ∙ rewound-false (capability_at third y))))
   ]
   stepped (Some p) now is rewinds y = elim (eqb_tells y x) [
     | inl here ↦ ap now here.1 ∙ itself p now is rewinds ∙ sym (there-in s (alone x) x (eq-eqb x x refl)) ∙ ap (emptied s (alone x)).slots (sym here.1)

@@ -1,5 +1,6 @@
 -- Closing, slot by slot, what belongs to no object.
-use Rattle.std.proofs.Common.{ℕ, suc, ◌≡◌, ◌≢◌, ◌∙◌, ◌==◌, ◌+◌, ◌*◌, ◌/◌, ◌^◌, ◌<◌, ◌≤◌, ◌&&◌, ◌||◌, inl, inr, Bool, true, false, not, nat_lt, if◌then◌else◌, Option, Some, None, is_some, max, refl, sym, ap, subst, arith}
+use Rattle.std.proofs.Common.{ℕ, suc, ◌≡◌, ◌≢◌, ◌∙◌, ◌==◌, ◌+◌, ◌*◌, ◌/◌, ◌^◌, ◌<◌, ◌≤◌, ◌&&◌, ◌||◌, inl, inr, Bool, true, false, not, nat_lt, if◌then◌else◌}
+use Rattle.std.proofs.Common.{Option, Some, None, is_some, max, refl, sym, ap, subst, arith}
 use Rattle.std.specs.List.{list_any}
 use Rattle.std.proofs.Math.Bool.{and-false, or-true}
 use Rattle.std.proofs.lemmas.Bool.{eq-eqb, le-leb}
@@ -50,20 +51,25 @@ owned : (s : State) (at y : ℕ) → MaySettle s → slots_from s at ≢ 0 → a
 owned s at y may some low high =
     let place = same-place at in
     let inner : is_slot_of s (16 * at) y ≡ true = bounds-within (16 * at / 16) (slots_from s at) y (omega (arith, place, low)) (omega (arith, place, high)) in
-    ap (λ b. nat_lt y (boot_area_slots s.boot_radix) || b) (found-at s.memory_bits at (λ n. is_slot_of s (16 * n) y) (let fits = may.inside at some in omega (arith, fits, low, high)) inner)
+    ap (λ b. nat_lt y (boot_area_slots s.boot_radix) || b)
+    (found-at s.memory_bits at (λ n. is_slot_of s (16 * n) y) (let fits = may.inside at some in omega (arith, fits, low, high)) inner)
     ∙ or-true (nat_lt y (boot_area_slots s.boot_radix))
 
 -- what is open and to be closed is empty
 pub stray-empty : (s w : State) (at : ℕ) → IsPassed s w at → slots_from s at ≡ 0 → IsOpen w.slots at → w.slots at ≡ Some empty_entry
 stray-empty s w at passed none opens =
-    let kept : w.slots at ≡ s.slots at = ap (λ (t : State). t.slots at) passed.state ∙ ap (λ b. if b && not (has_slot s at) then None else s.slots at) (lt-false at at (omega arith)) in
+    let kept : w.slots at ≡ s.slots at = ap (λ (t : State). t.slots at) passed.state
+    ∙ ap (λ b. if b && not (has_slot s at) then None else s.slots at) (lt-false at at (omega arith)) in
     kept ∙ passed.may.strays at (ap is_some (sym kept) ∙ opens) (no-owner s w at passed none)
 
-one-more : (s : State) (at y : ℕ) (stray : Bool) → has_slot s at ≡ false → (if y == at then None else if nat_lt y at && not (has_slot s y) then None else s.slots y) ≡ (if nat_lt y (at + 1) && not (has_slot s y) then None else s.slots y)
+one-more : (s : State) (at y : ℕ) (stray : Bool) → has_slot s at ≡ false →
+    (if y == at then None else if nat_lt y at && not (has_slot s y) then None else s.slots y)
+    ≡ (if nat_lt y (at + 1) && not (has_slot s y) then None else s.slots y)
 one-more s at y stray none = elim (eqb_tells y at) [
   | inl here ↦
       ap (λ b. if b then None else if nat_lt y at && not (has_slot s y) then None else s.slots y) here.0
-      ∙ sym (ap (λ b. if b && not (has_slot s y) then None else s.slots y) (lt-true y (at + 1) (omega (arith, here.1))) ∙ ap (λ b. if not b then None else s.slots y) (ap (has_slot s) here.1 ∙ none))
+      ∙ sym (ap (λ b. if b && not (has_slot s y) then None else s.slots y) (lt-true y (at + 1) (omega (arith, here.1)))
+      ∙ ap (λ b. if not b then None else s.slots y) (ap (has_slot s) here.1 ∙ none))
   | inr other ↦
       ap (λ b. if b then None else if nat_lt y at && not (has_slot s y) then None else s.slots y) other.0
       ∙ ap (λ b. if b && not (has_slot s y) then None else s.slots y) (elim (leb_tells (suc y) at) [
@@ -72,26 +78,34 @@ one-more s at y stray none = elim (eqb_tells y at) [
       ])
 ]
 
-more-owned : (s : State) (at y own : ℕ) → MaySettle s → slots_from s at ≡ own → own ≢ 0 → (if nat_lt y at && not (has_slot s y) then None else s.slots y) ≡ (if nat_lt y (at + own) && not (has_slot s y) then None else s.slots y)
+more-owned : (s : State) (at y own : ℕ) → MaySettle s → slots_from s at ≡ own → own ≢ 0 →
+    (if nat_lt y at && not (has_slot s y) then None else s.slots y) ≡ (if nat_lt y (at + own) && not (has_slot s y) then None else s.slots y)
 more-owned s at y own may is some = elim (leb_tells (suc y) at) [
   | inl low ↦ ap (λ b. if b && not (has_slot s y) then None else s.slots y) (low.0 ∙ sym (lt-true y (at + own) (omega (arith, low.1))))
   | inr high ↦ elim (leb_tells (suc y) (at + own)) [
     | inl inner ↦
         let has : has_slot s y ≡ true = owned s at y may (λ zero_is. some (sym is ∙ zero_is)) (omega (arith, high.1)) (omega (arith, inner.1, is)) in
         ap (λ b. if b && not (has_slot s y) then None else s.slots y) high.0
-        ∙ sym (ap (λ b. if nat_lt y (at + own) && not b then None else s.slots y) has ∙ ap (λ b. if b then None else s.slots y) (and-false (nat_lt y (at + own))))
+        ∙ sym (ap (λ b. if nat_lt y (at + own) && not b then None else s.slots y) has
+        ∙ ap (λ b. if b then None else s.slots y) (and-false (nat_lt y (at + own))))
     | inr above ↦ ap (λ b. if b && not (has_slot s y) then None else s.slots y) (high.0 ∙ sym above.0)
   ]
 ]
 
-pub passed-next : (s w now : State) (at own : ℕ) (stray : Bool) → IsPassed s w at → own ≡ slots_from s at → stray ≡ (own == 0) → StrayClosed w at stray now → IsPassed s now (at + max own 1)
+pub passed-next : (s w now : State) (at own : ℕ) (stray : Bool) → IsPassed s w at → own ≡ slots_from s at → stray ≡ (own == 0) → StrayClosed w at stray now →
+    IsPassed s now (at + max own 1)
 passed-next s w now at own stray passed own_is stray_is (stray_closed is closes) =
-    let zero_is : own ≡ 0 = elim (eqb_tells own 0) [ inl here ↦ here.1 | inr other ↦ absurd (let clash : false ≡ true = sym other.0 ∙ sym stray_is ∙ is in cc) ] in
+    let zero_is : own ≡ 0 = elim (eqb_tells own 0) [
+      | inl here ↦ here.1
+      | inr other ↦
+          absurd (let clash : false ≡ true = sym other.0 ∙ sym stray_is ∙ is in cc)
+    ] in
     let none : slots_from s at ≡ 0 = sym own_is ∙ zero_is in
     let next : at + 1 ≡ at + max own 1 = omega (arith, zero_is) in
     subst (λ (n : ℕ). IsPassed s now n) next (record {
       may = passed.may;
-      state = closes ∙ ap (λ (t : State). without_slot t at) passed.state ∙ (λ i. record s { slots = λ y. one-more s at y stray (no-owner s w at passed none) i });
+      state = closes ∙ ap (λ (t : State). without_slot t at) passed.state
+          ∙ (λ i. record s { slots = λ y. one-more s at y stray (no-owner s w at passed none) i });
       behind = λ n less. elim (eqb_tells n at) [
         | inl here ↦ omega (arith, none, ap (slots_from s) here.1, here.1)
         | inr other ↦ omega (arith, passed.behind n (omega (arith, less, other.1)))
@@ -111,7 +125,8 @@ passed-next s w now at own stray passed own_is stray_is (slot_kept is same) =
           | inl low ↦ omega (arith, passed.behind n low.1)
           | inr high ↦ elim (eqb_tells (slots_from s n) 0) [
             | inl nothing_there ↦ omega (arith, nothing_there.1, less)
-            | inr something ↦ absurd (let apart = passed.may.apart at n (omega (arith, high.1, other.1)) there something.1 in omega (arith, apart, less, own_is))
+            | inr something ↦ absurd (let apart = passed.may.apart at n (omega (arith, high.1, other.1)) there something.1 in
+                omega (arith, apart, less, own_is))
           ]
         ]
       ];
@@ -137,7 +152,8 @@ passed-first s at may is = record {
 
     first : (y : ℕ) → s.slots y ≡ (if nat_lt y at && not (has_slot s y) then None else s.slots y)
     first y = elim (leb_tells (suc y) at) [
-      | inl low ↦ sym (ap (λ b. if nat_lt y at && not b then None else s.slots y) (has y low.1) ∙ ap (λ b. if b then None else s.slots y) (and-false (nat_lt y at)))
+      | inl low ↦ sym (ap (λ b. if nat_lt y at && not b then None else s.slots y) (has y low.1)
+          ∙ ap (λ b. if b then None else s.slots y) (and-false (nat_lt y at)))
       | inr high ↦ sym (ap (λ b. if b && not (has_slot s y) then None else s.slots y) high.0)
     ]
 
@@ -151,10 +167,11 @@ passed-all s w at passed whole = passed.state ∙ (λ i. record s { slots = λ y
     rest : (y : ℕ) → (if nat_lt y at && not (has_slot s y) then None else s.slots y) ≡ (if not (has_slot s y) then None else s.slots y)
     rest y = elim (leb_tells (suc y) at) [
       | inl low ↦ ap (λ b. if b && not (has_slot s y) then None else s.slots y) low.0
-      | inr high ↦ elim (s.slots y) as (λ o. s.slots y ≡ o → (if nat_lt y at && not (has_slot s y) then None else s.slots y) ≡ (if not (has_slot s y) then None else s.slots y)) [
-        | None ↦ λ none. closed-anyway y (nat_lt y at && not (has_slot s y)) (s.slots y) none ∙ sym (closed-anyway y (not (has_slot s y)) (s.slots y) none)
-        | Some h ↦ λ some. absurd (omega (arith, high.1, whole, passed.may.near y (ap is_some some)))
-      ] refl
+      | inr high ↦ elim (s.slots y) as (λ o. s.slots y ≡ o →
+          (if nat_lt y at && not (has_slot s y) then None else s.slots y) ≡ (if not (has_slot s y) then None else s.slots y)) [
+            | None ↦ λ none. closed-anyway y (nat_lt y at && not (has_slot s y)) (s.slots y) none ∙ sym (closed-anyway y (not (has_slot s y)) (s.slots y) none)
+            | Some h ↦ λ some. absurd (omega (arith, high.1, whole, passed.may.near y (ap is_some some)))
+          ] refl
     ]
 
 -- where a step may go

@@ -5,12 +5,14 @@ use Rattle.std.specs.Option.{option_map_or}
 use Rattle.model.specs.Kernel.AddressSpaces.{page_size}
 use Rattle.model.specs.Kernel.Removal.{SlotSet, emptied, ends}
 use Rattle.model.specs.Kernel.Scheduling.{without_threads}
-use Rattle.model.specs.Kernel.State.{State, Object, ThreadObject, EndpointObject, NotificationObject, CNodeObject, FrameObject, PageTableObject, RootTableObject, Sender, as_thread}
+use Rattle.model.specs.Kernel.State.{State, Object, ThreadObject, EndpointObject, NotificationObject, CNodeObject, FrameObject, PageTableObject}
+use Rattle.model.specs.Kernel.State.{RootTableObject, Sender, as_thread}
 use Rattle.model.specs.Capabilities.Slots.{Slots}
 
 pub filter-all : {A : Type 0} (gone : A → Bool) → ((n : A) → gone n ≡ false) → (ns : List A) → filter (λ n. not (gone n)) ns ≡ ns
 filter-all gone none [] = refl
-filter-all gone none (n ∷ ns) = ap (λ b. cond (not b) (n ∷ filter (λ m. not (gone m)) ns) (filter (λ m. not (gone m)) ns)) (none n) ∙ ap (λ l. n ∷ l) (filter-all gone none ns)
+filter-all gone none (n ∷ ns) = ap (λ b. cond (not b) (n ∷ filter (λ m. not (gone m)) ns) (filter (λ m. not (gone m)) ns)) (none n)
+    ∙ ap (λ l. n ∷ l) (filter-all gone none ns)
 
 caller-all : (gone : ℕ → Bool) → ((n : ℕ) → gone n ≡ false) → (c : Option ℕ) → (if option_map_or gone c false then None else c) ≡ c
 caller-all gone none None = refl
@@ -58,7 +60,8 @@ object-all gone none (Some o) = ap (λ n. Some n) (threads-all gone none o)
 pub nothing-ends : (gone : ℕ → Bool) → ((n : ℕ) → gone n ≡ false) → (s : State) (slots : Slots) → ended_by gone s slots ≡ record s { slots = slots }
 nothing-ends gone none s slots =
     let objects : (o : ℕ) → (if gone o then None else option_map (without_threads (ending_by gone s)) (s.objects o)) ≡ s.objects o = λ o.
-    ap (λ b. if b then None else option_map (without_threads (ending_by gone s)) (s.objects o)) (none o) ∙ object-all (ending_by gone s) (none-ending gone none s) (s.objects o)
+    ap (λ b. if b then None else option_map (without_threads (ending_by gone s)) (s.objects o)) (none o)
+    ∙ object-all (ending_by gone s) (none-ending gone none s) (s.objects o)
     in
     λ i. record s {
       slots = slots;

@@ -1,6 +1,7 @@
 -- A slot is emptied in steps: its mapping goes, it is taken out, and what it held the last capability of ends.
 -- seL4 Reference Manual, "Deletion, Revocation, and Recycling".
-use Rattle.std.specs.Prelude.{ℕ, ◌≡◌, ◌≢◌, ◌==◌, ◌-◌, ◌%◌, ◌/◌, ◌^◌, ◌<◌, ◌&&◌, ◌||◌, Bool, true, false, not, nat_le, if◌then◌else◌, IsSome, Option, Some, None, option_map}
+use Rattle.std.specs.Prelude.{ℕ, ◌≡◌, ◌≢◌, ◌==◌, ◌-◌, ◌%◌, ◌/◌, ◌^◌, ◌<◌, ◌&&◌, ◌||◌, Bool, true, false, not, nat_le, if◌then◌else◌, IsSome, Option, Some, None}
+use Rattle.std.specs.Prelude.{option_map}
 use Rattle.std.specs.Option.{option_map_or}
 use Rattle.std.specs.List.{list_any, range_with_len}
 use Rattle.model.specs.Capabilities.CapabilityKinds.{frame_mapping, names_object, object_of, root_of, table_mapping, unmapped}
@@ -102,7 +103,8 @@ RootsAreRoots slots = (slot other root : ℕ) → capability_at slots slot ≡ R
 
 -- an object ends that a removed capability named, if no slot names it any more
 pub data IfUnnamed (s : State) (removed : Cap) (now : State) : Type 0 where
-  stays : ((offset : ℕ) → object_of removed ≡ Some offset → (slot : ℕ) × (names_object offset (capability_at s.slots slot) ≡ true)) → now ≡ s → IfUnnamed s removed now
+  stays : ((offset : ℕ) → object_of removed ≡ Some offset → (slot : ℕ) × (names_object offset (capability_at s.slots slot) ≡ true)) → now ≡ s →
+      IfUnnamed s removed now
   ends : (offset : ℕ) → object_of removed ≡ Some offset → ((slot : ℕ) → names_object offset (capability_at s.slots slot) ≡ false) → now ≡ ended s removed
       → IfUnnamed s removed now
 

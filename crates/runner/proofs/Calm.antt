@@ -1,5 +1,6 @@
 -- Reading never answers that memory was refused: it takes none.
-use Rattle.std.proofs.Common.{◌≡◌, ◌≢◌, ℕ, zero, suc, ◌+◌, ◌-◌, ◌^◌, Bool, true, false, cond, ltb, leb, eqb, min, ◌&&◌, ◌||◌, List, [], ◌∷◌, length, Result, Ok, Err, ℤ, ap}
+use Rattle.std.proofs.Common.{◌≡◌, ◌≢◌, ℕ, zero, suc, ◌+◌, ◌-◌, ◌^◌, Bool, true, false, cond, ltb, leb, eqb, min, ◌&&◌, ◌||◌, List, [], ◌∷◌, length, Result, Ok}
+use Rattle.std.proofs.Common.{Err, ℤ, ap}
 use Rattle.std.specs.Int.{Width, w32, w64, byte_len, cast_signed}
 use Rattle.std.specs.Prelude.{if◌then◌else◌, is_some}
 use Rattle.model.specs.declared.entries.CapabilityEntry.{CapabilityEntry}
@@ -18,7 +19,11 @@ use Rattle.model.specs.declared.refusals.Refusal.{Refusal}
 use Rattle.model.specs.declared.refusals.Refusal.TheVariants.{Limit, Magic, OutOfMemory, Trailing, Truncated, Version}
 use Rattle.model.specs.Capabilities.CapabilityFields.{unpacked}
 use Rattle.model.specs.Images.Format.{Format, ◌>>=◌, both, field, many_read, named, number, number_at, number_or, ordered, reading, signed}
-use Rattle.model.specs.Images.Image.{Sections, anything, below, between, capability_format, content_format, frame_format, header_format, image_with, interrupt_format, is_constant, magic, names_parent, no_parent, not_zero, object_format, pair_key, range_format, ranges_format, record_format, record_header_format, records_format, register_format, registers_format, sections_format, size_fits, slot_format, slots_format, table_format, term_format, terms_format, thread_format, thread_header_format, untyped_format, whole_image, words_format}
+use Rattle.model.specs.Images.Image.{Sections, anything, below, between, capability_format, content_format, frame_format, header_format, image_with}
+use Rattle.model.specs.Images.Image.{interrupt_format, is_constant, magic, names_parent, no_parent, not_zero, object_format, pair_key, range_format}
+use Rattle.model.specs.Images.Image.{ranges_format, record_format, record_header_format, records_format, register_format, registers_format, sections_format}
+use Rattle.model.specs.Images.Image.{size_fits, slot_format, slots_format, table_format, term_format, terms_format, thread_format, thread_header_format}
+use Rattle.model.specs.Images.Image.{untyped_format, whole_image, words_format}
 
 abbrev refused : {A : Type 0} → Refusal → Result A Refusal
 refused refusal = Err refusal
@@ -31,7 +36,8 @@ pub record IsCalm {A : Type 0} (format : Format A) : Type 0 where
   pub calm : (bytes : List ℕ) (at : ℕ) → IsNoWant (format.reads bytes at)
 
 -- the refusal alone decides
-same_want : {A B : Type 0} (refusal : Refusal) → ◌≡◌ {A = Result A Refusal} (Err refusal) (Err OutOfMemory) → ◌≡◌ {A = Result B Refusal} (Err refusal) (Err OutOfMemory)
+same_want : {A B : Type 0} (refusal : Refusal) → ◌≡◌ {A = Result A Refusal} (Err refusal) (Err OutOfMemory) →
+    ◌≡◌ {A = Result B Refusal} (Err refusal) (Err OutOfMemory)
 same_want {A} {B} refusal h = let same : refusal ≡ OutOfMemory = cc h in ap (λ (r : Refusal). refused {A = B} r) same
 
 bind_calm : {A B : Type 0} (r : Result A Refusal) (f : A → Result B Refusal) → IsNoWant r → ((x : A) → IsNoWant (f x)) → IsNoWant (r >>= f)
@@ -63,7 +69,8 @@ trailing_calm at h = absurd (let clash : Trailing at ≡ OutOfMemory = cc h in c
 
 -- ---- formats
 
-number_or_calm : (refusal : ℕ → Refusal) (w : Width) (test : ℕ → Bool) → ((at : ℕ) → IsNoWant (refused {A = ℕ × ℕ} (refusal at))) → IsCalm (number_or refusal w test)
+number_or_calm : (refusal : ℕ → Refusal) (w : Width) (test : ℕ → Bool) → ((at : ℕ) → IsNoWant (refused {A = ℕ × ℕ} (refusal at))) →
+    IsCalm (number_or refusal w test)
 number_or_calm refusal w test each = record {
   calm = λ bytes at. cond_calm (ltb (length bytes - at) (byte_len w)) _ _ (truncated_calm at)
       (cond_calm (test (number_at w bytes at)) _ _ (ok_calm (number_at w bytes at, at + byte_len w)) (each at));
@@ -99,7 +106,8 @@ many_calm format next each (suc n) least bytes at =
     (λ first. bind_calm (many_read format next (next first.0) n bytes first.1) (λ others. Ok (first.0 ∷ others.0, others.1))
     (many_calm format next each n (next first.0) bytes first.1) (λ others. ok_calm (first.0 ∷ others.0, others.1)))
 
-ordered_calm : {A : Type 0} (least : ℕ) (format : ℕ → Format A) (next : A → ℕ) (count : ℕ) → ((k : ℕ) → IsCalm (format k)) → IsCalm (ordered least format next count)
+ordered_calm : {A : Type 0} (least : ℕ) (format : ℕ → Format A) (next : A → ℕ) (count : ℕ) → ((k : ℕ) → IsCalm (format k)) →
+    IsCalm (ordered least format next count)
 ordered_calm least format next count each = record { calm = many_calm format next each count least }
 
 field_calm : (test : ℕ → Bool) → IsCalm (field test)
@@ -200,7 +208,14 @@ thread_calm objects = named_calm _ _ _
 
 header_calm : IsCalm header_format
 unfolding header_format
-header_calm = named_calm _ (λ h. (magic, (h.version, (h.memory_bits, (h.boot_radix, (h.untypeds, (h.objects, (h.capabilities, (h.interrupts, (h.tables, (h.frames, (h.contents, h.threads)))))))))))) _
+header_calm = named_calm _
+    (λ h. (
+      magic,
+      (
+        h.version,
+        (h.memory_bits, (h.boot_radix, (h.untypeds, (h.objects, (h.capabilities, (h.interrupts, (h.tables, (h.frames, (h.contents, h.threads))))))))),
+      ),
+    )) _
     (both_calm _ _ (number_or_calm (λ _. Magic) w32 (λ n. eqb n magic) (λ at. magic_calm)) (λ (a : ℕ).
     both_calm _ _ (number_or_calm (λ _. Version) w32 (λ n. eqb n 1) (λ at. version_calm)) (λ (b : ℕ).
     both_calm _ _ (field_calm (between 16 24)) (λ (memory_bits : ℕ).
@@ -269,10 +284,14 @@ sections_calm =
     both_calm _ _ header_calm (λ (header : ImageHeader).
     both_calm _ _ (ordered_calm 0 (λ _. untyped_format) (λ _. 0) header.untypeds (λ k. untyped_calm)) (λ (a : List UntypedEntry).
     both_calm _ _ (ordered_calm 0 (object_format header.untypeds) (λ e. e.untyped) header.objects (object_calm header.untypeds)) (λ (b : List ObjectEntry).
-    both_calm _ _ (ordered_calm 0 (capability_format header.objects header.interrupts) (λ e. pair_key e.cnode e.index + 1) header.capabilities (capability_calm header.objects header.interrupts)) (λ (c : List CapabilityEntry).
-    both_calm _ _ (ordered_calm 0 (interrupt_format header.objects) (λ e. e.line + 1) header.interrupts (interrupt_calm header.objects)) (λ (d : List InterruptEntry).
-    both_calm _ _ (ordered_calm 0 (table_format header.objects) (λ e. pair_key e.root e.address + 1) header.tables (table_calm header.objects)) (λ (e : List TableEntry).
-    both_calm _ _ (ordered_calm 0 (frame_format header.objects) (λ e. pair_key e.root e.address + 1) header.frames (frame_calm header.objects)) (λ (f : List FrameEntry).
+    both_calm _ _ (ordered_calm 0 (capability_format header.objects header.interrupts) (λ e. pair_key e.cnode e.index + 1) header.capabilities
+    (capability_calm header.objects header.interrupts)) (λ (c : List CapabilityEntry).
+    both_calm _ _ (ordered_calm 0 (interrupt_format header.objects) (λ e. e.line + 1) header.interrupts (interrupt_calm header.objects))
+    (λ (d : List InterruptEntry).
+    both_calm _ _ (ordered_calm 0 (table_format header.objects) (λ e. pair_key e.root e.address + 1) header.tables (table_calm header.objects))
+    (λ (e : List TableEntry).
+    both_calm _ _ (ordered_calm 0 (frame_format header.objects) (λ e. pair_key e.root e.address + 1) header.frames (frame_calm header.objects))
+    (λ (f : List FrameEntry).
     ordered_calm 0 (content_format header.objects) (λ c. c.header.frame + 1) header.contents (content_calm header.objects))))))))
 
 image_calm : IsCalm whole_image

@@ -19,7 +19,10 @@ use Rattle.model.specs.declared.instructions.Instr.{Instr}
 use Rattle.model.specs.declared.instructions.Instr.TheVariants.{Upper, Jal, Jalr, Branch, Load, Store, Immediate, Shift, Registers, Fence, Ecall, Ebreak}
 use Rattle.model.specs.declared.instructions.Register.{Register}
 use Rattle.model.specs.Machine.Instructions.{Spells, bits, word_of}
-use Rattle.model.specs.Machine.Decoding.{b_offset, branch_op, decoded, decoded_branch, decoded_fence, decoded_immediate, decoded_jal, decoded_jalr, decoded_load, decoded_registers, decoded_shift, decoded_store, decoded_system, decoded_upper, funct3_of, funct7_of, i_immediate, immediate_op, j_offset, load_op, rd_of, register_op, rs1_of, rs2_of, s_immediate, shift_op, sign_extended, store_op}
+use Rattle.model.specs.Machine.Decoding.{b_offset, branch_op, decoded, decoded_branch, decoded_fence, decoded_immediate, decoded_jal, decoded_jalr}
+use Rattle.model.specs.Machine.Decoding.{decoded_load, decoded_registers, decoded_shift, decoded_store, decoded_system, decoded_upper, funct3_of, funct7_of}
+use Rattle.model.specs.Machine.Decoding.{i_immediate, immediate_op, j_offset, load_op, rd_of, register_op, rs1_of, rs2_of, s_immediate, shift_op, sign_extended}
+use Rattle.model.specs.Machine.Decoding.{store_op}
 use Rattle.rv32_isa.proofs.Signs.{i-sign, b-sign, j-sign}
 
 -- `decoded`, with the opcode as a value of its own
@@ -61,7 +64,8 @@ jal word rd offset s =
     let opcode : bits word 0 7 ≡ 0x6F = omega (arith, s) in
     let rd_same : rd_of word ≡ rd = same_register (rd_of word) rd (omega (arith, s)) in
     let parts : 2 * bits word 21 10 + 2 ^ 11 * bits word 20 1 + 2 ^ 12 * bits word 12 8 + 2 ^ 20 * bits word 31 1
-    ≡ 2 * bits (word_of offset) 1 10 + 2 ^ 11 * bits (word_of offset) 11 1 + 2 ^ 12 * bits (word_of offset) 12 8 + 2 ^ 20 * bits (word_of offset) 20 1 = omega (arith, s) in
+    ≡ 2 * bits (word_of offset) 1 10 + 2 ^ 11 * bits (word_of offset) 11 1 + 2 ^ 12 * bits (word_of offset) 12 8 + 2 ^ 20 * bits (word_of offset) 20 1 =
+    omega (arith, s) in
     let same : j_offset word ≡ offset = ap (λ n. sign_extended n (2 ^ 20)) parts ∙ j-sign offset s.0.1 in
     decoded-by word 0x6F opcode ∙ cc (rd_same, same)
 
@@ -84,7 +88,8 @@ branch word Beq rs1 rs2 offset s =
     let rs1_same : rs1_of word ≡ rs1 = same_register (rs1_of word) rs1 (omega (arith, s)) in
     let rs2_same : rs2_of word ≡ rs2 = same_register (rs2_of word) rs2 (omega (arith, s)) in
     let parts : 2 * bits word 8 4 + 2 ^ 5 * bits word 25 6 + 2 ^ 11 * bits word 7 1 + 2 ^ 12 * bits word 31 1
-    ≡ 2 * bits (word_of offset) 1 4 + 2 ^ 5 * bits (word_of offset) 5 6 + 2 ^ 11 * bits (word_of offset) 11 1 + 2 ^ 12 * bits (word_of offset) 12 1 = omega (arith, s) in
+    ≡ 2 * bits (word_of offset) 1 4 + 2 ^ 5 * bits (word_of offset) 5 6 + 2 ^ 11 * bits (word_of offset) 11 1 + 2 ^ 12 * bits (word_of offset) 12 1 =
+    omega (arith, s) in
     let same : b_offset word ≡ offset = ap (λ n. sign_extended n (2 ^ 12)) parts ∙ b-sign offset s.0.2 in
     decoded-by word 0x63 opcode
     ∙ ap (λ f. option_map (λ op. Branch op (rs1_of word) (rs2_of word) (b_offset word)) (branch_op f)) f3
@@ -95,7 +100,8 @@ branch word Bne rs1 rs2 offset s =
     let rs1_same : rs1_of word ≡ rs1 = same_register (rs1_of word) rs1 (omega (arith, s)) in
     let rs2_same : rs2_of word ≡ rs2 = same_register (rs2_of word) rs2 (omega (arith, s)) in
     let parts : 2 * bits word 8 4 + 2 ^ 5 * bits word 25 6 + 2 ^ 11 * bits word 7 1 + 2 ^ 12 * bits word 31 1
-    ≡ 2 * bits (word_of offset) 1 4 + 2 ^ 5 * bits (word_of offset) 5 6 + 2 ^ 11 * bits (word_of offset) 11 1 + 2 ^ 12 * bits (word_of offset) 12 1 = omega (arith, s) in
+    ≡ 2 * bits (word_of offset) 1 4 + 2 ^ 5 * bits (word_of offset) 5 6 + 2 ^ 11 * bits (word_of offset) 11 1 + 2 ^ 12 * bits (word_of offset) 12 1 =
+    omega (arith, s) in
     let same : b_offset word ≡ offset = ap (λ n. sign_extended n (2 ^ 12)) parts ∙ b-sign offset s.0.2 in
     decoded-by word 0x63 opcode
     ∙ ap (λ f. option_map (λ op. Branch op (rs1_of word) (rs2_of word) (b_offset word)) (branch_op f)) f3
@@ -106,7 +112,8 @@ branch word Blt rs1 rs2 offset s =
     let rs1_same : rs1_of word ≡ rs1 = same_register (rs1_of word) rs1 (omega (arith, s)) in
     let rs2_same : rs2_of word ≡ rs2 = same_register (rs2_of word) rs2 (omega (arith, s)) in
     let parts : 2 * bits word 8 4 + 2 ^ 5 * bits word 25 6 + 2 ^ 11 * bits word 7 1 + 2 ^ 12 * bits word 31 1
-    ≡ 2 * bits (word_of offset) 1 4 + 2 ^ 5 * bits (word_of offset) 5 6 + 2 ^ 11 * bits (word_of offset) 11 1 + 2 ^ 12 * bits (word_of offset) 12 1 = omega (arith, s) in
+    ≡ 2 * bits (word_of offset) 1 4 + 2 ^ 5 * bits (word_of offset) 5 6 + 2 ^ 11 * bits (word_of offset) 11 1 + 2 ^ 12 * bits (word_of offset) 12 1 =
+    omega (arith, s) in
     let same : b_offset word ≡ offset = ap (λ n. sign_extended n (2 ^ 12)) parts ∙ b-sign offset s.0.2 in
     decoded-by word 0x63 opcode
     ∙ ap (λ f. option_map (λ op. Branch op (rs1_of word) (rs2_of word) (b_offset word)) (branch_op f)) f3
@@ -117,7 +124,8 @@ branch word Bge rs1 rs2 offset s =
     let rs1_same : rs1_of word ≡ rs1 = same_register (rs1_of word) rs1 (omega (arith, s)) in
     let rs2_same : rs2_of word ≡ rs2 = same_register (rs2_of word) rs2 (omega (arith, s)) in
     let parts : 2 * bits word 8 4 + 2 ^ 5 * bits word 25 6 + 2 ^ 11 * bits word 7 1 + 2 ^ 12 * bits word 31 1
-    ≡ 2 * bits (word_of offset) 1 4 + 2 ^ 5 * bits (word_of offset) 5 6 + 2 ^ 11 * bits (word_of offset) 11 1 + 2 ^ 12 * bits (word_of offset) 12 1 = omega (arith, s) in
+    ≡ 2 * bits (word_of offset) 1 4 + 2 ^ 5 * bits (word_of offset) 5 6 + 2 ^ 11 * bits (word_of offset) 11 1 + 2 ^ 12 * bits (word_of offset) 12 1 =
+    omega (arith, s) in
     let same : b_offset word ≡ offset = ap (λ n. sign_extended n (2 ^ 12)) parts ∙ b-sign offset s.0.2 in
     decoded-by word 0x63 opcode
     ∙ ap (λ f. option_map (λ op. Branch op (rs1_of word) (rs2_of word) (b_offset word)) (branch_op f)) f3
@@ -128,7 +136,8 @@ branch word Bltu rs1 rs2 offset s =
     let rs1_same : rs1_of word ≡ rs1 = same_register (rs1_of word) rs1 (omega (arith, s)) in
     let rs2_same : rs2_of word ≡ rs2 = same_register (rs2_of word) rs2 (omega (arith, s)) in
     let parts : 2 * bits word 8 4 + 2 ^ 5 * bits word 25 6 + 2 ^ 11 * bits word 7 1 + 2 ^ 12 * bits word 31 1
-    ≡ 2 * bits (word_of offset) 1 4 + 2 ^ 5 * bits (word_of offset) 5 6 + 2 ^ 11 * bits (word_of offset) 11 1 + 2 ^ 12 * bits (word_of offset) 12 1 = omega (arith, s) in
+    ≡ 2 * bits (word_of offset) 1 4 + 2 ^ 5 * bits (word_of offset) 5 6 + 2 ^ 11 * bits (word_of offset) 11 1 + 2 ^ 12 * bits (word_of offset) 12 1 =
+    omega (arith, s) in
     let same : b_offset word ≡ offset = ap (λ n. sign_extended n (2 ^ 12)) parts ∙ b-sign offset s.0.2 in
     decoded-by word 0x63 opcode
     ∙ ap (λ f. option_map (λ op. Branch op (rs1_of word) (rs2_of word) (b_offset word)) (branch_op f)) f3
@@ -139,7 +148,8 @@ branch word Bgeu rs1 rs2 offset s =
     let rs1_same : rs1_of word ≡ rs1 = same_register (rs1_of word) rs1 (omega (arith, s)) in
     let rs2_same : rs2_of word ≡ rs2 = same_register (rs2_of word) rs2 (omega (arith, s)) in
     let parts : 2 * bits word 8 4 + 2 ^ 5 * bits word 25 6 + 2 ^ 11 * bits word 7 1 + 2 ^ 12 * bits word 31 1
-    ≡ 2 * bits (word_of offset) 1 4 + 2 ^ 5 * bits (word_of offset) 5 6 + 2 ^ 11 * bits (word_of offset) 11 1 + 2 ^ 12 * bits (word_of offset) 12 1 = omega (arith, s) in
+    ≡ 2 * bits (word_of offset) 1 4 + 2 ^ 5 * bits (word_of offset) 5 6 + 2 ^ 11 * bits (word_of offset) 11 1 + 2 ^ 12 * bits (word_of offset) 12 1 =
+    omega (arith, s) in
     let same : b_offset word ≡ offset = ap (λ n. sign_extended n (2 ^ 12)) parts ∙ b-sign offset s.0.2 in
     decoded-by word 0x63 opcode
     ∙ ap (λ f. option_map (λ op. Branch op (rs1_of word) (rs2_of word) (b_offset word)) (branch_op f)) f3
@@ -229,7 +239,8 @@ store word Sw rs1 rs2 offset s =
     ∙ ap (λ f. option_map (λ op. Store op (rs1_of word) (rs2_of word) (s_immediate word)) (store_op f)) f3
     ∙ cc (rs1_same, rs2_same, signed_same)
 
-immediate_op_word : (word : ℕ) (op : ImmediateOp) (rd rs1 : Register) (immediate : ℤ) → Spells word (Immediate op rd rs1 immediate) → decoded word ≡ Some (Immediate op rd rs1 immediate)
+immediate_op_word : (word : ℕ) (op : ImmediateOp) (rd rs1 : Register) (immediate : ℤ) → Spells word (Immediate op rd rs1 immediate) →
+    decoded word ≡ Some (Immediate op rd rs1 immediate)
 immediate_op_word word Addi rd rs1 immediate s =
     let opcode : bits word 0 7 ≡ 0x13 = omega (arith, s) in
     let f3 : funct3_of word ≡ 0 = omega (arith, s) in
@@ -238,7 +249,8 @@ immediate_op_word word Addi rd rs1 immediate s =
     let cut : bits word 20 12 ≡ bits (word_of immediate) 0 12 = omega (arith, s) in
     let signed_same : i_immediate word ≡ immediate = ap (λ n. sign_extended n (2 ^ 11)) cut ∙ i-sign immediate s.0.2 in
     decoded-by word 0x13 opcode
-    ∙ ap (λ f. if (f == 1) || (f == 5) then decoded_shift word else option_map (λ op. Immediate op (rd_of word) (rs1_of word) (i_immediate word)) (immediate_op f)) f3
+    ∙ ap (λ f. if (f == 1) || (f == 5) then decoded_shift word else
+    option_map (λ op. Immediate op (rd_of word) (rs1_of word) (i_immediate word)) (immediate_op f)) f3
     ∙ cc (rd_same, rs1_same, signed_same)
 immediate_op_word word Slti rd rs1 immediate s =
     let opcode : bits word 0 7 ≡ 0x13 = omega (arith, s) in
@@ -248,7 +260,8 @@ immediate_op_word word Slti rd rs1 immediate s =
     let cut : bits word 20 12 ≡ bits (word_of immediate) 0 12 = omega (arith, s) in
     let signed_same : i_immediate word ≡ immediate = ap (λ n. sign_extended n (2 ^ 11)) cut ∙ i-sign immediate s.0.2 in
     decoded-by word 0x13 opcode
-    ∙ ap (λ f. if (f == 1) || (f == 5) then decoded_shift word else option_map (λ op. Immediate op (rd_of word) (rs1_of word) (i_immediate word)) (immediate_op f)) f3
+    ∙ ap (λ f. if (f == 1) || (f == 5) then decoded_shift word else
+    option_map (λ op. Immediate op (rd_of word) (rs1_of word) (i_immediate word)) (immediate_op f)) f3
     ∙ cc (rd_same, rs1_same, signed_same)
 immediate_op_word word Sltiu rd rs1 immediate s =
     let opcode : bits word 0 7 ≡ 0x13 = omega (arith, s) in
@@ -258,7 +271,8 @@ immediate_op_word word Sltiu rd rs1 immediate s =
     let cut : bits word 20 12 ≡ bits (word_of immediate) 0 12 = omega (arith, s) in
     let signed_same : i_immediate word ≡ immediate = ap (λ n. sign_extended n (2 ^ 11)) cut ∙ i-sign immediate s.0.2 in
     decoded-by word 0x13 opcode
-    ∙ ap (λ f. if (f == 1) || (f == 5) then decoded_shift word else option_map (λ op. Immediate op (rd_of word) (rs1_of word) (i_immediate word)) (immediate_op f)) f3
+    ∙ ap (λ f. if (f == 1) || (f == 5) then decoded_shift word else
+    option_map (λ op. Immediate op (rd_of word) (rs1_of word) (i_immediate word)) (immediate_op f)) f3
     ∙ cc (rd_same, rs1_same, signed_same)
 immediate_op_word word Xori rd rs1 immediate s =
     let opcode : bits word 0 7 ≡ 0x13 = omega (arith, s) in
@@ -268,7 +282,8 @@ immediate_op_word word Xori rd rs1 immediate s =
     let cut : bits word 20 12 ≡ bits (word_of immediate) 0 12 = omega (arith, s) in
     let signed_same : i_immediate word ≡ immediate = ap (λ n. sign_extended n (2 ^ 11)) cut ∙ i-sign immediate s.0.2 in
     decoded-by word 0x13 opcode
-    ∙ ap (λ f. if (f == 1) || (f == 5) then decoded_shift word else option_map (λ op. Immediate op (rd_of word) (rs1_of word) (i_immediate word)) (immediate_op f)) f3
+    ∙ ap (λ f. if (f == 1) || (f == 5) then decoded_shift word else
+    option_map (λ op. Immediate op (rd_of word) (rs1_of word) (i_immediate word)) (immediate_op f)) f3
     ∙ cc (rd_same, rs1_same, signed_same)
 immediate_op_word word Ori rd rs1 immediate s =
     let opcode : bits word 0 7 ≡ 0x13 = omega (arith, s) in
@@ -278,7 +293,8 @@ immediate_op_word word Ori rd rs1 immediate s =
     let cut : bits word 20 12 ≡ bits (word_of immediate) 0 12 = omega (arith, s) in
     let signed_same : i_immediate word ≡ immediate = ap (λ n. sign_extended n (2 ^ 11)) cut ∙ i-sign immediate s.0.2 in
     decoded-by word 0x13 opcode
-    ∙ ap (λ f. if (f == 1) || (f == 5) then decoded_shift word else option_map (λ op. Immediate op (rd_of word) (rs1_of word) (i_immediate word)) (immediate_op f)) f3
+    ∙ ap (λ f. if (f == 1) || (f == 5) then decoded_shift word else
+    option_map (λ op. Immediate op (rd_of word) (rs1_of word) (i_immediate word)) (immediate_op f)) f3
     ∙ cc (rd_same, rs1_same, signed_same)
 immediate_op_word word Andi rd rs1 immediate s =
     let opcode : bits word 0 7 ≡ 0x13 = omega (arith, s) in
@@ -288,7 +304,8 @@ immediate_op_word word Andi rd rs1 immediate s =
     let cut : bits word 20 12 ≡ bits (word_of immediate) 0 12 = omega (arith, s) in
     let signed_same : i_immediate word ≡ immediate = ap (λ n. sign_extended n (2 ^ 11)) cut ∙ i-sign immediate s.0.2 in
     decoded-by word 0x13 opcode
-    ∙ ap (λ f. if (f == 1) || (f == 5) then decoded_shift word else option_map (λ op. Immediate op (rd_of word) (rs1_of word) (i_immediate word)) (immediate_op f)) f3
+    ∙ ap (λ f. if (f == 1) || (f == 5) then decoded_shift word else
+    option_map (λ op. Immediate op (rd_of word) (rs1_of word) (i_immediate word)) (immediate_op f)) f3
     ∙ cc (rd_same, rs1_same, signed_same)
 
 shift : (word : ℕ) (op : ShiftOp) (rd rs1 : Register) (amount : ℕ) → Spells word (Shift op rd rs1 amount) → decoded word ≡ Some (Shift op rd rs1 amount)
@@ -300,7 +317,8 @@ shift word Slli rd rs1 amount s =
     let rs1_same : rs1_of word ≡ rs1 = same_register (rs1_of word) rs1 (omega (arith, s)) in
     let value : bits word 20 5 ≡ amount = omega (arith, s) in
     decoded-by word 0x13 opcode
-    ∙ ap (λ f. if (f == 1) || (f == 5) then decoded_shift word else option_map (λ op. Immediate op (rd_of word) (rs1_of word) (i_immediate word)) (immediate_op f)) f3
+    ∙ ap (λ f. if (f == 1) || (f == 5) then decoded_shift word else
+    option_map (λ op. Immediate op (rd_of word) (rs1_of word) (i_immediate word)) (immediate_op f)) f3
     ∙ ap (λ f. option_map (λ op. Shift op (rd_of word) (rs1_of word) (bits word 20 5)) (shift_op f (funct7_of word))) f3
     ∙ ap (λ f. option_map (λ op. Shift op (rd_of word) (rs1_of word) (bits word 20 5)) (shift_op 1 f)) f7
     ∙ cc (rd_same, rs1_same, value)
@@ -312,7 +330,8 @@ shift word Srli rd rs1 amount s =
     let rs1_same : rs1_of word ≡ rs1 = same_register (rs1_of word) rs1 (omega (arith, s)) in
     let value : bits word 20 5 ≡ amount = omega (arith, s) in
     decoded-by word 0x13 opcode
-    ∙ ap (λ f. if (f == 1) || (f == 5) then decoded_shift word else option_map (λ op. Immediate op (rd_of word) (rs1_of word) (i_immediate word)) (immediate_op f)) f3
+    ∙ ap (λ f. if (f == 1) || (f == 5) then decoded_shift word else
+    option_map (λ op. Immediate op (rd_of word) (rs1_of word) (i_immediate word)) (immediate_op f)) f3
     ∙ ap (λ f. option_map (λ op. Shift op (rd_of word) (rs1_of word) (bits word 20 5)) (shift_op f (funct7_of word))) f3
     ∙ ap (λ f. option_map (λ op. Shift op (rd_of word) (rs1_of word) (bits word 20 5)) (shift_op 5 f)) f7
     ∙ cc (rd_same, rs1_same, value)
@@ -324,7 +343,8 @@ shift word Srai rd rs1 amount s =
     let rs1_same : rs1_of word ≡ rs1 = same_register (rs1_of word) rs1 (omega (arith, s)) in
     let value : bits word 20 5 ≡ amount = omega (arith, s) in
     decoded-by word 0x13 opcode
-    ∙ ap (λ f. if (f == 1) || (f == 5) then decoded_shift word else option_map (λ op. Immediate op (rd_of word) (rs1_of word) (i_immediate word)) (immediate_op f)) f3
+    ∙ ap (λ f. if (f == 1) || (f == 5) then decoded_shift word else
+    option_map (λ op. Immediate op (rd_of word) (rs1_of word) (i_immediate word)) (immediate_op f)) f3
     ∙ ap (λ f. option_map (λ op. Shift op (rd_of word) (rs1_of word) (bits word 20 5)) (shift_op f (funct7_of word))) f3
     ∙ ap (λ f. option_map (λ op. Shift op (rd_of word) (rs1_of word) (bits word 20 5)) (shift_op 5 f)) f7
     ∙ cc (rd_same, rs1_same, value)

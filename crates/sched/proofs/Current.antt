@@ -1,12 +1,14 @@
 -- The current thread of a sound state is there.
-use Rattle.std.proofs.Common.{ℕ, zero, suc, ◌≡◌, ◌∙◌, ◌==◌, ◌&&◌, ◌+◌, ◌≤◌, if◌then◌else◌, false, List, [], ◌∷◌, Option, Some, None, option_map, refl, ap, arith}
+use Rattle.std.proofs.Common.{ℕ, zero, suc, ◌≡◌, ◌∙◌, ◌==◌, ◌&&◌, ◌+◌, ◌≤◌, if◌then◌else◌, false, List, [], ◌∷◌, Option, Some, None, option_map, refl, ap}
+use Rattle.std.proofs.Common.{arith}
 use Rattle.std.specs.Option.{option_map_or}
 use Rattle.std.proofs.lemmas.Bool.{eq-eqb}
 use Rattle.model.specs.Kernel.Kinds.{kind_at, kind_of}
 use Rattle.model.specs.Kernel.Retype.{NewThread}
 use Rattle.model.specs.Kernel.Scheduling.{current, first_below, head_of, is_runnable}
 use Rattle.model.specs.Kernel.Soundness.{IsSound}
-use Rattle.model.specs.Kernel.State.{CNodeObject, EndpointObject, FrameObject, NotificationObject, Object, PageTableObject, RootTableObject, State, ThreadObject, as_thread}
+use Rattle.model.specs.Kernel.State.{CNodeObject, EndpointObject, FrameObject, NotificationObject, Object, PageTableObject, RootTableObject, State}
+use Rattle.model.specs.Kernel.State.{ThreadObject, as_thread}
 use Rattle.model.specs.Shared.Lists.{times_in}
 
 -- ---- the current thread is the first of some priority
@@ -28,7 +30,8 @@ head-counts : (threads : List ℕ) (thread : ℕ) → head_of threads ≡ Some t
 head-counts [] thread is = absurd (let clash : None ≡ Some thread = is in cc)
 head-counts (t ∷ rest) thread is =
     let same : t ≡ thread = cc in
-    let more : times_in (t ∷ rest) thread ≡ times_in rest thread + 1 = ap (λ b. if b then times_in rest thread + 1 else times_in rest thread) (eq-eqb t thread same) in
+    let more : times_in (t ∷ rest) thread ≡ times_in rest thread + 1 =
+    ap (λ b. if b then times_in rest thread + 1 else times_in rest thread) (eq-eqb t thread same) in
     omega (arith, more)
 
 -- and who is there is a thread

@@ -1,5 +1,6 @@
 -- Growing in steps.
-use Rattle.std.proofs.Common.{◌≡◌, ℕ, ◌+◌, ◌-◌, ◌≤◌, false, List, [], ◌∷◌, ◌++◌, length, take, drop, Option, Some, None, Ok, refl, sym, ap, subst, ◌∙◌, append_assoc, take-add, arith}
+use Rattle.std.proofs.Common.{◌≡◌, ℕ, ◌+◌, ◌-◌, ◌≤◌, false, List, [], ◌∷◌, ◌++◌, length, take, drop, Option, Some, None, Ok, refl, sym, ap, subst, ◌∙◌}
+use Rattle.std.proofs.Common.{append_assoc, take-add, arith}
 use Rattle.std.proofs.lemmas.Bool.{ne_eqb}
 use Rattle.std.proofs.lemmas.List.{take_all, length-drop}
 use Rattle.sinks.specs.Sinks.{Grows, took_nothing, failures_after}
@@ -21,10 +22,12 @@ not_counted piece count failures h = rw (some_taken piece count h) refl
 rest_is : (bytes : List ℕ) (done : ℕ) → take (length bytes - done) (drop done bytes) ≡ drop done bytes
 rest_is bytes done = take_all (length bytes - done) (drop done bytes) (omega (arith, length-drop done bytes))
 
-pub put_within : (bytes : List ℕ) (done count : ℕ) → done ≤ length bytes → count ≤ length (take (length bytes - done) (drop done bytes)) → done + count ≤ length bytes
+pub put_within : (bytes : List ℕ) (done count : ℕ) → done ≤ length bytes → count ≤ length (take (length bytes - done) (drop done bytes)) →
+    done + count ≤ length bytes
 put_within bytes done count le h = omega (arith, h, ap (λ (t : List ℕ). length t) (rest_is bytes done), length-drop done bytes)
 
-pub put_more : (old mid new : Option (List ℕ)) (bytes : List ℕ) (done count : ℕ) → Grows old mid (take done bytes) → Grows mid new (take count (take (length bytes - done) (drop done bytes)))
+pub put_more : (old mid new : Option (List ℕ)) (bytes : List ℕ) (done count : ℕ) → Grows old mid (take done bytes) →
+    Grows mid new (take count (take (length bytes - done) (drop done bytes)))
     → Grows old new (take (done + count) bytes)
 put_more old mid new bytes done count p q =
     let q' = subst (λ (t : List ℕ). Grows mid new (take count t)) (rest_is bytes done) q in

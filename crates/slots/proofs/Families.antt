@@ -1,5 +1,6 @@
 -- What is derived from a slot's parent, with it and without it.
-use Rattle.std.proofs.Common.{ℕ, ◌≡◌, ◌≢◌, ◌∙◌, ◌==◌, ◌+◌, ◌<◌, ◌&&◌, inl, inr, not, Bool, true, false, if◌then◌else◌, Option, Some, None, is_some, List, [], ◌∷◌, refl, sym, ap, arith}
+use Rattle.std.proofs.Common.{ℕ, ◌≡◌, ◌≢◌, ◌∙◌, ◌==◌, ◌+◌, ◌<◌, ◌&&◌, inl, inr, not, Bool, true, false, if◌then◌else◌, Option, Some, None, is_some, List, []}
+use Rattle.std.proofs.Common.{◌∷◌, refl, sym, ap, arith}
 use Rattle.std.proofs.lemmas.Bool.Decides.{eqb_tells}
 use Rattle.std.proofs.lemmas.Bool.{eq-eqb, ne_eqb}
 use Rattle.std.specs.Option.{option_map_or}
@@ -8,7 +9,8 @@ use Rattle.model.proofs.Depths.{adopted_parent}
 use Rattle.model.proofs.Orders.{first-none, first-some, next-first, times-first}
 use Rattle.model.proofs.SlotChanges.{entry-other, entry-same, parent-adopted, parent_of}
 use Rattle.model.specs.Capabilities.Orders.{IsOrderOf, descendants, next_after, next_in}
-use Rattle.model.specs.Capabilities.Slots.{Descendant, IsDerivation, Slots, child, deeper, depth_of, empty_entry, is_descendant, parent_at, spliced, with_parent}
+use Rattle.model.specs.Capabilities.Slots.{Descendant, IsDerivation, Slots, child, deeper, depth_of, empty_entry, is_descendant, parent_at, spliced}
+use Rattle.model.specs.Capabilities.Slots.{with_parent}
 use Rattle.model.specs.Shared.Lists.{times_in}
 use Rattle.slots.specs.Kin.{LeavesChildless, childless, has_child}
 
@@ -16,18 +18,21 @@ use Rattle.slots.specs.Kin.{LeavesChildless, childless, has_child}
 
 left-parent : (slots : Slots) (gone s : ℕ) → s ≢ gone → parent_at (spliced slots gone) s ≡ adopted_parent gone (parent_at slots gone) (parent_at slots s)
 left-parent slots gone s off =
-    ap parent_of (entry-other (with_parent slots gone (parent_at slots gone)) gone (Some empty_entry) s off) ∙ parent-adopted gone (parent_at slots gone) (slots s)
+    ap parent_of (entry-other (with_parent slots gone (parent_at slots gone)) gone (Some empty_entry) s off)
+    ∙ parent-adopted gone (parent_at slots gone) (slots s)
 
 gone-parent : (slots : Slots) (gone : ℕ) → parent_at (spliced slots gone) gone ≡ None
 gone-parent slots gone = ap parent_of (entry-same (with_parent slots gone (parent_at slots gone)) gone (Some empty_entry))
 
 keeps-parent : (slots : Slots) (gone s p : ℕ) → s ≢ gone → p ≢ gone → parent_at slots s ≡ Some p → parent_at (spliced slots gone) s ≡ Some p
 keeps-parent slots gone s p off apart is =
-    left-parent slots gone s off ∙ ap (adopted_parent gone (parent_at slots gone)) is ∙ ap (λ b. if b then parent_at slots gone else Some p) (ne_eqb p gone apart)
+    left-parent slots gone s off ∙ ap (adopted_parent gone (parent_at slots gone)) is
+    ∙ ap (λ b. if b then parent_at slots gone else Some p) (ne_eqb p gone apart)
 
 heir-parent : (slots : Slots) (gone s : ℕ) → s ≢ gone → parent_at slots s ≡ Some gone → parent_at (spliced slots gone) s ≡ parent_at slots gone
 heir-parent slots gone s off is =
-    left-parent slots gone s off ∙ ap (adopted_parent gone (parent_at slots gone)) is ∙ ap (λ b. if b then parent_at slots gone else Some gone) (eq-eqb gone gone refl)
+    left-parent slots gone s off ∙ ap (adopted_parent gone (parent_at slots gone)) is
+    ∙ ap (λ b. if b then parent_at slots gone else Some gone) (eq-eqb gone gone refl)
 
 module _ (slots : Slots) (slot parent : ℕ) (tree : IsDerivation slots) (up : parent_at slots slot ≡ Some parent) where
   apart : parent ≢ slot
@@ -49,7 +54,8 @@ module _ (slots : Slots) (slot parent : ℕ) (tree : IsDerivation slots) (up : p
   -- a child afterwards was a descendant
   below-still : (other : ℕ) → other ≢ slot → parent_at (spliced slots slot) other ≡ Some parent → Descendant slots parent other
   below-still other off is = elim (parent_at slots other) as (λ o. parent_at slots other ≡ o → Descendant slots parent other) [
-    | None ↦ λ none. absurd (let clash : None ≡ Some parent = sym (left-parent slots slot other off ∙ ap (adopted_parent slot (parent_at slots slot)) none) ∙ is in cc)
+    | None ↦ λ none. absurd (let clash : None ≡ Some parent = sym (left-parent slots slot other off ∙ ap (adopted_parent slot (parent_at slots slot)) none)
+        ∙ is in cc)
     | Some q ↦ λ some. elim (eqb_tells q slot) [
       | inl here ↦ deeper other slot (some ∙ ap Some here.1) (child slot up)
       | inr beside ↦
@@ -141,10 +147,13 @@ named-so (Some x) offset is = elim (eqb_tells x offset) [
   | inr off ↦ absurd (let clash : false ≡ true = sym off.0 ∙ is in cc)
 ]
 
-pub beside-so : (o : Option ℕ) (offset : ℕ) (is_below : Bool) → (not is_below && option_map_or (λ named. named == offset) o false) ≡ true → (is_below ≡ false) × (o ≡ Some offset)
+pub beside-so : (o : Option ℕ) (offset : ℕ) (is_below : Bool) → (not is_below && option_map_or (λ named. named == offset) o false) ≡ true → (is_below ≡ false)
+    × (o ≡ Some offset)
 beside-so o offset true is = absurd (let clash : false ≡ true = is in cc)
 beside-so o offset false is = (refl, named-so o offset is)
 
-pub so-beside : (o : Option ℕ) (offset : ℕ) (is_below : Bool) → is_below ≡ false → o ≡ Some offset → (not is_below && option_map_or (λ named. named == offset) o false) ≡ true
+pub so-beside : (o : Option ℕ) (offset : ℕ) (is_below : Bool) → is_below ≡ false → o ≡ Some offset →
+    (not is_below && option_map_or (λ named. named == offset) o false) ≡ true
 so-beside o offset is_below beside is =
-    ap (λ b. not b && option_map_or (λ named. named == offset) o false) beside ∙ ap (λ o. option_map_or (λ named. named == offset) o false) is ∙ eq-eqb offset offset refl
+    ap (λ b. not b && option_map_or (λ named. named == offset) o false) beside ∙ ap (λ o. option_map_or (λ named. named == offset) o false) is
+    ∙ eq-eqb offset offset refl

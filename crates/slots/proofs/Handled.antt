@@ -8,13 +8,16 @@ use Rattle.model.specs.Capabilities.CapabilityKinds.{is_handler_of}
 use Rattle.model.specs.Capabilities.Slots.{Slots, capability_at}
 use Rattle.slots.specs.Listed.{is_handled}
 
-pub handled-at : (slots : Slots) (count line slot : ℕ) → slot < count → is_handler_of line (capability_at slots slot) ≡ true → is_handled slots count line ≡ true
+pub handled-at : (slots : Slots) (count line slot : ℕ) → slot < count → is_handler_of line (capability_at slots slot) ≡ true →
+    is_handled slots count line ≡ true
 handled-at slots count line slot less is =
     let long : slot < length (range_with_len 0 count) = rw (length-range_with_len 0 count) less in
     let here : get_or (range_with_len 0 count) slot 0 ≡ slot = get_or-range_with_len 0 count slot 0 less ∙ omega arith in
-    list_any_at (λ s. is_handler_of line (capability_at slots s)) (range_with_len 0 count) slot 0 long (ap (λ s. is_handler_of line (capability_at slots s)) here ∙ is)
+    list_any_at (λ s. is_handler_of line (capability_at slots s)) (range_with_len 0 count) slot 0 long
+    (ap (λ s. is_handler_of line (capability_at slots s)) here ∙ is)
 
-pub handled-none : (slots : Slots) (count line : ℕ) → ((slot : ℕ) → slot < count → is_handler_of line (capability_at slots slot) ≡ false) → is_handled slots count line ≡ false
+pub handled-none : (slots : Slots) (count line : ℕ) → ((slot : ℕ) → slot < count → is_handler_of line (capability_at slots slot) ≡ false) →
+    is_handled slots count line ≡ false
 handled-none slots count line none = list_any_none (λ s. is_handler_of line (capability_at slots s)) (range_with_len 0 count) (λ k d less.
     let few : k < count = omega (arith, less, length-range_with_len 0 count) in
     ap (λ s. is_handler_of line (capability_at slots s)) (get_or-range_with_len 0 count k d few) ∙ none (0 + k) (omega (arith, few)))

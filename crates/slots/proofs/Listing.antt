@@ -1,5 +1,6 @@
 -- The full slots of a table, in rising order.
-use Rattle.std.proofs.Common.{inl, inr, ℕ, zero, suc, ◌≡◌, ◌≢◌, ◌∙◌, ◌+◌, ◌-◌, ◌<◌, ◌≤◌, true, false, if◌then◌else◌, Option, None, List, ◌∷◌, cond, length, not, refl, sym, ap, arith}
+use Rattle.std.proofs.Common.{inl, inr, ℕ, zero, suc, ◌≡◌, ◌≢◌, ◌∙◌, ◌+◌, ◌-◌, ◌<◌, ◌≤◌, true, false, if◌then◌else◌, Option, None, List, ◌∷◌, cond, length, not}
+use Rattle.std.proofs.Common.{refl, sym, ap, arith}
 use Rattle.std.proofs.lemmas.Bool.{ne_eqb}
 use Rattle.std.proofs.lemmas.Bool.Decides.{eqb_tells}
 use Rattle.std.proofs.lemmas.Bool.{cases_lt}
@@ -20,7 +21,8 @@ pub full_from-take : (slots : Slots) (first n m : ℕ) → n ≡ suc m → is_fu
 full_from-take slots first n m size full = rw (size, full) refl
 
 -- after a slot in the list come the full ones that follow it
-pub next_after-full_from : (n : ℕ) (slots : Slots) (first at end : ℕ) → end ≡ first + n → first ≤ at → at < end → is_full slots at ≡ true → next_after (full_from slots first n) at ≡ first_of (full_from slots (at + 1) (end - (at + 1)))
+pub next_after-full_from : (n : ℕ) (slots : Slots) (first at end : ℕ) → end ≡ first + n → first ≤ at → at < end → is_full slots at ≡ true →
+    next_after (full_from slots first n) at ≡ first_of (full_from slots (at + 1) (end - (at + 1)))
 next_after-full_from zero slots first at end whole low high full = absurd (omega arith)
 next_after-full_from (suc n) slots first at end whole low high full =
     let rest = full_from slots (first + 1) n in
@@ -33,8 +35,10 @@ next_after-full_from (suc n) slots first at end whole low high full =
           ∙ ap (λ s. first_of (full_from slots s n)) start ∙ ap (λ m. first_of (full_from slots (at + 1) m)) size
       | inr other ↦
           let next = next_after-full_from n slots (first + 1) at end (omega arith) (omega (arith, other.1)) high full in
-          elim (is_full slots first) as (λ b. is_full slots first ≡ b → next_after (full_from slots first (suc n)) at ≡ first_of (full_from slots (at + 1) (end - (at + 1)))) [
-            | true ↦ λ is. ap (λ l. next_after l at) (full_from-take slots first (suc n) n refl is) ∙ ap (λ b. if b then first_of rest else next_after rest at) other.0 ∙ next
+          elim (is_full slots first) as (λ b. is_full slots first ≡ b →
+          next_after (full_from slots first (suc n)) at ≡ first_of (full_from slots (at + 1) (end - (at + 1)))) [
+            | true ↦ λ is. ap (λ l. next_after l at) (full_from-take slots first (suc n) n refl is)
+                ∙ ap (λ b. if b then first_of rest else next_after rest at) other.0 ∙ next
             | false ↦ λ is. ap (λ l. next_after l at) (full_from-skip slots first (suc n) n refl is) ∙ next
           ] refl
     ]
@@ -43,7 +47,8 @@ next_after-full_from (suc n) slots first at end whole low high full =
 pub full-inside : (records : List (Option Entry)) (slot : ℕ) → is_full (table_slots records) slot ≡ true → slot < length records
 full-inside records slot full = elim (cases_lt slot (length records)) [
   | inl inside ↦ inside
-  | inr outside ↦ absurd (let clash : false ≡ true = ap (λ held. not (is_empty (option_map_or (λ h. h.capability) held Empty))) (sym (get_or_past records slot None outside)) ∙ full in cc)
+  | inr outside ↦ absurd (let clash : false ≡ true = ap (λ held. not (is_empty (option_map_or (λ h. h.capability) held Empty)))
+      (sym (get_or_past records slot None outside)) ∙ full in cc)
 ]
 
 -- a slot before the first is not listed
@@ -59,7 +64,8 @@ times-before (suc n) slots first at low =
     ] refl
 
 -- a slot from the first on and before the end is listed once if it is full
-times-within : (n : ℕ) (slots : Slots) (first at : ℕ) → first ≤ at → at < first + n → times_in (full_from slots first n) at ≡ (if is_full slots at then 1 else 0)
+times-within : (n : ℕ) (slots : Slots) (first at : ℕ) → first ≤ at → at < first + n →
+    times_in (full_from slots first n) at ≡ (if is_full slots at then 1 else 0)
 times-within zero slots first at low high = absurd (omega arith)
 times-within (suc n) slots first at low high =
     let rest = full_from slots (first + 1) n in
@@ -102,7 +108,8 @@ pub order-table : (records : List (Option Entry)) → IsOrderOf (full_from (tabl
 order-table records = λ at. elim (cases_lt at (length records)) [
   | inl inside ↦ times-within (length records) (table_slots records) 0 at (omega arith) (omega arith)
   | inr outside ↦
-      let open_ : is_full (table_slots records) at ≡ false = ap (λ held. not (is_empty (option_map_or (λ h. h.capability) held Empty))) (get_or_past records at None outside) in
+      let open_ : is_full (table_slots records) at ≡ false =
+      ap (λ held. not (is_empty (option_map_or (λ h. h.capability) held Empty))) (get_or_past records at None outside) in
       times-behind (length records) (table_slots records) 0 at (omega arith) ∙ ap (λ b. if b then 1 else 0) (sym open_)
 ]
 
@@ -117,7 +124,8 @@ full_from-same (suc n) old new first same =
     ] refl
 
 -- and where one slot is no longer full, it is taken out
-pub full_from-without : (n : ℕ) (old new : Slots) (first gone : ℕ) → is_full new gone ≡ false → ((s : ℕ) → s ≢ gone → is_full new s ≡ is_full old s) → full_from new first n ≡ without gone (full_from old first n)
+pub full_from-without : (n : ℕ) (old new : Slots) (first gone : ℕ) → is_full new gone ≡ false → ((s : ℕ) → s ≢ gone → is_full new s ≡ is_full old s) →
+    full_from new first n ≡ without gone (full_from old first n)
 full_from-without zero old new first gone empty same = refl
 full_from-without (suc n) old new first gone empty same =
     let more = full_from-without n old new (first + 1) gone empty same in
@@ -126,25 +134,32 @@ full_from-without (suc n) old new first gone empty same =
       | inl here ↦
           let skipped = full_from-skip new first (suc n) n refl (ap (is_full new) here.1 ∙ empty) ∙ more in
           elim (is_full old first) as (λ b. is_full old first ≡ b → full_from new first (suc n) ≡ without gone (full_from old first (suc n))) [
-            | true ↦ λ is. skipped ∙ sym (ap (λ b. cond (not b) (first ∷ without gone rest) (without gone rest)) here.0) ∙ sym (ap (without gone) (full_from-take old first (suc n) n refl is))
+            | true ↦ λ is. skipped ∙ sym (ap (λ b. cond (not b) (first ∷ without gone rest) (without gone rest)) here.0)
+                ∙ sym (ap (without gone) (full_from-take old first (suc n) n refl is))
             | false ↦ λ is. skipped ∙ sym (ap (without gone) (full_from-skip old first (suc n) n refl is))
           ] refl
       | inr other ↦
           elim (is_full old first) as (λ b. is_full old first ≡ b → full_from new first (suc n) ≡ without gone (full_from old first (suc n))) [
             | true ↦ λ is.
                 full_from-take new first (suc n) n refl (same first other.1 ∙ is) ∙ ap (λ l. first ∷ l) more
-                ∙ sym (ap (λ b. cond (not b) (first ∷ without gone rest) (without gone rest)) other.0) ∙ sym (ap (without gone) (full_from-take old first (suc n) n refl is))
-            | false ↦ λ is. full_from-skip new first (suc n) n refl (same first other.1 ∙ is) ∙ more ∙ sym (ap (without gone) (full_from-skip old first (suc n) n refl is))
+                ∙ sym (ap (λ b. cond (not b) (first ∷ without gone rest) (without gone rest)) other.0)
+                ∙ sym (ap (without gone) (full_from-take old first (suc n) n refl is))
+            | false ↦ λ is. full_from-skip new first (suc n) n refl (same first other.1 ∙ is) ∙ more
+                ∙ sym (ap (without gone) (full_from-skip old first (suc n) n refl is))
           ] refl
     ]
 
 -- the order of a table that is changed: what of it is full stays as it was, or is taken out
-pub order-same : (old new : List (Option Entry)) (change : Slots) → table_slots new ≡ change → length new ≡ length old → ((s : ℕ) → is_full change s ≡ is_full (table_slots old) s) → full_from (table_slots new) 0 (length new) ≡ full_from (table_slots old) 0 (length old)
+pub order-same : (old new : List (Option Entry)) (change : Slots) → table_slots new ≡ change → length new ≡ length old →
+    ((s : ℕ) → is_full change s ≡ is_full (table_slots old) s) → full_from (table_slots new) 0 (length new) ≡ full_from (table_slots old) 0 (length old)
 order-same old new change is size same =
     ap (λ n. full_from (table_slots new) 0 n) size
     ∙ full_from-same (length old) (table_slots old) (table_slots new) 0 (λ s. ap (λ slots. is_full slots s) is ∙ same s)
 
-pub order-without : (old new : List (Option Entry)) (change : Slots) (gone : ℕ) → table_slots new ≡ change → length new ≡ length old → is_full change gone ≡ false → ((s : ℕ) → s ≢ gone → is_full change s ≡ is_full (table_slots old) s) → full_from (table_slots new) 0 (length new) ≡ without gone (full_from (table_slots old) 0 (length old))
+pub order-without : (old new : List (Option Entry)) (change : Slots) (gone : ℕ) → table_slots new ≡ change → length new ≡ length old →
+    is_full change gone ≡ false → ((s : ℕ) → s ≢ gone → is_full change s ≡ is_full (table_slots old) s) →
+    full_from (table_slots new) 0 (length new) ≡ without gone (full_from (table_slots old) 0 (length old))
 order-without old new change gone is size empty same =
     ap (λ n. full_from (table_slots new) 0 n) size
-    ∙ full_from-without (length old) (table_slots old) (table_slots new) 0 gone (ap (λ slots. is_full slots gone) is ∙ empty) (λ s other. ap (λ slots. is_full slots s) is ∙ same s other)
+    ∙ full_from-without (length old) (table_slots old) (table_slots new) 0 gone (ap (λ slots. is_full slots gone) is ∙ empty)
+    (λ s other. ap (λ slots. is_full slots s) is ∙ same s other)

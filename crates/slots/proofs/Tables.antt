@@ -1,5 +1,6 @@
 -- Tables of records.
-use Rattle.std.proofs.Common.{ℕ, ◌≡◌, ◌≢◌, ◌∙◌, false, ◌+◌, ◌*◌, ◌/◌, ◌-◌, ◌^◌, ◌≤◌, inl, inr, Option, Some, None, List, length, replicate, take, drop, ◌++◌, refl, sym, ap, subst, arith}
+use Rattle.std.proofs.Common.{ℕ, ◌≡◌, ◌≢◌, ◌∙◌, false, ◌+◌, ◌*◌, ◌/◌, ◌-◌, ◌^◌, ◌≤◌, inl, inr, Option, Some, None, List, length, replicate, take, drop, ◌++◌}
+use Rattle.std.proofs.Common.{refl, sym, ap, subst, arith}
 use Rattle.std.proofs.lemmas.Bool.{cases_lt}
 use Rattle.std.proofs.lemmas.List.{get_or_past, get_or-replicate, length-replicate, take-append-le, take_all}
 use Rattle.std.proofs.lemmas.Nat.{pow-add}
@@ -33,7 +34,8 @@ derivation-none = record {
 
 derivation-closed_records : (n : ℕ) → IsDerivation (table_slots (replicate n None))
 unfolding no_slots
-derivation-closed_records n = derivation-same no_slots (table_slots (replicate n None)) derivation-none (λ s. (ap capability_of (closed-at n s), ap parent_of (closed-at n s)))
+derivation-closed_records n = derivation-same no_slots (table_slots (replicate n None)) derivation-none
+    (λ s. (ap capability_of (closed-at n s), ap parent_of (closed-at n s)))
 
 -- sixteen records' bytes are all the memory
 whole-sixteenths : (bits more : ℕ) → bits ≡ more + 4 → 16 * (2 ^ bits / 16) ≡ 2 ^ bits
@@ -41,7 +43,8 @@ whole-sixteenths bits more is =
     let split : 2 ^ bits ≡ 2 ^ more * 16 = ap (λ n. 2 ^ n) is ∙ pow-add 2 more 4 in
     omega (arith, split)
 
-pub table-new : (memory : List ℕ) (records : List (Option Entry)) (bits count : ℕ) → 4 ≤ bits → length memory ≡ 2 ^ bits → length memory ≤ 2 ^ 24 → count ≡ length memory / 16 → records ≡ replicate count None → IsTable memory records
+pub table-new : (memory : List ℕ) (records : List (Option Entry)) (bits count : ℕ) → 4 ≤ bits → length memory ≡ 2 ^ bits → length memory ≤ 2 ^ 24 →
+    count ≡ length memory / 16 → records ≡ replicate count None → IsTable memory records
 table-new memory records bits count least size most is made =
     let long : length records ≡ count = ap length made ∙ length-replicate {A = Option Entry} count None in
     let whole = whole-sixteenths bits (bits - 4) (omega arith) in
@@ -56,10 +59,12 @@ refilled : (n : ℕ) (old new : List (Option Entry)) → length new ≡ n → ta
 refilled n old new size = rw (← size) (take-append-le (length new) new (drop (length new) old) (omega arith) ∙ take_all (length new) new (omega arith))
 
 -- the slots of a table that was changed
-pub slots-changed : (n : ℕ) (old new : List (Option Entry)) (change : Slots) → length new ≡ n → ((s : ℕ) → table_slots new s ≡ change s) → table_slots (take n (new ++ drop (length new) old)) ≡ change
+pub slots-changed : (n : ℕ) (old new : List (Option Entry)) (change : Slots) → length new ≡ n → ((s : ℕ) → table_slots new s ≡ change s) →
+    table_slots (take n (new ++ drop (length new) old)) ≡ change
 slots-changed n old new change size same = ap table_slots (refilled n old new size) ∙ (λ i s. same s i)
 
-pub table-changed : (memory : List ℕ) (n : ℕ) (old base new : List (Option Entry)) (change : Slots) → IsTable memory base → length new ≡ length base → length new ≡ n → ((s : ℕ) → table_slots new s ≡ change s) → IsDerivation change → IsTable memory (take n (new ++ drop (length new) old))
+pub table-changed : (memory : List ℕ) (n : ℕ) (old base new : List (Option Entry)) (change : Slots) → IsTable memory base → length new ≡ length base →
+    length new ≡ n → ((s : ℕ) → table_slots new s ≡ change s) → IsDerivation change → IsTable memory (take n (new ++ drop (length new) old))
 table-changed memory n old base new change table kept size same sound =
     let made : table_slots new ≡ change = λ i s. same s i in
     let result : IsTable memory new = record {
@@ -70,10 +75,16 @@ table-changed memory n old base new change table kept size same sound =
     subst (IsTable memory) (sym (refilled n old new size)) result
 
 -- and the order of its full slots
-pub order-changed : (n : ℕ) (old base new : List (Option Entry)) (change : Slots) → table_slots (take n (new ++ drop (length new) old)) ≡ change → length new ≡ length base → length new ≡ n → ((s : ℕ) → is_full change s ≡ is_full (table_slots base) s) → full_from (table_slots (take n (new ++ drop (length new) old))) 0 (length (take n (new ++ drop (length new) old))) ≡ full_from (table_slots base) 0 (length base)
+pub order-changed : (n : ℕ) (old base new : List (Option Entry)) (change : Slots) → table_slots (take n (new ++ drop (length new) old)) ≡ change →
+    length new ≡ length base → length new ≡ n → ((s : ℕ) → is_full change s ≡ is_full (table_slots base) s) →
+    full_from (table_slots (take n (new ++ drop (length new) old))) 0 (length (take n (new ++ drop (length new) old))) ≡ full_from (table_slots base) 0
+    (length base)
 order-changed n old base new change is kept size same =
     order-same base (take n (new ++ drop (length new) old)) change is (ap length (refilled n old new size) ∙ kept) same
 
-pub order-taken_out : (n : ℕ) (old base new : List (Option Entry)) (change : Slots) (gone : ℕ) → table_slots (take n (new ++ drop (length new) old)) ≡ change → length new ≡ length base → length new ≡ n → is_full change gone ≡ false → ((s : ℕ) → s ≢ gone → is_full change s ≡ is_full (table_slots base) s) → full_from (table_slots (take n (new ++ drop (length new) old))) 0 (length (take n (new ++ drop (length new) old))) ≡ without gone (full_from (table_slots base) 0 (length base))
+pub order-taken_out : (n : ℕ) (old base new : List (Option Entry)) (change : Slots) (gone : ℕ) → table_slots (take n (new ++ drop (length new) old)) ≡ change →
+    length new ≡ length base → length new ≡ n → is_full change gone ≡ false → ((s : ℕ) → s ≢ gone → is_full change s ≡ is_full (table_slots base) s) →
+    full_from (table_slots (take n (new ++ drop (length new) old))) 0 (length (take n (new ++ drop (length new) old))) ≡ without gone
+    (full_from (table_slots base) 0 (length base))
 order-taken_out n old base new change gone is kept size empty same =
     order-without base (take n (new ++ drop (length new) old)) change gone is (ap length (refilled n old new size) ∙ kept) empty same

@@ -4,7 +4,8 @@ use Rattle.std.proofs.lemmas.Bool.{ltb-true, not-true}
 use Rattle.model.specs.declared.capabilities.Cap.{Cap}
 use Rattle.model.specs.declared.errors.KError.TheVariants.{IllegalOperation, RangeError}
 use Rattle.model.specs.declared.invocations.SlotName.{SlotName}
-use Rattle.model.specs.Capabilities.CapabilityKinds.{badge_fits, carries_messages, copied, frame_mapping, guard_fits, is_badged, may_be_copied, table_mapping, with_payload}
+use Rattle.model.specs.Capabilities.CapabilityKinds.{badge_fits, carries_messages, copied, frame_mapping, guard_fits, is_badged, may_be_copied, table_mapping}
+use Rattle.model.specs.Capabilities.CapabilityKinds.{with_payload}
 use Rattle.model.specs.Capabilities.CapabilityWords.{IsCapability}
 use Rattle.model.specs.Capabilities.Slots.{IsFull, capability_at, depth_of, inserted, is_empty, is_full, recapped, relocated}
 use Rattle.model.specs.Kernel.Arguments.{Call, check, destination_slot, may_have_child, source_slot}
@@ -12,7 +13,8 @@ use Rattle.model.specs.Kernel.CNodeCalls.{copy, mint, move, mutate}
 use Rattle.model.specs.Kernel.Soundness.{IsSound}
 use Rattle.model.specs.Kernel.State.{State, with_slots}
 use Rattle.soundness.specs.Calls.{IsCall, IsInvoked, IsRoot, held, boot, of_slot, of_loader}
-use Rattle.soundness.proofs.Copies.{no-badge, IsAlike, alike-both, copied-alike, copied-badge_fits, copied-guard_fits, copied-unmapped, copied-valid, copies-shared, payload-alike, is_single, payload-mapping, payload-page_table, payload-valid}
+use Rattle.soundness.proofs.Copies.{no-badge, IsAlike, alike-both, copied-alike, copied-badge_fits, copied-guard_fits, copied-unmapped, copied-valid}
+use Rattle.soundness.proofs.Copies.{copies-shared, payload-alike, is_single, payload-mapping, payload-page_table, payload-valid}
 use Rattle.soundness.proofs.Inserted.{empty-open, inserted-sound}
 use Rattle.soundness.proofs.Lookups.{check-passes, destination-plain, passes-both, source-plain}
 use Rattle.soundness.proofs.Places.{IsPlain, plain-may_hold, plain-open, plain-still}
@@ -121,7 +123,8 @@ move-sound s t call to from sound is_call is =
 -- what is in a slot with another guard
 guarded-sound : (s : State) (slot payload : ℕ) (capability : Cap) → IsSound s → IsPlain s slot → IsFull s.slots slot
     → capability_at s.slots slot ≡ capability
-    → badge_fits capability payload ≡ true → guard_fits capability payload ≡ true → IsSound (with_slots s (recapped s.slots slot (with_payload capability payload)))
+    → badge_fits capability payload ≡ true → guard_fits capability payload ≡ true →
+    IsSound (with_slots s (recapped s.slots slot (with_payload capability payload)))
 guarded-sound s slot payload capability sound plain full is badge guard =
     let alike = payload-alike capability payload in
     recapped-sound s slot (with_payload capability payload) sound
@@ -156,6 +159,7 @@ mutate-sound s t call to from payload sound is_call is =
     (plain-still s moved one.value named.there)
     (subst (λ (c : Cap). not (is_empty c) ≡ true) (sym same) named.full)
     same
-    (no-badge capability payload (not-true (carries_messages capability) (check-passes (not (carries_messages capability)) IllegalOperation three.value three.first)))
+    (no-badge capability payload (not-true (carries_messages capability)
+    (check-passes (not (carries_messages capability)) IllegalOperation three.value three.first)))
     (check-passes (guard_fits capability payload) IllegalOperation four.value four.first)
     )

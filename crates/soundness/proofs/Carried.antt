@@ -1,5 +1,6 @@
 -- A change of the slots after which each holds what a slot held before, or a copy of it, keeps soundness.
-use Rattle.std.proofs.Common.{ℕ, ◌≡◌, ◌≢◌, ◌∙◌, ◌/◌, ◌^◌, ◌<◌, inl, inr, Bool, true, false, not, is_some, List, [], ◌∷◌, Option, Some, None, refl, sym, ap, arith}
+use Rattle.std.proofs.Common.{ℕ, ◌≡◌, ◌≢◌, ◌∙◌, ◌/◌, ◌^◌, ◌<◌, inl, inr, Bool, true, false, not, is_some, List, [], ◌∷◌, Option, Some, None, refl, sym, ap}
+use Rattle.std.proofs.Common.{arith}
 use Rattle.std.specs.List.{list_any}
 use Rattle.std.specs.Option.{option_map_or}
 use Rattle.std.proofs.lemmas.Bool.{or_cases}
@@ -9,14 +10,16 @@ use Rattle.std.proofs.lemmas.List.FromFn.{get_or-range_with_len, length-range_wi
 use Rattle.model.proofs.Ancestors.{full-open}
 use Rattle.model.proofs.SlotChanges.{full-capability}
 use Rattle.model.specs.declared.capabilities.Cap.{Cap}
-use Rattle.model.specs.declared.capabilities.Cap.TheVariants.{Empty, Untyped, Endpoint, Notification, CNode, Frame, PageTable, Tcb, RootTable, InterruptControl, InterruptHandler}
+use Rattle.model.specs.declared.capabilities.Cap.TheVariants.{Empty, Untyped, Endpoint, Notification, CNode, Frame, PageTable, Tcb, RootTable, InterruptControl}
+use Rattle.model.specs.declared.capabilities.Cap.TheVariants.{InterruptHandler}
 use Rattle.model.specs.declared.capabilities.FrameMapping.{FrameMapping}
 use Rattle.model.specs.declared.capabilities.TableMapping.{TableMapping}
 use Rattle.model.specs.Capabilities.CapabilityKinds.{frame_mapping, table_mapping}
 use Rattle.model.specs.Capabilities.Slots.{Descendant, IsDerivation, IsFull, IsOpen, Slots, capability_at}
 use Rattle.model.specs.Kernel.AddressSpaces.{is_page, is_region, is_region_taken, maps_region, region_pages}
 use Rattle.model.specs.Kernel.Kinds.{Piece, object_named, piece_of, used_of}
-use Rattle.model.specs.Kernel.Soundness.{HasShape, HasSlot, of_boot_area, of_object, IsSound, MappingsAreSound, MemoryIsSound, SlotsAreSound, ThreadsAreSound, Lies, apart, same, within, around}
+use Rattle.model.specs.Kernel.Soundness.{HasShape, HasSlot, of_boot_area, of_object, IsSound, MappingsAreSound, MemoryIsSound, SlotsAreSound, ThreadsAreSound}
+use Rattle.model.specs.Kernel.Soundness.{Lies, apart, same, within, around}
 use Rattle.model.specs.Kernel.State.{State, holds_some, slot_numbers, slots_of, with_slots}
 use Rattle.soundness.proofs.Pieces.{piece-named}
 use Rattle.soundness.proofs.Places.{MayHold, slot-near}
@@ -76,7 +79,8 @@ memory-carried s new origin memory carries = record {
   lies = λ a b p q differ one other. elim (eqb_tells (origin a) (origin b)) [
     | inl twin ↦
         let named = piece-named (capability_at new a) p (carries.twins a b differ twin.1) one in
-        same named.0.0 named.0.1 named.1 (carries.object b ∙ ap (λ (x : ℕ). object_named (capability_at s.slots x)) (sym twin.1) ∙ sym (carries.object a) ∙ named.1)
+        same named.0.0 named.0.1 named.1 (carries.object b ∙ ap (λ (x : ℕ). object_named (capability_at s.slots x)) (sym twin.1) ∙ sym (carries.object a)
+        ∙ named.1)
     | inr distinct ↦
         lies-carried s.slots new origin a b p q carries
         (memory.lies (origin a) (origin b) p q distinct.1 (sym (carries.piece a) ∙ one) (sym (carries.piece b) ∙ other))
@@ -143,13 +147,15 @@ full-near s shape slots memory slot full = slot-near s shape memory slot ((slots
 
 -- a region that was taken still is
 pub taken-carried : (s : State) (new : Slots) (origin : ℕ → ℕ) (root region : ℕ) → ((slot : ℕ) → IsFull new slot → slot < 2 ^ s.memory_bits / 16)
-    → ((slot : ℕ) → IsFull s.slots slot → (x : ℕ) × (origin x ≡ slot)) → ((slot : ℕ) → table_mapping (capability_at new slot) ≡ table_mapping (capability_at s.slots (origin slot)))
+    → ((slot : ℕ) → IsFull s.slots slot → (x : ℕ) × (origin x ≡ slot)) →
+    ((slot : ℕ) → table_mapping (capability_at new slot) ≡ table_mapping (capability_at s.slots (origin slot)))
     → is_region_taken s root region ≡ true → is_region_taken (with_slots s new) root region ≡ true
 taken-carried s new origin root region near kept table is =
     let was = held-by s (maps_region root region) is in
     let mapping = some-passes (table_mapping (capability_at s.slots was.0)) (is_region root region) was.1 in
     let there = kept was.0 (full-unless (capability_at s.slots was.0) table_mapping mapping.0 refl mapping.1) in
-    let e : table_mapping (capability_at new there.0) ≡ Some mapping.0 = table there.0 ∙ ap (λ (x : ℕ). table_mapping (capability_at s.slots x)) there.1 ∙ mapping.1 in
+    let e : table_mapping (capability_at new there.0) ≡ Some mapping.0 = table there.0 ∙ ap (λ (x : ℕ). table_mapping (capability_at s.slots x)) there.1
+    ∙ mapping.1 in
     held-at (with_slots s new) (maps_region root region) there.0
     (near there.0 (full-unless (capability_at new there.0) table_mapping mapping.0 refl e))
     (ap (λ (o : Option TableMapping). option_map_or (is_region root region) o false) e ∙ mapping.2)
@@ -160,7 +166,8 @@ mappings-carried s new origin mappings near kept maps =
     let taken = λ (root region : ℕ). taken-carried s new origin root region near kept maps.table in
     record {
       frame_root = λ slot mapping is. mappings.frame_root (origin slot) mapping (maps.frame slot mapping is);
-      frame_table = λ slot mapping is. taken mapping.root (mapping.page / region_pages) (mappings.frame_table (origin slot) mapping (maps.frame slot mapping is));
+      frame_table = λ slot mapping is. taken mapping.root (mapping.page / region_pages)
+          (mappings.frame_table (origin slot) mapping (maps.frame slot mapping is));
       table_root = λ slot mapping is. mappings.table_root (origin slot) mapping (sym (maps.table slot) ∙ is);
       one_page = λ a b root page one other.
           let m = some-passes (frame_mapping (capability_at new a)) (is_page root page) one in
@@ -179,7 +186,8 @@ mappings-carried s new origin mappings near kept maps =
           (ap (λ (o : Option TableMapping). option_map_or (is_region root region) o false) (sym (maps.table b)) ∙ other))
           c.1;
       one_table = λ a b offset m n one other.
-          maps.one_table a b offset m (mappings.one_table (origin a) (origin b) offset m n (maps.page_table a offset m one) (maps.page_table b offset n other)) one;
+          maps.one_table a b offset m (mappings.one_table (origin a) (origin b) offset m n (maps.page_table a offset m one) (maps.page_table b offset n other))
+          one;
     }
 
 -- ---- the whole

@@ -4,9 +4,11 @@ use Rattle.std.proofs.lemmas.Bool.{ltb-true}
 use Rattle.std.proofs.lemmas.Bool.Decides.{nat_tests}
 use Rattle.std.proofs.lemmas.Nat.{and_assoc, and_comm, and_le_l}
 use Rattle.model.specs.declared.capabilities.Cap.{Cap}
-use Rattle.model.specs.declared.capabilities.Cap.TheVariants.{Empty, Untyped, Endpoint, Notification, CNode, Frame, PageTable, Tcb, RootTable, InterruptControl, InterruptHandler}
+use Rattle.model.specs.declared.capabilities.Cap.TheVariants.{Empty, Untyped, Endpoint, Notification, CNode, Frame, PageTable, Tcb, RootTable, InterruptControl}
+use Rattle.model.specs.declared.capabilities.Cap.TheVariants.{InterruptHandler}
 use Rattle.model.specs.declared.capabilities.TableMapping.{TableMapping}
-use Rattle.model.specs.Capabilities.CapabilityKinds.{badge_fits, carries_messages, cnode_of, copied, frame_mapping, guard_fits, is_guard_word, may_be_copied, root_of, table_mapping, with_payload, Node}
+use Rattle.model.specs.Capabilities.CapabilityKinds.{badge_fits, carries_messages, cnode_of, copied, frame_mapping, guard_fits, is_guard_word, may_be_copied}
+use Rattle.model.specs.Capabilities.CapabilityKinds.{root_of, table_mapping, with_payload, Node}
 use Rattle.model.specs.Capabilities.CapabilityWords.{IsCapability, IsGuardWord}
 use Rattle.model.specs.Capabilities.Slots.{is_empty}
 use Rattle.model.specs.Kernel.InterruptCalls.{may_be_bound}

@@ -19,10 +19,12 @@ use Rattle.model.specs.Kernel.State.{State, ThreadObject, ThreadState, binding_s
 use Rattle.model.specs.Kernel.ThreadCalls.{configure, given_guard_fits, with_guard}
 use Rattle.soundness.specs.Calls.{IsCall, IsInvoked, held, boot}
 use Rattle.soundness.proofs.CNodeCalls.{room-below}
-use Rattle.soundness.proofs.Copies.{IsAlike, IsQuiet, alike-same, bindable, cnode-quiet, no-badge, payload-alike, payload-cnode, payload-mapping, payload-valid, root-quiet}
+use Rattle.soundness.proofs.Copies.{IsAlike, IsQuiet, alike-same, bindable, cnode-quiet, no-badge, payload-alike, payload-cnode, payload-mapping, payload-valid}
+use Rattle.soundness.proofs.Copies.{root-quiet}
 use Rattle.soundness.proofs.Inserted.{Inserts, empty-open, inserted-depth, inserted-other, inserted-sound}
 use Rattle.soundness.proofs.Lookups.{check-passes, destination-plain, passes-both, source-full, wanted-some}
-use Rattle.soundness.proofs.Places.{StandsIn, cspace-may_hold, line-may_hold, line-open, may-still, own-slot_open, plain-may_hold, plain-open, thread-slot, vspace-may_hold}
+use Rattle.soundness.proofs.Places.{StandsIn, cspace-may_hold, line-may_hold, line-open, may-still, own-slot_open, plain-may_hold, plain-open, thread-slot}
+use Rattle.soundness.proofs.Places.{vspace-may_hold}
 use Rattle.soundness.proofs.Rest.{thread-kind}
 use Rattle.soundness.proofs.ThreadCalls.{fine-of, same-whole}
 
@@ -42,7 +44,8 @@ get-sound s t call number name sound is_call control is =
     let less = leb-true number 63 (check-passes (nat_le number 63) RangeError one.value one.first) in
     let there = destination-plain s sound.memory call.root name three.value is_call.root three.first in
     let source = control-held s call is_call.invoked control in
-    let alike : IsAlike InterruptControl (InterruptHandler number) = record { object = refl; single = refl; empty = refl; piece = refl; used = refl; table = refl } in
+    let alike : IsAlike InterruptControl (InterruptHandler number) =
+    record { object = refl; single = refl; empty = refl; piece = refl; used = refl; table = refl } in
     let e : with_slots s (inserted s.slots three.value (InterruptHandler number) (Some call.slot)) ≡ t = cc four.rest in
     subst IsSound e (inserted-sound s three.value call.slot (InterruptHandler number) sound (record {
       empty = empty-open s.slots three.value sound.slots.derivation (plain-open s sound.slots three.value there.0) there.1;
@@ -124,14 +127,16 @@ module _ (s : State) (thread cspace vspace : ℕ) (guard : Option ℕ) (sound : 
       let c = capability_at s.slots cspace in
       let quiet = cnode-quiet c (Configures.cnode known) (Configures.is_cnode known) in
       record {
-        empty = empty-open s.slots (cspace_slot thread) sound.slots.derivation (own-slot_open s sound.slots thread (cspace_slot thread) first-stands) (Configures.first_free known);
+        empty = empty-open s.slots (cspace_slot thread) sound.slots.derivation (own-slot_open s sound.slots thread (cspace_slot thread) first-stands)
+            (Configures.first_free known);
         full = Configures.first_full known;
         room = Configures.first_room known;
         valid = guarded-valid c guard (sound.slots.derivation.valid cspace) quiet (Configures.fits known);
         alike = guarded-alike c guard;
         shared = (guarded-alike c guard).single ∙ quiet.single;
         unmapped = guarded-mapping c guard ∙ quiet.unmapped;
-        may = cspace-may_hold s sound.memory thread (Configures.own known) first (Configures.is known) (ap is_some (guarded-cnode c guard ∙ Configures.is_cnode known));
+        may = cspace-may_hold s sound.memory thread (Configures.own known) first (Configures.is known)
+            (ap is_some (guarded-cnode c guard ∙ Configures.is_cnode known));
       }
 
   one : Slots
@@ -161,17 +166,20 @@ module _ (s : State) (thread cspace vspace : ℕ) (guard : Option ℕ) (sound : 
       let room = Configures.second_room known in
       record {
         empty = still (vspace_slot thread) slots-differ
-            ∙ empty-open s.slots (vspace_slot thread) sound.slots.derivation (own-slot_open s sound.slots thread (vspace_slot thread) second-stands) (Configures.second_free known);
+            ∙ empty-open s.slots (vspace_slot thread) sound.slots.derivation (own-slot_open s sound.slots thread (vspace_slot thread) second-stands)
+            (Configures.second_free known);
         full = ap (λ (c : Cap). not (is_empty c)) same ∙ Configures.second_full known;
         room = omega (arith, depth, room);
         valid = sound.slots.derivation.valid vspace;
         alike = subst (λ (d : Cap). IsAlike d c) (sym same) (alike-same c);
         shared = quiet.single;
         unmapped = quiet.unmapped;
-        may = may-still s one (vspace_slot thread) c (vspace-may_hold s sound.memory thread (Configures.own known) c (Configures.is known) (ap is_some (Configures.is_root known)));
+        may = may-still s one (vspace_slot thread) c
+            (vspace-may_hold s sound.memory thread (Configures.own known) c (Configures.is known) (ap is_some (Configures.is_root known)));
       }
 
-  both-sound : IsSound (with_slots s (inserted (inserted s.slots (cspace_slot thread) (with_guard (capability_at s.slots cspace) guard) (Some cspace)) (vspace_slot thread) (capability_at s.slots vspace) (Some vspace)))
+  both-sound : IsSound (with_slots s (inserted (inserted s.slots (cspace_slot thread) (with_guard (capability_at s.slots cspace) guard) (Some cspace))
+      (vspace_slot thread) (capability_at s.slots vspace) (Some vspace)))
   unfolding one first
   both-sound = inserted-sound (with_slots s one) (vspace_slot thread) vspace (capability_at s.slots vspace) one-sound second-inserts
 
@@ -216,7 +224,8 @@ configure-whole s t root thread guard address cspace_name vspace_name whole is_t
       first_room = room-below s cspace seven.value seven.first;
       second_room = room-below s vspace eight.value eight.first;
     } in
-    let slots = inserted (inserted s.slots (cspace_slot thread) (with_guard (capability_at s.slots cspace) guard) (Some cspace)) (vspace_slot thread) (capability_at s.slots vspace) (Some vspace) in
+    let slots = inserted (inserted s.slots (cspace_slot thread) (with_guard (capability_at s.slots cspace) guard) (Some cspace)) (vspace_slot thread)
+    (capability_at s.slots vspace) (Some vspace) in
     let s2 = with_slots s slots in
     let whole2 : IsSound s2 = both-sound s thread cspace vspace guard whole known in
     let e : with_thread s2 thread (record (thread_at s thread) { fault_address = address }) ≡ t = cc eight.rest in

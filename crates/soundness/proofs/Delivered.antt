@@ -1,5 +1,6 @@
 -- A message keeps the registers of its receiver in words of 32 bits.
-use Rattle.std.proofs.Common.{ℕ, ◌≡◌, ◌==◌, ◌^◌, ◌<◌, ◌≤◌, inl, inr, Bool, true, false, if◌then◌else◌, length, get_or, map, take, List, [], ◌∷◌, Option, Some, refl, arith}
+use Rattle.std.proofs.Common.{ℕ, ◌≡◌, ◌==◌, ◌^◌, ◌<◌, ◌≤◌, inl, inr, Bool, true, false, if◌then◌else◌, length, get_or, map, take, List, [], ◌∷◌, Option, Some}
+use Rattle.std.proofs.Common.{refl, arith}
 use Rattle.std.specs.Prelude.{All}
 use Rattle.std.proofs.lemmas.Bool.{cases_lt}
 use Rattle.std.proofs.lemmas.List.{get_or_past, length-map, length-take}
@@ -7,7 +8,8 @@ use Rattle.std.proofs.lemmas.List.Elements.{All-cons, All-get_or, All-nil}
 use Rattle.model.specs.declared.faults.FaultKind.{FaultKind}
 use Rattle.model.specs.declared.faults.FaultKind.TheVariants.{Capability, UnknownCall, Instruction, Memory}
 use Rattle.model.specs.declared.instructions.Register.{Register}
-use Rattle.model.specs.Kernel.Messages.{Message, a0, a1, deliver, deliver_word, delivered, info_word, length_of, message_of, message_sent, passes, passes_with, with_registers, word_registers}
+use Rattle.model.specs.Kernel.Messages.{Message, a0, a1, deliver, deliver_word, delivered, info_word, length_of, message_of, message_sent, passes, passes_with}
+use Rattle.model.specs.Kernel.Messages.{with_registers, word_registers}
 use Rattle.model.specs.Kernel.Retype.{NewObject, NewThread}
 use Rattle.model.specs.Kernel.Soundness.{ThreadIsSound, SentIsSound}
 use Rattle.model.specs.Kernel.State.{Sender, Sent, BySend, ByCall, ByFault, State, ThreadState, thread_at}

@@ -2,7 +2,8 @@
 use Rattle.std.proofs.Common.{ℕ, ◌≡◌, ◌==◌, ◌&&◌, ◌^◌, ◌<◌, Bool, true, false, nat_lt, if◌then◌else◌, Option, Some, None, Result, Ok, Err, refl, ap, subst}
 use Rattle.std.specs.Option.{option_map_or}
 use Rattle.model.specs.declared.capabilities.Cap.{Cap}
-use Rattle.model.specs.declared.capabilities.Cap.TheVariants.{Empty, Untyped, Endpoint, Notification, CNode, Frame, PageTable, Tcb, RootTable, InterruptControl, InterruptHandler}
+use Rattle.model.specs.declared.capabilities.Cap.TheVariants.{Empty, Untyped, Endpoint, Notification, CNode, Frame, PageTable, Tcb, RootTable, InterruptControl}
+use Rattle.model.specs.declared.capabilities.Cap.TheVariants.{InterruptHandler}
 use Rattle.model.specs.declared.lookup_failures.LookupFailure.{LookupFailure}
 use Rattle.model.specs.Capabilities.CapabilityWords.{IsCapability}
 use Rattle.model.specs.Capabilities.Lookup.{called_slot}
@@ -31,7 +32,8 @@ pub record IsBadged (s : State) (kind : NewObject) (offset badge : ℕ) : Type 0
   pub fits : badge < 2 ^ 28
 
 module _ (s : State) (whole : IsSound s) where
-  handler-at : (slot : ℕ) (c : Cap) (named : Handler) → capability_at s.slots slot ≡ c → handler_of c ≡ Some named → IsBadged s NewEndpoint named.endpoint named.badge
+  handler-at : (slot : ℕ) (c : Cap) (named : Handler) → capability_at s.slots slot ≡ c → handler_of c ≡ Some named →
+      IsBadged s NewEndpoint named.endpoint named.badge
   handler-at slot (Endpoint offset r badge) named is takes =
       elim (may_write r && may_grant_reply r) as (λ b. (if b then Some (record { endpoint = offset; badge = badge }) else None) ≡ Some named
       → IsBadged s NewEndpoint named.endpoint named.badge) [
@@ -56,7 +58,8 @@ module _ (s : State) (whole : IsSound s) where
   handler-at slot InterruptControl named is takes = let e : None ≡ Some named = takes in absurd cc
   handler-at slot (InterruptHandler a) named is takes = let e : None ≡ Some named = takes in absurd cc
 
-  signal-at : (slot : ℕ) (c : Cap) (named : Signal) → capability_at s.slots slot ≡ c → signal_of c ≡ Some named → IsBadged s NewNotification named.notification named.badge
+  signal-at : (slot : ℕ) (c : Cap) (named : Signal) → capability_at s.slots slot ≡ c → signal_of c ≡ Some named →
+      IsBadged s NewNotification named.notification named.badge
   signal-at slot (Notification offset r badge) named is takes =
       let e : ◌≡◌ {A = Signal} (record { notification = offset; badge = badge }) named = cc takes in
       let valid : IsCapability (Notification offset r badge) = subst IsCapability is (whole.slots.derivation.valid slot) in
@@ -119,11 +122,13 @@ module _ (s : State) (whole : IsSound s) where
 
   pub raise-whole : (line : ℕ) → IsSound (raise s line)
   raise-whole line =
-      elim (nat_lt 63 line) as (λ b. IsSound (if b then s else if s.masked line then with_pending s line true else option_map_or (interrupt s line) (binding s line)
+      elim (nat_lt 63 line) as (λ b. IsSound (if b then s else if s.masked line then with_pending s line true else
+      option_map_or (interrupt s line) (binding s line)
       (with_pending s line true))) [
         | true ↦ whole
         | false ↦
-            elim (s.masked line) as (λ b. IsSound (if b then with_pending s line true else option_map_or (interrupt s line) (binding s line) (with_pending s line true))) [
+            elim (s.masked line) as (λ b. IsSound (if b then with_pending s line true else
+            option_map_or (interrupt s line) (binding s line) (with_pending s line true))) [
               | true ↦ pending-whole line true
               | false ↦ raised-by line (binding s line) refl
             ]
@@ -140,7 +145,8 @@ pub acknowledge-whole : (s : State) (line : ℕ) → IsSound s → IsSound (ackn
 acknowledge-whole s line whole =
     let unmasked : State = record s { masked = put s.masked line false } in
     let free = lines-whole s (put s.masked line false) s.pending whole in
-    elim (s.pending line) as (λ b. IsSound (if b then option_map_or (interrupt (with_pending unmasked line false) line) (binding s line) unmasked else unmasked)) [
+    elim (s.pending line) as (λ b. IsSound (if b then option_map_or (interrupt (with_pending unmasked line false) line) (binding s line) unmasked else
+    unmasked)) [
       | true ↦ acknowledged-by s (with_pending unmasked line false) unmasked line (binding s line) (pending-whole unmasked free line false) free refl
       | false ↦ free
     ]

@@ -1,5 +1,6 @@
 -- The empty machine is sound: all of its slots are empty, and there are no objects.
-use Rattle.std.proofs.Common.{ℕ, ◌≡◌, ◌+◌, ◌/◌, ◌==◌, ◌&&◌, ◌≤◌, Bool, true, false, not, is_some, if◌then◌else◌, Option, Some, None, option_map, List, [], refl, sym, ◌∙◌, ap, subst, arith, nat_lt}
+use Rattle.std.proofs.Common.{ℕ, ◌≡◌, ◌+◌, ◌/◌, ◌==◌, ◌&&◌, ◌≤◌, Bool, true, false, not, is_some, if◌then◌else◌, Option, Some, None, option_map, List, [], refl}
+use Rattle.std.proofs.Common.{sym, ◌∙◌, ap, subst, arith, nat_lt}
 use Rattle.std.specs.Option.{option_map_or}
 use Rattle.std.proofs.lemmas.Bool.{ltb-true, lt-ltb}
 use Rattle.model.specs.declared.capabilities.Cap.{Cap}
@@ -13,7 +14,8 @@ use Rattle.model.specs.Shared.Lists.{times_in}
 use Rattle.model.specs.Kernel.Removal.{is_slot_of, slot_count}
 use Rattle.model.specs.Kernel.Scheduling.{is_runnable}
 use Rattle.model.specs.Kernel.Setup.{boot_area}
-use Rattle.model.specs.Kernel.Soundness.{HasShape, of_boot_area, of_object, IsSound, is_blocked_on, SlotsAreSound, MemoryIsSound, MappingsAreSound, ThreadsAreSound, waiting_at}
+use Rattle.model.specs.Kernel.Soundness.{HasShape, of_boot_area, of_object, IsSound, is_blocked_on, SlotsAreSound, MemoryIsSound, MappingsAreSound}
+use Rattle.model.specs.Kernel.Soundness.{ThreadsAreSound, waiting_at}
 use Rattle.model.specs.Kernel.State.{State, as_thread, boot_area_slots, new_thread, thread_at}
 use Rattle.model.proofs.Depths.{depth-none}
 
@@ -99,8 +101,11 @@ module _ (s : State) (bare : IsBare s) where
     one_sided = λ offset e is. absurd (no-object offset _ (s.objects offset) (bare.objects offset) is);
     senders = λ offset e is. absurd (no-object offset _ (s.objects offset) (bare.objects offset) is);
     words = λ offset n is. absurd (no-object offset _ (s.objects offset) (bare.objects offset) is);
-    callers = λ thread caller is. absurd (no-object thread caller (thread_at s thread).caller (ap (λ o. (option_map_or (λ t. t) (as_thread o) new_thread).caller) (bare.objects thread)) is);
-    one_right = λ a b caller is other. absurd (no-object a caller (thread_at s a).caller (ap (λ o. (option_map_or (λ t. t) (as_thread o) new_thread).caller) (bare.objects a)) is);
+    callers = λ thread caller is.
+        absurd (no-object thread caller (thread_at s thread).caller (ap (λ o. (option_map_or (λ t. t) (as_thread o) new_thread).caller) (bare.objects thread))
+        is);
+    one_right = λ a b caller is other.
+        absurd (no-object a caller (thread_at s a).caller (ap (λ o. (option_map_or (λ t. t) (as_thread o) new_thread).caller) (bare.objects a)) is);
   }
 
 -- ---- the empty machine

@@ -24,14 +24,16 @@ module _ (s : State) (whole : IsSound s) (y c : ℕ) (is_thread : kind_at s y �
 
   awaits-same : (z : ℕ) → awaits_answer (thread_at after z).status ≡ awaits_answer (thread_at s z).status
   unfolding after
-  awaits-same = put-either s.objects y (Some (ThreadObject (record (thread_at s y) { caller = Some c }))) (λ z o. awaits_answer (own_of o).status ≡ awaits_answer (thread_at s z).status) refl (λ _ _. refl)
+  awaits-same = put-either s.objects y (Some (ThreadObject (record (thread_at s y) { caller = Some c })))
+      (λ z o. awaits_answer (own_of o).status ≡ awaits_answer (thread_at s z).status) refl (λ _ _. refl)
 
   abbrev Held : ℕ → ℕ → Type 0
   Held thread caller = ((thread ≡ y) × (caller ≡ c)) ⊎ ((thread ≢ y) × ((thread_at s thread).caller ≡ Some caller))
 
   held : (thread caller : ℕ) → (thread_at after thread).caller ≡ Some caller → Held thread caller
   unfolding after
-  held = put-either s.objects y (Some (ThreadObject (record (thread_at s y) { caller = Some c }))) (λ thread o. (caller : ℕ) → (own_of o).caller ≡ Some caller → Held thread caller)
+  held = put-either s.objects y (Some (ThreadObject (record (thread_at s y) { caller = Some c })))
+      (λ thread o. (caller : ℕ) → (own_of o).caller ≡ Some caller → Held thread caller)
       (λ caller e. let f : c ≡ caller = cc e in inl (refl, sym f)) (λ thread other caller e. inr (other, e))
 
   awaits-of : (thread caller : ℕ) → (thread_at after thread).caller ≡ Some caller → IsTrue (awaits_answer (thread_at s caller).status)
@@ -65,7 +67,8 @@ module _ (s : State) (whole : IsSound s) (y c : ℕ) (is_thread : kind_at s y �
       let listed = (begins s y whole).listed in
       let fine = caller-fine (thread_at s y) (Some c) (own-fine (kind_at s) s y r w y listed is_thread) in
       let stands : StandsAs (put s.objects y (Some (ThreadObject t)) y) (s.objects y) =
-      subst (λ (o : Option Object). StandsAs o (s.objects y)) (sym (put-here s.objects y (Some (ThreadObject t)))) (stands-new (kind_at s) s y r w listed y t is_thread refl refl) in
+      subst (λ (o : Option Object). StandsAs o (s.objects y)) (sym (put-here s.objects y (Some (ThreadObject t))))
+      (stands-new (kind_at s) s y r w listed y t is_thread refl refl) in
       ends (kind_at s) (with_thread s y t) y r w (awaits_answer (thread_at s y).status)
       (record { listed = rewritten-listed (kind_at s) s y r w listed y t is_thread fine (λ other. absurd (other refl)); rights = rights })
       (λ p. sym (stands.runs p)) (λ q. sym (stands.waits q)) (λ a. stands.awaits ∙ a)

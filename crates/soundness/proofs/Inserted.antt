@@ -6,13 +6,15 @@ use Rattle.model.proofs.Depths.{depth-leaf}
 use Rattle.model.proofs.Derivations.{derivation-inserted}
 use Rattle.model.proofs.SlotChanges.{capability_of, parent_of, entry-other, entry-same, full-not-empty}
 use Rattle.model.specs.declared.capabilities.Cap.{Cap}
-use Rattle.model.specs.declared.capabilities.Cap.TheVariants.{Empty, Untyped, Endpoint, Notification, CNode, Frame, PageTable, Tcb, RootTable, InterruptControl, InterruptHandler}
+use Rattle.model.specs.declared.capabilities.Cap.TheVariants.{Empty, Untyped, Endpoint, Notification, CNode, Frame, PageTable, Tcb, RootTable, InterruptControl}
+use Rattle.model.specs.declared.capabilities.Cap.TheVariants.{InterruptHandler}
 use Rattle.model.specs.declared.capabilities.FrameMapping.{FrameMapping}
 use Rattle.model.specs.declared.capabilities.TableMapping.{TableMapping}
 use Rattle.model.specs.declared.slot_entries.Entry.{Entry}
 use Rattle.model.specs.Capabilities.CapabilityKinds.{frame_mapping, table_mapping}
 use Rattle.model.specs.Capabilities.CapabilityWords.{IsCapability}
-use Rattle.model.specs.Capabilities.Slots.{Descendant, child, deeper, IsDerivation, IsFull, IsOpen, Slots, capability_at, depth_of, empty_entry, inserted, is_empty, is_full, parent_at}
+use Rattle.model.specs.Capabilities.Slots.{Descendant, child, deeper, IsDerivation, IsFull, IsOpen, Slots, capability_at, depth_of, empty_entry, inserted}
+use Rattle.model.specs.Capabilities.Slots.{is_empty, is_full, parent_at}
 use Rattle.model.specs.Kernel.Kinds.{object_named, piece_of, used_of}
 use Rattle.model.specs.Kernel.Soundness.{IsSound}
 use Rattle.model.specs.Kernel.State.{State, with_slots}
@@ -47,7 +49,10 @@ empty-held : (slots : Slots) (slot : ℕ) (held : Option Entry) → IsDerivation
     → IsSome held → slots slot ≡ Some empty_entry
 empty-held slots slot None tree empty is there = let e : false ≡ true = there in absurd cc
 empty-held slots slot (Some held) tree empty is there =
-    let bare : is_empty (capability_at slots slot) ≡ true = (let e : not (is_empty (capability_at slots slot)) ≡ false = empty in elim (is_empty (capability_at slots slot)) as (λ b. not b ≡ false → b ≡ true) [ true ↦ λ _. refl | false ↦ λ f. let x : true ≡ false = f in absurd cc ] e) in
+    let bare : is_empty (capability_at slots slot) ≡ true =
+    (let e : not (is_empty (capability_at slots slot)) ≡ false = empty in
+    elim (is_empty (capability_at slots slot)) as (λ b. not b ≡ false → b ≡ true)
+    [ true ↦ λ _. refl | false ↦ λ f. let x : true ≡ false = f in absurd cc ] e) in
     let one : held.capability ≡ Empty = sym (ap capability_of is) ∙ empty-capability (capability_at slots slot) bare in
     let two : held.parent ≡ None = sym (ap parent_of is) ∙ no-parent slots slot (parent_at slots slot) tree empty refl in
     is ∙ ap (λ (c : Cap). entry_of c held.parent) one ∙ ap (λ (p : Option ℕ). entry_of Empty p) two
@@ -103,7 +108,8 @@ module _ (s : State) (slot parent : ℕ) (capability : Cap) (sound : IsSound s) 
     | inl here ↦
         ap (λ (y : ℕ). of (capability_at new y)) here.1 ∙ ap (λ (o : Option Entry). of (capability_of o)) held-here ∙ same
         ∙ sym (ap (λ (y : ℕ). of (capability_at old (origin y))) here.1 ∙ ap (λ (y : ℕ). of (capability_at old y)) origin-here)
-    | inr other ↦ ap (λ (o : Option Entry). of (capability_of o)) (held-other x other.1) ∙ sym (ap (λ (y : ℕ). of (capability_at old y)) (origin-other x other.1))
+    | inr other ↦ ap (λ (o : Option Entry). of (capability_of o)) (held-other x other.1)
+        ∙ sym (ap (λ (y : ℕ). of (capability_at old y)) (origin-other x other.1))
   ]
 
   bare : IsFull old slot → ⊥
@@ -120,7 +126,8 @@ module _ (s : State) (slot parent : ℕ) (capability : Cap) (sound : IsSound s) 
   descends-still root x (child _ is) =
       child x (ap parent_of (held-other x (λ e. let clash : None ≡ Some root = sym parent-none ∙ ap (parent_at old) (sym e) ∙ is in cc)) ∙ is)
   descends-still root x (deeper _ up is below) =
-      deeper x up (ap parent_of (held-other x (λ e. let clash : None ≡ Some up = sym parent-none ∙ ap (parent_at old) (sym e) ∙ is in cc)) ∙ is) (descends-still root up below)
+      deeper x up (ap parent_of (held-other x (λ e. let clash : None ≡ Some up = sym parent-none ∙ ap (parent_at old) (sym e) ∙ is in cc)) ∙ is)
+      (descends-still root up below)
 
   no-use : used_of (capability_at new slot) ≡ None
   no-use = ap (λ (o : Option Entry). used_of (capability_of o)) held-here ∙ shared-unused capability inserts.shared
@@ -156,7 +163,8 @@ module _ (s : State) (slot parent : ℕ) (capability : Cap) (sound : IsSound s) 
 
   not-mapped : (x : ℕ) (m : FrameMapping) → x ≡ slot → frame_mapping (capability_at new x) ≡ Some m → ⊥
   not-mapped x m here is =
-      let clash : None ≡ Some m = sym inserts.unmapped ∙ ap (λ (o : Option Entry). frame_mapping (capability_of o)) (sym held-here) ∙ ap (λ (y : ℕ). frame_mapping (capability_at new y)) (sym here) ∙ is in cc
+      let clash : None ≡ Some m = sym inserts.unmapped ∙ ap (λ (o : Option Entry). frame_mapping (capability_of o)) (sym held-here)
+      ∙ ap (λ (y : ℕ). frame_mapping (capability_at new y)) (sym here) ∙ is in cc
 
   no-table : (x offset : ℕ) (m : Option TableMapping) → x ≡ slot → capability_at new x ≡ PageTable offset m → ⊥
   no-table x offset m here is =
@@ -166,7 +174,8 @@ module _ (s : State) (slot parent : ℕ) (capability : Cap) (sound : IsSound s) 
   carries-mappings = record {
     frame = λ x m is. elim (eqb_tells x slot) [
       | inl here ↦ absurd (not-mapped x m here.1 is)
-      | inr other ↦ ap (λ (y : ℕ). frame_mapping (capability_at old y)) (origin-other x other.1) ∙ sym (ap (λ (o : Option Entry). frame_mapping (capability_of o)) (held-other x other.1)) ∙ is
+      | inr other ↦ ap (λ (y : ℕ). frame_mapping (capability_at old y)) (origin-other x other.1)
+          ∙ sym (ap (λ (o : Option Entry). frame_mapping (capability_of o)) (held-other x other.1)) ∙ is
     ];
     table = by-origin table_mapping inserts.alike.table;
     page_table = λ x offset m is. elim (eqb_tells x slot) [
@@ -185,7 +194,8 @@ module _ (s : State) (slot parent : ℕ) (capability : Cap) (sound : IsSound s) 
       | inr a_other ↦ elim (eqb_tells b slot) [
         | inl here ↦
             let at_parent : a ≡ parent = sym (origin-other a a_other.1) ∙ twin ∙ ap origin here.1 ∙ origin-here in
-            absurd (shared-no_table (capability_at old parent) offset m source-shared (ap (capability_at old) (sym at_parent) ∙ ap capability_of (sym (held-other a a_other.1)) ∙ is))
+            absurd (shared-no_table (capability_at old parent) offset m source-shared
+            (ap (capability_at old) (sym at_parent) ∙ ap capability_of (sym (held-other a a_other.1)) ∙ is))
         | inr b_other ↦ sym (origin-other a a_other.1) ∙ twin ∙ origin-other b b_other.1
       ]
     ];
@@ -200,7 +210,8 @@ module _ (s : State) (slot parent : ℕ) (capability : Cap) (sound : IsSound s) 
   may-still : (x : ℕ) → IsFull new x → MayHold s x (capability_at new x)
   may-still x full = elim (eqb_tells x slot) [
     | inl here ↦
-        subst (λ (y : ℕ). MayHold s y (capability_at new y)) (sym here.1) (subst (λ (o : Option Entry). MayHold s slot (capability_of o)) (sym held-here) inserts.may)
+        subst (λ (y : ℕ). MayHold s y (capability_at new y)) (sym here.1)
+        (subst (λ (o : Option Entry). MayHold s slot (capability_of o)) (sym held-here) inserts.may)
     | inr other ↦
         let same : capability_at new x ≡ capability_at s.slots x = ap capability_of (held-other x other.1) in
         subst (λ (c : Cap). MayHold s x c) (sym same) (full-may_hold s sound.slots x (subst (λ (c : Cap). not (is_empty c) ≡ true) same full))

@@ -1,8 +1,10 @@
 -- Every call on a capability keeps soundness.
-use Rattle.std.proofs.Common.{ℕ, ◌≡◌, ◌∙◌, ◌==◌, ◌^◌, ◌<◌, Bool, true, false, nat_le, if◌then◌else◌, List, length, Option, Some, None, Result, Ok, refl, ap, subst}
+use Rattle.std.proofs.Common.{ℕ, ◌≡◌, ◌∙◌, ◌==◌, ◌^◌, ◌<◌, Bool, true, false, nat_le, if◌then◌else◌, List, length, Option, Some, None, Result, Ok, refl, ap}
+use Rattle.std.proofs.Common.{subst}
 use Rattle.std.specs.Prelude.{All}
 use Rattle.model.specs.declared.capabilities.Cap.{Cap}
-use Rattle.model.specs.declared.capabilities.Cap.TheVariants.{Empty, Untyped, Endpoint, Notification, CNode, Frame, PageTable, Tcb, RootTable, InterruptControl, InterruptHandler}
+use Rattle.model.specs.declared.capabilities.Cap.TheVariants.{Empty, Untyped, Endpoint, Notification, CNode, Frame, PageTable, Tcb, RootTable, InterruptControl}
+use Rattle.model.specs.declared.capabilities.Cap.TheVariants.{InterruptHandler}
 use Rattle.model.specs.declared.errors.KError.{KError}
 use Rattle.model.specs.declared.errors.KError.TheVariants.{IllegalOperation, TruncatedMessage}
 use Rattle.model.specs.declared.invocations.UntypedMemory.{UntypedMemory}
@@ -10,7 +12,10 @@ use Rattle.model.specs.declared.invocations.FrameCall.TheVariants.{MapFrame, Unm
 use Rattle.model.specs.declared.invocations.TableCall.TheVariants.{MapTable, UnmapTable}
 use Rattle.model.specs.Capabilities.CapabilityWords.{IsCapability}
 use Rattle.model.specs.Kernel.Arguments.{Call, argument_slot, check, wanted}
-use Rattle.model.specs.Kernel.CallForms.{CallForm, acknowledge_label, clear_label, cnode_form, configure_label, copy_label, decode, delete_label, form_called, form_of, get_handler_label, handler_form, map_frame_label, map_table_label, mint_label, move_label, mutate_label, resume_label, retype_label, revoke_label, set_notification_label, set_priority_label, set_register_label, slot_name, suspend_label, thread_form, unmap_frame_label, unmap_table_label, untyped_form, word}
+use Rattle.model.specs.Kernel.CallForms.{CallForm, acknowledge_label, clear_label, cnode_form, configure_label, copy_label, decode, delete_label, form_called}
+use Rattle.model.specs.Kernel.CallForms.{form_of, get_handler_label, handler_form, map_frame_label, map_table_label, mint_label, move_label, mutate_label}
+use Rattle.model.specs.Kernel.CallForms.{resume_label, retype_label, revoke_label, set_notification_label, set_priority_label, set_register_label, slot_name}
+use Rattle.model.specs.Kernel.CallForms.{suspend_label, thread_form, unmap_frame_label, unmap_table_label, untyped_form, word}
 use Rattle.model.specs.Kernel.Interrupts.{acknowledge}
 use Rattle.model.specs.Kernel.Invocations.{invoke, perform}
 use Rattle.model.specs.Kernel.Kinds.{kind_at, object_named}
@@ -64,7 +69,8 @@ module _ (s t : State) (call : Call) (words : List ℕ) (whole : IsSound s) (is_
       chosen Does (label == configure_label) _ _ form
       (λ so. configure-whole s t call.root thread None (word words 0) (slot_name words 1) (slot_name words 3) whole is_thread (word-less 0) so)
       (chosen Does (label == set_priority_label) _ _ form (λ so. set_priority-whole s whole thread is_thread t (word words 0) so)
-      (chosen Does (label == set_register_label) _ _ form (λ so. set_register-whole s whole thread is_thread t call.caller (word words 0) (word words 1) (word-less 1) so)
+      (chosen Does (label == set_register_label) _ _ form
+      (λ so. set_register-whole s whole thread is_thread t call.caller (word words 0) (word words 1) (word-less 1) so)
       (chosen Does (label == resume_label) _ _ form (λ so. done (resume s thread) so (resume-whole s whole thread is_thread))
       (chosen Does (label == suspend_label) _ _ form (λ so. done (suspend s thread) so (suspend-whole s whole thread is_thread)) (none-left form)))))
 
@@ -86,7 +92,8 @@ module _ (s t : State) (call : Call) (words : List ℕ) (whole : IsSound s) (is_
   handler-does : (number label : ℕ) (form : CallForm) → call.capability ≡ InterruptHandler number → handler_form number label ≡ Some form → Does form
   handler-does number label form is =
       let at = invoked-at s call (InterruptHandler number) is_call.invoked is refl in
-      let less : number < 64 = (let valid : IsCapability (InterruptHandler number) = subst IsCapability (IsAt.at at) (whole.slots.derivation.valid call.slot) in valid) in
+      let less : number < 64 = (let valid : IsCapability (InterruptHandler number) = subst IsCapability (IsAt.at at) (whole.slots.derivation.valid call.slot) in
+      valid) in
       chosen Does (label == acknowledge_label) _ _ form (λ so. done (acknowledge s number) so (acknowledge-whole s number whole))
       (chosen Does (label == set_notification_label) _ _ form (λ so. bind-sound s t call number (slot_name words 0) whole is_call less so)
       (chosen Does (label == clear_label) _ _ form (λ so. deleted-sound s t (binding_slot s number) whole so) (none-left form)))
@@ -96,10 +103,13 @@ module _ (s t : State) (call : Call) (words : List ℕ) (whole : IsSound s) (is_
   form-does (Tcb thread) label form is found = thread-does thread label form is found
   form-does (CNode offset radix guard) label form is found = cnode-does label form found
   form-does (Frame offset allowed mapping) label form is found =
-      chosen Does (label == map_frame_label) _ _ form (λ so. frame-sound s t call offset allowed mapping (MapFrame (slot_name words 0) (word words 2) (word words 3)) whole is_call is so)
-      (chosen Does (label == unmap_frame_label) _ _ form (λ so. frame-sound s t call offset allowed mapping UnmapFrame whole is_call is so) (none-left form)) found
+      chosen Does (label == map_frame_label) _ _ form
+      (λ so. frame-sound s t call offset allowed mapping (MapFrame (slot_name words 0) (word words 2) (word words 3)) whole is_call is so)
+      (chosen Does (label == unmap_frame_label) _ _ form (λ so. frame-sound s t call offset allowed mapping UnmapFrame whole is_call is so) (none-left form))
+      found
   form-does (PageTable offset mapping) label form is found =
-      chosen Does (label == map_table_label) _ _ form (λ so. table-sound s t call offset mapping (MapTable (slot_name words 0) (word words 2)) whole is_call is so)
+      chosen Does (label == map_table_label) _ _ form
+      (λ so. table-sound s t call offset mapping (MapTable (slot_name words 0) (word words 2)) whole is_call is so)
       (chosen Does (label == unmap_table_label) _ _ form (λ so. table-sound s t call offset mapping UnmapTable whole is_call is so) (none-left form)) found
   form-does InterruptControl label form is found =
       chosen Does (label == get_handler_label) _ _ form (λ so. get-sound s t call (word words 0) (slot_name words 1) whole is_call is so) (none-left form) found

@@ -46,14 +46,15 @@ module _ (slots : Slots) (a : ℕ) where
 pub depth-jumped : (n : ℕ) (old new : Slots) → ((y p : ℕ) → parent_at new y ≡ Some p → Descendant old p y) → (y : ℕ)
     → depth_within n (parent_at new) y ≤ depth_within n (parent_at old) y
 depth-jumped zero old new jumps y = let low = depth-le zero (parent_at new) y in omega (arith, low)
-depth-jumped (suc n) old new jumps y = elim (parent_at new y) as (λ o. parent_at new y ≡ o → depth_within (suc n) (parent_at new) y ≤ depth_within (suc n) (parent_at old) y) [
-  | None ↦ λ none. let low = depth-none (suc n) (parent_at new) y none in omega (arith, low)
-  | Some p ↦ λ is.
-      let one = depth-some n (parent_at new) y p is in
-      let more = depth-jumped n old new jumps p in
-      let below = depth-below old p n y (jumps y p is) in
-      omega (arith, one, more, below)
-] refl
+depth-jumped (suc n) old new jumps y = elim (parent_at new y) as (λ o. parent_at new y ≡ o →
+    depth_within (suc n) (parent_at new) y ≤ depth_within (suc n) (parent_at old) y) [
+      | None ↦ λ none. let low = depth-none (suc n) (parent_at new) y none in omega (arith, low)
+      | Some p ↦ λ is.
+          let one = depth-some n (parent_at new) y p is in
+          let more = depth-jumped n old new jumps p in
+          let below = depth-below old p n y (jumps y p is) in
+          omega (arith, one, more, below)
+    ] refl
 
 -- ---- descent
 
@@ -63,7 +64,8 @@ pub record Heir (set : SlotSet) (old new : Slots) (root y : ℕ) : Type 0 where
   pub found : ancestor_outside 256 set old (parent_at old y) ≡ Some nearest
   pub below : (nearest ≡ root) ⊎ Descendant new root nearest
 
-module _ (set : SlotSet) (old new : Slots) (tree : IsDerivation old) (moved : (y : ℕ) → set y ≡ false → parent_at new y ≡ ancestor_outside 256 set old (parent_at old y)) where
+module _ (set : SlotSet) (old new : Slots) (tree : IsDerivation old)
+    (moved : (y : ℕ) → set y ≡ false → parent_at new y ≡ ancestor_outside 256 set old (parent_at old y)) where
   under : (root y : ℕ) → set y ≡ false → Heir set old new root y → Descendant new root y
   under root y stays heir = elim (heir.below) [
     | inl at ↦ child y (moved y stays ∙ heir.found ∙ ap (λ (n : ℕ). Some n) at)

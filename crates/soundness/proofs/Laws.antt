@@ -2,7 +2,9 @@
 pub use Rattle.soundness.proofs.Bytes.{content-whole}
 pub use Rattle.soundness.proofs.CNodeCalls.{AreNamed, are-named, copy-sound, invoked-root, mint-sound, move-sound, mutate-sound, room-below}
 pub use Rattle.soundness.proofs.Carried.{full-near, held-at, held-by}
-pub use Rattle.soundness.proofs.Copies.{IsAlike, IsQuiet, alike-both, alike-same, bindable, cnode-quiet, copied-alike, copied-badge_fits, copied-guard_fits, copied-unmapped, copied-valid, copies-shared, is_single, no-badge, payload-alike, payload-mapping, payload-valid, root-quiet}
+pub use Rattle.soundness.proofs.Copies.{IsAlike, IsQuiet, alike-both, alike-same, bindable, cnode-quiet, copied-alike, copied-badge_fits, copied-guard_fits}
+pub use Rattle.soundness.proofs.Copies.{copied-unmapped, copied-valid, copies-shared, is_single, no-badge, payload-alike, payload-mapping, payload-valid}
+pub use Rattle.soundness.proofs.Copies.{root-quiet}
 pub use Rattle.soundness.proofs.CopyingCalls.{configure-whole, get-sound}
 pub use Rattle.soundness.proofs.Delivered.{read-less}
 pub use Rattle.soundness.proofs.Events.{acknowledge-whole, fault-whole, raise-whole}
@@ -10,7 +12,10 @@ pub use Rattle.soundness.proofs.FreshMachines.{fresh-sound}
 pub use Rattle.soundness.proofs.Inserted.{empty-capability, empty-open}
 pub use Rattle.soundness.proofs.Loading.{made-whole}
 pub use Rattle.soundness.proofs.Lookups.{check-passes, destination-plain, passes-both, source-full, source-plain, wanted-some}
-pub use Rattle.soundness.proofs.Machines.{acknowledge-machine, answered-machine, fault-machine, passes-machine, poll-machine, raise-machine, receive-machine, reply-machine, resume-machine, send-machine, signal-machine, suspend-machine, then-machine, tick-machine, try_to_receive-machine, try_to_send-machine, wait-machine, with_priority-machine, with_register-machine, yielded-machine}
+pub use Rattle.soundness.proofs.Machines.{acknowledge-machine, answered-machine, fault-machine, passes-machine, poll-machine, raise-machine, receive-machine}
+pub use Rattle.soundness.proofs.Machines.{reply-machine, resume-machine, send-machine, signal-machine, suspend-machine, then-machine, tick-machine}
+pub use Rattle.soundness.proofs.Machines.{try_to_receive-machine, try_to_send-machine, wait-machine, with_priority-machine, with_register-machine}
+pub use Rattle.soundness.proofs.Machines.{yielded-machine}
 pub use Rattle.soundness.proofs.MappingCalls.{IsAt, frame-sound, invoked-at, table-sound}
 pub use Rattle.soundness.proofs.Messages.{poll-whole, receive-whole, reply-whole, running-object, signal-whole, try_to_receive-whole, wait-whole}
 pub use Rattle.soundness.proofs.NewKinds.{first-fresh, first-valid, new-slots}
@@ -28,6 +33,15 @@ pub use Rattle.soundness.proofs.Setups.{control-whole, fill-whole, put_untyped-w
 pub use Rattle.soundness.proofs.Sizes.{Fits, effect-sound, instructions-keep}
 pub use Rattle.soundness.proofs.Stepped.{byte-less, events-whole}
 pub use Rattle.soundness.proofs.SystemCalls.{answered-whole, called-whole, lacks-whole, named-left, reply-runs, sent_on-whole, signaled-object, unknown-whole}
-pub use Rattle.soundness.proofs.ThreadCalls.{fine-of, passes-whole, registers-whole, resume-whole, set_priority-whole, set_register-whole, suspend-whole, tick-whole}
+pub use Rattle.soundness.proofs.ThreadCalls.{fine-of, passes-whole, registers-whole, resume-whole, set_priority-whole, set_register-whole, suspend-whole}
+pub use Rattle.soundness.proofs.ThreadCalls.{tick-whole}
 pub use Rattle.soundness.proofs.UnusedMemory.{unused-free}
-pub use Rattle.soundness.proofs.boot_laws.Laws.{AreFormed, CapabilityKept, CountsAreLengths, FrameKept, IsWithin, ReadsBoot, ReadsObjects, TableKept, ThreadKept, any-taken, are-formed, boot-slots-suffice, boots-well, bytes-long, cnode-slot, cnode-type, contents-fit, counts-are, cspace-slot, described-sound, each-all, entry, filtered-all, find-get, find-no, first-at, first_of_type, flat-all, frame-type, goes, has-type, held-append, held-here, held-later, kept-before, kept-behind, kept-of, limited-frame, limited-table, listed-behind, listed-untyped, loaded-end, mapped_by, mapping_of, no-thread, not-refused, numbered-at, numbered-back, object-at, object-stands, objects-apart, offsets-apart, original-untyped, passes, range-at, range-from, reads-boot, reads-cspace, reads-listed, reads-objects, reads-vspace, slot-behind-boot, slot-in-memory, slot-of-one, source-untyped, stand-apart, table-type, thread-behind, thread-type, used_with, vspace-slot}
+pub use Rattle.soundness.proofs.boot_laws.Laws.{AreFormed, CapabilityKept, CountsAreLengths, FrameKept, IsWithin, ReadsBoot, ReadsObjects, TableKept}
+pub use Rattle.soundness.proofs.boot_laws.Laws.{ThreadKept, any-taken, are-formed, boot-slots-suffice, boots-well, bytes-long, cnode-slot, cnode-type}
+pub use Rattle.soundness.proofs.boot_laws.Laws.{contents-fit, counts-are, cspace-slot, described-sound, each-all, entry, filtered-all, find-get, find-no}
+pub use Rattle.soundness.proofs.boot_laws.Laws.{first-at, first_of_type, flat-all, frame-type, goes, has-type, held-append, held-here, held-later, kept-before}
+pub use Rattle.soundness.proofs.boot_laws.Laws.{kept-behind, kept-of, limited-frame, limited-table, listed-behind, listed-untyped, loaded-end, mapped_by}
+pub use Rattle.soundness.proofs.boot_laws.Laws.{mapping_of, no-thread, not-refused, numbered-at, numbered-back, object-at, object-stands, objects-apart}
+pub use Rattle.soundness.proofs.boot_laws.Laws.{offsets-apart, original-untyped, passes, range-at, range-from, reads-boot, reads-cspace, reads-listed}
+pub use Rattle.soundness.proofs.boot_laws.Laws.{reads-objects, reads-vspace, slot-behind-boot, slot-in-memory, slot-of-one, source-untyped, stand-apart}
+pub use Rattle.soundness.proofs.boot_laws.Laws.{table-type, thread-behind, thread-type, used_with, vspace-slot}

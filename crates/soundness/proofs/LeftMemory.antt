@@ -1,25 +1,29 @@
 -- What a removal leaves of memory and mappings: what lies inside untyped memory still descends from it, and what maps a page or a region did.
-use Rattle.std.proofs.Common.{ℕ, ◌≡◌, ◌∙◌, ◌==◌, ◌-◌, ◌/◌, ◌%◌, ◌&&◌, ◌||◌, Bool, true, false, not, is_some, if◌then◌else◌, Option, Some, None, refl, sym, ap, subst}
+use Rattle.std.proofs.Common.{ℕ, ◌≡◌, ◌∙◌, ◌==◌, ◌-◌, ◌/◌, ◌%◌, ◌&&◌, ◌||◌, Bool, true, false, not, is_some, if◌then◌else◌, Option, Some, None, refl, sym, ap}
+use Rattle.std.proofs.Common.{subst}
 use Rattle.std.specs.Option.{option_map_or}
 use Rattle.std.specs.List.{list_any}
 use Rattle.std.proofs.Math.Bool.{and-false}
 use Rattle.std.proofs.lemmas.Bool.{eqb-true}
 use Rattle.model.specs.declared.capabilities.Cap.{Cap}
-use Rattle.model.specs.declared.capabilities.Cap.TheVariants.{Empty, Untyped, Endpoint, Notification, CNode, Frame, PageTable, Tcb, RootTable, InterruptControl, InterruptHandler}
+use Rattle.model.specs.declared.capabilities.Cap.TheVariants.{Empty, Untyped, Endpoint, Notification, CNode, Frame, PageTable, Tcb, RootTable, InterruptControl}
+use Rattle.model.specs.declared.capabilities.Cap.TheVariants.{InterruptHandler}
 use Rattle.model.specs.declared.capabilities.FrameMapping.{FrameMapping}
 use Rattle.model.specs.declared.capabilities.TableMapping.{TableMapping}
 use Rattle.model.specs.Capabilities.CapabilityKinds.{frame_mapping, names_object, table_mapping}
 use Rattle.model.specs.Capabilities.Slots.{Descendant, capability_at, parent_at}
 use Rattle.model.specs.Kernel.AddressSpaces.{is_page, is_region, is_region_taken, maps_region, page_size, region_pages}
 use Rattle.model.specs.Kernel.Kinds.{Names, Piece, frame_around, kind_at, object_named, piece_of, used_of}
-use Rattle.model.specs.Kernel.Removal.{SlotSet, bytes_kept, ends, ends_root, frame_loses, is_root_at, is_some_slot, kept, loses_last_child, new_parent, some_inside, some_outside, table_loses}
+use Rattle.model.specs.Kernel.Removal.{SlotSet, bytes_kept, ends, ends_root, frame_loses, is_root_at, is_some_slot, kept, loses_last_child, new_parent}
+use Rattle.model.specs.Kernel.Removal.{some_inside, some_outside, table_loses}
 use Rattle.model.specs.Kernel.Retype.{NewObject, NewFrame, NewRootTable}
 use Rattle.model.specs.Kernel.Soundness.{Lies, apart, same, within, around, MappingsAreSound, MemoryIsSound}
 use Rattle.model.specs.Kernel.State.{State, slots_of}
 use Rattle.removal_laws.proofs.Laws.{bool-iff, both, found-at, found-same, found-where, join, kind-names, named_as, object-kind, root-kind, slot-some}
 use Rattle.soundness.proofs.Carried.{full-unless, held-at, held-by, some-passes, table-of}
 use Rattle.soundness.proofs.Jumps.{some-child}
-use Rattle.soundness.proofs.LeftSlots.{Removes, capability-left, child-stays, descends-left, full-was, held, kind-gone, kind-stays, kind-was, left, near, parent-left, slots-left, stays-if}
+use Rattle.soundness.proofs.LeftSlots.{Removes, capability-left, child-stays, descends-left, full-was, held, kind-gone, kind-stays, kind-was, left, near}
+use Rattle.soundness.proofs.LeftSlots.{parent-left, slots-left, stays-if}
 
 -- ---- single capabilities
 
@@ -48,7 +52,8 @@ frame-kept s set y (Frame f rights (Some n)) m is = elim (frame_loses s set n) a
       | true ↦ λ _ so. let clash : None ≡ Some m = so in absurd cc
       | false ↦ λ stays so. (so, let e : n ≡ m = cc so in ap (frame_loses s set) (sym e) ∙ stays)
     ] refl is
-frame-kept s set y (PageTable t (Some n)) m is = elim (table_loses s set n) as (λ l. frame_mapping (if l then PageTable t None else PageTable t (Some n)) ≡ Some m
+frame-kept s set y (PageTable t (Some n)) m is = elim (table_loses s set n)
+    as (λ l. frame_mapping (if l then PageTable t None else PageTable t (Some n)) ≡ Some m
     → (None ≡ Some m) × (frame_loses s set m ≡ false)) [
       | true ↦ λ so. let clash : None ≡ Some m = so in absurd cc
       | false ↦ λ so. let clash : None ≡ Some m = so in absurd cc
@@ -72,7 +77,8 @@ table-kept s set y (PageTable t (Some n)) m is = elim (table_loses s set n) as (
       | true ↦ λ _ so. let clash : None ≡ Some m = so in absurd cc
       | false ↦ λ stays so. (so, let e : n ≡ m = cc so in ap (table_loses s set) (sym e) ∙ stays)
     ] refl is
-table-kept s set y (Frame f rights (Some n)) m is = elim (frame_loses s set n) as (λ l. table_mapping (if l then Frame f rights None else Frame f rights (Some n)) ≡ Some m
+table-kept s set y (Frame f rights (Some n)) m is = elim (frame_loses s set n)
+    as (λ l. table_mapping (if l then Frame f rights None else Frame f rights (Some n)) ≡ Some m
     → (None ≡ Some m) × (table_loses s set m ≡ false)) [
       | true ↦ λ so. let clash : None ≡ Some m = so in absurd cc
       | false ↦ λ so. let clash : None ≡ Some m = so in absurd cc
@@ -93,17 +99,19 @@ table-stays : (s : State) (set : SlotSet) (y : ℕ) (c : Cap) (m : TableMapping)
     → table_mapping (kept s set y c) ≡ Some m
 table-stays s set y c m is stays =
     let page_table = table-of c m is in
-    ap (λ (d : Cap). table_mapping (kept s set y d)) page_table.1 ∙ ap (λ l. table_mapping (if l then PageTable page_table.0 None else PageTable page_table.0 (Some m))) stays
+    ap (λ (d : Cap). table_mapping (kept s set y d)) page_table.1
+    ∙ ap (λ l. table_mapping (if l then PageTable page_table.0 None else PageTable page_table.0 (Some m))) stays
 
 -- what is a page table was that
 page_table-was : (s : State) (set : SlotSet) (y : ℕ) (c : Cap) (offset : ℕ) (m : Option TableMapping) → kept s set y c ≡ PageTable offset m
     → (n : Option TableMapping) × (c ≡ PageTable offset n)
 page_table-was s set y (PageTable t (Some n)) offset m is = (
   Some n,
-  elim (table_loses s set n) as (λ l. (if l then PageTable t None else PageTable t (Some n)) ≡ PageTable offset m → PageTable t (Some n) ≡ PageTable offset (Some n)) [
-    | true ↦ λ so. let e : t ≡ offset = cc so in ap (λ (o : ℕ). PageTable o (Some n)) e
-    | false ↦ λ so. let e : t ≡ offset = cc so in ap (λ (o : ℕ). PageTable o (Some n)) e
-  ] is,
+  elim (table_loses s set n) as (λ l. (if l then PageTable t None else PageTable t (Some n)) ≡ PageTable offset m →
+      PageTable t (Some n) ≡ PageTable offset (Some n)) [
+        | true ↦ λ so. let e : t ≡ offset = cc so in ap (λ (o : ℕ). PageTable o (Some n)) e
+        | false ↦ λ so. let e : t ≡ offset = cc so in ap (λ (o : ℕ). PageTable o (Some n)) e
+      ] is,
 )
 page_table-was s set y (PageTable t None) offset m is = (None, let e : t ≡ offset = cc is in ap (λ (o : ℕ). PageTable o None) e)
 page_table-was s set y (Frame f rights (Some n)) offset m is = absurd (elim (frame_loses s set n) as (λ l. (if l then Frame f rights None else Frame f rights
@@ -141,7 +149,8 @@ module _ (s : State) (set : SlotSet) (r : Removes s set) where
       let child_stays = child-stays s set r child.0 root child.1 in
       let parent : new_parent s set child.0 ≡ Some root = sym (parent-left s set r child.0 child_stays) ∙ child.1 in
       let place = near s set r child.0 (full-was s set r child.0 ((slots-left s set r).derivation.child_full child.0 root child.1)) in
-      let some = found-at s.memory_bits child.0 (λ c. not (set c) && is_some_slot root (new_parent s set c)) place (join (not (set child.0)) _ (ap not child_stays)
+      let some = found-at s.memory_bits child.0 (λ c. not (set c) && is_some_slot root (new_parent s set c)) place
+      (join (not (set child.0)) _ (ap not child_stays)
       (slot-some root (new_parent s set child.0) parent)) in
       let had = list_any (λ c. set c && is_some_slot root (parent_at s.slots c)) (slots_of s) in
       ap (λ b. had && not b) some ∙ and-false had
@@ -316,17 +325,20 @@ module _ (s : State) (set : SlotSet) (r : Removes s set) where
       let place = near s set r was.0 (full-unless (capability_at s.slots was.0) table_mapping mapping.0 refl mapping.1) in
       let stays : set was.0 ≡ false = elim (set was.0) as (λ b. set was.0 ≡ b → b ≡ false) [
         | true ↦ λ member.
-            let inside = found-at s.memory_bits was.0 (λ x. set x && maps_region root region (capability_at s.slots x)) place (join (set was.0) _ member was.1) in
+            let inside = found-at s.memory_bits was.0 (λ x. set x && maps_region root region (capability_at s.slots x)) place
+            (join (set was.0) _ member was.1) in
             let clash : false ≡ true = sym table_stays ∙ inside in
             absurd cc
         | false ↦ λ _. refl
       ] refl in
       let same_root : mapping.0.root ≡ root = eqb-true mapping.0.root root (both (mapping.0.root == root) _ mapping.2).0 in
       let now : table_mapping (capability_at (left s set).slots was.0) ≡ Some mapping.0 =
-      ap table_mapping (capability-left s set r was.0 stays) ∙ table-stays s set was.0 (capability_at s.slots was.0) mapping.0 mapping.1 (ap (ends_root s set) same_root
+      ap table_mapping (capability-left s set r was.0 stays)
+      ∙ table-stays s set was.0 (capability_at s.slots was.0) mapping.0 mapping.1 (ap (ends_root s set) same_root
       ∙ root_stays)
       in
-      held-at (left s set) (maps_region root region) was.0 place (ap (λ (o : Option TableMapping). option_map_or (is_region root region) o false) now ∙ mapping.2)
+      held-at (left s set) (maps_region root region) was.0 place (ap (λ (o : Option TableMapping). option_map_or (is_region root region) o false) now
+      ∙ mapping.2)
 
   pub mappings-left : MappingsAreSound (left s set)
   mappings-left =

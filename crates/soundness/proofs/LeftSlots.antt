@@ -1,5 +1,6 @@
 -- What a removal leaves of slots: each outside the set holds what it held, but for mappings that went and watermarks that went back.
-use Rattle.std.proofs.Common.{ℕ, suc, ◌≡◌, ◌∙◌, ◌*◌, ◌/◌, ◌^◌, ◌<◌, ◌≤◌, ◌||◌, inl, inr, Bool, true, false, not, is_some, nat_lt, if◌then◌else◌, Option, Some, None, option_map, refl, sym, ap, subst, arith}
+use Rattle.std.proofs.Common.{ℕ, suc, ◌≡◌, ◌∙◌, ◌*◌, ◌/◌, ◌^◌, ◌<◌, ◌≤◌, ◌||◌, inl, inr, Bool, true, false, not, is_some, nat_lt, if◌then◌else◌, Option, Some}
+use Rattle.std.proofs.Common.{None, option_map, refl, sym, ap, subst, arith}
 use Rattle.std.specs.List.{list_any}
 use Rattle.std.proofs.lemmas.Bool.{le-leb}
 use Rattle.std.proofs.lemmas.Bool.Decides.{leb_tells}
@@ -22,7 +23,8 @@ use Rattle.model.specs.Kernel.State.{State, ThreadObject, ThreadState, boot_area
 use Rattle.model.proofs.Ancestors.{full-open}
 use Rattle.model.proofs.SlotChanges.{capability_of, parent_of}
 use Rattle.removal_laws.specs.Finishing.{MaySettle, has_slot, without_strays}
-use Rattle.removal_laws.proofs.Laws.{capability-out, found-where, has-one, kept-test, kind-threads, may-settle, open-kept, open-near, or-cases, parent-out, slot-left, there-in, valid-kept}
+use Rattle.removal_laws.proofs.Laws.{capability-out, found-where, has-one, kept-test, kind-threads, may-settle, open-kept, open-near, or-cases, parent-out}
+use Rattle.removal_laws.proofs.Laws.{slot-left, there-in, valid-kept}
 use Rattle.soundness.proofs.Jumps.{depth-jumped, descends-full, descends-still, outside-above}
 use Rattle.soundness.proofs.Rest.{thread-kind}
 
@@ -50,7 +52,8 @@ module _ (s : State) (set : SlotSet) (r : Removes s set) where
   blank y None is stray = (refl, refl)
   blank y (Some held) is stray = let e = sym is ∙ may.strays y (ap is_some is) stray in (ap capability_of e, ap parent_of e)
 
-  same-entry : (y : ℕ) → (capability_at (left s set).slots y ≡ capability_at (emptied s set).slots y) × (parent_at (left s set).slots y ≡ parent_at (emptied s set).slots y)
+  same-entry : (y : ℕ) → (capability_at (left s set).slots y ≡ capability_at (emptied s set).slots y)
+      × (parent_at (left s set).slots y ≡ parent_at (emptied s set).slots y)
   same-entry y =
       let now = (emptied s set).slots y in
       elim (has_slot (emptied s set) y) as (λ b. has_slot (emptied s set) y ≡ b → (capability_of (if not b then None else now) ≡ capability_of now)
@@ -119,7 +122,8 @@ module _ (s : State) (set : SlotSet) (r : Removes s set) where
   valid-left : (y : ℕ) → IsCapability (capability_at (left s set).slots y)
   valid-left y = elim (set y) as (λ b. set y ≡ b → IsCapability (capability_at (left s set).slots y)) [
     | true ↦ λ member. subst (λ (c : Cap). IsCapability c) (sym (capability-gone y member)) tt
-    | false ↦ λ stays. subst (λ (c : Cap). IsCapability c) (sym (capability-left y stays)) (valid-kept s set y (capability_at s.slots y) (r.sound.slots.derivation.valid y))
+    | false ↦ λ stays. subst (λ (c : Cap). IsCapability c) (sym (capability-left y stays))
+        (valid-kept s set y (capability_at s.slots y) (r.sound.slots.derivation.valid y))
   ] refl
 
   -- no slot gets deeper
@@ -162,7 +166,8 @@ module _ (s : State) (set : SlotSet) (r : Removes s set) where
     | false ↦ λ stays. (refl, sym (kind-stays o stays) ∙ is)
   ] refl
 
-  thread-was : (thread : ℕ) (t : ThreadState) → (left s set).objects thread ≡ Some (ThreadObject t) → (b : ThreadState) × (s.objects thread ≡ Some (ThreadObject b))
+  thread-was : (thread : ℕ) (t : ThreadState) → (left s set).objects thread ≡ Some (ThreadObject t) → (b : ThreadState)
+      × (s.objects thread ≡ Some (ThreadObject b))
   thread-was thread t is = thread-kind (s.objects thread) (kind-was thread _ (ap (option_map kind_of) is)).1
 
   -- ---- which slots there are
@@ -172,7 +177,8 @@ module _ (s : State) (set : SlotSet) (r : Removes s set) where
   had-slot y (of_object o inner) = of_object o (slot-left s set o y inner).1
 
   has-slot : (y : ℕ) → HasSlot (left s set) y → has_slot (emptied s set) y ≡ true
-  has-slot y (of_boot_area less) = ap (λ b. b || list_any (λ n. is_slot_of (emptied s set) (16 * n) y) (slots_of s)) (le-leb (suc y) (boot_area_slots s.boot_radix) less)
+  has-slot y (of_boot_area less) = ap (λ b. b || list_any (λ n. is_slot_of (emptied s set) (16 * n) y) (slots_of s))
+      (le-leb (suc y) (boot_area_slots s.boot_radix) less)
   has-slot y (of_object o inner) = let was = slot-left s set o y inner in has-one s r.sound set near o y was.1 was.0
 
   slot-tested : (y : ℕ) → has_slot (emptied s set) y ≡ true → HasSlot (left s set) y
@@ -199,10 +205,13 @@ module _ (s : State) (set : SlotSet) (r : Removes s set) where
     );
     cspace = λ thread t is full.
         let was = thread-was thread t is in
-        ap is_some (held cnode_of (λ o b v w. refl) (λ f q m n. refl) (λ o m n. refl) _ (full-stays _ full)) ∙ r.sound.slots.cspace thread was.0 was.1 (full-was _ full);
+        ap is_some (held cnode_of (λ o b v w. refl) (λ f q m n. refl) (λ o m n. refl) _ (full-stays _ full))
+        ∙ r.sound.slots.cspace thread was.0 was.1 (full-was _ full);
     vspace = λ thread t is full.
         let was = thread-was thread t is in
-        ap is_some (held root_of (λ o b v w. refl) (λ f q m n. refl) (λ o m n. refl) _ (full-stays _ full)) ∙ r.sound.slots.vspace thread was.0 was.1 (full-was _ full);
+        ap is_some (held root_of (λ o b v w. refl) (λ f q m n. refl) (λ o m n. refl) _ (full-stays _ full))
+        ∙ r.sound.slots.vspace thread was.0 was.1 (full-was _ full);
     bindings = λ line less full.
-        ap is_some (held signal_of (λ o b v w. refl) (λ f q m n. refl) (λ o m n. refl) _ (full-stays _ full)) ∙ r.sound.slots.bindings line less (full-was _ full);
+        ap is_some (held signal_of (λ o b v w. refl) (λ f q m n. refl) (λ o m n. refl) _ (full-stays _ full))
+        ∙ r.sound.slots.bindings line less (full-was _ full);
   }

@@ -1,5 +1,6 @@
 -- What a removal leaves of threads and queues, were those that waited at what ended inactive.
-use Rattle.std.proofs.Common.{ℕ, ◌≡◌, ◌∙◌, ◌==◌, ◌+◌, ◌^◌, ◌<◌, ◌++◌, ◌&&◌, inl, inr, Bool, true, false, not, if◌then◌else◌, filter, map, List, [], ◌∷◌, Option, Some, None, option_map, refl, sym, ap, subst}
+use Rattle.std.proofs.Common.{ℕ, ◌≡◌, ◌∙◌, ◌==◌, ◌+◌, ◌^◌, ◌<◌, ◌++◌, ◌&&◌, inl, inr, Bool, true, false, not, if◌then◌else◌, filter, map, List, [], ◌∷◌, Option}
+use Rattle.std.proofs.Common.{Some, None, option_map, refl, sym, ap, subst}
 use Rattle.std.specs.Prelude.{All}
 use Rattle.std.specs.Option.{option_map_or}
 use Rattle.std.proofs.lemmas.Bool.Decides.{eqb_tells}
@@ -9,7 +10,9 @@ use Rattle.model.specs.Kernel.Kinds.{kind_at, kind_of}
 use Rattle.model.specs.Kernel.Removal.{SlotSet, ends, is_ending_thread, is_set_back, waits_on_ended}
 use Rattle.model.specs.Kernel.Scheduling.{is_runnable, without_threads}
 use Rattle.model.specs.Kernel.Soundness.{HasShape, IsSound, SenderIsSound, ThreadIsSound, ThreadsAreSound, awaits_answer, is_blocked_on, waiting_at}
-use Rattle.model.specs.Kernel.State.{State, Status, Inactive, Runnable, Blocked, AwaitsReply, AwaitsHandler, Object, ThreadObject, EndpointObject, NotificationObject, CNodeObject, FrameObject, PageTableObject, RootTableObject, EndpointState, NotificationState, Sender, ThreadState, as_thread}
+use Rattle.model.specs.Kernel.State.{State, Status, Inactive, Runnable, Blocked, AwaitsReply, AwaitsHandler, Object, ThreadObject, EndpointObject}
+use Rattle.model.specs.Kernel.State.{NotificationObject, CNodeObject, FrameObject, PageTableObject, RootTableObject, EndpointState, NotificationState, Sender}
+use Rattle.model.specs.Kernel.State.{ThreadState, as_thread}
 use Rattle.model.specs.Shared.Lists.{times_in}
 use Rattle.soundness.proofs.LeftMemory.{mappings-left, memory-left}
 use Rattle.soundness.proofs.LeftSlots.{Removes, left, slots-left}
@@ -65,12 +68,14 @@ module _ (gone : ℕ → Bool) (lost : Status → Bool) where
   calm_thread t = record t { caller = if option_map_or gone t.caller false then None else t.caller; status = calm_status t.status }
 
   calmed-gone : (o : Option Object) → calmed true o ≡ None
-  calmed-gone o = elim (option_map_or (λ t. lost t.status && not true) (as_thread o) false) as (λ b. (if b then stilled None else None) ≡ None) [ true ↦ refl | false ↦ refl ]
+  calmed-gone o = elim (option_map_or (λ t. lost t.status && not true) (as_thread o) false) as (λ b. (if b then stilled None else None) ≡ None)
+      [ true ↦ refl | false ↦ refl ]
 
   calmed-thread : (t : ThreadState) → calmed false (Some (ThreadObject t)) ≡ Some (ThreadObject (calm_thread t))
   calmed-thread t =
       let c : Option ℕ = if option_map_or gone t.caller false then None else t.caller in
-      elim (lost t.status) as (λ b. (if b && not false then Some (ThreadObject (record t { caller = c; status = Inactive })) else Some (ThreadObject (record t { caller = c })))
+      elim (lost t.status) as (λ b. (if b && not false then Some (ThreadObject (record t { caller = c; status = Inactive })) else
+      Some (ThreadObject (record t { caller = c })))
       ≡ Some (ThreadObject (record t { caller = c; status = if b then Inactive else t.status }))) [ true ↦ refl | false ↦ refl ]
 
   -- ---- the ready list
@@ -82,7 +87,8 @@ module _ (gone : ℕ → Bool) (lost : Status → Bool) where
       | false ↦ λ _. refl
     ] refl
 
-    pub runs-calm : (ending : Bool) (o : Option Object) (p : ℕ) → ◌≡◌ {A = ℕ} (if not (option_map_or (λ _. ending) (as_thread o) false) then runs_of o p else 0) (runs_of
+    pub runs-calm : (ending : Bool) (o : Option Object) (p : ℕ) →
+        ◌≡◌ {A = ℕ} (if not (option_map_or (λ _. ending) (as_thread o) false) then runs_of o p else 0) (runs_of
         (calmed ending o) p)
     runs-calm true o p =
         elim (as_thread o) as (λ t. ◌≡◌ {A = ℕ} (if not (option_map_or (λ _. true) t false) then (if option_map_or
@@ -113,12 +119,14 @@ module _ (gone : ℕ → Bool) (lost : Status → Bool) where
 
   -- the threads of senders that are left
   senders-left : (senders : List Sender)
-      → map (λ sender. sender.thread) (filter (λ sender. not (gone sender.thread)) senders) ≡ filter (λ thread. not (gone thread)) (map (λ sender. sender.thread) senders)
+      → map (λ sender. sender.thread) (filter (λ sender. not (gone sender.thread)) senders) ≡ filter (λ thread. not (gone thread))
+      (map (λ sender. sender.thread) senders)
   senders-left [] = refl
   senders-left (sender ∷ senders) =
       let kept = filter (λ sender. not (gone sender.thread)) senders in
       let others = filter (λ thread. not (gone thread)) (map (λ sender. sender.thread) senders) in
-      elim (not (gone sender.thread)) as (λ b. map (λ sender. sender.thread) (if b then sender ∷ kept else kept) ≡ (if b then sender.thread ∷ others else others)) [
+      elim (not (gone sender.thread)) as (λ b. map (λ sender. sender.thread) (if b then sender ∷ kept else kept)
+      ≡ (if b then sender.thread ∷ others else others)) [
         | true ↦ ap (λ (l : List ℕ). sender.thread ∷ l) (senders-left senders)
         | false ↦ senders-left senders
       ]
@@ -131,7 +139,8 @@ module _ (gone : ℕ → Bool) (lost : Status → Bool) where
   sum-either true m n = refl
   sum-either false m n = refl
 
-  waiting-left : (o : Option Object) (x : ℕ) → times_in (waiting_at (option_map (without_threads gone) o)) x ≡ (if not (gone x) then times_in (waiting_at o) x else 0)
+  waiting-left : (o : Option Object) (x : ℕ) → times_in (waiting_at (option_map (without_threads gone) o)) x
+      ≡ (if not (gone x) then times_in (waiting_at o) x else 0)
   waiting-left (Some (EndpointObject e)) x =
       let test = λ (thread : ℕ). not (gone thread) in
       let senders = map (λ (sender : Sender). sender.thread) e.senders in
@@ -174,12 +183,24 @@ module _ (gone : ℕ → Bool) (lost : Status → Bool) where
   pub endpoint-was : (ending : Bool) (o : Option Object) (e : EndpointState) → calmed ending o ≡ Some (EndpointObject e) → EndpointWas o e
   endpoint-was true o e is = let clash : None ≡ Some (EndpointObject e) = sym (calmed-gone o) ∙ is in absurd cc
   endpoint-was false (Some (EndpointObject before)) e is =
-      let now : EndpointState = record { senders = filter (λ sender. not (gone sender.thread)) before.senders; receivers = filter (λ thread. not (gone thread)) before.receivers } in
+      let now : EndpointState = record {
+        senders = filter (λ sender. not (gone sender.thread)) before.senders;
+        receivers =
+            filter (λ thread. not (gone thread)) before.receivers;
+      } in
       let same : now ≡ e = cc is in
-      record { before = before; was = refl; senders = sym (ap (λ (e : EndpointState). e.senders) same); receivers = sym (ap (λ (e : EndpointState). e.receivers) same) }
-  endpoint-was false (Some (ThreadObject t)) e is = let clash : Some (ThreadObject (calm_thread t)) ≡ Some (EndpointObject e) = sym (calmed-thread t) ∙ is in absurd cc
+      record {
+        before = before;
+        was = refl;
+        senders = sym (ap (λ (e : EndpointState). e.senders) same);
+        receivers =
+            sym (ap (λ (e : EndpointState). e.receivers) same);
+      }
+  endpoint-was false (Some (ThreadObject t)) e is = let clash : Some (ThreadObject (calm_thread t)) ≡ Some (EndpointObject e) = sym (calmed-thread t) ∙ is in
+      absurd cc
   endpoint-was false None e is = let clash : None ≡ Some (EndpointObject e) = is in absurd cc
-  endpoint-was false (Some (NotificationObject n)) e is = let clash : Some (without_threads gone (NotificationObject n)) ≡ Some (EndpointObject e) = is in absurd cc
+  endpoint-was false (Some (NotificationObject n)) e is = let clash : Some (without_threads gone (NotificationObject n)) ≡ Some (EndpointObject e) = is in
+      absurd cc
   endpoint-was false (Some (CNodeObject radix)) e is = let clash : Some (CNodeObject radix) ≡ Some (EndpointObject e) = is in absurd cc
   endpoint-was false (Some FrameObject) e is = let clash : Some FrameObject ≡ Some (EndpointObject e) = is in absurd cc
   endpoint-was false (Some PageTableObject) e is = let clash : Some PageTableObject ≡ Some (EndpointObject e) = is in absurd cc
@@ -196,9 +217,11 @@ module _ (gone : ℕ → Bool) (lost : Status → Bool) where
       let now : NotificationState = record before { waiters = filter (λ thread. not (gone thread)) before.waiters } in
       let same : now ≡ n = cc is in
       record { before = before; was = refl; word = sym (ap (λ (n : NotificationState). n.word) same) }
-  notification-was false (Some (ThreadObject t)) n is = let clash : Some (ThreadObject (calm_thread t)) ≡ Some (NotificationObject n) = sym (calmed-thread t) ∙ is in absurd cc
+  notification-was false (Some (ThreadObject t)) n is = let clash : Some (ThreadObject (calm_thread t)) ≡ Some (NotificationObject n) = sym (calmed-thread t)
+      ∙ is in absurd cc
   notification-was false None n is = let clash : None ≡ Some (NotificationObject n) = is in absurd cc
-  notification-was false (Some (EndpointObject e)) n is = let clash : Some (without_threads gone (EndpointObject e)) ≡ Some (NotificationObject n) = is in absurd cc
+  notification-was false (Some (EndpointObject e)) n is = let clash : Some (without_threads gone (EndpointObject e)) ≡ Some (NotificationObject n) = is in
+      absurd cc
   notification-was false (Some (CNodeObject radix)) n is = let clash : Some (CNodeObject radix) ≡ Some (NotificationObject n) = is in absurd cc
   notification-was false (Some FrameObject) n is = let clash : Some FrameObject ≡ Some (NotificationObject n) = is in absurd cc
   notification-was false (Some PageTableObject) n is = let clash : Some PageTableObject ≡ Some (NotificationObject n) = is in absurd cc
@@ -224,14 +247,17 @@ module _ (gone : ℕ → Bool) (lost : Status → Bool) where
 
   -- ---- rights to reply
 
-  caller-kept : (held : Option ℕ) (caller : ℕ) → (if option_map_or gone held false then None else held) ≡ Some caller → (held ≡ Some caller) × (gone caller ≡ false)
+  caller-kept : (held : Option ℕ) (caller : ℕ) → (if option_map_or gone held false then None else held) ≡ Some caller → (held ≡ Some caller)
+      × (gone caller ≡ false)
   caller-kept None caller is = let clash : None ≡ Some caller = is in absurd cc
-  caller-kept (Some c) caller is = elim (gone c) as (λ b. gone c ≡ b → (if b then None else Some c) ≡ Some caller → (Some c ≡ Some caller) × (gone caller ≡ false)) [
-    | true ↦ λ _ so. let clash : None ≡ Some caller = so in absurd cc
-    | false ↦ λ stays so. (so, let e : c ≡ caller = cc so in ap gone (sym e) ∙ stays)
-  ] refl is
+  caller-kept (Some c) caller is = elim (gone c) as (λ b. gone c ≡ b → (if b then None else Some c) ≡ Some caller → (Some c ≡ Some caller)
+      × (gone caller ≡ false)) [
+        | true ↦ λ _ so. let clash : None ≡ Some caller = so in absurd cc
+        | false ↦ λ stays so. (so, let e : c ≡ caller = cc so in ap gone (sym e) ∙ stays)
+      ] refl is
 
-  pub caller-calm : (ending : Bool) (o : Option Object) (caller : ℕ) → (own_of (calmed ending o)).caller ≡ Some caller → ((own_of o).caller ≡ Some caller) × (gone caller ≡ false)
+  pub caller-calm : (ending : Bool) (o : Option Object) (caller : ℕ) → (own_of (calmed ending o)).caller ≡ Some caller → ((own_of o).caller ≡ Some caller)
+      × (gone caller ≡ false)
   caller-calm true o caller is = let clash : None ≡ Some caller = sym (ap (λ (k : Option Object). (own_of k).caller) (calmed-gone o)) ∙ is in absurd cc
   caller-calm false (Some (ThreadObject t)) caller is = caller-kept t.caller caller (sym (ap (λ (k : Option Object). (own_of k).caller) (calmed-thread t)) ∙ is)
   caller-calm false None caller is = let clash : None ≡ Some caller = is in absurd cc
@@ -311,7 +337,8 @@ module _ (s : State) (set : SlotSet) (r : Removes s set) where
   waits-status AwaitsHandler q = nowhere q
 
   waits-calm : (ending : Bool) (o : Option Object) (q : ℕ)
-      → ◌≡◌ {A = ℕ} (if ends s set q then 0 else if not (option_map_or (λ _. ending) (as_thread o) false) then waits_of o q else 0) (waits_of (calmed gone lost ending o) q)
+      → ◌≡◌ {A = ℕ} (if ends s set q then 0 else if not (option_map_or (λ _. ending) (as_thread o) false) then waits_of o q else 0)
+      (waits_of (calmed gone lost ending o) q)
   waits-calm true o q =
       elim (as_thread o) as (λ t. ◌≡◌ {A = ℕ} (if ends s set q then 0 else if not (option_map_or (λ _. true) t false) then (if option_map_or
       (λ t. is_blocked_on q t.status) t false then 1 else 0) else 0) 0) [
@@ -334,7 +361,8 @@ module _ (s : State) (set : SlotSet) (r : Removes s set) where
       record {
         threads = λ thread t is.
             let was = thread-was gone lost (ends s set thread) (s.objects thread) t is in
-            subst ThreadIsSound (ThreadWas.now was) (calm-fine gone lost lost-stops (ThreadWas.before was) (before.threads thread (ThreadWas.before was) (ThreadWas.was was)));
+            subst ThreadIsSound (ThreadWas.now was)
+            (calm-fine gone lost lost-stops (ThreadWas.before was) (before.threads thread (ThreadWas.before was) (ThreadWas.was was)));
         ready = λ thread priority.
             times-filter (λ other. not (gone other)) (s.ready priority) thread
             ∙ ap (λ (n : ℕ). if not (gone thread) then n else 0) (before.ready thread priority)
@@ -352,7 +380,8 @@ module _ (s : State) (set : SlotSet) (r : Removes s set) where
         senders = λ offset e is.
             let was = endpoint-was gone lost (ends s set offset) (s.objects offset) e is in
             subst (All SenderIsSound) (sym (EndpointWas.senders was))
-            (All-filter (λ (sender : Sender). not (gone sender.thread)) SenderIsSound (EndpointWas.before was).senders (before.senders offset (EndpointWas.before was)
+            (All-filter (λ (sender : Sender). not (gone sender.thread)) SenderIsSound (EndpointWas.before was).senders
+            (before.senders offset (EndpointWas.before was)
             (EndpointWas.was was)));
         words = λ offset n is.
             let was = notification-was gone lost (ends s set offset) (s.objects offset) n is in
@@ -361,14 +390,16 @@ module _ (s : State) (set : SlotSet) (r : Removes s set) where
             let was = caller-calm gone lost (ends s set thread) (s.objects thread) caller is in
             awaits-calm gone lost lost-awaits (ends s set caller) (s.objects caller) was.1 (before.callers thread caller was.0);
         one_right = λ a b caller one two.
-            before.one_right a b caller (caller-calm gone lost (ends s set a) (s.objects a) caller one).0 (caller-calm gone lost (ends s set b) (s.objects b) caller two).0;
+            before.one_right a b caller (caller-calm gone lost (ends s set a) (s.objects a) caller one).0
+            (caller-calm gone lost (ends s set b) (s.objects b) caller two).0;
       }
 
   calm-kind : (o : ℕ) → option_map kind_of (if is_set_back s set o then stilled ((left s set).objects o) else (left s set).objects o) ≡ kind_at (left s set) o
-  calm-kind o = elim (is_set_back s set o) as (λ b. option_map kind_of (if b then stilled ((left s set).objects o) else (left s set).objects o) ≡ kind_at (left s set) o) [
-    | true ↦ stilled-kind ((left s set).objects o)
-    | false ↦ refl
-  ]
+  calm-kind o = elim (is_set_back s set o) as (λ b. option_map kind_of (if b then stilled ((left s set).objects o) else (left s set).objects o) ≡ kind_at
+      (left s set) o) [
+        | true ↦ stilled-kind ((left s set).objects o)
+        | false ↦ refl
+      ]
 
   shape-left : HasShape (left s set)
   shape-left = record {

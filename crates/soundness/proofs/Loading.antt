@@ -2,7 +2,8 @@
 use Rattle.std.proofs.Common.{ℕ, ◌≡◌, ◌==◌, ◌^◌, ◌<◌, true, false, nat_le, if◌then◌else◌, length, List, Option, Some, None, Result, Ok, Err, refl, ap, subst}
 use Rattle.std.specs.Prelude.{All}
 use Rattle.model.specs.declared.capabilities.Cap.{Cap}
-use Rattle.model.specs.declared.capabilities.Cap.TheVariants.{Empty, Untyped, Endpoint, Notification, CNode, Frame, PageTable, Tcb, RootTable, InterruptControl, InterruptHandler}
+use Rattle.model.specs.declared.capabilities.Cap.TheVariants.{Empty, Untyped, Endpoint, Notification, CNode, Frame, PageTable, Tcb, RootTable, InterruptControl}
+use Rattle.model.specs.declared.capabilities.Cap.TheVariants.{InterruptHandler}
 use Rattle.model.specs.declared.errors.KError.{KError}
 use Rattle.model.specs.declared.errors.KError.TheVariants.{FailedLookup, IllegalOperation, TruncatedMessage}
 use Rattle.model.specs.declared.lookup_failures.LookupFailure.{LookupFailure}
@@ -36,13 +37,15 @@ boot-call s address call is =
     let root = boot_root s.boot_radix in
     let itself : Call = record { root = root; caller = None; slot = 0; capability = root } in
     let of = λ (slot : ℕ). let made_call : Call = record { root = root; caller = None; slot = slot; capability = capability_at s.slots slot } in made_call in
-    elim (address == boot_cnode) as (λ b. (if b then Ok itself else (or_failed (called_slot s.slots root address) >>= λ slot. Ok (of slot))) ≡ Ok call → IsCall s call) [
+    elim (address == boot_cnode) as (λ b. (if b then Ok itself else (or_failed (called_slot s.slots root address) >>= λ slot. Ok (of slot))) ≡ Ok call →
+    IsCall s call) [
       | true ↦ λ so.
           let e : itself ≡ call = cc so in subst (IsCall s) e (record { root = of_loader refl; invoked = boot refl })
       | false ↦ λ so.
           let one = passes-both (or_failed (called_slot s.slots root address)) _ call so in
           let e : of one.value ≡ call = cc one.rest in
-          let full : IsFull s.slots one.value = called-full s.slots (lookup s.slots root address 32) one.value (found-slot (called_slot s.slots root address) one.value one.first) in
+          let full : IsFull s.slots one.value = called-full s.slots (lookup s.slots root address 32) one.value
+          (found-slot (called_slot s.slots root address) one.value one.first) in
           subst (IsCall s) e (record { root = of_loader refl; invoked = held refl full })
     ] is
 
@@ -59,7 +62,8 @@ tcb-of (RootTable a) thread is = let e : ◌≡◌ {A = Option ℕ} None (Some t
 tcb-of InterruptControl thread is = let e : ◌≡◌ {A = Option ℕ} None (Some thread) = is in absurd cc
 tcb-of (InterruptHandler a) thread is = let e : ◌≡◌ {A = Option ℕ} None (Some thread) = is in absurd cc
 
-guarded-whole : (s t : State) (call : Call) (words : List ℕ) → IsSound s → IsCall s call → All (λ word. word < 2 ^ 32) words → configure_with_guard s call words ≡ Ok t → IsSound t
+guarded-whole : (s t : State) (call : Call) (words : List ℕ) → IsSound s → IsCall s call → All (λ word. word < 2 ^ 32) words →
+    configure_with_guard s call words ≡ Ok t → IsSound t
 unfolding configure_with_guard
 guarded-whole s t call words whole is_call small is =
     let one = passes-both (wanted (thread_of call.capability) IllegalOperation) _ t is in
@@ -68,7 +72,8 @@ guarded-whole s t call words whole is_call small is =
     let tcb = tcb-of call.capability thread (wanted-some (thread_of call.capability) IllegalOperation thread one.first) in
     let at = invoked-at s call (Tcb thread) is_call.invoked tcb refl in
     let is_thread : kind_at s thread ≡ Some NewThread = whole.memory.named call.slot NewThread thread (ap object_named (IsAt.at at)) in
-    configure-whole s t call.root thread (Some (word words 5)) (word words 0) (slot_name words 1) (slot_name words 3) whole is_thread (read-less words 0 small) two.rest
+    configure-whole s t call.root thread (Some (word words 5)) (word words 0) (slot_name words 1) (slot_name words 3) whole is_thread (read-less words 0 small)
+    two.rest
 
 pub made-whole : (s t : State) (c : LoaderCall) → IsSound s → All (λ word. word < 2 ^ 32) c.words → made s c ≡ Ok t → IsSound t
 unfolding made

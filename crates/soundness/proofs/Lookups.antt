@@ -1,9 +1,11 @@
 -- The slots that calls name are slots of CNodes.
-use Rattle.std.proofs.Common.{ℕ, zero, suc, ◌≡◌, ◌∙◌, ◌==◌, ◌&&◌, ◌||◌, ◌+◌, ◌-◌, ◌/◌, ◌%◌, ◌^◌, ◌<◌, Bool, true, false, not, nat_le, nat_lt, if◌then◌else◌, Option, Some, None, Result, Ok, Err, refl, ap, subst, arith}
+use Rattle.std.proofs.Common.{ℕ, zero, suc, ◌≡◌, ◌∙◌, ◌==◌, ◌&&◌, ◌||◌, ◌+◌, ◌-◌, ◌/◌, ◌%◌, ◌^◌, ◌<◌, Bool, true, false, not, nat_le, nat_lt, if◌then◌else◌}
+use Rattle.std.proofs.Common.{Option, Some, None, Result, Ok, Err, refl, ap, subst, arith}
 use Rattle.std.proofs.lemmas.Bool.{not-true}
 use Rattle.std.proofs.lemmas.Nat.{pow_pos}
 use Rattle.model.specs.declared.capabilities.Cap.{Cap}
-use Rattle.model.specs.declared.capabilities.Cap.TheVariants.{Empty, Untyped, Endpoint, Notification, CNode, Frame, PageTable, Tcb, RootTable, InterruptControl, InterruptHandler}
+use Rattle.model.specs.declared.capabilities.Cap.TheVariants.{Empty, Untyped, Endpoint, Notification, CNode, Frame, PageTable, Tcb, RootTable, InterruptControl}
+use Rattle.model.specs.declared.capabilities.Cap.TheVariants.{InterruptHandler}
 use Rattle.model.specs.declared.errors.KError.{KError}
 use Rattle.model.specs.declared.errors.KError.TheVariants.{DeleteFirst, FailedLookup, RangeError}
 use Rattle.model.specs.declared.invocations.SlotName.{SlotName}
@@ -85,7 +87,8 @@ module _ (s : State) (memory : MemoryIsSound s) where
   -- after a CNode
   goes-plain : (offset radix index rest : ℕ) (address n : ℕ) (found : ℕ × ℕ) (stops : Bool) → IsPlain s (offset / 16 + index)
       → ((left : ℕ) → lookup_within n s.slots (capability_at s.slots (offset / 16 + index)) address left ≡ Ok found → IsPlain s found.0)
-      → ◌≡◌ {A = Found} (if stops then Ok (offset / 16 + index, rest) else lookup_within n s.slots (capability_at s.slots (offset / 16 + index)) address rest) (Ok found)
+      → ◌≡◌ {A = Found} (if stops then Ok (offset / 16 + index, rest) else lookup_within n s.slots (capability_at s.slots (offset / 16 + index)) address rest)
+      (Ok found)
       → IsPlain s found.0
   goes-plain offset radix index rest address n found true plain later is =
       let e : (offset / 16 + index, rest) ≡ found = cc is in subst (IsPlain s) (ap (λ (p : ℕ × ℕ). p.0) e) plain
@@ -96,7 +99,8 @@ module _ (s : State) (memory : MemoryIsSound s) where
   unfolding lookup_within
   within-plain zero root address left found is_root is = let e : ◌≡◌ {A = Found} (Err (DepthMismatch left)) (Ok found) = is in absurd cc
   within-plain (suc n) (CNode offset radix guard) address left found is_root is =
-      elim (resolve radix guard address left) as (λ r. resolve radix guard address left ≡ r → go_on s.slots offset (λ held rest. lookup_within n s.slots held address rest) r ≡ Ok found → IsPlain s found.0) [
+      elim (resolve radix guard address left) as (λ r. resolve radix guard address left ≡ r →
+      go_on s.slots offset (λ held rest. lookup_within n s.slots held address rest) r ≡ Ok found → IsPlain s found.0) [
         | Err failure ↦ λ _ so. let e : ◌≡◌ {A = Found} (Err failure) (Ok found) = so in absurd cc
         | Ok place ↦ λ resolved so.
             goes-plain offset radix place.0 place.1 address n found
@@ -126,8 +130,10 @@ module _ (s : State) (memory : MemoryIsSound s) where
 
   pub argument-plain : (root : Cap) (name : SlotName) (slot : ℕ) → IsRoot s root → argument_slot s.slots root name ≡ Ok slot → IsPlain s slot
   argument-plain root name slot is_root is =
-      let parts = passes-both (check (nat_lt 0 name.depth && nat_le name.depth 32) RangeError) (λ _. whole (lookup s.slots root name.address name.depth)) slot is in
-      whole-plain (lookup s.slots root name.address name.depth) slot (λ found so. within-plain (suc name.depth) root name.address name.depth found is_root so) parts.rest
+      let parts = passes-both (check (nat_lt 0 name.depth && nat_le name.depth 32) RangeError) (λ _. whole (lookup s.slots root name.address name.depth)) slot
+      is in
+      whole-plain (lookup s.slots root name.address name.depth) slot (λ found so. within-plain (suc name.depth) root name.address name.depth found is_root so)
+      parts.rest
 
   -- a slot that has to be empty, and one that has to hold something
   pub destination-plain : (root : Cap) (name : SlotName) (slot : ℕ) → IsRoot s root → destination_slot s.slots root name ≡ Ok slot
@@ -137,7 +143,8 @@ module _ (s : State) (memory : MemoryIsSound s) where
       let tested = passes-both (check (not (is_full s.slots parts.value)) DeleteFirst) (λ _. Ok parts.value) slot parts.rest in
       let e : parts.value ≡ slot = cc tested.rest in (
         argument-plain root name slot is_root (parts.first ∙ ap (λ (x : ℕ). Ok x) e),
-        subst (λ (x : ℕ). is_full s.slots x ≡ false) e (not-true (is_full s.slots parts.value) (check-passes (not (is_full s.slots parts.value)) DeleteFirst tested.value tested.first)),
+        subst (λ (x : ℕ). is_full s.slots x ≡ false) e
+            (not-true (is_full s.slots parts.value) (check-passes (not (is_full s.slots parts.value)) DeleteFirst tested.value tested.first)),
       )
 
   pub source-plain : (root : Cap) (name : SlotName) (slot : ℕ) → IsRoot s root → source_slot s.slots root name ≡ Ok slot

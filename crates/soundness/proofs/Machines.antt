@@ -4,9 +4,13 @@ use Rattle.std.specs.Option.{option_map_or}
 use Rattle.model.specs.Kernel.AddressSpaces.{with_content}
 use Rattle.model.specs.Kernel.Faults.{fault, handler, tell}
 use Rattle.model.specs.Kernel.Interrupts.{Signal, acknowledge, binding, interrupt, raise, with_pending}
-use Rattle.model.specs.Kernel.Messages.{Message, deliver, deliver_word, message_of, message_sent, passes, passes_with, poll, receive, received, received_waiting, receives, replied, reply, resumption, send, sends, signal, signals, takes_word, tries_to_send, try_to_receive, try_to_send, wait, waits_for_signal, waits_to_receive, with_caller, with_registers}
+use Rattle.model.specs.Kernel.Messages.{Message, deliver, deliver_word, message_of, message_sent, passes, passes_with, poll, receive, received}
+use Rattle.model.specs.Kernel.Messages.{received_waiting, receives, replied, reply, resumption, send, sends, signal, signals, takes_word, tries_to_send}
+use Rattle.model.specs.Kernel.Messages.{try_to_receive, try_to_send, wait, waits_for_signal, waits_to_receive, with_caller, with_registers}
 use Rattle.model.specs.Kernel.Scheduling.{at_tail, block, current, is_runnable, leaves, tick, ticked, unready, wake, yielded}
-use Rattle.model.specs.Kernel.State.{State, Status, Inactive, Runnable, Blocked, AwaitsReply, AwaitsHandler, FaultMessage, NotificationState, Sender, Sent, BySend, ByCall, ByFault, ThreadState, endpoint_at, notification_at, put, thread_at, with_endpoint, with_notification, with_thread}
+use Rattle.model.specs.Kernel.State.{State, Status, Inactive, Runnable, Blocked, AwaitsReply, AwaitsHandler, FaultMessage, NotificationState, Sender, Sent}
+use Rattle.model.specs.Kernel.State.{BySend, ByCall, ByFault, ThreadState, endpoint_at, notification_at, put, thread_at, with_endpoint, with_notification}
+use Rattle.model.specs.Kernel.State.{with_thread}
 use Rattle.model.specs.Kernel.Steps.{answered}
 use Rattle.model.specs.declared.system_calls.SendCall.{SendCall}
 use Rattle.model.specs.declared.system_calls.SendCall.TheVariants.{Calling, Sending, Trying}
@@ -201,7 +205,8 @@ acknowledge-machine s line =
     let opened : SameBase s unmasked = record { memory_bits = refl; boot_radix = refl; slots = refl } in
     either-machine s (option_map_or (interrupt clear line) (binding s line) unmasked) unmasked (s.pending line)
     (option-machine s unmasked (interrupt clear line) (binding s line)
-    (λ bound. then-machine s clear (interrupt clear line bound) (record { memory_bits = refl; boot_radix = refl; slots = refl }) (interrupt-machine clear line bound))
+    (λ bound. then-machine s clear (interrupt clear line bound) (record { memory_bits = refl; boot_radix = refl; slots = refl })
+    (interrupt-machine clear line bound))
     opened)
     opened
 

@@ -1,10 +1,12 @@
 -- Calls on frames and page tables.
-use Rattle.std.proofs.Common.{ℕ, zero, suc, ◌≡◌, ◌∙◌, ◌==◌, ◌||◌, ◌+◌, ◌*◌, ◌/◌, ◌%◌, ◌^◌, ◌<◌, ◌≤◌, inl, inr, true, false, not, nat_lt, Option, Some, None, Ok, bit_and, refl, sym, ap, subst, arith}
+use Rattle.std.proofs.Common.{ℕ, zero, suc, ◌≡◌, ◌∙◌, ◌==◌, ◌||◌, ◌+◌, ◌*◌, ◌/◌, ◌%◌, ◌^◌, ◌<◌, ◌≤◌, inl, inr, true, false, not, nat_lt, Option, Some, None, Ok}
+use Rattle.std.proofs.Common.{bit_and, refl, sym, ap, subst, arith}
 use Rattle.std.specs.Option.{option_map_or}
 use Rattle.std.proofs.lemmas.Bool.{ltb-true, not-true}
 use Rattle.std.proofs.lemmas.Nat.{and_le_r}
 use Rattle.model.specs.declared.capabilities.Cap.{Cap}
-use Rattle.model.specs.declared.capabilities.Cap.TheVariants.{Empty, Untyped, Endpoint, Notification, CNode, Frame, PageTable, Tcb, RootTable, InterruptControl, InterruptHandler}
+use Rattle.model.specs.declared.capabilities.Cap.TheVariants.{Empty, Untyped, Endpoint, Notification, CNode, Frame, PageTable, Tcb, RootTable, InterruptControl}
+use Rattle.model.specs.declared.capabilities.Cap.TheVariants.{InterruptHandler}
 use Rattle.model.specs.declared.capabilities.FrameMapping.{FrameMapping}
 use Rattle.model.specs.declared.capabilities.TableMapping.{TableMapping}
 use Rattle.model.specs.declared.errors.KError.TheVariants.{AlignmentError, DeleteFirst, FailedLookup, InvalidArgument, InvalidCapability}
@@ -96,7 +98,8 @@ root-known s c name root sound is =
 
 -- ---- frames
 
-module _ (s : State) (slot offset : ℕ) (allowed : Rights) (before : Option FrameMapping) (sound : IsSound s) (full : IsFull s.slots slot) (is : capability_at s.slots slot ≡ Frame offset allowed before) where
+module _ (s : State) (slot offset : ℕ) (allowed : Rights) (before : Option FrameMapping) (sound : IsSound s) (full : IsFull s.slots slot)
+    (is : capability_at s.slots slot ≡ Frame offset allowed before) where
   frame-may : (after : Option FrameMapping) → MayHold s slot (Frame offset allowed after)
   frame-may after =
       let may : MayHold s slot (Frame offset allowed before) = subst (MayHold s slot) is (full-may_hold s sound.slots slot full) in
@@ -125,7 +128,8 @@ module _ (s : State) (slot offset : ℕ) (allowed : Rights) (before : Option Fra
       → is_region_taken s m.root (m.page / region_pages) ≡ true
       → is_page_taken s m.root m.page ≡ false → IsSound (with_slots s (recapped s.slots slot (Frame offset allowed (Some m))))
   frame-mapped m root less held_rights region free =
-      framed-sound s slot (Frame offset allowed (Some m)) sound (frame-recaps (Some m) (valid-before.0, valid-before.1, (IsTableRoot.place root, less, held_rights))) m refl
+      framed-sound s slot (Frame offset allowed (Some m)) sound
+      (frame-recaps (Some m) (valid-before.0, valid-before.1, (IsTableRoot.place root, less, held_rights))) m refl
       (ap table_mapping (sym is)) (λ o n e. let f : Frame offset allowed (Some m) ≡ PageTable o n = e in absurd cc) (IsTableRoot.there root) region free
 
 -- what is held where the call says
@@ -199,12 +203,14 @@ table-sound s t call offset before UnmapTable sound is_call is done =
     let at = invoked-at s call (PageTable offset before) is_call.invoked is refl in
     let e : unmap_table s call ≡ t = cc done in
     subst IsSound e (
-    subst (λ (c : Cap). IsSound (option_map_or (λ mapping. with_slots s (without_region (recapped s.slots call.slot (unmapped c)) mapping)) (table_mapping c) s)) (sym is)
+    subst (λ (c : Cap). IsSound (option_map_or (λ mapping. with_slots s (without_region (recapped s.slots call.slot (unmapped c)) mapping)) (table_mapping c)
+    s)) (sym is)
     (table-unmapped s call offset before sound at)
     )
 table-sound s t call offset before (MapTable name address) sound is_call is done =
     let one = passes-both (check (not (is_mapped (table_mapping call.capability))) InvalidCapability) _ t done in
-    let none : before ≡ None = ap table_mapping (sym is) ∙ not-mapped (table_mapping call.capability) (check-passes (not (is_mapped (table_mapping call.capability))) InvalidCapability one.value one.first) in
+    let none : before ≡ None = ap table_mapping (sym is) ∙ not-mapped (table_mapping call.capability)
+    (check-passes (not (is_mapped (table_mapping call.capability))) InvalidCapability one.value one.first) in
     let bare : call.capability ≡ PageTable offset None = is ∙ ap (PageTable offset) none in
     let at = invoked-at s call (PageTable offset None) is_call.invoked bare refl in
     let two = passes-both (root_named s.slots call.root name) _ t one.rest in
@@ -217,4 +223,5 @@ table-sound s t call offset before (MapTable name address) sound is_call is done
     let e : with_slots s (recapped s.slots call.slot (with_table_mapping call.capability (Some m))) ≡ t = cc five.rest in
     subst IsSound e (subst (λ (c : Cap). IsSound (with_slots s (recapped s.slots call.slot (with_table_mapping c (Some m))))) (sym bare)
     (table-mapped s call.slot offset m sound (IsAt.full at) (IsAt.at at) (root-known s call.root name root sound two.first) (omega (arith, less))
-    (not-true (is_region_taken s root (address / region_size)) (check-passes (not (is_region_taken s root (address / region_size))) DeleteFirst five.value five.first))))
+    (not-true (is_region_taken s root (address / region_size))
+    (check-passes (not (is_region_taken s root (address / region_size))) DeleteFirst five.value five.first))))

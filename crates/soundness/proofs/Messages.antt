@@ -1,22 +1,30 @@
 -- Messages, replies and signals.
-use Rattle.std.proofs.Common.{ℕ, ◌≡◌, ◌≢◌, ◌∙◌, ◌==◌, ◌^◌, ◌<◌, ◌++◌, true, false, if◌then◌else◌, List, [], ◌∷◌, Option, Some, None, option_map, refl, sym, ap, subst, arith}
+use Rattle.std.proofs.Common.{ℕ, ◌≡◌, ◌≢◌, ◌∙◌, ◌==◌, ◌^◌, ◌<◌, ◌++◌, true, false, if◌then◌else◌, List, [], ◌∷◌, Option, Some, None, option_map, refl, sym, ap}
+use Rattle.std.proofs.Common.{subst, arith}
 use Rattle.std.specs.Prelude.{bit_or, All}
 use Rattle.std.specs.Option.{option_map_or}
 use Rattle.std.proofs.lemmas.List.Elements.{All-head}
 use Rattle.std.proofs.lemmas.Nat.{or_lt}
 use Rattle.model.specs.Kernel.Kinds.{kind_at, kind_of}
-use Rattle.model.specs.Kernel.Messages.{Message, a0, deliver, deliver_word, delivered, message_of, message_sent, passes, poll, receive, received, received_waiting, receives, replied, reply, reply_to_call, reply_to_fault, resumption, send, send_to, sends, signal, signals, takes_word, tries_to_send, try_to_receive, try_to_send, wait, waits_for_signal, waits_to_receive, with_caller, with_registers}
+use Rattle.model.specs.Kernel.Messages.{Message, a0, deliver, deliver_word, delivered, message_of, message_sent, passes, poll, receive, received}
+use Rattle.model.specs.Kernel.Messages.{received_waiting, receives, replied, reply, reply_to_call, reply_to_fault, resumption, send, send_to, sends, signal}
+use Rattle.model.specs.Kernel.Messages.{signals, takes_word, tries_to_send, try_to_receive, try_to_send, wait, waits_for_signal, waits_to_receive, with_caller}
+use Rattle.model.specs.Kernel.Messages.{with_registers}
 use Rattle.model.specs.Kernel.Retype.{NewObject, NewThread, NewEndpoint, NewNotification}
 use Rattle.model.specs.Kernel.Scheduling.{block, full_slice, is_runnable, wake}
 use Rattle.model.specs.Kernel.Soundness.{awaits_answer, IsSound, SenderIsSound}
-use Rattle.model.specs.Kernel.State.{State, Status, Inactive, Runnable, Blocked, AwaitsReply, AwaitsHandler, Object, ThreadObject, EndpointObject, NotificationObject, CNodeObject, FrameObject, PageTableObject, RootTableObject, EndpointState, NotificationState, Sender, Sent, BySend, ByCall, ByFault, ThreadState, endpoint_at, new_endpoint, new_notification, notification_at, thread_at, with_endpoint, with_notification, with_object, as_endpoint, as_notification}
+use Rattle.model.specs.Kernel.State.{State, Status, Inactive, Runnable, Blocked, AwaitsReply, AwaitsHandler, Object, ThreadObject, EndpointObject}
+use Rattle.model.specs.Kernel.State.{NotificationObject, CNodeObject, FrameObject, PageTableObject, RootTableObject, EndpointState, NotificationState, Sender}
+use Rattle.model.specs.Kernel.State.{Sent, BySend, ByCall, ByFault, ThreadState, endpoint_at, new_endpoint, new_notification, notification_at, thread_at}
+use Rattle.model.specs.Kernel.State.{with_endpoint, with_notification, with_object, as_endpoint, as_notification}
 use Rattle.model.specs.Machine.Effects.{advanced}
 use Rattle.model.specs.Machine.ProgramMemory.{RegisterFile, write}
 use Rattle.soundness.specs.Running.{IsRunning}
 use Rattle.soundness.proofs.Delivered.{MessageIsSound, deliver-moving, deliver_word-moving, own-message, passes-moving, registers-moving, sent-message}
 use Rattle.soundness.proofs.Grants.{awaiting-whole, thread-kinds}
 use Rattle.soundness.proofs.Moving.{Moving, own_of, put-either, put-here, put-other, rights-none, runs_of}
-use Rattle.soundness.proofs.QueueSteps.{first-receiver, first-sender, first-waiter, in_queue, listed-as, running, standing, with-receiver, with-sender, with-waiter, with-word, without-receiver, without-sender, without-waiter}
+use Rattle.soundness.proofs.QueueSteps.{first-receiver, first-sender, first-waiter, in_queue, listed-as, running, standing, with-receiver, with-sender}
+use Rattle.soundness.proofs.QueueSteps.{with-waiter, with-word, without-receiver, without-sender, without-waiter}
 use Rattle.soundness.proofs.Registers.{registers-of, with-pc, written-sound}
 use Rattle.soundness.proofs.Rest.{endpoint-kind, notification-kind}
 use Rattle.soundness.proofs.Steps.{caller-fine, own-fine, stopped-whole, woken-whole}
@@ -32,7 +40,8 @@ endpoint-object s q is =
 pub notification-object : (s : State) (q : ℕ) → kind_at s q ≡ Some NewNotification → s.objects q ≡ Some (NotificationObject (notification_at s q))
 notification-object s q is =
     let own = notification-kind (s.objects q) is in
-    own.1 ∙ ap (λ (n : NotificationState). Some (NotificationObject n)) (sym (ap (λ (o : Option Object). option_map_or (λ n. n) (as_notification o) new_notification) own.1))
+    own.1 ∙ ap (λ (n : NotificationState). Some (NotificationObject n))
+    (sym (ap (λ (o : Option Object). option_map_or (λ n. n) (as_notification o) new_notification) own.1))
 
 -- another object of the same type
 pub object-kinds : (s : State) (q : ℕ) (o : Object) → option_map kind_of (Some o) ≡ kind_at s q → (offset : ℕ)
@@ -71,7 +80,8 @@ running-object s t x same runs = record {
 called-whole : (kinds : ℕ → Option NewObject) (s : State) (sender : Sender) (receiver : ℕ) (r : ℕ → ℕ) → Moving kinds s sender.thread r (λ _. 0) false
     → kinds sender.thread ≡ Some NewThread → kinds receiver ≡ Some NewThread → IsSound (received s sender ByCall receiver)
 called-whole kinds s sender receiver r moving one other =
-    elim sender.grant_reply as (λ b. IsSound (if b then with_caller (block s sender.thread AwaitsReply) receiver (Some sender.thread) else block s sender.thread Inactive)) [
+    elim sender.grant_reply as (λ b. IsSound (if b then with_caller (block s sender.thread AwaitsReply) receiver (Some sender.thread) else
+    block s sender.thread Inactive)) [
       | true ↦ awaiting-whole kinds s sender.thread receiver r AwaitsReply moving one other refl (λ _. refl) refl
       | false ↦ stopped-whole kinds s sender.thread r (λ _. 0) false moving one Inactive refl (λ _. refl) (λ e. e)
     ]
@@ -84,7 +94,8 @@ received-whole s sender BySend receiver whole runs is = passes-whole s whole sen
 received-whole s sender ByCall receiver whole runs is =
     called-whole (kind_at s) s sender receiver (runs_of (s.objects sender.thread)) (running s sender.thread whole runs) runs.kind is
 received-whole s sender (ByFault fault) receiver whole runs is =
-    awaiting-whole (kind_at s) s sender.thread receiver (runs_of (s.objects sender.thread)) AwaitsHandler (running s sender.thread whole runs) runs.kind is refl (λ _. refl) refl
+    awaiting-whole (kind_at s) s sender.thread receiver (runs_of (s.objects sender.thread)) AwaitsHandler (running s sender.thread whole runs) runs.kind is refl
+    (λ _. refl) refl
 
 -- one that waited
 waited-whole : (kinds : ℕ → Option NewObject) (s : State) (sender : Sender) (sent : Sent) (receiver : ℕ) (r : ℕ → ℕ)
@@ -98,7 +109,8 @@ waited-whole kinds s sender (ByFault fault) receiver r moving one other =
 
 -- ---- sending
 
-module _ (s : State) (q : ℕ) (sender : Sender) (whole : IsSound s) (is : kind_at s q ≡ Some NewEndpoint) (runs : IsRunning s sender.thread) (sound : SenderIsSound sender) where
+module _ (s : State) (q : ℕ) (sender : Sender) (whole : IsSound s) (is : kind_at s q ≡ Some NewEndpoint) (runs : IsRunning s sender.thread)
+    (sound : SenderIsSound sender) where
   sent_to-whole : (receiver : ℕ) (others : List ℕ) → (endpoint_at s q).receivers ≡ receiver ∷ others
       → IsSound (send_to (with_endpoint s q (record (endpoint_at s q) { receivers = others })) sender receiver)
   sent_to-whole receiver others first =
@@ -116,7 +128,8 @@ module _ (s : State) (q : ℕ) (sender : Sender) (whole : IsSound s) (is : kind_
       let s2 = deliver s1 receiver sender.badge message in
       let three = woken-whole (kind_at s) s2 receiver r two waits.kind in
       let s3 = wake s2 receiver in
-      let apart : x ≢ receiver = λ same. (let clash : false ≡ true = sym (ap is_runnable waits.status) ∙ sym (ap (λ (y : ℕ). is_runnable (thread_at s y).status) same) ∙ runs.runs in cc) in
+      let apart : x ≢ receiver = λ same. (let clash : false ≡ true = sym (ap is_runnable waits.status)
+      ∙ sym (ap (λ (y : ℕ). is_runnable (thread_at s y).status) same) ∙ runs.runs in cc) in
       let distinct : x ≢ q = λ same. (let clash : Some NewThread ≡ Some NewEndpoint = sym runs.kind ∙ ap (kind_at s) same ∙ is in cc) in
       let stays : s3.objects x ≡ s.objects x =
       wake-other s2 receiver x apart ∙ deliver-other s1 receiver sender.badge message x apart
@@ -127,7 +140,8 @@ module _ (s : State) (q : ℕ) (sender : Sender) (whole : IsSound s) (is : kind_
   sends-whole : (receivers : List ℕ) → (endpoint_at s q).receivers ≡ receivers → IsSound (sends s q sender receivers)
   sends-whole [] none =
       let e = endpoint_at s q in
-      stopped-whole (kind_at s) (with_endpoint s q (record e { senders = e.senders ++ sender ∷ [] })) sender.thread (runs_of (s.objects sender.thread)) (in_queue (Blocked q)) false
+      stopped-whole (kind_at s) (with_endpoint s q (record e { senders = e.senders ++ sender ∷ [] })) sender.thread (runs_of (s.objects sender.thread))
+      (in_queue (Blocked q)) false
       (with-sender s whole q e sender (endpoint-object s q is) none runs sound) runs.kind (Blocked q) refl (λ _. refl) (λ a. a)
   sends-whole (receiver ∷ others) first = sent_to-whole receiver others first
 
@@ -156,7 +170,8 @@ module _ (s : State) (x : ℕ) (whole : IsSound s) (is : kind_at s x ≡ Some Ne
   pub dropped-runs : is_runnable (thread_at s x).status ≡ true → IsRunning (with_caller s x None) x
   dropped-runs runs = record {
     kind = dropped-kinds x ∙ is;
-    runs = subst (λ (o : Option Object). is_runnable (own_of o).status ≡ true) (sym (put-here s.objects x (Some (ThreadObject (record (thread_at s x) { caller = None }))))) runs;
+    runs = subst (λ (o : Option Object). is_runnable (own_of o).status ≡ true)
+        (sym (put-here s.objects x (Some (ThreadObject (record (thread_at s x) { caller = None }))))) runs;
   }
 
 module _ (s : State) (q receiver : ℕ) (whole : IsSound s) (is : kind_at s q ≡ Some NewEndpoint) (runs : IsRunning s receiver) where
@@ -181,7 +196,8 @@ module _ (s : State) (q receiver : ℕ) (whole : IsSound s) (is : kind_at s q �
   waits-whole : (endpoint_at s q).senders ≡ [] → IsSound (waits_to_receive s q receiver)
   waits-whole none =
       let e = endpoint_at s q in
-      stopped-whole (kind_at s) (with_endpoint s q (record e { receivers = e.receivers ++ receiver ∷ [] })) receiver (runs_of (s.objects receiver)) (in_queue (Blocked q)) false
+      stopped-whole (kind_at s) (with_endpoint s q (record e { receivers = e.receivers ++ receiver ∷ [] })) receiver (runs_of (s.objects receiver))
+      (in_queue (Blocked q)) false
       (with-receiver s whole q e receiver (endpoint-object s q is) none runs) runs.kind (Blocked q) refl (λ _. refl) (λ a. a)
 
 module _ (s : State) (q receiver : ℕ) (whole : IsSound s) (is : kind_at s q ≡ Some NewEndpoint) (runs : IsRunning s receiver) where
@@ -219,7 +235,8 @@ module _ (s : State) (q : ℕ) (whole : IsSound s) (is : kind_at s q ≡ Some Ne
   signals-whole : (badge : ℕ) (waiters : List ℕ) → badge < 2 ^ 28 → own_notification.waiters ≡ waiters
       → IsSound (signals s q badge own_notification waiters)
   signals-whole badge [] less none =
-      with-word s whole q own_notification (bit_or own_notification.word badge) object (or_lt 28 own_notification.word badge (whole.threads.words q own_notification object) less)
+      with-word s whole q own_notification (bit_or own_notification.word badge) object
+      (or_lt 28 own_notification.word badge (whole.threads.words q own_notification object) less)
   signals-whole badge (waiter ∷ others) less first =
       let s1 = with_notification s q (record own_notification { waiters = others }) in
       let waits = first-waiter s whole q own_notification waiter others object first in
@@ -246,7 +263,8 @@ module _ (s : State) (q : ℕ) (whole : IsSound s) (is : kind_at s q ≡ Some Ne
   pub wait-whole : (thread : ℕ) → IsRunning s thread → IsSound (wait s q thread)
   wait-whole thread runs =
       takes-whole thread (waits_for_signal s q thread) runs.kind
-      (stopped-whole (kind_at s) (with_notification s q (record own_notification { waiters = own_notification.waiters ++ thread ∷ [] })) thread (runs_of (s.objects thread)) (in_queue (Blocked q)) false
+      (stopped-whole (kind_at s) (with_notification s q (record own_notification { waiters = own_notification.waiters ++ thread ∷ [] })) thread
+      (runs_of (s.objects thread)) (in_queue (Blocked q)) false
       (with-waiter s whole q own_notification thread object runs) runs.kind (Blocked q) refl (λ _. refl) (λ a. a))
 
   pub poll-whole : (thread : ℕ) → IsRunning s thread → IsSound (poll s q thread)
@@ -272,16 +290,19 @@ resumption-less pc (word ∷ words) less small = let first = All-head (λ (n : �
 module _ (s : State) (caller : ℕ) (message : Message) (whole : IsSound s) (is_thread : kind_at s caller ≡ Some NewThread) (sound : MessageIsSound message)
     (free : (thread : ℕ) → (thread_at s thread).caller ≢ Some caller) where
   -- it is in no queue
-  alone : (status : Status) → (thread_at s caller).status ≡ status → ((queue : ℕ) → ◌≡◌ {A = ℕ} (in_queue status queue) 0) → Moving (kind_at s) s caller (runs_of (s.objects caller)) (λ _. 0) false
+  alone : (status : Status) → (thread_at s caller).status ≡ status → ((queue : ℕ) → ◌≡◌ {A = ℕ} (in_queue status queue) 0) →
+      Moving (kind_at s) s caller (runs_of (s.objects caller)) (λ _. 0) false
   alone status is nowhere =
       let moving = standing s caller status whole is in
-      let known : Moving (kind_at s) s caller (runs_of (s.objects caller)) (in_queue status) false = record { listed = moving.listed; rights = rights-none s caller (awaits_answer status) moving.rights free } in
+      let known : Moving (kind_at s) s caller (runs_of (s.objects caller)) (in_queue status) false =
+      record { listed = moving.listed; rights = rights-none s caller (awaits_answer status) moving.rights free } in
       listed-as (kind_at s) s caller (runs_of (s.objects caller)) (in_queue status) (λ _. 0) false false known nowhere refl
 
   called_back-whole : Moving (kind_at s) s caller (runs_of (s.objects caller)) (λ _. 0) false → IsSound (reply_to_call s caller message)
   called_back-whole moving =
       let r = runs_of (s.objects caller) in
-      woken-whole (kind_at s) (deliver s caller 0 message) caller r (deliver-moving (kind_at s) s caller r (λ _. 0) false caller 0 message is_thread moving (omega arith) sound) is_thread
+      woken-whole (kind_at s) (deliver s caller 0 message) caller r
+      (deliver-moving (kind_at s) s caller r (λ _. 0) false caller 0 message is_thread moving (omega arith) sound) is_thread
 
   handled-whole : Moving (kind_at s) s caller (runs_of (s.objects caller)) (λ _. 0) false → IsSound (reply_to_fault s caller message)
   handled-whole moving =
@@ -289,7 +310,9 @@ module _ (s : State) (caller : ℕ) (message : Message) (whole : IsSound s) (is_
       let file = (thread_at s caller).registers in
       let fine = fine-of s whole caller is_thread in
       let registers = registers-of (thread_at s caller) fine in
-      elim (message.label == 0) as (λ b. IsSound (if b then wake (with_registers s caller (record file { pc = resumption file.pc message.words })) caller else block s caller Inactive)) [
+      elim (message.label == 0)
+      as (λ b. IsSound (if b then wake (with_registers s caller (record file { pc = resumption file.pc message.words })) caller else
+      block s caller Inactive)) [
         | true ↦
             woken-whole (kind_at s) (with_registers s caller (record file { pc = resumption file.pc message.words })) caller r
             (registers-moving (kind_at s) s caller r (λ _. 0) false caller is_thread (record file { pc = resumption file.pc message.words }) moving
@@ -310,7 +333,8 @@ module _ (s : State) (thread : ℕ) (whole : IsSound s) (is_thread : kind_at s t
 
   status-still : (other : ℕ) → (thread_at without_right other).status ≡ (thread_at s other).status
   status-still =
-      put-either s.objects thread (Some (ThreadObject (record (thread_at s thread) { caller = None }))) (λ other o. (own_of o).status ≡ (thread_at s other).status) refl (λ _ _. refl)
+      put-either s.objects thread (Some (ThreadObject (record (thread_at s thread) { caller = None })))
+      (λ other o. (own_of o).status ≡ (thread_at s other).status) refl (λ _ _. refl)
 
   right-gone : (caller : ℕ) → (thread_at s thread).caller ≡ Some caller → (other : ℕ) → (thread_at without_right other).caller ≢ Some caller
   right-gone caller is =

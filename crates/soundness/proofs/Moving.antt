@@ -1,6 +1,7 @@
 -- One thread on its way from one place to another, and what is true of a state meanwhile: the thread is in the lists as often as is
 -- said apart from it, and each other thread as its own state says.
-use Rattle.std.proofs.Common.{ℕ, ◌≡◌, ◌≢◌, ◌∙◌, ◌==◌, ◌&&◌, ◌+◌, ◌^◌, ◌<◌, ◌++◌, ◌⊎◌, inl, inr, Bool, false, IsTrue, if◌then◌else◌, List, [], ◌∷◌, Option, Some, None, option_map, refl, sym, ap, subst}
+use Rattle.std.proofs.Common.{ℕ, ◌≡◌, ◌≢◌, ◌∙◌, ◌==◌, ◌&&◌, ◌+◌, ◌^◌, ◌<◌, ◌++◌, ◌⊎◌, inl, inr, Bool, false, IsTrue, if◌then◌else◌, List, [], ◌∷◌, Option, Some}
+use Rattle.std.proofs.Common.{None, option_map, refl, sym, ap, subst}
 use Rattle.std.specs.Prelude.{All}
 use Rattle.std.specs.Option.{option_map_or}
 use Rattle.std.proofs.lemmas.Bool.{eq-eqb, ne_eqb}
@@ -9,7 +10,8 @@ use Rattle.model.specs.Kernel.Kinds.{kind_at, kind_of}
 use Rattle.model.specs.Kernel.Retype.{NewObject, NewThread}
 use Rattle.model.specs.Kernel.Scheduling.{at_tail, is_runnable, unready}
 use Rattle.model.specs.Kernel.Soundness.{ThreadIsSound, awaits_answer, is_blocked_on, waiting_at, IsSound, SenderIsSound}
-use Rattle.model.specs.Kernel.State.{State, Status, Object, ThreadObject, EndpointObject, NotificationObject, EndpointState, NotificationState, ThreadState, as_thread, new_thread, put, thread_at, with_thread}
+use Rattle.model.specs.Kernel.State.{State, Status, Object, ThreadObject, EndpointObject, NotificationObject, EndpointState, NotificationState, ThreadState}
+use Rattle.model.specs.Kernel.State.{as_thread, new_thread, put, thread_at, with_thread}
 use Rattle.model.specs.Shared.Lists.{times_in, without}
 use Rattle.soundness.proofs.Queues.{times-end_other, times-end_same, times-gone, times-kept}
 use Rattle.soundness.proofs.Rest.{RestIsSound, rest-kept, rest-of, sound-of, thread-kind}
@@ -37,7 +39,8 @@ stands-same o = record { runs = λ _. refl; waits = λ _. refl; awaits = refl }
 pub stands-thread : (t u : ThreadState) → t.status ≡ u.status → t.priority ≡ u.priority → StandsAs (Some (ThreadObject t)) (Some (ThreadObject u))
 stands-thread t u status priority = record {
   runs = λ p.
-      ap (λ (b : Bool). if b && t.priority == p then 1 else 0) (ap is_runnable status) ∙ ap (λ (n : ℕ). if is_runnable u.status && n == p then 1 else 0) priority;
+      ap (λ (b : Bool). if b && t.priority == p then 1 else 0) (ap is_runnable status)
+      ∙ ap (λ (n : ℕ). if is_runnable u.status && n == p then 1 else 0) priority;
   waits = λ q. ap (λ (x : Status). if is_blocked_on q x then 1 else 0) status;
   awaits = ap awaits_answer status;
 }
@@ -173,7 +176,8 @@ ends kinds s x r w awaits moving runs waits answers =
       ];
       queued = λ thread queue. elim (eqb_tells thread x) [
         | inl here ↦
-            ap (times_in (waiting_at (s.objects queue))) here.1 ∙ moving.listed.there queue ∙ waits queue ∙ ap (λ (y : ℕ). waits_of (s.objects y) queue) (sym here.1)
+            ap (times_in (waiting_at (s.objects queue))) here.1 ∙ moving.listed.there queue ∙ waits queue
+            ∙ ap (λ (y : ℕ). waits_of (s.objects y) queue) (sym here.1)
         | inr other ↦ moving.listed.queued thread queue other.1
       ];
       one_sided = moving.listed.one_sided;
@@ -190,7 +194,8 @@ ends kinds s x r w awaits moving runs waits answers =
 
 -- ---- a thread's own state
 
-module _ (kinds : ℕ → Option NewObject) (s : State) (x : ℕ) (r w : ℕ → ℕ) (listed : Listed kinds s x r w) (y : ℕ) (t : ThreadState) (is_thread : kinds y ≡ Some NewThread) where
+module _ (kinds : ℕ → Option NewObject) (s : State) (x : ℕ) (r w : ℕ → ℕ) (listed : Listed kinds s x r w) (y : ℕ) (t : ThreadState)
+    (is_thread : kinds y ≡ Some NewThread) where
   own : (u : ThreadState) × (s.objects y ≡ Some (ThreadObject u))
   own = thread-kind (s.objects y) (listed.kind y ∙ is_thread)
 
@@ -214,11 +219,13 @@ module _ (kinds : ℕ → Option NewObject) (s : State) (x : ℕ) (r w : ℕ →
   pub rewritten-listed : ThreadIsSound t → (y ≢ x → (t.status ≡ (thread_at s y).status) × (t.priority ≡ (thread_at s y).priority))
       → Listed kinds (with_thread s y t) x r w
   rewritten-listed fine same =
-      let waiting : (thread queue : ℕ) → times_in (waiting_at (put s.objects y (Some (ThreadObject t)) queue)) thread ≡ times_in (waiting_at (s.objects queue)) thread = λ thread.
+      let waiting : (thread queue : ℕ) → times_in (waiting_at (put s.objects y (Some (ThreadObject t)) queue)) thread ≡ times_in (waiting_at (s.objects queue))
+      thread = λ thread.
       put-either s.objects y (Some (ThreadObject t)) (λ queue o. times_in (waiting_at o) thread ≡ times_in (waiting_at (s.objects queue)) thread)
       (ap (λ (o : Option Object). times_in (waiting_at o) thread) (sym own.1)) (λ queue _. refl) in
       relisted kinds s x r w (put s.objects y (Some (ThreadObject t))) s.ready r w listed (record {
-        kind = put-either s.objects y (Some (ThreadObject t)) (λ offset o. option_map kind_of o ≡ kind_at s offset) (sym (listed.kind y ∙ is_thread)) (λ _ _. refl);
+        kind = put-either s.objects y (Some (ThreadObject t)) (λ offset o. option_map kind_of o ≡ kind_at s offset) (sym (listed.kind y ∙ is_thread))
+            (λ _ _. refl);
         threads = put-either s.objects y (Some (ThreadObject t)) (λ thread o. (u : ThreadState) → o ≡ Some (ThreadObject u) → ThreadIsSound u)
             (λ u e. let f : t ≡ u = cc e in subst ThreadIsSound f fine) (λ thread _. listed.threads thread);
         lists = λ _ _ _. refl;
@@ -226,7 +233,8 @@ module _ (kinds : ℕ → Option NewObject) (s : State) (x : ℕ) (r w : ℕ →
         stands = stands-rewritten same;
         here = listed.here;
         there = λ queue. waiting x queue ∙ listed.there queue;
-        one_sided = put-either s.objects y (Some (ThreadObject t)) (λ offset o. (e : EndpointState) → o ≡ Some (EndpointObject e) → (e.senders ≡ []) ⊎ (e.receivers ≡ []))
+        one_sided = put-either s.objects y (Some (ThreadObject t))
+            (λ offset o. (e : EndpointState) → o ≡ Some (EndpointObject e) → (e.senders ≡ []) ⊎ (e.receivers ≡ []))
             (λ e is. let f : Some (ThreadObject t) ≡ Some (EndpointObject e) = is in absurd cc) (λ offset _. listed.one_sided offset);
         senders = put-either s.objects y (Some (ThreadObject t)) (λ offset o. (e : EndpointState) → o ≡ Some (EndpointObject e) → All SenderIsSound e.senders)
             (λ e is. let f : Some (ThreadObject t) ≡ Some (EndpointObject e) = is in absurd cc) (λ offset _. listed.senders offset);
@@ -238,7 +246,8 @@ module _ (kinds : ℕ → Option NewObject) (s : State) (x : ℕ) (r w : ℕ →
       → (y ≢ x → (t.status ≡ (thread_at s y).status) × (t.priority ≡ (thread_at s y).priority)) → Rights (with_thread s y t) x awaits
   rewritten-rights awaits rights had same =
       rights-kept s (with_thread s y t) x awaits rights
-      (put-either s.objects y (Some (ThreadObject t)) (λ thread o. (caller : ℕ) → (own_of o).caller ≡ Some caller → (thread_at s thread).caller ≡ Some caller) had (λ _ _ _ is. is))
+      (put-either s.objects y (Some (ThreadObject t)) (λ thread o. (caller : ℕ) → (own_of o).caller ≡ Some caller → (thread_at s thread).caller ≡ Some caller)
+      had (λ _ _ _ is. is))
       (λ caller other. (stands-rewritten same caller other).awaits)
 
 -- The thread has another state: x may be in other lists then, and another is in those of before. A right to reply may go.
@@ -276,21 +285,23 @@ pub tailed : (kinds : ℕ → Option NewObject) (s : State) (x : ℕ) (w : ℕ �
 tailed kinds s x w awaits moving =
     let tail : ℕ = (thread_at s x).priority in
     record {
-      listed = relisted kinds s x (λ _. 0) w s.objects (put s.ready tail (s.ready tail ++ x ∷ [])) (λ priority. if tail == priority then 1 else 0) w moving.listed (record {
-        kind = λ _. refl;
-        threads = moving.listed.threads;
-        lists = λ thread priority other.
-            put-either s.ready tail (s.ready tail ++ x ∷ []) (λ p l. times_in l thread ≡ times_in (s.ready p) thread)
-            (times-end_other (s.ready tail) x thread other) (λ _ _. refl) priority;
-        queues = λ _ _ _. refl;
-        stands = λ thread _. stands-same (s.objects thread);
-        here = put-either s.ready tail (s.ready tail ++ x ∷ []) (λ p l. times_in l x ≡ (if tail == p then 1 else 0))
-            (times-end_same (s.ready tail) x ∙ ap (λ (n : ℕ). n + 1) (moving.listed.here tail) ∙ sym (ap (λ (b : Bool). if b then 1 else 0) (eq-eqb tail tail refl)))
-            (λ p other. moving.listed.here p ∙ sym (ap (λ (b : Bool). if b then 1 else 0) (ne_eqb tail p (λ e. other (sym e)))));
-        there = moving.listed.there;
-        one_sided = moving.listed.one_sided;
-        senders = moving.listed.senders;
-        words = moving.listed.words;
-      });
+      listed = relisted kinds s x (λ _. 0) w s.objects (put s.ready tail (s.ready tail ++ x ∷ [])) (λ priority. if tail == priority then 1 else 0) w
+          moving.listed (record {
+            kind = λ _. refl;
+            threads = moving.listed.threads;
+            lists = λ thread priority other.
+                put-either s.ready tail (s.ready tail ++ x ∷ []) (λ p l. times_in l thread ≡ times_in (s.ready p) thread)
+                (times-end_other (s.ready tail) x thread other) (λ _ _. refl) priority;
+            queues = λ _ _ _. refl;
+            stands = λ thread _. stands-same (s.objects thread);
+            here = put-either s.ready tail (s.ready tail ++ x ∷ []) (λ p l. times_in l x ≡ (if tail == p then 1 else 0))
+                (times-end_same (s.ready tail) x ∙ ap (λ (n : ℕ). n + 1) (moving.listed.here tail)
+                ∙ sym (ap (λ (b : Bool). if b then 1 else 0) (eq-eqb tail tail refl)))
+                (λ p other. moving.listed.here p ∙ sym (ap (λ (b : Bool). if b then 1 else 0) (ne_eqb tail p (λ e. other (sym e)))));
+            there = moving.listed.there;
+            one_sided = moving.listed.one_sided;
+            senders = moving.listed.senders;
+            words = moving.listed.words;
+          });
       rights = rights-kept s (at_tail s x) x awaits moving.rights (λ _ _ is. is) (λ _ _. refl);
     }

@@ -11,9 +11,11 @@ use Rattle.model.specs.Capabilities.CapabilityWords.{IsCapability}
 use Rattle.model.specs.Capabilities.Slots.{is_empty}
 use Rattle.model.specs.Kernel.Kinds.{Piece, kind_of, object_named, piece_of}
 use Rattle.model.specs.Kernel.Removal.{slot_count}
-use Rattle.model.specs.Kernel.Retype.{NewObject, NewUntyped, NewThread, NewEndpoint, NewNotification, NewCNode, NewFrame, NewPageTable, NewRootTable, first_capability, is_frame, is_large_enough, is_small_enough, object, object_bits}
+use Rattle.model.specs.Kernel.Retype.{NewObject, NewUntyped, NewThread, NewEndpoint, NewNotification, NewCNode, NewFrame, NewPageTable, NewRootTable}
+use Rattle.model.specs.Kernel.Retype.{first_capability, is_frame, is_large_enough, is_small_enough, object, object_bits}
 use Rattle.model.specs.Kernel.Soundness.{ThreadIsSound, waiting_at}
-use Rattle.model.specs.Kernel.State.{Object, ThreadObject, EndpointObject, NotificationObject, CNodeObject, FrameObject, PageTableObject, RootTableObject, EndpointState, NotificationState, ThreadState, new_endpoint, new_notification, new_thread}
+use Rattle.model.specs.Kernel.State.{Object, ThreadObject, EndpointObject, NotificationObject, CNodeObject, FrameObject, PageTableObject, RootTableObject}
+use Rattle.model.specs.Kernel.State.{EndpointState, NotificationState, ThreadState, new_endpoint, new_notification, new_thread}
 use Rattle.soundness.proofs.Moving.{StandsAs, own_of}
 use Rattle.soundness.proofs.Pieces.{slots_of_kind}
 

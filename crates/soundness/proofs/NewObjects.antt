@@ -1,5 +1,6 @@
 -- New objects in untyped memory: what is where afterwards.
-use Rattle.std.proofs.Common.{ℕ, zero, suc, ◌≡◌, ◌≢◌, ◌∙◌, ◌==◌, ◌&&◌, ◌+◌, ◌-◌, ◌*◌, ◌/◌, ◌%◌, ◌^◌, ◌<◌, ◌≤◌, ◌⊎◌, inl, inr, Bool, true, false, not, is_some, IsSome, if◌then◌else◌, pow_pos, List, [], Option, Some, None, option_map, refl, sym, ap, subst, arith}
+use Rattle.std.proofs.Common.{ℕ, zero, suc, ◌≡◌, ◌≢◌, ◌∙◌, ◌==◌, ◌&&◌, ◌+◌, ◌-◌, ◌*◌, ◌/◌, ◌%◌, ◌^◌, ◌<◌, ◌≤◌, ◌⊎◌, inl, inr, Bool, true, false, not, is_some}
+use Rattle.std.proofs.Common.{IsSome, if◌then◌else◌, pow_pos, List, [], Option, Some, None, option_map, refl, sym, ap, subst, arith}
 use Rattle.std.specs.Option.{option_map_or}
 use Rattle.std.specs.Prelude.{All, ◌↔◌}
 use Rattle.std.proofs.lemmas.Bool.{and_from, and_parts, cases_lt, eq-eqb, eqb-true}
@@ -20,13 +21,19 @@ use Rattle.model.specs.Shared.Lists.{times_in}
 use Rattle.soundness.proofs.Carried.{full-near, full-unless, held-at, held-by, some-passes}
 use Rattle.soundness.proofs.Moving.{StandsAs, own_of, stands-same}
 use Rattle.model.specs.declared.slot_entries.Entry.{Entry}
-use Rattle.model.specs.Capabilities.Slots.{Descendant, child, deeper, IsDerivation, IsFull, IsOpen, Slots, capability_at, depth_of, depth_within, empty_entry, is_empty, is_full, is_within, parent_at, recapped}
+use Rattle.model.specs.Capabilities.Slots.{Descendant, child, deeper, IsDerivation, IsFull, IsOpen, Slots, capability_at, depth_of, depth_within, empty_entry}
+use Rattle.model.specs.Capabilities.Slots.{is_empty, is_full, is_within, parent_at, recapped}
 use Rattle.model.specs.Kernel.Kinds.{AreApart, Names, Piece, frame_around, kind_at, kind_of, object_named, piece_of, used_of}
 use Rattle.model.specs.Kernel.Removal.{slot_count}
-use Rattle.model.specs.Kernel.Retype.{NewObject, NewUntyped, NewThread, NewEndpoint, NewNotification, NewCNode, NewFrame, NewPageTable, NewRootTable, NewObjects, first_capability, is_frame, is_large_enough, is_small_enough, object, object_bits, place_of_new, some_new, with_first_capabilities, with_new, with_new_bytes, with_new_objects, with_new_slots}
-use Rattle.model.specs.Kernel.Soundness.{HasShape, HasSlot, of_boot_area, of_object, IsSound, MappingsAreSound, MemoryIsSound, SlotsAreSound, ThreadIsSound, ThreadsAreSound, waiting_at, Lies, apart, same, within, around, SenderIsSound}
-use Rattle.model.specs.Kernel.State.{State, Object, ThreadObject, EndpointObject, NotificationObject, EndpointState, NotificationState, ThreadState, boot_area_end, slot_of, with_slots}
-use Rattle.soundness.proofs.NewKinds.{born, first-fresh, first-named, first-piece, first-table, first-valid, frame-kind, named-first, new-fine, new-kind, new-slots, new_piece}
+use Rattle.model.specs.Kernel.Retype.{NewObject, NewUntyped, NewThread, NewEndpoint, NewNotification, NewCNode, NewFrame, NewPageTable, NewRootTable}
+use Rattle.model.specs.Kernel.Retype.{NewObjects, first_capability, is_frame, is_large_enough, is_small_enough, object, object_bits, place_of_new, some_new}
+use Rattle.model.specs.Kernel.Retype.{with_first_capabilities, with_new, with_new_bytes, with_new_objects, with_new_slots}
+use Rattle.model.specs.Kernel.Soundness.{HasShape, HasSlot, of_boot_area, of_object, IsSound, MappingsAreSound, MemoryIsSound, SlotsAreSound, ThreadIsSound}
+use Rattle.model.specs.Kernel.Soundness.{ThreadsAreSound, waiting_at, Lies, apart, same, within, around, SenderIsSound}
+use Rattle.model.specs.Kernel.State.{State, Object, ThreadObject, EndpointObject, NotificationObject, EndpointState, NotificationState, ThreadState}
+use Rattle.model.specs.Kernel.State.{boot_area_end, slot_of, with_slots}
+use Rattle.soundness.proofs.NewKinds.{born, first-fresh, first-named, first-piece, first-table, first-valid, frame-kind, named-first, new-fine, new-kind}
+use Rattle.soundness.proofs.NewKinds.{new-slots, new_piece}
 use Rattle.soundness.proofs.NewPlaces.{IsLaid, next-within, place-some, some-place}
 use Rattle.soundness.proofs.Pieces.{slots-fit, slots_of_kind}
 use Rattle.soundness.proofs.Places.{IsPlain, MayHold, StandsIn, full-may_hold, plain-may_hold, plain-open, slot-stands, stands-slot}
@@ -53,7 +60,8 @@ depth-leaves (suc n) old now leaf same_parents no_parent x other =
     elim (old x) as (λ o. old x ≡ o → depth_within (suc n) now x ≡ depth_within (suc n) old x) [
       | None ↦ λ is. depth-none (suc n) now x (same_parents x other ∙ is) ∙ sym (depth-none (suc n) old x is)
       | Some p ↦ λ is.
-          depth-some n now x p (same_parents x other ∙ is) ∙ ap (λ (d : ℕ). d + 1) (depth-leaves n old now leaf same_parents no_parent p (no_parent x p is)) ∙ sym (depth-some n old x p is)
+          depth-some n now x p (same_parents x other ∙ is) ∙ ap (λ (d : ℕ). d + 1) (depth-leaves n old now leaf same_parents no_parent p (no_parent x p is))
+          ∙ sym (depth-some n old x p is)
     ] refl
 
 -- what has slots is an object
@@ -77,14 +85,16 @@ frame-within first count i p less at = (omega (arith, at), omega (arith, at, les
 
 -- where a slot is afterwards
 pub data PlaceOf (new : NewObjects) (before after : Slots) (slot window : ℕ) (used : Cap) (x : ℕ) : Type 0 where
-  in_window : (j : ℕ) → j < new.count → x ≡ window + j → after x ≡ Some (record { capability = first_capability new.kind (place_of_new new j); parent = Some slot })
+  in_window : (j : ℕ) → j < new.count → x ≡ window + j →
+      after x ≡ Some (record { capability = first_capability new.kind (place_of_new new j); parent = Some slot })
       → PlaceOf new before after slot window used x
   in_new : (i : ℕ) → i < new.count → place_of_new new i / 16 ≤ x → x < place_of_new new i / 16 + slots_of_kind new.kind → after x ≡ Some empty_entry
       → PlaceOf new before after slot window used x
   at_slot : x ≡ slot → after x ≡ Some (record { capability = used; parent = parent_at before slot }) → PlaceOf new before after slot window used x
   elsewhere : x ≢ slot → after x ≡ before x → PlaceOf new before after slot window used x
 
-module _ (s : State) (sound : IsSound s) (slot offset bits watermark : ℕ) (kind : NewObject) (first count mark window : ℕ) (known : Retypes s slot offset bits watermark kind first count mark window) where
+module _ (s : State) (sound : IsSound s) (slot offset bits watermark : ℕ) (kind : NewObject) (first count mark window : ℕ)
+    (known : Retypes s slot offset bits watermark kind first count mark window) where
   abbrev new : NewObjects
   new = record { kind = kind; first = first; count = count }
 
@@ -166,7 +176,8 @@ module _ (s : State) (sound : IsSound s) (slot offset bits watermark : ℕ) (kin
   after-window : (j : ℕ) → j < count → after (window + j) ≡ Some (record { capability = first_capability kind (place j); parent = Some slot })
   after-window j less =
       let entry = λ (n : ℕ). let e : Option Entry = Some (record { capability = first_capability kind (place_of_new new n); parent = Some slot }) in e in
-      ap (λ (b : Bool). if b then entry (window + j - window) else with_new_slots new changed (window + j)) (bounds-within window count (window + j) (omega arith) (omega (arith, less)))
+      ap (λ (b : Bool). if b then entry (window + j - window) else with_new_slots new changed (window + j))
+      (bounds-within window count (window + j) (omega arith) (omega (arith, less)))
       ∙ ap entry (omega arith)
 
   outside-window : (x : ℕ) → is_within window count x ≡ false → after x ≡ with_new_slots new changed x
@@ -209,7 +220,8 @@ module _ (s : State) (sound : IsSound s) (slot offset bits watermark : ℕ) (kin
             let at : x ≡ window + (x - window) = omega (arith, low) in
             in_window (x - window) less at (ap after at ∙ after-window (x - window) less)
         | false ↦ λ outside.
-            elim (some_new new (λ at. is_within (slot_of at 0) (slot_count (object kind)) x)) as (λ b. some_new new (λ at. is_within (slot_of at 0) (slot_count (object kind)) x) ≡ b
+            elim (some_new new (λ at. is_within (slot_of at 0) (slot_count (object kind)) x))
+            as (λ b. some_new new (λ at. is_within (slot_of at 0) (slot_count (object kind)) x) ≡ b
             → PlaceOf new s.slots after slot window (Untyped offset bits mark) x) [
               | true ↦ λ is.
                   let found = some-place new (λ at. is_within (slot_of at 0) (slot_count (object kind)) x) is in
@@ -264,11 +276,13 @@ module _ (s : State) (sound : IsSound s) (slot offset bits watermark : ℕ) (kin
   -- the slots of a new object are open
   pub new-open : (i x : ℕ) → i < count → place i / 16 ≤ x → x < place i / 16 + slots_of_kind kind → after x ≡ Some empty_entry
   new-open i x less low high = elim (place-of x) [
-    | in_window j fewer at is ↦ absurd (closed-there i x less low high (subst (IsOpen s.slots) (sym at) (plain-open s sound.slots (window + j) (known.plain j fewer))))
+    | in_window j fewer at is ↦
+        absurd (closed-there i x less low high (subst (IsOpen s.slots) (sym at) (plain-open s sound.slots (window + j) (known.plain j fewer))))
     | in_new k fewer from to is ↦ is
     | at_slot here is ↦ absurd (closed-there i x less low high (subst (IsOpen s.slots) (sym here) (full-open s.slots slot slot-full)))
     | elsewhere other is ↦
-        outside-window x (not-in-window x (λ j fewer at. closed-there i x less low high (subst (IsOpen s.slots) (sym at) (plain-open s sound.slots (window + j) (known.plain j fewer)))))
+        outside-window x (not-in-window x (λ j fewer at. closed-there i x less low high
+        (subst (IsOpen s.slots) (sym at) (plain-open s sound.slots (window + j) (known.plain j fewer)))))
         ∙ in-new x (place-some new (λ at. is_within (slot_of at 0) (slot_count (object kind)) x) i less
         (let size = new-slots kind in bounds-within (slot_of (place i) 0) (slot_count (object kind)) x (omega (arith, low)) (omega (arith, high, size))))
   ]
@@ -296,7 +310,8 @@ module _ (s : State) (sound : IsSound s) (slot offset bits watermark : ℕ) (kin
 
   pub objects-new : (i : ℕ) → i < count → objects (place i) ≡ object kind
   objects-new i less =
-      ap (λ (b : Bool). if b then option_map_or Some (object kind) (s.objects (place i)) else s.objects (place i)) (place-some new (λ at. at == place i) i less (eq-eqb (place i) (place i) refl))
+      ap (λ (b : Bool). if b then option_map_or Some (object kind) (s.objects (place i)) else s.objects (place i))
+      (place-some new (λ at. at == place i) i less (eq-eqb (place i) (place i) refl))
       ∙ ap (λ (o : Option Object). option_map_or Some (object kind) o) (none-there i less)
       ∙ only-new (object kind)
 
@@ -311,7 +326,8 @@ module _ (s : State) (sound : IsSound s) (slot offset bits watermark : ℕ) (kin
   -- ---- what the slots hold
 
   slot-valid : IsCapability (Untyped offset bits mark)
-  slot-valid = let was : IsCapability (Untyped offset bits watermark) = subst IsCapability known.memory (sound.slots.derivation.valid slot) in (was.0, was.1, was.2, known.laid.fits)
+  slot-valid = let was : IsCapability (Untyped offset bits watermark) = subst IsCapability known.memory (sound.slots.derivation.valid slot) in
+      (was.0, was.1, was.2, known.laid.fits)
 
   place-less : (i : ℕ) → i < count → place i < 2 ^ 24
   place-less i less =
@@ -326,7 +342,8 @@ module _ (s : State) (sound : IsSound s) (slot offset bits watermark : ℕ) (kin
   valid-after : (x : ℕ) → IsCapability (capability_at after x)
   valid-after x = elim (place-of x) [
     | in_window j less at is ↦
-        subst (λ (o : Option Entry). IsCapability (capability_of o)) (sym is) (first-valid kind (place j) known.large known.small (known.laid.aligned j) (place-less j less))
+        subst (λ (o : Option Entry). IsCapability (capability_of o)) (sym is)
+        (first-valid kind (place j) known.large known.small (known.laid.aligned j) (place-less j less))
     | in_new i less low high is ↦ subst (λ (o : Option Entry). IsCapability (capability_of o)) (sym is) tt
     | at_slot here is ↦ subst (λ (o : Option Entry). IsCapability (capability_of o)) (sym is) slot-valid
     | elsewhere other is ↦ subst (λ (o : Option Entry). IsCapability (capability_of o)) (sym is) (sound.slots.derivation.valid x)
@@ -344,7 +361,8 @@ module _ (s : State) (sound : IsSound s) (slot offset bits watermark : ℕ) (kin
 
   parent-else : (x : ℕ) → is_within window count x ≡ false → parent_at after x ≡ parent_at s.slots x
   parent-else x outside = elim (place-of x) [
-    | in_window j less at is ↦ absurd (let clash : false ≡ true = sym outside ∙ bounds-within window count x (omega (arith, at)) (omega (arith, at, less)) in cc)
+    | in_window j less at is ↦ absurd (let clash : false ≡ true = sym outside ∙ bounds-within window count x (omega (arith, at)) (omega (arith, at, less)) in
+        cc)
     | in_new i less low high is ↦ ap parent_of is ∙ sym (closed-parent x (s.slots x) refl (closed-there i x less low high))
     | at_slot here is ↦ ap parent_of is ∙ ap (parent_at s.slots) (sym here)
     | elsewhere other is ↦ ap parent_of is
@@ -371,7 +389,8 @@ module _ (s : State) (sound : IsSound s) (slot offset bits watermark : ℕ) (kin
 
   depths-stay : (n x : ℕ) → is_within window count x ≡ false → depth_within n (parent_at after) x ≡ depth_within n (parent_at s.slots) x
   depths-stay n =
-      depth-leaves n (parent_at s.slots) (parent_at after) (is_within window count) parent-else (λ x p is. full-outside p (sound.slots.derivation.parent_full x p is))
+      depth-leaves n (parent_at s.slots) (parent_at after) (is_within window count) parent-else
+      (λ x p is. full-outside p (sound.slots.derivation.parent_full x p is))
 
   shallow-after : (x : ℕ) (b : Bool) → is_within window count x ≡ b → depth_of after x ≤ 255
   shallow-after x false outside = let same = depths-stay 256 x outside in let was = sound.slots.derivation.shallow x in omega (arith, same, was)
@@ -424,7 +443,8 @@ module _ (s : State) (sound : IsSound s) (slot offset bits watermark : ℕ) (kin
 
   open-has : (x : ℕ) → IsOpen after x → HasSlot state x
   open-has x opened = elim (place-of x) [
-    | in_window j less at is ↦ has-still x ((sound.slots.there x).0 (subst (IsOpen s.slots) (sym at) (plain-open s sound.slots (window + j) (known.plain j less))))
+    | in_window j less at is ↦
+        has-still x ((sound.slots.there x).0 (subst (IsOpen s.slots) (sym at) (plain-open s sound.slots (window + j) (known.plain j less))))
     | in_new i less low high is ↦
         of_object (place i) (stands-slot state (place i) x (record {
           kind = kind;
@@ -454,7 +474,8 @@ module _ (s : State) (sound : IsSound s) (slot offset bits watermark : ℕ) (kin
   -- a slot that was open holds what it might hold before
   may-after : (x : ℕ) (c : Cap) → IsOpen s.slots x → MayHold s x c → MayHold state x c
   may-after x c was may =
-      let new_thread : (thread index : ℕ) → index < 2 → (i : ℕ) → i < count → place i ≡ thread → option_map kind_of (object kind) ≡ Some NewThread → x ≡ thread / 16 + index → ⊥ = λ thread index few i less at is here.
+      let new_thread : (thread index : ℕ) → index < 2 → (i : ℕ) → i < count → place i ≡ thread → option_map kind_of (object kind) ≡ Some NewThread →
+      x ≡ thread / 16 + index → ⊥ = λ thread index few i less at is here.
       (let same_kind : kind ≡ NewThread = new-kind kind NewThread is in
       let two : slots_of_kind kind ≡ 2 = ap slots_of_kind same_kind in
       let sixteenth : place i / 16 ≡ thread / 16 = ap (λ (o : ℕ). o / 16) at in
@@ -485,7 +506,8 @@ module _ (s : State) (sound : IsSound s) (slot offset bits watermark : ℕ) (kin
     | in_new i less low high is ↦ let clash : false ≡ true = ap (λ (o : Option Entry). not (is_empty (capability_of o))) (sym is) ∙ full in absurd cc
     | at_slot here is ↦
         subst (λ (x : ℕ). MayHold state x (capability_at after x)) (sym here)
-        (subst (λ (o : Option Entry). MayHold state slot (capability_of o)) (sym after-slot) (may-after slot (Untyped offset bits mark) (full-open s.slots slot slot-full) slot-may))
+        (subst (λ (o : Option Entry). MayHold state slot (capability_of o)) (sym after-slot)
+        (may-after slot (Untyped offset bits mark) (full-open s.slots slot slot-full) slot-may))
     | elsewhere other is ↦
         let same_capability : capability_at after x ≡ capability_at s.slots x = ap capability_of is in
         let was : IsFull s.slots x = subst (λ (c : Cap). not (is_empty c) ≡ true) same_capability full in
@@ -596,7 +618,8 @@ module _ (s : State) (sound : IsSound s) (slot offset bits watermark : ℕ) (kin
       let high : q.first + q.size ≤ offset + watermark = subst (λ (u : Piece). q.first + q.size ≤ u.first + u.size) (sym same_part) inside.1 in
       let grown = known.laid.behind in
       let ends = known.laid.ends in
-      around (record { first = offset; size = mark }) (ap (λ (o : Option Entry). used_of (capability_of o)) after-slot) (low, omega (arith, high, grown, ends)) (descends-stays slot b below)
+      around (record { first = offset; size = mark }) (ap (λ (o : Option Entry). used_of (capability_of o)) after-slot) (low, omega (arith, high, grown, ends))
+      (descends-stays slot b below)
 
   lies-both : (a b : ℕ) (p q : Piece) → capability_at after a ≡ capability_at s.slots a → capability_at after b ≡ capability_at s.slots b
       → Lies s.slots a b p q → Lies after a b p q
@@ -630,7 +653,8 @@ module _ (s : State) (sound : IsSound s) (slot offset bits watermark : ℕ) (kin
       ]))
 
   lies-untyped : (b : ℕ) (q : Piece) → b ≢ slot → Holds b → piece_of (capability_at after b) ≡ Some q → Lies after slot b whole_piece q
-  lies-untyped b q other (fresh j less at is) piece = lies-flip b slot q whole_piece (lies-fresh b slot j q whole_piece other less at (fresh-piece b j q is piece) (ap (λ (o : Option Entry). piece_of (capability_of o)) after-slot))
+  lies-untyped b q other (fresh j less at is) piece = lies-flip b slot q whole_piece
+      (lies-fresh b slot j q whole_piece other less at (fresh-piece b j q is piece) (ap (λ (o : Option Entry). piece_of (capability_of o)) after-slot))
   lies-untyped b q other (memory here is) piece = absurd (other here)
   lies-untyped b q other (nothing empty) piece = absurd (no-piece b q empty piece)
   lies-untyped b q other (old apart_slot is) piece =
@@ -647,7 +671,8 @@ module _ (s : State) (sound : IsSound s) (slot offset bits watermark : ℕ) (kin
       lies-flip b a q p (lies-fresh b a k q p (λ e. differ (sym e)) fewer at (fresh-piece b k q too other) one)
   lies-after a b p q differ (old apart_slot is) (memory here too) one other =
       subst (λ (b : ℕ). Lies after a b p q) (sym here)
-      (subst (λ (q : Piece). Lies after a slot p q) (slot-piece b q too other) (lies-flip slot a whole_piece p (lies-untyped a p apart_slot (old apart_slot is) one)))
+      (subst (λ (q : Piece). Lies after a slot p q) (slot-piece b q too other)
+      (lies-flip slot a whole_piece p (lies-untyped a p apart_slot (old apart_slot is) one)))
   lies-after a b p q differ (old apart_slot is) (nothing empty) one other = absurd (no-piece b q empty other)
   lies-after a b p q differ (old apart_slot is) (old also too) one other =
       lies-both a b p q is too (sound.memory.lies a b p q differ (ap piece_of (sym is) ∙ one) (ap piece_of (sym too) ∙ other))
@@ -661,7 +686,8 @@ module _ (s : State) (sound : IsSound s) (slot offset bits watermark : ℕ) (kin
       let fits = inside.2 in
       let start = slot-inside.0 in
       let end = slot-inside.1 in
-      let both : (boot_area_end s.boot_radix ≤ place j) × (place j + 2 ^ object_bits kind ≤ 2 ^ s.memory_bits) = (omega (arith, low, start), omega (arith, high, fits, end)) in
+      let both : (boot_area_end s.boot_radix ≤ place j) × (place j + 2 ^ object_bits kind ≤ 2 ^ s.memory_bits) =
+      (omega (arith, low, start), omega (arith, high, fits, end)) in
       subst (λ (p : Piece). (boot_area_end s.boot_radix ≤ p.first) × (p.first + p.size ≤ 2 ^ s.memory_bits)) (fresh-piece x j p is piece) both
   inside-after x p (memory here is) piece =
       subst (λ (p : Piece). (boot_area_end s.boot_radix ≤ p.first) × (p.first + p.size ≤ 2 ^ s.memory_bits)) (slot-piece x p is piece) slot-inside
@@ -684,13 +710,15 @@ module _ (s : State) (sound : IsSound s) (slot offset bits watermark : ℕ) (kin
       let full = full-unless (capability_at s.slots name.0) object_named (k, o) refl name.1 in
       elim (full-stays name.0 full) [
         | inl here ↦
-            let e : ◌≡◌ {A = Option (NewObject × ℕ)} None (Some (k, o)) = sym (ap object_named known.memory) ∙ ap (λ (y : ℕ). object_named (capability_at s.slots y)) (sym here) ∙ name.1 in
+            let e : ◌≡◌ {A = Option (NewObject × ℕ)} None (Some (k, o)) = sym (ap object_named known.memory)
+            ∙ ap (λ (y : ℕ). object_named (capability_at s.slots y)) (sym here) ∙ name.1 in
             absurd cc
         | inr stays ↦ (name.0, ap (λ (e : Option Entry). object_named (capability_of e)) stays.1 ∙ name.1)
       ]
   live-after o k (inr found) = (
     window + found.0,
-    ap (λ (e : Option Entry). object_named (capability_of e)) (window-after found.0 found.1) ∙ named-first kind k (place found.0) found.3 ∙ ap (λ (o : ℕ). Some (k, o)) found.2,
+    ap (λ (e : Option Entry). object_named (capability_of e)) (window-after found.0 found.1) ∙ named-first kind k (place found.0) found.3
+        ∙ ap (λ (o : ℕ). Some (k, o)) found.2,
   )
 
   -- ---- bytes
@@ -708,10 +736,12 @@ module _ (s : State) (sound : IsSound s) (slot offset bits watermark : ℕ) (kin
       let bounds = within-bounds first (count * 2 ^ object_bits kind) p parts.1 in
       let low = bounds.0 in
       let high : p < first + count * 2 ^ 12 = subst (λ (k : NewObject). p < first + count * 2 ^ object_bits k) page bounds.1 in
-      let aligned : (first + 0 * 2 ^ 12) % 2 ^ 12 ≡ 0 = subst (λ (k : NewObject). (first + 0 * 2 ^ object_bits k) % 2 ^ object_bits k ≡ 0) page (known.laid.aligned 0) in
+      let aligned : (first + 0 * 2 ^ 12) % 2 ^ 12 ≡ 0 = subst (λ (k : NewObject). (first + 0 * 2 ^ object_bits k) % 2 ^ object_bits k ≡ 0) page
+      (known.laid.aligned 0) in
       let index = frame-index first count p (omega (arith, aligned)) low high in
       let at : place ((p - first) / 2 ^ 12) ≡ frame_around p = ap (λ (k : NewObject). first + (p - first) / 2 ^ 12 * 2 ^ object_bits k) page ∙ index.1 in
-      ap (kind_at state) (sym at) ∙ ap (option_map kind_of) (objects-new ((p - first) / 2 ^ 12) index.0) ∙ ap (λ (k : NewObject). option_map kind_of (object k)) page
+      ap (kind_at state) (sym at) ∙ ap (option_map kind_of) (objects-new ((p - first) / 2 ^ 12) index.0)
+      ∙ ap (λ (k : NewObject). option_map kind_of (object k)) page
 
   bytes-there : (p : ℕ) (b : Bool) → is_new_byte p ≡ b → IsSome (if b then Some 0 else s.bytes p) ↔ (kind_at state (frame_around p) ≡ Some NewFrame)
   bytes-there p true is = ((λ _. frame-kind_at p is), (λ _. refl))
@@ -769,9 +799,11 @@ module _ (s : State) (sound : IsSound s) (slot offset bits watermark : ℕ) (kin
       let full = full-unless (capability_at s.slots was.0) table_mapping mapping.0 refl mapping.1 in
       elim (full-stays was.0 full) [
         | inl here ↦
-            let e : None ≡ Some mapping.0 = sym (ap table_mapping known.memory) ∙ ap (λ (y : ℕ). table_mapping (capability_at s.slots y)) (sym here) ∙ mapping.1 in absurd cc
+            let e : None ≡ Some mapping.0 = sym (ap table_mapping known.memory) ∙ ap (λ (y : ℕ). table_mapping (capability_at s.slots y)) (sym here)
+            ∙ mapping.1 in absurd cc
         | inr stays ↦
-            held-at state (maps_region root region) was.0 (near was.0 (full-after was.0 full)) (ap (λ (e : Option Entry). maps_region root region (capability_of e)) stays.1 ∙ was.1)
+            held-at state (maps_region root region) was.0 (near was.0 (full-after was.0 full))
+            (ap (λ (e : Option Entry). maps_region root region (capability_of e)) stays.1 ∙ was.1)
       ]
 
   -- a page table is new, or it was there
@@ -819,32 +851,40 @@ module _ (s : State) (sound : IsSound s) (slot offset bits watermark : ℕ) (kin
 
   stands-after : (o : ℕ) → StandsAs (objects o) (s.objects o)
   stands-after =
-      objects-by (λ o after. StandsAs after (s.objects o)) (λ i less. subst (StandsAs (object kind)) (sym (none-there i less)) (born kind).stands) (λ o _. stands-same (s.objects o))
+      objects-by (λ o after. StandsAs after (s.objects o)) (λ i less. subst (StandsAs (object kind)) (sym (none-there i less)) (born kind).stands)
+      (λ o _. stands-same (s.objects o))
 
   waiting-after : (o : ℕ) → waiting_at (objects o) ≡ waiting_at (s.objects o)
-  waiting-after = objects-by (λ o after. waiting_at after ≡ waiting_at (s.objects o)) (λ i less. (born kind).waiting ∙ sym (ap waiting_at (none-there i less))) (λ _ _. refl)
+  waiting-after = objects-by (λ o after. waiting_at after ≡ waiting_at (s.objects o)) (λ i less. (born kind).waiting ∙ sym (ap waiting_at (none-there i less)))
+      (λ _ _. refl)
 
   caller-after : (o : ℕ) → (own_of (objects o)).caller ≡ (own_of (s.objects o)).caller
   caller-after =
-      objects-by (λ o after. (own_of after).caller ≡ (own_of (s.objects o)).caller) (λ i less. (born kind).caller ∙ sym (ap (λ (o : Option Object). (own_of o).caller) (none-there i less))) (λ _ _. refl)
+      objects-by (λ o after. (own_of after).caller ≡ (own_of (s.objects o)).caller)
+      (λ i less. (born kind).caller ∙ sym (ap (λ (o : Option Object). (own_of o).caller) (none-there i less))) (λ _ _. refl)
 
   pub threads-after : ThreadsAreSound state
   threads-after = record {
-    threads = objects-by (λ thread after. (t : ThreadState) → after ≡ Some (ThreadObject t) → ThreadIsSound t) (λ i less t is. subst ThreadIsSound ((born kind).threads t is) new-fine)
+    threads = objects-by (λ thread after. (t : ThreadState) → after ≡ Some (ThreadObject t) → ThreadIsSound t)
+        (λ i less t is. subst ThreadIsSound ((born kind).threads t is) new-fine)
         (λ thread _. sound.threads.threads thread);
     ready = λ thread priority. sound.threads.ready thread priority ∙ sym ((stands-after thread).runs priority);
-    queued = λ thread queue. ap (λ (l : List ℕ). times_in l thread) (waiting-after queue) ∙ sound.threads.queued thread queue ∙ sym ((stands-after thread).waits queue);
+    queued = λ thread queue. ap (λ (l : List ℕ). times_in l thread) (waiting-after queue) ∙ sound.threads.queued thread queue
+        ∙ sym ((stands-after thread).waits queue);
     one_sided = objects-by (λ o after. (e : EndpointState) → after ≡ Some (EndpointObject e) → (e.senders ≡ []) ⊎ (e.receivers ≡ []))
-        (λ i less e is. subst (λ (e : EndpointState). (e.senders ≡ []) ⊎ (e.receivers ≡ [])) ((born kind).endpoints e is) (inl refl)) (λ o _. sound.threads.one_sided o);
+        (λ i less e is. subst (λ (e : EndpointState). (e.senders ≡ []) ⊎ (e.receivers ≡ [])) ((born kind).endpoints e is) (inl refl))
+        (λ o _. sound.threads.one_sided o);
     senders = objects-by (λ o after. (e : EndpointState) → after ≡ Some (EndpointObject e) → All SenderIsSound e.senders)
-        (λ i less e is. subst (λ (e : EndpointState). All SenderIsSound e.senders) ((born kind).endpoints e is) (All-nil SenderIsSound)) (λ o _. sound.threads.senders o);
+        (λ i less e is. subst (λ (e : EndpointState). All SenderIsSound e.senders) ((born kind).endpoints e is) (All-nil SenderIsSound))
+        (λ o _. sound.threads.senders o);
     words = objects-by (λ o after. (n : NotificationState) → after ≡ Some (NotificationObject n) → n.word < 2 ^ 28)
         (λ i less n is. subst (λ (n : NotificationState). n.word < 2 ^ 28) ((born kind).notifications n is) (omega arith)) (λ o _. sound.threads.words o);
     callers = λ thread caller is. (stands-after caller).awaits ∙ sound.threads.callers thread caller (sym (caller-after thread) ∙ is);
     one_right = λ a b caller one other. sound.threads.one_right a b caller (sym (caller-after a) ∙ one) (sym (caller-after b) ∙ other);
   }
 
-  pub retyped-whole : IsSound (with_new (with_slots s (recapped s.slots slot (Untyped offset bits mark))) (record { kind = kind; first = first; count = count }) window slot)
+  pub retyped-whole : IsSound (with_new (with_slots s (recapped s.slots slot (Untyped offset bits mark))) (record { kind = kind; first = first; count = count })
+      window slot)
   retyped-whole =
       let shape : HasShape state = record {
         least_bits = sound.shape.least_bits;

@@ -1,5 +1,6 @@
 -- Where Retype places new objects: one after another, in the free part of untyped memory, each at a multiple of its size.
-use Rattle.std.proofs.Common.{ℕ, zero, suc, ◌≡◌, ◌∙◌, ◌||◌, ◌+◌, ◌-◌, ◌*◌, ◌/◌, ◌%◌, ◌^◌, ◌<◌, ◌≤◌, inl, inr, Bool, true, false, if◌then◌else◌, nat_le, get_or, length, map, pow_pos, List, [], ◌∷◌, Option, Some, None, refl, sym, ap, arith}
+use Rattle.std.proofs.Common.{ℕ, zero, suc, ◌≡◌, ◌∙◌, ◌||◌, ◌+◌, ◌-◌, ◌*◌, ◌/◌, ◌%◌, ◌^◌, ◌<◌, ◌≤◌, inl, inr, Bool, true, false, if◌then◌else◌, nat_le, get_or}
+use Rattle.std.proofs.Common.{length, map, pow_pos, List, [], ◌∷◌, Option, Some, None, refl, sym, ap, arith}
 use Rattle.std.specs.List.{list_any, range_with_len}
 use Rattle.std.proofs.Math.Nat.{mul-le-mul_right}
 use Rattle.std.proofs.Math.Pow.{pow_mono}
@@ -21,10 +22,12 @@ align-behind : (place size : ℕ) → 0 < size → place ≤ align place size
 align-behind place size positive = grind arith
 
 placed : (bits watermark object_bits count : ℕ) (place : ℕ × ℕ) → placement bits watermark object_bits count ≡ Some place
-    → (align watermark (2 ^ object_bits) ≡ place.0) × (place_of_object watermark object_bits count ≡ place.1) × (place_of_object watermark object_bits count ≤ 2 ^ bits)
+    → (align watermark (2 ^ object_bits) ≡ place.0) × (place_of_object watermark object_bits count ≡ place.1)
+    × (place_of_object watermark object_bits count ≤ 2 ^ bits)
 placed bits watermark object_bits count place is =
     let end : ℕ = place_of_object watermark object_bits count in
-    elim (nat_le end (2 ^ bits)) as (λ b. nat_le end (2 ^ bits) ≡ b → ◌≡◌ {A = Option (ℕ × ℕ)} (if b then Some (align watermark (2 ^ object_bits), end) else None) (Some place)
+    elim (nat_le end (2 ^ bits)) as (λ b. nat_le end (2 ^ bits) ≡ b →
+    ◌≡◌ {A = Option (ℕ × ℕ)} (if b then Some (align watermark (2 ^ object_bits), end) else None) (Some place)
     → (align watermark (2 ^ object_bits) ≡ place.0) × (end ≡ place.1) × (end ≤ 2 ^ bits)) [
       | true ↦ λ test h.
           let same : ◌≡◌ {A = ℕ × ℕ} (align watermark (2 ^ object_bits), end) place = cc h in
@@ -75,9 +78,11 @@ laid offset bits watermark object_bits count place is whole some =
           let whole_times : offset / 2 ^ bits * 2 ^ bits ≡ offset / 2 ^ bits * (2 ^ (bits - object_bits) * 2 ^ object_bits) =
           ap (λ (n : ℕ). offset / 2 ^ bits * n) (sym all ∙ product) in
           let is_many : offset ≡ many * 2 ^ object_bits = omega (arith, split, whole, whole_times) in
-          let is : offset + place.0 + i * 2 ^ object_bits ≡ many * 2 ^ object_bits + (watermark + (2 ^ object_bits - 1)) / 2 ^ object_bits * 2 ^ object_bits + i * 2 ^ object_bits =
+          let is : offset + place.0 + i * 2 ^ object_bits ≡ many * 2 ^ object_bits + (watermark + (2 ^ object_bits - 1)) / 2 ^ object_bits * 2 ^ object_bits + i
+          * 2 ^ object_bits =
           omega (arith, is_many, start) in
-          ap (λ (n : ℕ). n % 2 ^ object_bits) is ∙ multiple many ((watermark + (2 ^ object_bits - 1)) / 2 ^ object_bits) i (2 ^ object_bits) (pow_pos object_bits);
+          ap (λ (n : ℕ). n % 2 ^ object_bits) is ∙ multiple many ((watermark + (2 ^ object_bits - 1)) / 2 ^ object_bits) i (2 ^ object_bits)
+          (pow_pos object_bits);
     }
 
 -- ---- one of the new objects
@@ -112,4 +117,5 @@ pub place-some : (new : NewObjects) (test : ℕ → Bool) (i : ℕ) → i < new.
 place-some new test i less is =
     let size = length-range_with_len 0 new.count in
     let at = get_or-range_with_len 0 new.count i 0 less in
-    map-any test (place_of_new new) (range_with_len 0 new.count) i (omega (arith, less, size)) (ap (λ (n : ℕ). test (place_of_new new n)) (at ∙ omega arith) ∙ is)
+    map-any test (place_of_new new) (range_with_len 0 new.count) i (omega (arith, less, size))
+    (ap (λ (n : ℕ). test (place_of_new new n)) (at ∙ omega arith) ∙ is)

@@ -1,5 +1,6 @@
 -- Where the slots of sound states lie: each belongs to one object or to the boot area, inside memory.
-use Rattle.std.proofs.Common.{ℕ, ◌≡◌, ◌≢◌, ◌∙◌, ◌+◌, ◌*◌, ◌/◌, ◌^◌, ◌<◌, ◌≤◌, inl, inr, IsSome, IsTrue, Option, Some, None, option_map, refl, sym, ap, subst, arith}
+use Rattle.std.proofs.Common.{ℕ, ◌≡◌, ◌≢◌, ◌∙◌, ◌+◌, ◌*◌, ◌/◌, ◌^◌, ◌<◌, ◌≤◌, inl, inr, IsSome, IsTrue, Option, Some, None, option_map, refl, sym, ap, subst}
+use Rattle.std.proofs.Common.{arith}
 use Rattle.std.specs.Option.{option_map_or}
 use Rattle.std.proofs.lemmas.Bool.Decides.{eqb_tells}
 use Rattle.std.proofs.lemmas.Nat.{pow-add}
@@ -36,7 +37,8 @@ slot-stands s offset slot is =
 
 pub stands-slot : (s : State) (offset slot : ℕ) → StandsIn s offset slot → IsTrue (is_slot_of s offset slot)
 stands-slot s offset slot stands =
-    let count : slot_count (s.objects offset) ≡ slots_of_kind stands.kind = slots-by_kind (s.objects offset) ∙ ap (λ (o : Option NewObject). option_map_or slots_of_kind o 0) stands.is in
+    let count : slot_count (s.objects offset) ≡ slots_of_kind stands.kind = slots-by_kind (s.objects offset)
+    ∙ ap (λ (o : Option NewObject). option_map_or slots_of_kind o 0) stands.is in
     bounds-within (offset / 16) (slot_count (s.objects offset)) slot stands.low (subst (λ (n : ℕ). slot < offset / 16 + n) (sym count) stands.high)
 
 module _ (s : State) (memory : MemoryIsSound s) where
@@ -66,7 +68,8 @@ module _ (s : State) (memory : MemoryIsSound s) where
       let y = memory.live b k other in
       lies-apart a b x.0 y.0 j k differ x.1 y.1
       (memory.lies x.0 y.0 (piece_of_object (j, a)) (piece_of_object (k, b))
-      (λ e. differ (ap (λ (o : Option (NewObject × ℕ)). option_map_or (λ (n : NewObject × ℕ). n.1) o 0) (sym x.1 ∙ ap (λ (z : ℕ). object_named (capability_at s.slots z)) e ∙ y.1)))
+      (λ e. differ (ap (λ (o : Option (NewObject × ℕ)). option_map_or (λ (n : NewObject × ℕ). n.1) o 0)
+      (sym x.1 ∙ ap (λ (z : ℕ). object_named (capability_at s.slots z)) e ∙ y.1)))
       (named-piece (capability_at s.slots x.0) (j, a) x.1) (named-piece (capability_at s.slots y.0) (k, b) y.1))
 
   -- a slot lies in one object
@@ -133,7 +136,8 @@ pub record MayHold (s : State) (slot : ℕ) (capability : Cap) : Type 0 where
 
 pub thread-slot : (s : State) (thread slot index : ℕ) (t : ThreadState) → s.objects thread ≡ Some (ThreadObject t) → index < 2
     → slot ≡ thread / 16 + index → StandsIn s thread slot
-thread-slot s thread slot index t is less at = record { kind = NewThread; is = ap (option_map kind_of) is; low = omega (arith, at); high = omega (arith, at, less) }
+thread-slot s thread slot index t is less at =
+    record { kind = NewThread; is = ap (option_map kind_of) is; low = omega (arith, at); high = omega (arith, at, less) }
 
 plain-no_thread : (s : State) → MemoryIsSound s → (slot thread : ℕ) → IsPlain s slot → (stands : StandsIn s thread slot)
     → StandsIn.kind stands ≡ NewThread → ⊥
@@ -160,9 +164,11 @@ plain-may_hold s memory slot capability plain = record {
 -- what a full slot holds it may hold
 pub full-may_hold : (s : State) → SlotsAreSound s → (slot : ℕ) → IsFull s.slots slot → MayHold s slot (capability_at s.slots slot)
 full-may_hold s slots slot full = record {
-  cspace = λ thread t is at. subst (λ (x : ℕ). IsSome (cnode_of (capability_at s.slots x))) (sym at) (slots.cspace thread t is (subst (IsFull s.slots) at full));
+  cspace = λ thread t is at. subst (λ (x : ℕ). IsSome (cnode_of (capability_at s.slots x))) (sym at)
+      (slots.cspace thread t is (subst (IsFull s.slots) at full));
   vspace = λ thread t is at. subst (λ (x : ℕ). IsSome (root_of (capability_at s.slots x))) (sym at) (slots.vspace thread t is (subst (IsFull s.slots) at full));
-  line = λ number less at. subst (λ (x : ℕ). IsSome (signal_of (capability_at s.slots x))) (sym at) (slots.bindings number less (subst (IsFull s.slots) at full));
+  line = λ number less at. subst (λ (x : ℕ). IsSome (signal_of (capability_at s.slots x))) (sym at)
+      (slots.bindings number less (subst (IsFull s.slots) at full));
 }
 
 -- with other slots they are the same places
@@ -193,7 +199,8 @@ cspace-may_hold s memory thread t capability is some =
     record {
       cspace = λ _ _ _ _. some;
       vspace = λ other u there at.
-          absurd (not-two s memory thread other (cspace_slot thread) stands (thread-slot s other (cspace_slot thread) 1 u there (omega arith) at) (omega arith) (omega (arith, at)));
+          absurd (not-two s memory thread other (cspace_slot thread) stands (thread-slot s other (cspace_slot thread) 1 u there (omega arith) at) (omega arith)
+          (omega (arith, at)));
       line = λ number less at. absurd (not-line s memory thread (cspace_slot thread) number stands less at);
     }
 
@@ -204,7 +211,8 @@ vspace-may_hold s memory thread t capability is some =
     let stands = thread-slot s thread (vspace_slot thread) 1 t is (omega arith) refl in
     record {
       cspace = λ other u there at.
-          absurd (not-two s memory other thread (vspace_slot thread) (thread-slot s other (vspace_slot thread) 0 u there (omega arith) at) stands (omega (arith, at)) (omega arith));
+          absurd (not-two s memory other thread (vspace_slot thread) (thread-slot s other (vspace_slot thread) 0 u there (omega arith) at) stands
+          (omega (arith, at)) (omega arith));
       vspace = λ _ _ _ _. some;
       line = λ number less at. absurd (not-line s memory thread (vspace_slot thread) number stands less at);
     }
@@ -212,8 +220,10 @@ vspace-may_hold s memory thread t capability is some =
 pub line-may_hold : (s : State) → MemoryIsSound s → (number : ℕ) (capability : Cap) → number < 64 → IsSome (signal_of capability)
     → MayHold s (binding_slot s number) capability
 line-may_hold s memory number capability less some = record {
-  cspace = λ thread t is at. absurd (not-line s memory thread (binding_slot s number) number (thread-slot s thread (binding_slot s number) 0 t is (omega arith) at) less refl);
-  vspace = λ thread t is at. absurd (not-line s memory thread (binding_slot s number) number (thread-slot s thread (binding_slot s number) 1 t is (omega arith) at) less refl);
+  cspace = λ thread t is at.
+      absurd (not-line s memory thread (binding_slot s number) number (thread-slot s thread (binding_slot s number) 0 t is (omega arith) at) less refl);
+  vspace = λ thread t is at.
+      absurd (not-line s memory thread (binding_slot s number) number (thread-slot s thread (binding_slot s number) 1 t is (omega arith) at) less refl);
   line = λ _ _ _. some;
 }
 

@@ -1,5 +1,6 @@
 -- What a queue gains or loses while its thread is on its way.
-use Rattle.std.proofs.Common.{ℕ, ◌≡◌, ◌≢◌, ◌∙◌, ◌==◌, ◌+◌, ◌^◌, ◌<◌, ◌≤◌, ◌++◌, ◌⊎◌, inl, inr, Bool, true, false, if◌then◌else◌, map, List, [], ◌∷◌, Option, Some, None, option_map, refl, sym, ap, subst, arith}
+use Rattle.std.proofs.Common.{ℕ, ◌≡◌, ◌≢◌, ◌∙◌, ◌==◌, ◌+◌, ◌^◌, ◌<◌, ◌≤◌, ◌++◌, ◌⊎◌, inl, inr, Bool, true, false, if◌then◌else◌, map, List, [], ◌∷◌, Option}
+use Rattle.std.proofs.Common.{Some, None, option_map, refl, sym, ap, subst, arith}
 use Rattle.std.specs.Prelude.{All}
 use Rattle.std.specs.Option.{option_map_or}
 use Rattle.std.proofs.lemmas.Bool.{eq-eqb, eqb-true, ne_eqb}
@@ -9,10 +10,13 @@ use Rattle.model.specs.Kernel.Kinds.{kind_at, kind_of}
 use Rattle.model.specs.Kernel.Retype.{NewObject, NewThread}
 use Rattle.model.specs.Kernel.Scheduling.{is_runnable}
 use Rattle.model.specs.Kernel.Soundness.{ThreadIsSound, awaits_answer, is_blocked_on, waiting_at, IsSound, SenderIsSound}
-use Rattle.model.specs.Kernel.State.{State, Status, Inactive, Runnable, Blocked, AwaitsReply, AwaitsHandler, Object, ThreadObject, EndpointObject, NotificationObject, CNodeObject, FrameObject, PageTableObject, RootTableObject, EndpointState, NotificationState, Sender, ThreadState, as_thread, new_thread, put, thread_at, with_endpoint, with_notification, with_object}
+use Rattle.model.specs.Kernel.State.{State, Status, Inactive, Runnable, Blocked, AwaitsReply, AwaitsHandler, Object, ThreadObject, EndpointObject}
+use Rattle.model.specs.Kernel.State.{NotificationObject, CNodeObject, FrameObject, PageTableObject, RootTableObject, EndpointState, NotificationState, Sender}
+use Rattle.model.specs.Kernel.State.{ThreadState, as_thread, new_thread, put, thread_at, with_endpoint, with_notification, with_object}
 use Rattle.model.specs.Shared.Lists.{times_in}
 use Rattle.soundness.specs.Running.{IsRunning}
-use Rattle.soundness.proofs.Moving.{Moving, Rights, StandsAs, begins, ends, own_of, put-either, put-here, relisted, rights-kept, runs_of, stands-none, stands-same, waits_of}
+use Rattle.soundness.proofs.Moving.{Moving, Rights, StandsAs, begins, ends, own_of, put-either, put-here, relisted, rights-kept, runs_of, stands-none}
+use Rattle.soundness.proofs.Moving.{stands-same, waits_of}
 use Rattle.soundness.proofs.Queues.{times-append, times-end_other, times-end_same, times-first_other, times-first_same}
 
 -- the same, known otherwise
@@ -56,7 +60,8 @@ pub replaced : (kinds : ℕ → Option NewObject) (s : State) (x q : ℕ) (r w v
     → Moving kinds s x r w awaits → Replaces s x q w v o
     → Moving kinds (with_object s q o) x r v awaits
 replaced kinds s x q r w v awaits o moving replaces =
-    let stands = put-either s.objects q (Some o) (λ thread p. StandsAs p (s.objects thread)) (stands-none (Some o) (s.objects q) replaces.none replaces.before) (λ thread _. stands-same (s.objects thread)) in
+    let stands = put-either s.objects q (Some o) (λ thread p. StandsAs p (s.objects thread)) (stands-none (Some o) (s.objects q) replaces.none replaces.before)
+    (λ thread _. stands-same (s.objects thread)) in
     record {
       listed = relisted kinds s x r w (put s.objects q (Some o)) s.ready r v moving.listed (record {
         kind = put-either s.objects q (Some o) (λ offset p. option_map kind_of p ≡ kind_at s offset) replaces.kind (λ _ _. refl);
@@ -64,7 +69,8 @@ replaced kinds s x q r w v awaits o moving replaces =
             (λ t is. let e : None ≡ Some t = sym replaces.none ∙ ap as_thread is in absurd cc) (λ thread _. moving.listed.threads thread);
         lists = λ _ _ _. refl;
         queues = λ thread queue other.
-            put-either s.objects q (Some o) (λ queue p. times_in (waiting_at p) thread ≡ times_in (waiting_at (s.objects queue)) thread) (replaces.others thread other) (λ _ _. refl) queue;
+            put-either s.objects q (Some o) (λ queue p. times_in (waiting_at p) thread ≡ times_in (waiting_at (s.objects queue)) thread)
+            (replaces.others thread other) (λ _ _. refl) queue;
         stands = λ thread _. stands thread;
         here = moving.listed.here;
         there = put-either s.objects q (Some o) (λ queue p. times_in (waiting_at p) x ≡ v queue) replaces.here
@@ -177,7 +183,8 @@ in_queue status queue = if is_blocked_on queue status then 1 else 0
 pub standing : (s : State) (x : ℕ) (status : Status) → IsSound s → (thread_at s x).status ≡ status
     → Moving (kind_at s) s x (runs_of (s.objects x)) (in_queue status) (awaits_answer status)
 standing s x status whole is =
-    listed-as (kind_at s) s x (runs_of (s.objects x)) (waits_of (s.objects x)) (in_queue status) (awaits_answer (thread_at s x).status) (awaits_answer status) (begins s x whole)
+    listed-as (kind_at s) s x (runs_of (s.objects x)) (waits_of (s.objects x)) (in_queue status) (awaits_answer (thread_at s x).status) (awaits_answer status)
+    (begins s x whole)
     (λ q. own-waits (s.objects x) q ∙ ap (λ (status : Status). in_queue status q) is) (ap awaits_answer is)
 
 runnable-is : (status : Status) → is_runnable status ≡ true → status ≡ Runnable
@@ -233,7 +240,8 @@ module _ (s : State) (whole : IsSound s) (q : ℕ) where
 
   pub first-receiver : (e : EndpointState) (x : ℕ) (others : List ℕ) → s.objects q ≡ Some (EndpointObject e) → e.receivers ≡ x ∷ others
       → WaitsAt s q x
-  first-receiver e x others is first = first-waits x (map (λ sender. sender.thread) e.senders) others (ap waiting_at is ∙ ap (λ (l : List ℕ). map (λ sender. sender.thread) e.senders ++ l) first)
+  first-receiver e x others is first = first-waits x (map (λ sender. sender.thread) e.senders) others
+      (ap waiting_at is ∙ ap (λ (l : List ℕ). map (λ sender. sender.thread) e.senders ++ l) first)
 
   pub without-receiver : (e : EndpointState) (x : ℕ) (others : List ℕ) → s.objects q ≡ Some (EndpointObject e) → e.receivers ≡ x ∷ others
       → Moving (kind_at s) (with_endpoint s q (record e { receivers = others })) x (runs_of (s.objects x)) (λ _. 0) false
@@ -259,7 +267,8 @@ module _ (s : State) (whole : IsSound s) (q : ℕ) where
       let waits = first-sender e x others is first in
       endpointed (kind_at s) s x.thread q (runs_of (s.objects x.thread)) (in_queue (Blocked q)) (λ _. 0) false e (record e { senders = others })
       (standing s x.thread (Blocked q) whole waits.status) is
-      (λ thread other. then-others x.thread [] left thread other ∙ sym (ap (λ (l : List Sender). times_in (map (λ sender. sender.thread) l ++ e.receivers) thread) first))
+      (λ thread other. then-others x.thread [] left thread other
+      ∙ sym (ap (λ (l : List Sender). times_in (map (λ sender. sender.thread) l ++ e.receivers) thread) first))
       (then-gone x.thread [] left (ap waiting_at is ∙ ap (λ (l : List Sender). map (λ sender. sender.thread) l ++ e.receivers) first) waits.status)
       (here-only q) (inr (sides-sender e x others first (whole.threads.one_sided q e is)))
       (All-tail SenderIsSound x others (subst (All SenderIsSound) first (whole.threads.senders q e is)))
@@ -288,13 +297,16 @@ module _ (s : State) (whole : IsSound s) (q : ℕ) where
       → Moving (kind_at s) (with_endpoint s q (record e { senders = e.senders ++ x ∷ [] })) x.thread (runs_of (s.objects x.thread)) (in_queue (Blocked q)) false
   with-sender e x is none runs sound =
       let senders = map (λ (sender : Sender). sender.thread) e.senders in
-      let more : map (λ (sender : Sender). sender.thread) (e.senders ++ x ∷ []) ≡ senders ++ x.thread ∷ [] = map-append (λ (sender : Sender). sender.thread) e.senders (x ∷ []) in
-      let now : (thread : ℕ) → times_in (map (λ (sender : Sender). sender.thread) (e.senders ++ x ∷ []) ++ e.receivers) thread ≡ times_in (senders ++ x.thread ∷ []) thread + times_in e.receivers thread
+      let more : map (λ (sender : Sender). sender.thread) (e.senders ++ x ∷ []) ≡ senders ++ x.thread ∷ [] =
+      map-append (λ (sender : Sender). sender.thread) e.senders (x ∷ []) in
+      let now : (thread : ℕ) → times_in (map (λ (sender : Sender). sender.thread) (e.senders ++ x ∷ []) ++ e.receivers) thread ≡ times_in
+      (senders ++ x.thread ∷ []) thread + times_in e.receivers thread
       = λ thread. ap (λ (l : List ℕ). times_in (l ++ e.receivers) thread) more ∙ times-append (senders ++ x.thread ∷ []) e.receivers thread in
       endpointed (kind_at s) s x.thread q (runs_of (s.objects x.thread)) (λ _. 0) (in_queue (Blocked q)) false e (record e { senders = e.senders ++ x ∷ [] })
       (running s x.thread whole runs) is
       (λ thread other.
-      now thread ∙ ap (λ (n : ℕ). n + times_in e.receivers thread) (times-end_other senders x.thread thread other) ∙ sym (times-append senders e.receivers thread))
+      now thread ∙ ap (λ (n : ℕ). n + times_in e.receivers thread) (times-end_other senders x.thread thread other)
+      ∙ sym (times-append senders e.receivers thread))
       (let a = now x.thread in let b = times-end_same senders x.thread in let c = times-append senders e.receivers x.thread in let d = here-once q in
       let f = none-yet x.thread runs in let g = ap (λ (o : Option Object). times_in (waiting_at o) x.thread) is in omega (arith, a, b, c, d, f, g))
       (λ queue other. sym (here-only q queue other)) (inr none)
@@ -323,12 +335,15 @@ module _ (s : State) (whole : IsSound s) (q : ℕ) where
       (λ queue other. sym (here-only q queue other)) (whole.threads.words q n is)
 
   -- another word
-  pub with-word : (n : NotificationState) (word : ℕ) → s.objects q ≡ Some (NotificationObject n) → word < 2 ^ 28 → IsSound (with_notification s q (record n { word = word }))
+  pub with-word : (n : NotificationState) (word : ℕ) → s.objects q ≡ Some (NotificationObject n) → word < 2 ^ 28 →
+      IsSound (with_notification s q (record n { word = word }))
   with-word n word is less =
       let o : Option Object = Some (NotificationObject (record n { word = word })) in
       let waits = waits_of (s.objects q) in
-      let moving = notified (kind_at s) s q q (runs_of (s.objects q)) waits waits (awaits_answer (thread_at s q).status) n (record n { word = word }) (begins s q whole) is (λ _ _. refl)
+      let moving = notified (kind_at s) s q q (runs_of (s.objects q)) waits waits (awaits_answer (thread_at s q).status) n (record n { word = word })
+      (begins s q whole) is (λ _ _. refl)
       (ap (λ (o : Option Object). times_in (waiting_at o) q) (sym is) ∙ whole.threads.queued q q) (λ _ _. refl) less in
-      let stands : StandsAs (put s.objects q o q) (s.objects q) = subst (λ (p : Option Object). StandsAs p (s.objects q)) (sym (put-here s.objects q o)) (stands-none o (s.objects q) refl (ap as_thread is)) in
+      let stands : StandsAs (put s.objects q o q) (s.objects q) =
+      subst (λ (p : Option Object). StandsAs p (s.objects q)) (sym (put-here s.objects q o)) (stands-none o (s.objects q) refl (ap as_thread is)) in
       ends (kind_at s) (with_notification s q (record n { word = word })) q (runs_of (s.objects q)) waits (awaits_answer (thread_at s q).status) moving
       (λ p. sym (stands.runs p)) (λ queue. sym (stands.waits queue)) (λ a. stands.awaits ∙ a)

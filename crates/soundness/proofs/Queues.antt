@@ -16,14 +16,16 @@ pub times-first_same : (thread : ℕ) (threads : List ℕ) → times_in (thread 
 times-first_same thread threads = ap (λ b. if b then times_in threads thread + 1 else times_in threads thread) (eq-eqb thread thread refl)
 
 pub times-first_other : (thread : ℕ) (threads : List ℕ) (other : ℕ) → other ≢ thread → times_in (thread ∷ threads) other ≡ times_in threads other
-times-first_other thread threads other differs = ap (λ b. if b then times_in threads other + 1 else times_in threads other) (ne_eqb thread other (λ e. differs (sym e)))
+times-first_other thread threads other differs = ap (λ b. if b then times_in threads other + 1 else times_in threads other)
+    (ne_eqb thread other (λ e. differs (sym e)))
 
 -- two lists after one another
 pub times-append : (one two : List ℕ) (other : ℕ) → times_in (one ++ two) other ≡ times_in one other + times_in two other
 times-append [] two other = omega arith
 times-append (t ∷ one) two other =
     let more = times-append one two other in
-    elim (t == other) as (λ b. (if b then times_in (one ++ two) other + 1 else times_in (one ++ two) other) ≡ (if b then times_in one other + 1 else times_in one other) + times_in two other) [
+    elim (t == other) as (λ b. (if b then times_in (one ++ two) other + 1 else times_in (one ++ two) other)
+    ≡ (if b then times_in one other + 1 else times_in one other) + times_in two other) [
       | true ↦ omega (arith, more)
       | false ↦ more
     ]

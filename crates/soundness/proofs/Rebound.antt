@@ -1,9 +1,11 @@
 -- A line gets a copy of a notification's capability in place of what it had.
-use Rattle.std.proofs.Common.{ℕ, ◌≡◌, ◌∙◌, ◌==◌, ◌+◌, ◌^◌, ◌<◌, ◌&&◌, ◌||◌, inl, inr, true, false, not, if◌then◌else◌, Some, Result, Ok, refl, sym, ap, subst, arith}
+use Rattle.std.proofs.Common.{ℕ, ◌≡◌, ◌∙◌, ◌==◌, ◌+◌, ◌^◌, ◌<◌, ◌&&◌, ◌||◌, inl, inr, true, false, not, if◌then◌else◌, Some, Result, Ok, refl, sym, ap, subst}
+use Rattle.std.proofs.Common.{arith}
 use Rattle.std.specs.List.{list_any, range_with_len}
 use Rattle.std.proofs.lemmas.Bool.{eq-eqb, eqb-true}
 use Rattle.model.specs.declared.capabilities.Cap.{Cap}
-use Rattle.model.specs.declared.capabilities.Cap.TheVariants.{Empty, Untyped, Endpoint, Notification, CNode, Frame, PageTable, Tcb, RootTable, InterruptControl, InterruptHandler}
+use Rattle.model.specs.declared.capabilities.Cap.TheVariants.{Empty, Untyped, Endpoint, Notification, CNode, Frame, PageTable, Tcb, RootTable, InterruptControl}
+use Rattle.model.specs.declared.capabilities.Cap.TheVariants.{InterruptHandler}
 use Rattle.model.specs.declared.errors.KError.{KError}
 use Rattle.model.specs.declared.errors.KError.TheVariants.{InvalidCapability}
 use Rattle.model.specs.declared.invocations.SlotName.{SlotName}
@@ -56,7 +58,8 @@ module _ (s t : State) (number source : ℕ) (binds : Binds s number source) (le
   source-stays = elim (taken s number source) as (λ b. taken s number source ≡ b → b ≡ false) [
     | false ↦ λ _. refl
     | true ↦ λ member. absurd (elim (or-cases (source == binding_slot s number) _ member) [
-      | inl here ↦ plain-no_line s (Binds.sound binds).memory source number (Binds.less binds) (Binds.plain binds) (eqb-true source (binding_slot s number) here)
+      | inl here ↦ plain-no_line s (Binds.sound binds).memory source number (Binds.less binds) (Binds.plain binds)
+          (eqb-true source (binding_slot s number) here)
       | inr other ↦
           let line = line-of s (λ line. takes_last s (λ x. x == binding_slot s number) (is_handler_of line)) 0 source other in
           plain-no_line s (Binds.sound binds).memory source line.0 line.1 (Binds.plain binds) line.2
@@ -85,7 +88,8 @@ module _ (s t : State) (number source : ℕ) (binds : Binds s number source) (le
 
   bound-then : IsSound (with_slots t (inserted t.slots (binding_slot s number) (capability_at s.slots source) (Some source)))
   bound-then =
-      subst (λ (slot : ℕ). IsSound (with_slots t (inserted t.slots slot (capability_at s.slots source) (Some source)))) (ap (λ (radix : ℕ). 2 ^ radix + number) leaves.radix)
+      subst (λ (slot : ℕ). IsSound (with_slots t (inserted t.slots slot (capability_at s.slots source) (Some source))))
+      (ap (λ (radix : ℕ). 2 ^ radix + number) leaves.radix)
       (subst (λ (c : Cap). IsSound (with_slots t (inserted t.slots (binding_slot t number) c (Some source)))) source-same
       (bound-sound t number source leaves.sound (Binds.less binds) (ap (λ c. not (is_empty c)) source-same
       ∙ Binds.full binds) line-empty room-still (ap may_be_bound source-same ∙ Binds.may binds)))

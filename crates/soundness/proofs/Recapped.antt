@@ -19,7 +19,8 @@ use Rattle.model.specs.Kernel.Kinds.{kind_at, object_named, piece_of, used_of}
 use Rattle.model.specs.Kernel.Retype.{NewRootTable}
 use Rattle.model.specs.Kernel.Soundness.{IsSound, MappingsAreSound}
 use Rattle.model.specs.Kernel.State.{State, with_slots}
-use Rattle.soundness.proofs.Carried.{Carries, CarriesMappings, full-near, full-unless, held-at, held-by, memory-carried, shape-carried, slots-carried, some-passes, sound-carried, taken-carried, threads-carried}
+use Rattle.soundness.proofs.Carried.{Carries, CarriesMappings, full-near, full-unless, held-at, held-by, memory-carried, shape-carried, slots-carried}
+use Rattle.soundness.proofs.Carried.{some-passes, sound-carried, taken-carried, threads-carried}
 use Rattle.soundness.proofs.Places.{MayHold, full-may_hold}
 
 -- what is asked of the capability that comes into a full slot
@@ -75,7 +76,8 @@ module _ (s : State) (slot : ℕ) (capability : Cap) (sound : IsSound s) (recaps
   }
 
   open-still : (x : ℕ) → is_some (new x) ≡ is_some (old x)
-  open-still = either (λ x. is_some (new x) ≡ is_some (old x)) (ap is_some held-here ∙ sym (full-open s.slots slot recaps.full)) (λ x other. ap is_some (held-other x other))
+  open-still = either (λ x. is_some (new x) ≡ is_some (old x)) (ap is_some held-here ∙ sym (full-open s.slots slot recaps.full))
+      (λ x other. ap is_some (held-other x other))
 
   may-still : (x : ℕ) → IsFull new x → MayHold s x (capability_at new x)
   may-still = either (λ x. IsFull new x → MayHold s x (capability_at new x))
@@ -90,8 +92,10 @@ module _ (s : State) (slot : ℕ) (capability : Cap) (sound : IsSound s) (recaps
   pub recapped-derivation : IsDerivation (recapped s.slots slot capability)
   recapped-derivation = derivation-recapped s.slots slot capability sound.slots.derivation recaps.valid not-empty
 
-  carries-mappings : table_mapping capability ≡ table_mapping (capability_at s.slots slot) → ((m : FrameMapping) → frame_mapping capability ≡ Some m → frame_mapping (capability_at s.slots slot) ≡ Some m)
-      → ((offset : ℕ) (m : Option TableMapping) → capability ≡ PageTable offset m → capability_at s.slots slot ≡ PageTable offset m) → CarriesMappings old new (λ x. x)
+  carries-mappings : table_mapping capability ≡ table_mapping (capability_at s.slots slot) →
+      ((m : FrameMapping) → frame_mapping capability ≡ Some m → frame_mapping (capability_at s.slots slot) ≡ Some m)
+      → ((offset : ℕ) (m : Option TableMapping) → capability ≡ PageTable offset m → capability_at s.slots slot ≡ PageTable offset m) →
+      CarriesMappings old new (λ x. x)
   carries-mappings table frame page_table = record {
     frame = λ x m. either (λ x. frame_mapping (capability_at new x) ≡ Some m → frame_mapping (capability_at old x) ≡ Some m)
         (λ is. frame m (ap (λ (o : Option Entry). frame_mapping (capability_of o)) (sym held-here) ∙ is))
@@ -104,11 +108,13 @@ module _ (s : State) (slot : ℕ) (capability : Cap) (sound : IsSound s) (recaps
   }
 
   -- with the same mappings
-  pub recapped-sound : table_mapping capability ≡ table_mapping (capability_at s.slots slot) → ((m : FrameMapping) → frame_mapping capability ≡ Some m → frame_mapping (capability_at s.slots slot) ≡ Some m)
+  pub recapped-sound : table_mapping capability ≡ table_mapping (capability_at s.slots slot) →
+      ((m : FrameMapping) → frame_mapping capability ≡ Some m → frame_mapping (capability_at s.slots slot) ≡ Some m)
       → ((offset : ℕ) (m : Option TableMapping) → capability ≡ PageTable offset m → capability_at s.slots slot ≡ PageTable offset m)
       → IsSound (with_slots s (recapped s.slots slot capability))
   unfolding new
-  recapped-sound table frame page_table = sound-carried s new (λ x. x) sound recapped-derivation open-still may-still carries (carries-mappings table frame page_table)
+  recapped-sound table frame page_table = sound-carried s new (λ x. x) sound recapped-derivation open-still may-still carries
+      (carries-mappings table frame page_table)
 
   new-derivation : IsDerivation new
   unfolding new
@@ -135,12 +141,14 @@ module _ (s : State) (slot : ℕ) (capability : Cap) (sound : IsSound s) (recaps
 
   module _ (m : FrameMapping) (here : frame_mapping capability ≡ Some m) (table : table_mapping capability ≡ table_mapping (capability_at s.slots slot))
       (page_table : (offset : ℕ) (n : Option TableMapping) → capability ≡ PageTable offset n → capability_at s.slots slot ≡ PageTable offset n)
-      (root : kind_at s m.root ≡ Some NewRootTable) (region : is_region_taken s m.root (m.page / region_pages) ≡ true) (free : is_page_taken s m.root m.page ≡ false) where
+      (root : kind_at s m.root ≡ Some NewRootTable) (region : is_region_taken s m.root (m.page / region_pages) ≡ true)
+      (free : is_page_taken s m.root m.page ≡ false) where
     frame-at : (x : ℕ) (n : FrameMapping) → frame_mapping (capability_at new x) ≡ Some n
         → ((x ≡ slot) × (n ≡ m)) ⊎ ((x ≢ slot) × (frame_mapping (capability_at old x) ≡ Some n))
     frame-at x n is = elim (eqb_tells x slot) [
       | inl at ↦
-          let e : Some m ≡ Some n = sym here ∙ ap (λ (o : Option Entry). frame_mapping (capability_of o)) (sym held-here) ∙ ap (λ (y : ℕ). frame_mapping (capability_at new y)) (sym at.1) ∙ is in
+          let e : Some m ≡ Some n = sym here ∙ ap (λ (o : Option Entry). frame_mapping (capability_of o)) (sym held-here)
+          ∙ ap (λ (y : ℕ). frame_mapping (capability_at new y)) (sym at.1) ∙ is in
           inl (at.1, let f : m ≡ n = cc in sym f)
       | inr other ↦ inr (other.1, ap (λ (o : Option Entry). frame_mapping (capability_of o)) (sym (held-other x other.1)) ∙ is)
     ]
@@ -163,7 +171,8 @@ module _ (s : State) (slot : ℕ) (capability : Cap) (sound : IsSound s) (recaps
         let mappings = sound.mappings in
         let tables = by-slot table_mapping table in
         let taken = λ (root region : ℕ). taken-carried s new (λ x. x) root region near carries.kept tables in
-        let was_table : (x offset : ℕ) (n : Option TableMapping) → capability_at new x ≡ PageTable offset n → capability_at old x ≡ PageTable offset n = λ x offset n.
+        let was_table : (x offset : ℕ) (n : Option TableMapping) → capability_at new x ≡ PageTable offset n → capability_at old x ≡ PageTable offset n =
+        λ x offset n.
         either (λ x. capability_at new x ≡ PageTable offset n → capability_at old x ≡ PageTable offset n)
         (λ is. page_table offset n (sym (ap capability_of held-here) ∙ is)) (λ x other is. sym (ap capability_of (held-other x other)) ∙ is) x in
         record {
@@ -205,7 +214,8 @@ module _ (s : State) (slot : ℕ) (capability : Cap) (sound : IsSound s) (recaps
 
   -- ---- a page table that is mapped
 
-  module _ (m : TableMapping) (offset : ℕ) (is_table : capability ≡ PageTable offset (Some m)) (unmapped_before : capability_at s.slots slot ≡ PageTable offset None)
+  module _ (m : TableMapping) (offset : ℕ) (is_table : capability ≡ PageTable offset (Some m))
+      (unmapped_before : capability_at s.slots slot ≡ PageTable offset None)
       (root : kind_at s m.root ≡ Some NewRootTable) (free : is_region_taken s m.root m.region ≡ false) where
     frames : (x : ℕ) → frame_mapping (capability_at new x) ≡ frame_mapping (capability_at old x)
     frames = by-slot frame_mapping (ap frame_mapping is_table ∙ sym (ap frame_mapping unmapped_before))
@@ -238,7 +248,8 @@ module _ (s : State) (slot : ℕ) (capability : Cap) (sound : IsSound s) (recaps
         let was = held-by s (maps_region root region) is in
         let mapping = some-passes (table_mapping (capability_at s.slots was.0)) (is_region root region) was.1 in
         let other : was.0 ≢ slot = λ e.
-        (let clash : None ≡ Some mapping.0 = sym (ap table_mapping unmapped_before) ∙ ap (λ (y : ℕ). table_mapping (capability_at s.slots y)) (sym e) ∙ mapping.1 in cc) in
+        (let clash : None ≡ Some mapping.0 = sym (ap table_mapping unmapped_before) ∙ ap (λ (y : ℕ). table_mapping (capability_at s.slots y)) (sym e)
+        ∙ mapping.1 in cc) in
         let same : capability_at new was.0 ≡ capability_at s.slots was.0 = ap capability_of (held-other was.0 other) in
         held-at (with_slots s new) (maps_region root region) was.0
         (near was.0 (full-unless (capability_at new was.0) table_mapping mapping.0 refl (ap table_mapping same ∙ mapping.1)))

@@ -10,14 +10,16 @@ use Rattle.model.proofs.SlotChanges.{capability_of, parent_of, capability-adopte
 use Rattle.model.specs.declared.capabilities.Cap.{Cap}
 use Rattle.model.specs.declared.slot_entries.Entry.{Entry}
 use Rattle.model.specs.Capabilities.CapabilityKinds.{frame_mapping, table_mapping}
-use Rattle.model.specs.Capabilities.Slots.{Descendant, child, deeper, IsFull, Slots, adopted, capability_at, empty_entry, is_empty, parent_at, relocated, with_entry, with_parent}
+use Rattle.model.specs.Capabilities.Slots.{Descendant, child, deeper, IsFull, Slots, adopted, capability_at, empty_entry, is_empty, parent_at, relocated}
+use Rattle.model.specs.Capabilities.Slots.{with_entry, with_parent}
 use Rattle.model.specs.Kernel.Kinds.{object_named, piece_of, used_of}
 use Rattle.model.specs.Kernel.Soundness.{IsSound}
 use Rattle.model.specs.Kernel.State.{State, with_slots}
 use Rattle.soundness.proofs.Carried.{Carries, CarriesMappings, sound-carried}
 use Rattle.soundness.proofs.Places.{IsPlain, MayHold, full-may_hold, plain-may_hold}
 
-module _ (s : State) (from to : ℕ) (sound : IsSound s) (full : IsFull s.slots from) (empty : s.slots to ≡ Some empty_entry) (here : IsPlain s from) (there : IsPlain s to) where
+module _ (s : State) (from to : ℕ) (sound : IsSound s) (full : IsFull s.slots from) (empty : s.slots to ≡ Some empty_entry) (here : IsPlain s from)
+    (there : IsPlain s to) where
   abbrev old : Slots
   old = s.slots
 
@@ -34,7 +36,8 @@ module _ (s : State) (from to : ℕ) (sound : IsSound s) (full : IsFull s.slots 
   held-to : new to ≡ old from
   unfolding new
   held-to =
-      entry-other (with_entry (with_parent old from (Some to)) to (old from)) from (Some empty_entry) to (λ e. differ (sym e)) ∙ entry-same (with_parent old from (Some to)) to (old from)
+      entry-other (with_entry (with_parent old from (Some to)) to (old from)) from (Some empty_entry) to (λ e. differ (sym e))
+      ∙ entry-same (with_parent old from (Some to)) to (old from)
 
   held-from : new from ≡ Some empty_entry
   unfolding new
@@ -43,7 +46,8 @@ module _ (s : State) (from to : ℕ) (sound : IsSound s) (full : IsFull s.slots 
   held-other : (x : ℕ) → x ≢ to → x ≢ from → new x ≡ option_map (adopted from (Some to)) (old x)
   unfolding new
   held-other x not_to not_from =
-      entry-other (with_entry (with_parent old from (Some to)) to (old from)) from (Some empty_entry) x not_from ∙ entry-other (with_parent old from (Some to)) to (old from) x not_to
+      entry-other (with_entry (with_parent old from (Some to)) to (old from)) from (Some empty_entry) x not_from
+      ∙ entry-other (with_parent old from (Some to)) to (old from) x not_to
 
   origin-to : origin to ≡ from
   unfolding origin
@@ -51,11 +55,13 @@ module _ (s : State) (from to : ℕ) (sound : IsSound s) (full : IsFull s.slots 
 
   origin-from : origin from ≡ to
   unfolding origin
-  origin-from = ap (λ b. if b then from else if from == from then to else from) (ne_eqb from to differ) ∙ ap (λ b. if b then to else from) (eq-eqb from from refl)
+  origin-from = ap (λ b. if b then from else if from == from then to else from) (ne_eqb from to differ)
+      ∙ ap (λ b. if b then to else from) (eq-eqb from from refl)
 
   origin-other : (x : ℕ) → x ≢ to → x ≢ from → origin x ≡ x
   unfolding origin
-  origin-other x not_to not_from = ap (λ b. if b then from else if x == from then to else x) (ne_eqb x to not_to) ∙ ap (λ b. if b then to else x) (ne_eqb x from not_from)
+  origin-other x not_to not_from = ap (λ b. if b then from else if x == from then to else x) (ne_eqb x to not_to)
+      ∙ ap (λ b. if b then to else x) (ne_eqb x from not_from)
 
   -- what follows from the three kinds of slots follows for all
   three : (P : ℕ → Type 0) → P to → P from → ((x : ℕ) → x ≢ to → x ≢ from → P x) → (x : ℕ) → P x
@@ -78,7 +84,8 @@ module _ (s : State) (from to : ℕ) (sound : IsSound s) (full : IsFull s.slots 
   capability-origin = three (λ x. capability_at new x ≡ capability_at old (origin x))
       (ap capability_of held-to ∙ sym (ap (capability_at old) origin-to))
       (ap capability_of held-from ∙ sym (ap (capability_at old) origin-from ∙ ap capability_of empty))
-      (λ x not_to not_from. ap capability_of (held-other x not_to not_from) ∙ capability-adopted from (Some to) (old x) ∙ sym (ap (capability_at old) (origin-other x not_to not_from)))
+      (λ x not_to not_from. ap capability_of (held-other x not_to not_from) ∙ capability-adopted from (Some to) (old x)
+      ∙ sym (ap (capability_at old) (origin-other x not_to not_from)))
 
   -- nothing descends to the empty slot
   not-below : (root x : ℕ) → Descendant old root x → x ≢ to
@@ -97,7 +104,8 @@ module _ (s : State) (from to : ℕ) (sound : IsSound s) (full : IsFull s.slots 
       let not_to = not-below (origin root) (origin x) below in
       let moved = descendant-moved s.slots from to (origin root) (origin x) sound.slots.derivation full empty not_to below in
       subst (λ (r : ℕ). Descendant (relocated s.slots from to) r x) (name-back root root_other)
-      (subst (λ (y : ℕ). Descendant (relocated s.slots from to) (name_after_move from to (origin root)) y) (name-back x (λ e. not_to (ap origin e ∙ origin-from))) moved)
+      (subst (λ (y : ℕ). Descendant (relocated s.slots from to) (name_after_move from to (origin root)) y)
+      (name-back x (λ e. not_to (ap origin e ∙ origin-from))) moved)
 
   carries : Carries old new origin
   carries = record {
@@ -105,7 +113,8 @@ module _ (s : State) (from to : ℕ) (sound : IsSound s) (full : IsFull s.slots 
     piece = λ x. ap piece_of (capability-origin x);
     used = λ x. ap used_of (capability-origin x);
     descends = λ root x part is below. descends-moved root x
-        (λ e. let clash : None ≡ Some part = ap (λ (o : Option Entry). used_of (capability_of o)) (sym held-from) ∙ ap (λ (y : ℕ). used_of (capability_at new y)) (sym e) ∙ is in cc) below;
+        (λ e. let clash : None ≡ Some part = ap (λ (o : Option Entry). used_of (capability_of o)) (sym held-from)
+        ∙ ap (λ (y : ℕ). used_of (capability_at new y)) (sym e) ∙ is in cc) below;
     kept = λ x _. (origin x, origin-twice x);
     twins = λ a b other twin. absurd (other (origin-one a b twin));
   }

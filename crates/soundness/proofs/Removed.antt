@@ -1,16 +1,19 @@
 -- Removals keep soundness.
-use Rattle.std.proofs.Common.{ℕ, ◌≡◌, ◌∙◌, ◌==◌, ◌*◌, ◌/◌, ◌^◌, ◌<◌, ◌&&◌, Bool, true, false, not, filter, if◌then◌else◌, List, [], ◌∷◌, Option, Some, None, Result, Ok, Err, option_map, refl, sym, ap, subst, arith}
+use Rattle.std.proofs.Common.{ℕ, ◌≡◌, ◌∙◌, ◌==◌, ◌*◌, ◌/◌, ◌^◌, ◌<◌, ◌&&◌, Bool, true, false, not, filter, if◌then◌else◌, List, [], ◌∷◌, Option, Some, None}
+use Rattle.std.proofs.Common.{Result, Ok, Err, option_map, refl, sym, ap, subst, arith}
 use Rattle.std.specs.Prelude.{fold}
 use Rattle.std.specs.Option.{option_map_or}
 use Rattle.model.specs.declared.errors.KError.{KError}
 use Rattle.model.specs.declared.errors.KError.TheVariants.{RevokeFirst}
 use Rattle.model.specs.Capabilities.Slots.{IsFull, IsOpen, is_descendant, is_full}
 use Rattle.model.specs.Kernel.Kinds.{kind_at, kind_of}
-use Rattle.model.specs.Kernel.Removal.{SlotSet, closes, closing, emptied, delete, ends, is_set_back, is_slot_of, remove, revoke, slot_count, thread_places, waits_on_ended, wants_revoke_first, with_bindings, without_slots}
+use Rattle.model.specs.Kernel.Removal.{SlotSet, closes, closing, emptied, delete, ends, is_set_back, is_slot_of, remove, revoke, slot_count, thread_places}
+use Rattle.model.specs.Kernel.Removal.{waits_on_ended, wants_revoke_first, with_bindings, without_slots}
 use Rattle.model.specs.Kernel.Retype.{NewThread}
 use Rattle.model.specs.Kernel.Scheduling.{wake}
 use Rattle.model.specs.Kernel.Soundness.{IsSound}
-use Rattle.model.specs.Kernel.State.{State, Object, ThreadObject, EndpointObject, NotificationObject, CNodeObject, FrameObject, PageTableObject, RootTableObject, ThreadState, as_thread, slot_numbers}
+use Rattle.model.specs.Kernel.State.{State, Object, ThreadObject, EndpointObject, NotificationObject, CNodeObject, FrameObject, PageTableObject}
+use Rattle.model.specs.Kernel.State.{RootTableObject, ThreadState, as_thread, slot_numbers}
 use Rattle.std.proofs.lemmas.Bool.{eqb-true}
 use Rattle.model.proofs.Ancestors.{descendant-full, full-open}
 use Rattle.removal_laws.proofs.Laws.{bool-iff, both, bounds-within, holder, holder-aligned, in-memory, members-all, slots-settled, sound-ready}
@@ -31,7 +34,8 @@ unfolding slot_numbers
 place-in s n less = in-places 0 (2 ^ s.memory_bits / 16) n (omega arith) (omega (arith, less))
 
 -- what passes a test on threads is one
-some-thread : (test : ThreadState → Bool) (o : Option Object) → option_map_or test (as_thread o) false ≡ true → (t : ThreadState) × (o ≡ Some (ThreadObject t)) × (test t ≡ true)
+some-thread : (test : ThreadState → Bool) (o : Option Object) → option_map_or test (as_thread o) false ≡ true → (t : ThreadState) × (o ≡ Some (ThreadObject t))
+    × (test t ≡ true)
 some-thread test (Some (ThreadObject t)) is = (t, refl, is)
 some-thread test None is = let clash : false ≡ true = is in absurd cc
 some-thread test (Some (EndpointObject e)) is = let clash : false ≡ true = is in absurd cc
@@ -69,7 +73,8 @@ module _ (s : State) (set : SlotSet) (r : Removes s set) where
   in-waking : (o : ℕ) → is_in (waking s set) o ≡ is_set_back s set o
   in-waking o = bool-iff (is_in (waking s set) o) (is_set_back s set o)
       (λ is. (in-filter (is_set_back s set) (thread_places s) o is).0)
-      (λ is. let back = set-back o is in filter-in (is_set_back s set) (thread_places s) o is (thread-place s r.sound o (SetBack.thread back) (SetBack.was back)))
+      (λ is. let back = set-back o is in filter-in (is_set_back s set) (thread_places s) o is
+      (thread-place s r.sound o (SetBack.thread back) (SetBack.was back)))
 
   threads-wake : (o : ℕ) → is_in (waking s set) o ≡ true → kind_at (left s set) o ≡ Some NewThread
   threads-wake o is =
@@ -111,7 +116,8 @@ without-leaves s set r = record {
   radix = wake-radix (waking s set) (closing (emptied s set) (closes s set));
 }
 
-pub removed-leaves : (s t : State) (set : SlotSet) → IsSound s → ((slot : ℕ) → set slot ≡ true → IsOpen s.slots slot) → remove s set ≡ Ok t → Leaves s (with_bindings s set) t
+pub removed-leaves : (s t : State) (set : SlotSet) → IsSound s → ((slot : ℕ) → set slot ≡ true → IsOpen s.slots slot) → remove s set ≡ Ok t →
+    Leaves s (with_bindings s set) t
 unfolding remove
 removed-leaves s t set sound opens is =
     let all : SlotSet = with_bindings s set in
@@ -119,7 +125,8 @@ removed-leaves s t set sound opens is =
       | true ↦ λ _ so. let clash : Err RevokeFirst ≡ Ok t = so in absurd cc
       | false ↦ λ allowed so.
           let e : without_slots s all ≡ t = cc so in
-          subst (Leaves s all) e (without-leaves s all (record { sound = sound; opens = members-all s set opens (sound-ready s sound).lines; allowed = allowed }))
+          subst (Leaves s all) e
+          (without-leaves s all (record { sound = sound; opens = members-all s set opens (sound-ready s sound).lines; allowed = allowed }))
     ] refl is
 
 pub removed-sound : (s t : State) (set : SlotSet) → IsSound s → ((slot : ℕ) → set slot ≡ true → IsOpen s.slots slot) → remove s set ≡ Ok t → IsSound t
@@ -135,11 +142,13 @@ deleted-leaves s t slot sound full is =
     removed-leaves s t (λ other. other == slot) sound (alone-open s slot full) (ap (λ b. if b then remove s (λ other. other == slot) else Ok s) (sym full) ∙ is)
 
 pub deleted-sound : (s t : State) (slot : ℕ) → IsSound s → delete s slot ≡ Ok t → IsSound t
-deleted-sound s t slot sound is = elim (is_full s.slots slot) as (λ b. is_full s.slots slot ≡ b → (if b then remove s (λ other. other == slot) else Ok s) ≡ Ok t → IsSound t) [
-  | true ↦ λ full so. removed-sound s t (λ other. other == slot) sound (alone-open s slot full) so
-  | false ↦ λ _ so. let e : ◌≡◌ {A = State} s t = (let f : ◌≡◌ {A = Result State KError} (Ok s) (Ok t) = so in cc) in subst IsSound e sound
-] refl is
+deleted-sound s t slot sound is = elim (is_full s.slots slot) as (λ b. is_full s.slots slot ≡ b →
+    (if b then remove s (λ other. other == slot) else Ok s) ≡ Ok t → IsSound t) [
+      | true ↦ λ full so. removed-sound s t (λ other. other == slot) sound (alone-open s slot full) so
+      | false ↦ λ _ so. let e : ◌≡◌ {A = State} s t = (let f : ◌≡◌ {A = Result State KError} (Ok s) (Ok t) = so in cc) in subst IsSound e sound
+    ] refl is
 
 pub revoked-sound : (s t : State) (slot : ℕ) → IsSound s → revoke s slot ≡ Ok t → IsSound t
 revoked-sound s t slot sound is =
-    removed-sound s t (is_descendant s.slots slot) sound (λ other below. full-open s.slots other (descendant-full s.slots slot other sound.slots.derivation below)) is
+    removed-sound s t (is_descendant s.slots slot) sound (λ other below.
+    full-open s.slots other (descendant-full s.slots slot other sound.slots.derivation below)) is

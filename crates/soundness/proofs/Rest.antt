@@ -6,7 +6,8 @@ use Rattle.model.specs.Kernel.Kinds.{kind_at, kind_of}
 use Rattle.model.specs.Kernel.Removal.{slot_count}
 use Rattle.model.specs.Kernel.Retype.{NewObject, NewThread, NewEndpoint, NewNotification, NewCNode, NewFrame, NewPageTable, NewRootTable}
 use Rattle.model.specs.Kernel.Soundness.{HasShape, HasSlot, of_boot_area, of_object, IsSound, MappingsAreSound, MemoryIsSound, SlotsAreSound, ThreadsAreSound}
-use Rattle.model.specs.Kernel.State.{State, Object, ThreadObject, EndpointObject, NotificationObject, CNodeObject, FrameObject, PageTableObject, RootTableObject, EndpointState, NotificationState, ThreadState}
+use Rattle.model.specs.Kernel.State.{State, Object, ThreadObject, EndpointObject, NotificationObject, CNodeObject, FrameObject, PageTableObject}
+use Rattle.model.specs.Kernel.State.{RootTableObject, EndpointState, NotificationState, ThreadState}
 use Rattle.soundness.proofs.Pieces.{slots-by_kind, slots_of_kind}
 
 -- ---- objects of a type
@@ -62,7 +63,8 @@ module _ (s : State) (objects : ℕ → Option Object) (ready : ℕ → List ℕ
   changed = record s { objects = objects; ready = ready; masked = masked; pending = pending }
 
   same-slots : (offset : ℕ) → slot_count (objects offset) ≡ slot_count (s.objects offset)
-  same-slots offset = slots-by_kind (objects offset) ∙ ap (λ (o : Option NewObject). option_map_or slots_of_kind o 0) (kinds offset) ∙ sym (slots-by_kind (s.objects offset))
+  same-slots offset = slots-by_kind (objects offset) ∙ ap (λ (o : Option NewObject). option_map_or slots_of_kind o 0) (kinds offset)
+      ∙ sym (slots-by_kind (s.objects offset))
 
   has-slot : (slot : ℕ) → HasSlot s slot → HasSlot changed slot
   has-slot slot (of_boot_area less) = of_boot_area less

@@ -1,11 +1,13 @@
 -- Retype: its checks are what new objects need.
-use Rattle.std.proofs.Common.{ℕ, ◌≡◌, ◌∙◌, ◌==◌, ◌&&◌, ◌+◌, ◌/◌, ◌^◌, ◌<◌, true, false, not, nat_le, if◌then◌else◌, Option, Some, None, Ok, refl, sym, ap, subst, arith}
+use Rattle.std.proofs.Common.{ℕ, ◌≡◌, ◌∙◌, ◌==◌, ◌&&◌, ◌+◌, ◌/◌, ◌^◌, ◌<◌, true, false, not, nat_le, if◌then◌else◌, Option, Some, None, Ok, refl, sym, ap}
+use Rattle.std.proofs.Common.{subst, arith}
 use Rattle.std.specs.List.{range_with_len}
 use Rattle.std.proofs.lemmas.Bool.{and_parts, leb-true, not-true}
 use Rattle.std.proofs.lemmas.List.Folds.{list_any_at}
 use Rattle.std.proofs.lemmas.List.FromFn.{get_or-range_with_len, length-range_with_len}
 use Rattle.model.specs.declared.capabilities.Cap.{Cap}
-use Rattle.model.specs.declared.capabilities.Cap.TheVariants.{Empty, Untyped, Endpoint, Notification, CNode, Frame, PageTable, Tcb, RootTable, InterruptControl, InterruptHandler}
+use Rattle.model.specs.declared.capabilities.Cap.TheVariants.{Empty, Untyped, Endpoint, Notification, CNode, Frame, PageTable, Tcb, RootTable, InterruptControl}
+use Rattle.model.specs.declared.capabilities.Cap.TheVariants.{InterruptHandler}
 use Rattle.model.specs.declared.errors.KError.TheVariants.{DeleteFirst, FailedLookup, InvalidArgument, NotEnoughMemory, RangeError}
 use Rattle.model.specs.declared.invocations.RetypeCall.{RetypeCall}
 use Rattle.model.specs.declared.invocations.SlotName.{SlotName}
@@ -46,12 +48,14 @@ cnode-plain s sound (InterruptHandler a) n index is_root is less = let e : ◌�
 node-plain : (s : State) → IsSound s → (root : Cap) (name : SlotName) (n : Node) → IsRoot s root → node s.slots root name ≡ Ok n
     → (index : ℕ) → index < 2 ^ n.radix → IsPlain s (n.offset / 16 + index)
 node-plain s sound root name n is_root is index less =
-    elim (name.depth == 0) as (λ b. (if b then wanted (cnode_of root) FailedLookup else (argument_slot s.slots root name >>= λ slot. wanted (cnode_of (capability_at s.slots slot)) FailedLookup)) ≡ Ok n
+    elim (name.depth == 0) as (λ b. (if b then wanted (cnode_of root) FailedLookup else
+    (argument_slot s.slots root name >>= λ slot. wanted (cnode_of (capability_at s.slots slot)) FailedLookup)) ≡ Ok n
     → IsPlain s (n.offset / 16 + index)) [
       | true ↦ λ so. cnode-plain s sound root n index is_root (wanted-some (cnode_of root) FailedLookup n so) less
       | false ↦ λ so.
           let one = passes-both (argument_slot s.slots root name) _ n so in
-          cnode-plain s sound (capability_at s.slots one.value) n index (of_slot one.value refl) (wanted-some (cnode_of (capability_at s.slots one.value)) FailedLookup n one.rest) less
+          cnode-plain s sound (capability_at s.slots one.value) n index (of_slot one.value refl)
+          (wanted-some (cnode_of (capability_at s.slots one.value)) FailedLookup n one.rest) less
     ] is
 
 -- no slot of an empty window is full
@@ -61,7 +65,8 @@ none-full slots first count j none less =
       | true ↦ λ full.
           let at = get_or-range_with_len first count j 0 less in
           let size = length-range_with_len first count in
-          let some : any_full slots first count ≡ true = list_any_at (is_full slots) (range_with_len first count) j 0 (omega (arith, size, less)) (ap (is_full slots) (at ∙ omega arith) ∙ full) in
+          let some : any_full slots first count ≡ true = list_any_at (is_full slots) (range_with_len first count) j 0 (omega (arith, size, less))
+          (ap (is_full slots) (at ∙ omega arith) ∙ full) in
           let clash : true ≡ false = sym some ∙ none in
           absurd cc
       | false ↦ λ _. refl
@@ -84,7 +89,8 @@ retype-whole s t root slot memory asked whole is_root holds is =
     let seven = passes-both (may_have_child s.slots slot) _ t six.rest in
     let eight = passes-both (wanted (placement memory.bits memory.watermark (object_bits kind) asked.count) NotEnoughMemory) _ t seven.rest in
     let place = eight.value in
-    let outer = and_parts (nat_le 1 asked.count && nat_le asked.count 256) (nat_le (asked.index + asked.count) (2 ^ cnode.radix)) (check-passes fits RangeError five.value five.first) in
+    let outer = and_parts (nat_le 1 asked.count && nat_le asked.count 256) (nat_le (asked.index + asked.count) (2 ^ cnode.radix))
+    (check-passes fits RangeError five.value five.first) in
     let inner = and_parts (nat_le 1 asked.count) (nat_le asked.count 256) outer.0 in
     let some = leb-true 1 asked.count inner.0 in
     let last = leb-true (asked.index + asked.count) (2 ^ cnode.radix) outer.1 in
@@ -95,8 +101,10 @@ retype-whole s t root slot memory asked whole is_root holds is =
           (wanted-some (placement memory.bits memory.watermark (object_bits kind) asked.count) NotEnoughMemory place eight.first) valid.0.0 some;
       large = check-passes (is_large_enough kind) InvalidArgument two.value two.first;
       small = check-passes (is_small_enough kind) RangeError three.value three.first;
-      plain = λ j less. subst (IsPlain s) (omega arith) (node-plain s whole root asked.node cnode is_root four.first (asked.index + j) (omega (arith, last, less)));
-      free = λ j less. none-full s.slots window asked.count j (not-true (any_full s.slots window asked.count) (check-passes (not (any_full s.slots window asked.count)) DeleteFirst six.value six.first)) less;
+      plain = λ j less. subst (IsPlain s) (omega arith)
+          (node-plain s whole root asked.node cnode is_root four.first (asked.index + j) (omega (arith, last, less)));
+      free = λ j less. none-full s.slots window asked.count j
+          (not-true (any_full s.slots window asked.count) (check-passes (not (any_full s.slots window asked.count)) DeleteFirst six.value six.first)) less;
       room = room-below s slot seven.value seven.first;
     } in
     let new : NewObjects = record { kind = kind; first = memory.offset + place.0; count = asked.count } in

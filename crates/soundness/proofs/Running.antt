@@ -1,12 +1,14 @@
 -- The current thread is there and runs.
-use Rattle.std.proofs.Common.{ℕ, zero, suc, ◌≡◌, ◌∙◌, ◌==◌, ◌&&◌, ◌+◌, ◌≤◌, Bool, true, false, if◌then◌else◌, List, [], ◌∷◌, Option, Some, None, option_map, refl, ap, arith}
+use Rattle.std.proofs.Common.{ℕ, zero, suc, ◌≡◌, ◌∙◌, ◌==◌, ◌&&◌, ◌+◌, ◌≤◌, Bool, true, false, if◌then◌else◌, List, [], ◌∷◌, Option, Some, None, option_map}
+use Rattle.std.proofs.Common.{refl, ap, arith}
 use Rattle.std.specs.Option.{option_map_or}
 use Rattle.std.proofs.lemmas.Bool.{eq-eqb}
 use Rattle.model.specs.Kernel.Kinds.{kind_of}
 use Rattle.model.specs.Kernel.Retype.{NewThread}
 use Rattle.model.specs.Kernel.Scheduling.{current, first_below, head_of, is_runnable}
 use Rattle.model.specs.Kernel.Soundness.{ThreadsAreSound}
-use Rattle.model.specs.Kernel.State.{State, Object, ThreadObject, EndpointObject, NotificationObject, CNodeObject, FrameObject, PageTableObject, RootTableObject}
+use Rattle.model.specs.Kernel.State.{State, Object, ThreadObject, EndpointObject, NotificationObject, CNodeObject, FrameObject, PageTableObject}
+use Rattle.model.specs.Kernel.State.{RootTableObject}
 use Rattle.model.specs.Shared.Lists.{times_in}
 use Rattle.soundness.specs.Running.{IsRunning}
 use Rattle.soundness.proofs.Moving.{own_of, runs_of}
@@ -26,7 +28,8 @@ pub head-counts : (threads : List ℕ) (thread : ℕ) → head_of threads ≡ So
 head-counts [] thread is = let e : None ≡ Some thread = is in absurd cc
 head-counts (t ∷ rest) thread is =
     let same : t ≡ thread = cc in
-    let more : times_in (t ∷ rest) thread ≡ times_in rest thread + 1 = ap (λ (b : Bool). if b then times_in rest thread + 1 else times_in rest thread) (eq-eqb t thread same) in
+    let more : times_in (t ∷ rest) thread ≡ times_in rest thread + 1 =
+    ap (λ (b : Bool). if b then times_in rest thread + 1 else times_in rest thread) (eq-eqb t thread same) in
     omega (arith, more)
 
 record RunsAt (o : Option Object) : Type 0 where
@@ -39,7 +42,8 @@ not-one less = omega (arith, less)
 runs-at : (o : Option Object) (priority : ℕ) → 1 ≤ runs_of o priority → RunsAt o
 runs-at (Some (ThreadObject t)) priority less = record {
   kind = refl;
-  runs = elim (is_runnable t.status) as (λ b. 1 ≤ (if b && t.priority == priority then 1 else 0) → b ≡ true) [ true ↦ λ _. refl | false ↦ λ none. absurd (not-one none) ] less;
+  runs = elim (is_runnable t.status) as (λ b. 1 ≤ (if b && t.priority == priority then 1 else 0) → b ≡ true)
+      [ true ↦ λ _. refl | false ↦ λ none. absurd (not-one none) ] less;
 }
 runs-at None priority less = absurd (not-one less)
 runs-at (Some (EndpointObject e)) priority less = absurd (not-one less)

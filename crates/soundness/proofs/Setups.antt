@@ -1,5 +1,6 @@
 -- Setting up: capabilities without a parent, and the bytes of frames.
-use Rattle.std.proofs.Common.{ℕ, ◌≡◌, ◌≢◌, ◌∙◌, ◌==◌, ◌&&◌, ◌+◌, ◌-◌, ◌%◌, ◌^◌, ◌<◌, ◌≤◌, inl, inr, Bool, true, false, not, is_some, nat_le, nat_lt, if◌then◌else◌, get_or, length, List, Option, Some, None, option_map, refl, sym, ap, subst, arith}
+use Rattle.std.proofs.Common.{ℕ, ◌≡◌, ◌≢◌, ◌∙◌, ◌==◌, ◌&&◌, ◌+◌, ◌-◌, ◌%◌, ◌^◌, ◌<◌, ◌≤◌, inl, inr, Bool, true, false, not, is_some, nat_le, nat_lt}
+use Rattle.std.proofs.Common.{if◌then◌else◌, get_or, length, List, Option, Some, None, option_map, refl, sym, ap, subst, arith}
 use Rattle.std.specs.Prelude.{All, slice_index}
 use Rattle.std.specs.Option.{option_map_or}
 use Rattle.std.proofs.lemmas.Bool.{and_parts, cases_lt, eqb-true, leb-true, ltb-false, ltb-true, not-true}
@@ -11,16 +12,19 @@ use Rattle.std.proofs.lemmas.Nat.{pow_pos}
 use Rattle.model.proofs.Derivations.{derivation-inserted}
 use Rattle.model.proofs.SlotChanges.{capability_of, entry-other, entry-same, full-not-empty, parent_of}
 use Rattle.model.specs.declared.capabilities.Cap.{Cap}
-use Rattle.model.specs.declared.capabilities.Cap.TheVariants.{Empty, Untyped, Endpoint, Notification, CNode, Frame, PageTable, Tcb, RootTable, InterruptControl, InterruptHandler}
+use Rattle.model.specs.declared.capabilities.Cap.TheVariants.{Empty, Untyped, Endpoint, Notification, CNode, Frame, PageTable, Tcb, RootTable, InterruptControl}
+use Rattle.model.specs.declared.capabilities.Cap.TheVariants.{InterruptHandler}
 use Rattle.model.specs.declared.capabilities.TableMapping.{TableMapping}
 use Rattle.model.specs.declared.slot_entries.Entry.{Entry}
 use Rattle.model.specs.Capabilities.CapabilityKinds.{frame_mapping, table_mapping}
 use Rattle.model.specs.Capabilities.CapabilityWords.{IsCapability}
-use Rattle.model.specs.Capabilities.Slots.{Descendant, child, deeper, IsDerivation, IsFull, Slots, capability_at, empty_entry, inserted, is_empty, is_full, is_within, parent_at}
+use Rattle.model.specs.Capabilities.Slots.{Descendant, child, deeper, IsDerivation, IsFull, Slots, capability_at, empty_entry, inserted, is_empty, is_full}
+use Rattle.model.specs.Capabilities.Slots.{is_within, parent_at}
 use Rattle.model.specs.Kernel.AddressSpaces.{page_size}
 use Rattle.model.specs.Kernel.Kinds.{AreApart, Names, Piece, kind_at, object_named, piece_of, used_of}
 use Rattle.model.specs.Kernel.Retype.{NewObject, object_bits}
-use Rattle.model.specs.Kernel.Setup.{end_of, fill, is_frame_object, is_free_boot_slot, may_be_untyped, put_control, put_in_boot_slot, put_untyped, with_first_bytes}
+use Rattle.model.specs.Kernel.Setup.{end_of, fill, is_frame_object, is_free_boot_slot, may_be_untyped, put_control, put_in_boot_slot, put_untyped}
+use Rattle.model.specs.Kernel.Setup.{with_first_bytes}
 use Rattle.model.specs.Kernel.Soundness.{IsSound, MemoryIsSound, Lies, apart, same, within, around}
 use Rattle.model.specs.Kernel.State.{State, boot_area_end, holds_some, with_slots}
 use Rattle.soundness.proofs.Bytes.{bytes-whole}
@@ -69,7 +73,8 @@ module _ (s : State) (slot : ℕ) (capability : Cap) (sound : IsSound s) (roots 
   unfolding new
   tree =
       derivation-inserted s.slots slot capability None sound.slots.derivation roots.empty roots.valid
-      (λ e. let clash : false ≡ true = sym roots.filled ∙ ap is_empty e in cc) (λ p e. let clash : None ≡ Some p = e in absurd cc) (λ p e. let clash : None ≡ Some p = e in absurd cc)
+      (λ e. let clash : false ≡ true = sym roots.filled ∙ ap is_empty e in cc) (λ p e. let clash : None ≡ Some p = e in absurd cc)
+      (λ p e. let clash : None ≡ Some p = e in absurd cc)
 
   parent-still : (x up : ℕ) → parent_at old x ≡ Some up → parent_at new x ≡ Some up
   parent-still x up is = ap parent_of (held-other x (not-full x (sound.slots.derivation.child_full x up is))) ∙ is
@@ -93,7 +98,8 @@ module _ (s : State) (slot : ℕ) (capability : Cap) (sound : IsSound s) (roots 
 
   no-object : (x : ℕ) (k : NewObject) (o : ℕ) → x ≡ slot → Names k o (capability_at new x) → ⊥
   no-object x k o at names =
-      let e : ◌≡◌ {A = Option (NewObject × ℕ)} None (Some (k, o)) = sym roots.object ∙ ap object_named (sym capability-here) ∙ ap (λ (y : ℕ). object_named (capability_at new y)) (sym at) ∙ names in cc
+      let e : ◌≡◌ {A = Option (NewObject × ℕ)} None (Some (k, o)) = sym roots.object ∙ ap object_named (sym capability-here)
+      ∙ ap (λ (y : ℕ). object_named (capability_at new y)) (sym at) ∙ names in cc
 
   here-piece : (x : ℕ) (p : Piece) → x ≡ slot → piece_of (capability_at new x) ≡ Some p → piece_of capability ≡ Some p
   here-piece x p at is = ap piece_of (sym capability-here) ∙ ap (λ (y : ℕ). piece_of (capability_at new y)) (sym at) ∙ is
@@ -107,10 +113,12 @@ module _ (s : State) (slot : ℕ) (capability : Cap) (sound : IsSound s) (roots 
     lies = λ a b p q differ one other. elim (eqb_tells a slot) [
       | inl here ↦ apart (roots.alone p q b (here-piece a p here.1 one) (ap piece_of (sym (capability-other b (λ e. differ (here.1 ∙ sym e)))) ∙ other))
       | inr a_other ↦ elim (eqb_tells b slot) [
-        | inl here ↦ apart (elim (roots.alone q p a (here-piece b q here.1 other) (ap piece_of (sym (capability-other a a_other.1)) ∙ one)) [ inl before ↦ inr before | inr behind ↦ inl behind ])
+        | inl here ↦ apart (elim (roots.alone q p a (here-piece b q here.1 other) (ap piece_of (sym (capability-other a a_other.1)) ∙ one))
+            [ inl before ↦ inr before | inr behind ↦ inl behind ])
         | inr b_other ↦
             lies-both a b p q (capability-other a a_other.1) (capability-other b b_other.1)
-            (sound.memory.lies a b p q differ (ap piece_of (sym (capability-other a a_other.1)) ∙ one) (ap piece_of (sym (capability-other b b_other.1)) ∙ other))
+            (sound.memory.lies a b p q differ (ap piece_of (sym (capability-other a a_other.1)) ∙ one)
+            (ap piece_of (sym (capability-other b b_other.1)) ∙ other))
       ]
     ];
     named = λ x k o is. elim (eqb_tells x slot) [
@@ -128,9 +136,11 @@ module _ (s : State) (slot : ℕ) (capability : Cap) (sound : IsSound s) (roots 
   maps : CarriesMappings old new (λ x. x)
   maps = record {
     frame = λ x m. either (λ x. frame_mapping (capability_at new x) ≡ Some m → frame_mapping (capability_at old x) ≡ Some m)
-        (λ is. let clash : None ≡ Some m = sym roots.frame ∙ ap frame_mapping (sym capability-here) ∙ is in absurd cc) (λ x other is. ap frame_mapping (sym (capability-other x other)) ∙ is) x;
+        (λ is. let clash : None ≡ Some m = sym roots.frame ∙ ap frame_mapping (sym capability-here) ∙ is in absurd cc)
+        (λ x other is. ap frame_mapping (sym (capability-other x other)) ∙ is) x;
     table = either (λ x. table_mapping (capability_at new x) ≡ table_mapping (capability_at old x))
-        (ap table_mapping capability-here ∙ roots.table ∙ sym (ap (λ (o : Option Entry). table_mapping (capability_of o)) roots.empty)) (λ x other. ap table_mapping (capability-other x other));
+        (ap table_mapping capability-here ∙ roots.table ∙ sym (ap (λ (o : Option Entry). table_mapping (capability_of o)) roots.empty))
+        (λ x other. ap table_mapping (capability-other x other));
     page_table = λ x offset m. either (λ x. capability_at new x ≡ PageTable offset m → capability_at old x ≡ PageTable offset m)
         (λ is. absurd (roots.no_table offset m (sym capability-here ∙ is))) (λ x other is. sym (capability-other x other) ∙ is) x;
     one_frame = λ a b m n twin one other. twin;
@@ -138,11 +148,13 @@ module _ (s : State) (slot : ℕ) (capability : Cap) (sound : IsSound s) (roots 
   }
 
   open-still : (x : ℕ) → is_some (new x) ≡ is_some (old x)
-  open-still = either (λ x. is_some (new x) ≡ is_some (old x)) (ap is_some held-here ∙ sym (ap is_some roots.empty)) (λ x other. ap is_some (held-other x other))
+  open-still = either (λ x. is_some (new x) ≡ is_some (old x)) (ap is_some held-here ∙ sym (ap is_some roots.empty))
+      (λ x other. ap is_some (held-other x other))
 
   may-still : (x : ℕ) → IsFull new x → MayHold s x (capability_at new x)
   may-still = either (λ x. IsFull new x → MayHold s x (capability_at new x)) (λ _. subst (MayHold s slot) (sym capability-here) roots.may)
-      (λ x other full. subst (MayHold s x) (sym (capability-other x other)) (full-may_hold s sound.slots x (subst (λ (c : Cap). not (is_empty c) ≡ true) (capability-other x other) full)))
+      (λ x other full. subst (MayHold s x) (sym (capability-other x other))
+      (full-may_hold s sound.slots x (subst (λ (c : Cap). not (is_empty c) ≡ true) (capability-other x other) full)))
 
   pub rooted-sound : IsSound (with_slots s (inserted s.slots slot capability None))
   unfolding new
@@ -165,7 +177,8 @@ record IsFreeSlot (s : State) (slot : ℕ) (capability : Cap) (t : State) : Type
 
 put-parts : (s : State) (slot : ℕ) (capability : Cap) (t : State) → put_in_boot_slot s slot capability ≡ Some t → IsFreeSlot s slot capability t
 put-parts s slot capability t is =
-    elim (is_free_boot_slot s slot) as (λ b. is_free_boot_slot s slot ≡ b → (if b then Some (with_slots s (inserted s.slots slot capability None)) else None) ≡ Some t → IsFreeSlot s slot capability t) [
+    elim (is_free_boot_slot s slot) as (λ b. is_free_boot_slot s slot ≡ b →
+    (if b then Some (with_slots s (inserted s.slots slot capability None)) else None) ≡ Some t → IsFreeSlot s slot capability t) [
       | true ↦ λ free so. record { free = free; is = cc so }
       | false ↦ λ _ so. let e : None ≡ Some t = so in absurd cc
     ] refl is
@@ -242,7 +255,8 @@ ends-before s offset x q sound last is =
     let end : end_of c ≡ q.first + q.size = ap (λ (o : Option Piece). option_map_or (λ (p : Piece). p.first + p.size) o 0) is in
     elim (nat_lt offset (end_of c)) as (λ b. nat_lt offset (end_of c) ≡ b → q.first + q.size ≤ offset) [
       | true ↦ λ more.
-          let there = held-at s (λ capability. nat_lt offset (end_of capability)) x (full-near s sound.shape sound.slots sound.memory x (piece-full c q is)) more in
+          let there = held-at s (λ capability. nat_lt offset (end_of capability)) x (full-near s sound.shape sound.slots sound.memory x (piece-full c q is))
+          more in
           absurd (let clash : true ≡ false = sym there ∙ last in cc)
       | false ↦ λ less. let below = ltb-false offset (end_of c) less in omega (arith, below, end)
     ] refl
@@ -268,7 +282,8 @@ untyped-whole s t slot offset bits whole fits is =
       may = plain-may_hold s whole.memory slot (Untyped offset bits 0) (free-plain s slot free).0;
       inside = λ p e.
           let f : own ≡ p = cc e in
-          subst (λ (p : Piece). (boot_area_end s.boot_radix ≤ p.first) × (p.first + p.size ≤ 2 ^ s.memory_bits)) f (IsUntypedPlace.behind place, IsUntypedPlace.inside place);
+          subst (λ (p : Piece). (boot_area_end s.boot_radix ≤ p.first) × (p.first + p.size ≤ 2 ^ s.memory_bits)) f
+          (IsUntypedPlace.behind place, IsUntypedPlace.inside place);
       alone = λ p q x e other.
           let f : own ≡ p = cc e in
           subst (λ (p : Piece). AreApart p q) f (inr (ends-before s offset x q whole (IsUntypedPlace.last place) other));
@@ -278,7 +293,8 @@ untyped-fits : (s t : State) (slot offset bits : ℕ) → put_untyped s slot off
     → (may_be_untyped s offset bits ≡ true) × (put_in_boot_slot s slot (Untyped offset bits 0) ≡ Some t)
 unfolding put_untyped
 untyped-fits s t slot offset bits is =
-    elim (may_be_untyped s offset bits) as (λ b. may_be_untyped s offset bits ≡ b → (if b then put_in_boot_slot s slot (Untyped offset bits 0) else None) ≡ Some t
+    elim (may_be_untyped s offset bits) as (λ b. may_be_untyped s offset bits ≡ b →
+    (if b then put_in_boot_slot s slot (Untyped offset bits 0) else None) ≡ Some t
     → (may_be_untyped s offset bits ≡ true) × (put_in_boot_slot s slot (Untyped offset bits 0) ≡ Some t)) [
       | true ↦ λ fits so. (fits, so)
       | false ↦ λ _ so. let e : None ≡ Some t = so in absurd cc
@@ -318,15 +334,18 @@ list-small bytes index less = elim (cases_lt index (length bytes)) [
 
 filled-whole : (s : State) (offset : ℕ) (bytes : List ℕ) → IsSound s → All (λ byte. byte < 2 ^ 8) bytes → IsSound (with_first_bytes s offset bytes)
 filled-whole s offset bytes whole small =
-    bytes-whole s (λ place. if is_within offset (length bytes) place then option_map (λ _. slice_index bytes (place - offset)) (s.bytes place) else s.bytes place) whole
+    bytes-whole s (λ place. if is_within offset (length bytes) place then option_map (λ _. slice_index bytes (place - offset)) (s.bytes place) else
+    s.bytes place) whole
     (λ place. byte-there (is_within offset (length bytes) place) (slice_index bytes (place - offset)) (s.bytes place))
     (λ place byte is.
-    byte-small (is_within offset (length bytes) place) (slice_index bytes (place - offset)) byte (s.bytes place) (list-small bytes (place - offset) small) (whole.memory.small place) is)
+    byte-small (is_within offset (length bytes) place) (slice_index bytes (place - offset)) byte (s.bytes place) (list-small bytes (place - offset) small)
+    (whole.memory.small place) is)
 
 pub fill-whole : (s t : State) (offset : ℕ) (bytes : List ℕ) → IsSound s → All (λ byte. byte < 2 ^ 8) bytes → fill s offset bytes ≡ Some t → IsSound t
 unfolding fill
 fill-whole s t offset bytes whole small is =
-    elim (is_frame_object (s.objects offset) && nat_le (length bytes) page_size) as (λ b. (if b then Some (with_first_bytes s offset bytes) else None) ≡ Some t → IsSound t) [
+    elim (is_frame_object (s.objects offset) && nat_le (length bytes) page_size)
+    as (λ b. (if b then Some (with_first_bytes s offset bytes) else None) ≡ Some t → IsSound t) [
       | true ↦ λ so. let e : with_first_bytes s offset bytes ≡ t = cc so in subst IsSound e (filled-whole s offset bytes whole small)
       | false ↦ λ so. let e : None ≡ Some t = so in absurd cc
     ] is

@@ -1,5 +1,6 @@
 -- Instructions keep registers, bytes and addresses in their sizes.
-use Rattle.std.proofs.Common.{ℕ, zero, suc, ℤ, pos, negsuc, ◌≡◌, ◌==◌, ◌||◌, ◌-◌, ◌/◌, ◌%◌, ◌^◌, ◌<◌, Bool, true, false, if◌then◌else◌, get_or, map, List, [], ◌∷◌, Option, Some, None, option_map, Result, Ok, Err, refl, subst, arith}
+use Rattle.std.proofs.Common.{ℕ, zero, suc, ℤ, pos, negsuc, ◌≡◌, ◌==◌, ◌||◌, ◌-◌, ◌/◌, ◌%◌, ◌^◌, ◌<◌, Bool, true, false, if◌then◌else◌, get_or, map, List, []}
+use Rattle.std.proofs.Common.{◌∷◌, Option, Some, None, option_map, Result, Ok, Err, refl, subst, arith}
 use Rattle.std.specs.Prelude.{All, ⊤}
 use Rattle.std.specs.Int.{byte_len, from_le_bytes, int_shr, to_le_bytes}
 use Rattle.std.proofs.Math.Nat.{div-le_self}
@@ -27,7 +28,8 @@ use Rattle.model.specs.declared.instructions.ShiftOp.TheVariants.{Slli, Srli, Sr
 use Rattle.model.specs.declared.instructions.UpperOp.{UpperOp}
 use Rattle.model.specs.declared.instructions.UpperOp.TheVariants.{Lui, Auipc}
 use Rattle.model.specs.Machine.Decoding.{decoded, decoded_jal, decoded_upper, sign_extended}
-use Rattle.model.specs.Machine.Effects.{advanced, branches, effect, goes_on, immediate_result, is_taken, jumps, load_result, load_size, loads, next_pc, one_if, plus, register_result, shift_result, stays, store_size, stores, upper_result}
+use Rattle.model.specs.Machine.Effects.{advanced, branches, effect, goes_on, immediate_result, is_taken, jumps, load_result, load_size, loads, next_pc, one_if}
+use Rattle.model.specs.Machine.Effects.{plus, register_result, shift_result, stays, store_size, stores, upper_result}
 use Rattle.model.specs.Machine.Instructions.{bits, signed, word_of}
 use Rattle.model.specs.Machine.ProgramMemory.{Content, FitsSize, RegisterFile, ◌>>=◌, places_from, put_byte, put_bytes, read, width_of, write}
 use Rattle.soundness.proofs.Instructions.{EffectIsSound, InstructionsKeep}
@@ -100,7 +102,13 @@ number-fits : (content : Content) (size : AccessSize) (places : List ℕ) → Ha
 number-fits content Byte places small = omega (arith, bytes-small content places 0 small)
 number-fits content Halfword places small = omega (arith, bytes-small content places 0 small, bytes-small content places 1 small)
 number-fits content Word places small =
-    omega (arith, bytes-small content places 0 small, bytes-small content places 1 small, bytes-small content places 2 small, bytes-small content places 3 small)
+    omega (
+      arith,
+      bytes-small content places 0 small,
+      bytes-small content places 1 small,
+      bytes-small content places 2 small,
+      bytes-small content places 3 small,
+    )
 
 byte-cons : (a : ℕ) (rest : List ℕ) → a < 2 ^ 8 → All (λ n. n < 2 ^ 8) rest → All (λ n. n < 2 ^ 8) (a ∷ rest)
 byte-cons a rest less more = All-cons (λ (n : ℕ). n < 2 ^ 8) a rest less more
@@ -121,7 +129,8 @@ put-small content [] values small less = small
 put-small content (place ∷ places) [] small less = small
 put-small content (place ∷ places) (value ∷ values) small less =
     put-small (put_byte content place value) places values
-    (λ other. elim (other == place) as (λ b. (if b then value else content.byte other) < 2 ^ 8) [ true ↦ All-head (λ (n : ℕ). n < 2 ^ 8) value values less | false ↦ small other ])
+    (λ other. elim (other == place) as (λ b. (if b then value else content.byte other) < 2 ^ 8)
+    [ true ↦ All-head (λ (n : ℕ). n < 2 ^ 8) value values less | false ↦ small other ])
     (All-tail (λ (n : ℕ). n < 2 ^ 8) value values less)
 
 -- ---- what is decoded fits
@@ -177,7 +186,8 @@ decoded-fits word i =
     (pick ((f3 == 1) || (f3 == 5)) _ _ i (mapped-fits _ _ i (λ _. tt)) (mapped-fits _ _ i (λ _. sign-word (bits word 20 12) (omega arith))))
     (pick (opcode == 0x33) _ _ i (mapped-fits _ _ i (λ _. tt))
     (pick (opcode == 0x0F) _ _ i (pick (f3 == 0) _ _ i (some-fits Fence i tt) (none-fits i))
-    (pick (opcode == 0x73) _ _ i (pick (word == 0x00000073) _ _ i (some-fits Ecall i tt) (pick (word == 0x00100073) _ _ i (some-fits Ebreak i tt) (none-fits i))) (none-fits i)))))))))))
+    (pick (opcode == 0x73) _ _ i (pick (word == 0x00000073) _ _ i (some-fits Ecall i tt)
+    (pick (word == 0x00100073) _ _ i (some-fits Ebreak i tt) (none-fits i))) (none-fits i)))))))))))
 
 -- ---- effects
 
@@ -220,10 +230,12 @@ module _ (r : RegisterFile) (content : Content) (sound : RegistersAreSound r) (s
   load-sound : (op : LoadOp) (rd : Register) (places : Result (List ℕ) MemoryFault) → ((failed : MemoryFault) → places ≡ Err failed → failed.address < 2 ^ 32)
       → EffectIsSound (loads r content op rd (places >>= λ (found : List ℕ). Ok (from_le_bytes (width_of (load_size op)) (map content.byte found))))
   load-sound op rd (Ok found) less =
-      let n = from_le_bytes (width_of (load_size op)) (map content.byte found) in next-sound rd (load_result op n) (load-less op n (number-fits content (load_size op) found small))
+      let n = from_le_bytes (width_of (load_size op)) (map content.byte found) in
+      next-sound rd (load_result op n) (load-less op n (number-fits content (load_size op) found small))
   load-sound op rd (Err failed) less = failed-sound failed (less failed refl)
 
-  store-sound : (size : AccessSize) (value : ℕ) (places : Result (List ℕ) MemoryFault) → ((failed : MemoryFault) → places ≡ Err failed → failed.address < 2 ^ 32)
+  store-sound : (size : AccessSize) (value : ℕ) (places : Result (List ℕ) MemoryFault) →
+      ((failed : MemoryFault) → places ≡ Err failed → failed.address < 2 ^ 32)
       → EffectIsSound (stores r content (places >>= λ (found : List ℕ). Ok (put_bytes content found (to_le_bytes (width_of size) value))))
   store-sound size value (Ok found) less =
       goes-sound (advanced r) (put_bytes content found (to_le_bytes (width_of size) value)) (advanced-sound r sound)
@@ -245,15 +257,20 @@ module _ (r : RegisterFile) (content : Content) (sound : RegistersAreSound r) (s
   effect-sound (Store op rs1 rs2 offset) fits =
       let address = plus (read r rs1) offset in
       let count = byte_len (width_of (store_size op)) in
-      store-sound (store_size op) (read r rs2) (places_from content accesses.Store address count) (λ failed so. places-less content accesses.Store count address failed (omega arith) so)
-  effect-sound (Immediate op rd rs1 z) fits = next-sound rd (immediate_result op (read r rs1) z) (immediate-less op (read r rs1) z (read-sound r rs1 sound) fits)
+      store-sound (store_size op) (read r rs2) (places_from content accesses.Store address count)
+      (λ failed so. places-less content accesses.Store count address failed (omega arith) so)
+  effect-sound (Immediate op rd rs1 z) fits = next-sound rd (immediate_result op (read r rs1) z)
+      (immediate-less op (read r rs1) z (read-sound r rs1 sound) fits)
   effect-sound (Shift op rd rs1 amount) fits = next-sound rd (shift_result op (read r rs1) amount) (shift-less op (read r rs1) amount (read-sound r rs1 sound))
   effect-sound (Registers op rd rs1 rs2) fits =
-      next-sound rd (register_result op (read r rs1) (read r rs2)) (register-less op (read r rs1) (read r rs2) (read-sound r rs1 sound) (read-sound r rs2 sound))
+      next-sound rd (register_result op (read r rs1) (read r rs2))
+      (register-less op (read r rs1) (read r rs2) (read-sound r rs1 sound) (read-sound r rs2 sound))
   effect-sound Fence fits = on-sound
-  effect-sound Ecall fits = stays-sound r content outcomes.Ecall sound small (λ address access is. let e : outcomes.Ecall ≡ outcomes.Memory address access = is in absurd cc)
+  effect-sound Ecall fits = stays-sound r content outcomes.Ecall sound small
+      (λ address access is. let e : outcomes.Ecall ≡ outcomes.Memory address access = is in absurd cc)
   effect-sound Ebreak fits =
-      stays-sound r content (outcomes.Trap Illegal) sound small (λ address access is. let e : outcomes.Trap Illegal ≡ outcomes.Memory address access = is in absurd cc)
+      stays-sound r content (outcomes.Trap Illegal) sound small (λ address access is. let e : outcomes.Trap Illegal ≡ outcomes.Memory address access = is in
+      absurd cc)
 
 pub instructions-keep : InstructionsKeep
 instructions-keep = record {

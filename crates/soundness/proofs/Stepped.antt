@@ -57,7 +57,8 @@ named-less None access address failed less is =
 pub then-less : {A B : Type 0} (r : Result A MemoryFault) (f : A → Result B MemoryFault) (failed : MemoryFault) → (r ≡ Err failed → failed.address < 2 ^ 32)
     → ((a : A) → f a ≡ Err failed → failed.address < 2 ^ 32) → (r >>= f) ≡ Err failed → failed.address < 2 ^ 32
 then-less (Ok x) f failed one other is = other x is
-then-less {A} {B} (Err e) f failed one other is = one (let g : e ≡ failed = (let h : ◌≡◌ {A = Result B MemoryFault} (Err e) (Err failed) = is in cc) in ap (λ (m : MemoryFault). Err m) g)
+then-less {A} {B} (Err e) f failed one other is =
+    one (let g : e ≡ failed = (let h : ◌≡◌ {A = Result B MemoryFault} (Err e) (Err failed) = is in cc) in ap (λ (m : MemoryFault). Err m) g)
 
 pub places-less : (content : Content) (access : Access) (count address : ℕ) (failed : MemoryFault) → address < 2 ^ 32
     → places_from content access address count ≡ Err failed → failed.address < 2 ^ 32
@@ -65,11 +66,13 @@ places-less content access zero address failed less is = let e : ◌≡◌ {A = 
 places-less content access (suc count) address failed less is =
     then-less (place_at content access address) _ failed (λ so. named-less (content.place access address) access address failed less so)
     (λ place so.
-    then-less (places_from content access (next_address address) count) _ failed (λ later. places-less content access count (next_address address) failed (omega arith) later)
+    then-less (places_from content access (next_address address) count) _ failed
+    (λ later. places-less content access count (next_address address) failed (omega arith) later)
     (λ others done. let e : ◌≡◌ {A = Result (List ℕ) MemoryFault} (Ok (place ∷ others)) (Err failed) = done in absurd cc) so) is
 
 pub small-two : (a b : ℕ) → a < 2 ^ 32 → b < 2 ^ 32 → All (λ n. n < 2 ^ 32) (a ∷ b ∷ [])
-small-two a b one other = let rest : List ℕ = b ∷ [] in All-cons (λ (n : ℕ). n < 2 ^ 32) a rest one (All-cons (λ (n : ℕ). n < 2 ^ 32) b [] other (All-nil (λ (n : ℕ). n < 2 ^ 32)))
+small-two a b one other = let rest : List ℕ = b ∷ [] in All-cons (λ (n : ℕ). n < 2 ^ 32) a rest one
+    (All-cons (λ (n : ℕ). n < 2 ^ 32) b [] other (All-nil (λ (n : ℕ). n < 2 ^ 32)))
 
 -- the bytes that a thread sees
 pub byte-less : (s : State) → IsSound s → (place : ℕ) (o : Option ℕ) → s.bytes place ≡ o → option_map_or (λ byte. byte) o 0 < 2 ^ 8
@@ -84,8 +87,10 @@ module _ (instructions : InstructionsKeep) (s : State) (thread : ℕ) (whole : I
   memory-whole failed less =
       let pc = (registers_of s thread).pc in
       let rest : List ℕ = failed.address ∷ access_number failed.access ∷ [] in
-      fault-whole s whole thread (memory_fault pc failed) running
-      (All-cons (λ (n : ℕ). n < 2 ^ 32) pc rest registers.pc (small-two failed.address (access_number failed.access) less (access-less failed.access)), omega arith)
+      fault-whole s whole thread (memory_fault pc failed) running (
+        All-cons (λ (n : ℕ). n < 2 ^ 32) pc rest registers.pc (small-two failed.address (access_number failed.access) less (access-less failed.access)),
+        omega arith,
+      )
 
   trap-whole : (cause : Cause) → IsSound (fault s thread (instruction_fault (registers_of s thread).pc cause))
   trap-whole cause =

@@ -1,5 +1,6 @@
 -- A thread that wakes, stops, leaves what it waits for, or changes where it is.
-use Rattle.std.proofs.Common.{ℕ, ◌≡◌, ◌≢◌, ◌∙◌, ◌==◌, ◌&&◌, ◌+◌, ◌^◌, ◌<◌, ◌++◌, ◌⊎◌, inl, inr, Bool, true, false, not, IsTrue, if◌then◌else◌, filter, map, List, [], ◌∷◌, Option, Some, None, option_map, refl, sym, ap, subst, arith}
+use Rattle.std.proofs.Common.{ℕ, ◌≡◌, ◌≢◌, ◌∙◌, ◌==◌, ◌&&◌, ◌+◌, ◌^◌, ◌<◌, ◌++◌, ◌⊎◌, inl, inr, Bool, true, false, not, IsTrue, if◌then◌else◌, filter, map}
+use Rattle.std.proofs.Common.{List, [], ◌∷◌, Option, Some, None, option_map, refl, sym, ap, subst, arith}
 use Rattle.std.specs.Prelude.{All}
 use Rattle.std.specs.Option.{option_map_or}
 use Rattle.std.proofs.lemmas.Bool.{eqb-false}
@@ -8,7 +9,8 @@ use Rattle.model.specs.Kernel.Kinds.{kind_of}
 use Rattle.model.specs.Kernel.Retype.{NewObject, NewThread}
 use Rattle.model.specs.Kernel.Scheduling.{block, forgetting, full_slice, is_runnable, leaves, to_tail, unready, wake}
 use Rattle.model.specs.Kernel.Soundness.{ThreadIsSound, awaits_answer, is_blocked_on, waiting_at, IsSound, SenderIsSound}
-use Rattle.model.specs.Kernel.State.{State, Status, Runnable, Object, ThreadObject, EndpointObject, NotificationObject, CNodeObject, FrameObject, PageTableObject, RootTableObject, EndpointState, NotificationState, Sender, ThreadState, put, thread_at, with_thread}
+use Rattle.model.specs.Kernel.State.{State, Status, Runnable, Object, ThreadObject, EndpointObject, NotificationObject, CNodeObject, FrameObject}
+use Rattle.model.specs.Kernel.State.{PageTableObject, RootTableObject, EndpointState, NotificationState, Sender, ThreadState, put, thread_at, with_thread}
 use Rattle.model.specs.Shared.Lists.{times_in, without}
 use Rattle.soundness.proofs.Moving.{Listed, Moving, StandsAs, ends, own_of, put-here, relisted, rewritten, runs_of, tailed, unreadied, waits_of}
 use Rattle.soundness.proofs.Queues.{times-append, times-gone, times-kept}
@@ -56,12 +58,14 @@ own-fine kinds s x r w y listed is_thread =
 
 -- ---- where a thread comes to be
 
-module _ (kinds : ℕ → Option NewObject) (s : State) (x : ℕ) (r w : ℕ → ℕ) (awaits : Bool) (moving : Moving kinds s x r w awaits) (is_thread : kinds x ≡ Some NewThread) where
+module _ (kinds : ℕ → Option NewObject) (s : State) (x : ℕ) (r w : ℕ → ℕ) (awaits : Bool) (moving : Moving kinds s x r w awaits)
+    (is_thread : kinds x ≡ Some NewThread) where
   fine : ThreadIsSound (thread_at s x)
   fine = own-fine kinds s x r w x moving.listed is_thread
 
   -- it runs: it goes to the tail of its priority
-  pub tail-whole : (t : ThreadState) → ThreadIsSound t → t.caller ≡ (thread_at s x).caller → is_runnable t.status ≡ true → ((queue : ℕ) → w queue ≡ waits_of (Some (ThreadObject t)) queue)
+  pub tail-whole : (t : ThreadState) → ThreadIsSound t → t.caller ≡ (thread_at s x).caller → is_runnable t.status ≡ true →
+      ((queue : ℕ) → w queue ≡ waits_of (Some (ThreadObject t)) queue)
       → (IsTrue awaits → IsTrue (awaits_answer t.status)) → IsSound (to_tail (with_thread s x t) x)
   tail-whole t fits caller runs waits answers =
       let one = rewritten kinds s x r w awaits x t moving is_thread fits (λ c e. sym caller ∙ e) (λ other. absurd (other refl)) in
@@ -70,7 +74,8 @@ module _ (kinds : ℕ → Option NewObject) (s : State) (x : ℕ) (r w : ℕ →
       let three = tailed kinds (unready s1 x) x w awaits two in
       let here : Some (ThreadObject t) ≡ put s.objects x (Some (ThreadObject t)) x = sym (put-here s.objects x (Some (ThreadObject t))) in
       ends kinds (to_tail s1 x) x (λ priority. if (thread_at (unready s1 x) x).priority == priority then 1 else 0) w awaits three
-      (λ p. subst (λ (o : Option Object). ◌≡◌ {A = ℕ} (if (own_of o).priority == p then 1 else 0) (runs_of o p)) here (sym (ap (λ (b : Bool). if b && t.priority == p then 1 else 0) runs)))
+      (λ p. subst (λ (o : Option Object). ◌≡◌ {A = ℕ} (if (own_of o).priority == p then 1 else 0) (runs_of o p)) here
+      (sym (ap (λ (b : Bool). if b && t.priority == p then 1 else 0) runs)))
       (λ q. subst (λ (o : Option Object). w q ≡ waits_of o q) here (waits q))
       (λ a. subst (λ (o : Option Object). IsTrue (awaits_answer (own_of o).status)) here (answers a))
 
@@ -81,7 +86,8 @@ module _ (kinds : ℕ → Option NewObject) (s : State) (x : ℕ) (r w : ℕ →
       let one = unreadied kinds s x r w awaits moving in
       let t : ThreadState = record (thread_at s x) { status = status } in
       let s1 = unready s x in
-      let two = rewritten kinds s1 x (λ _. 0) w awaits x t one is_thread (stopped-fine (thread_at s x) status fine stops) (λ c e. e) (λ other. absurd (other refl)) in
+      let two = rewritten kinds s1 x (λ _. 0) w awaits x t one is_thread (stopped-fine (thread_at s x) status fine stops) (λ c e. e)
+      (λ other. absurd (other refl)) in
       let here : Some (ThreadObject t) ≡ put s.objects x (Some (ThreadObject t)) x = sym (put-here s.objects x (Some (ThreadObject t))) in
       ends kinds (with_thread s1 x t) x (λ _. 0) w awaits two
       (λ p. subst (λ (o : Option Object). ◌≡◌ {A = ℕ} 0 (runs_of o p)) here (sym (ap (λ (b : Bool). if b && t.priority == p then 1 else 0) stops)))
@@ -105,7 +111,8 @@ pub woken-whole : (kinds : ℕ → Option NewObject) (s : State) (x : ℕ) (r : 
     → kinds x ≡ Some NewThread → IsSound (wake s x)
 woken-whole kinds s x r moving is_thread =
     tail-whole kinds s x r (λ _. 0) false moving is_thread (record (thread_at s x) { status = Runnable; slice = full_slice })
-    (woken-fine (thread_at s x) Runnable (own-fine kinds s x r (λ _. 0) x moving.listed is_thread)) refl refl (λ _. refl) (λ e. let f : false ≡ true = e in absurd cc)
+    (woken-fine (thread_at s x) Runnable (own-fine kinds s x r (λ _. 0) x moving.listed is_thread)) refl refl (λ _. refl)
+    (λ e. let f : false ≡ true = e in absurd cc)
 
 -- ---- leaving
 
@@ -192,7 +199,13 @@ was-endpoint : (x : ℕ) (o : Option Object) (e : EndpointState) → option_map 
 was-endpoint x (Some (EndpointObject before)) e is =
     let left : EndpointState = record { senders = filter (λ sender. not (sender.thread == x)) before.senders; receivers = without x before.receivers } in
     let same : left ≡ e = cc is in
-    record { before = before; was = refl; senders = sym (ap (λ (e : EndpointState). e.senders) same); receivers = sym (ap (λ (e : EndpointState). e.receivers) same) }
+    record {
+      before = before;
+      was = refl;
+      senders = sym (ap (λ (e : EndpointState). e.senders) same);
+      receivers =
+          sym (ap (λ (e : EndpointState). e.receivers) same);
+    }
 was-endpoint x None e is = let f : None ≡ Some (EndpointObject e) = is in absurd cc
 was-endpoint x (Some (ThreadObject t)) e is = let f : Some (forgetting x (ThreadObject t)) ≡ Some (EndpointObject e) = is in absurd cc
 was-endpoint x (Some (NotificationObject n)) e is = let f : Some (forgetting x (NotificationObject n)) ≡ Some (EndpointObject e) = is in absurd cc
@@ -217,7 +230,8 @@ was-notification x (Some RootTableObject) n is = let f : Some RootTableObject �
 abbrev forgotten_caller : ℕ → Option ℕ → Option ℕ
 forgotten_caller x caller = if option_map_or (λ c. c == x) caller false then None else caller
 
-was-thread : (x : ℕ) (o : Option Object) (t : ThreadState) → option_map (forgetting x) o ≡ Some (ThreadObject t) → (u : ThreadState) × (o ≡ Some (ThreadObject u)) × (t ≡ record u { caller = forgotten_caller x u.caller })
+was-thread : (x : ℕ) (o : Option Object) (t : ThreadState) → option_map (forgetting x) o ≡ Some (ThreadObject t) → (u : ThreadState)
+    × (o ≡ Some (ThreadObject u)) × (t ≡ record u { caller = forgotten_caller x u.caller })
 was-thread x (Some (ThreadObject u)) t is =
     let left : ThreadState = record u { caller = forgotten_caller x u.caller } in
     let same : left ≡ t = cc is in (u, refl, sym same)
@@ -260,25 +274,29 @@ one-side x before e senders receivers sides = elim sides [
 pub left-moving : (kinds : ℕ → Option NewObject) (s : State) (x : ℕ) (r w : ℕ → ℕ) (awaits : Bool) → Moving kinds s x r w awaits
     → Moving kinds (leaves s x) x (λ _. 0) (λ _. 0) false
 left-moving kinds s x r w awaits moving = record {
-  listed = relisted kinds s x r w (λ offset. option_map (forgetting x) (s.objects offset)) (λ priority. without x (s.ready priority)) (λ _. 0) (λ _. 0) moving.listed (record {
-    kind = λ offset. forgotten-kind x (s.objects offset);
-    threads = λ thread t is.
-        let was = was-thread x (s.objects thread) t is in subst ThreadIsSound (sym was.2) (caller-fine was.0 (forgotten_caller x was.0.caller) (moving.listed.threads thread was.0 was.1));
-    lists = λ thread priority other. times-kept x (s.ready priority) thread other;
-    queues = λ thread queue other. forgotten-others x thread (s.objects queue) other;
-    stands = λ thread _. forgotten-stands x (s.objects thread);
-    here = λ priority. times-gone x (s.ready priority);
-    there = λ queue. forgotten-gone x (s.objects queue);
-    one_sided = λ offset e is.
-        let was = was-endpoint x (s.objects offset) e is in
-        one-side x (WasEndpoint.before was) e (WasEndpoint.senders was) (WasEndpoint.receivers was) (moving.listed.one_sided offset (WasEndpoint.before was) (WasEndpoint.was was));
-    senders = λ offset e is.
-        let was = was-endpoint x (s.objects offset) e is in
-        subst (All SenderIsSound) (sym (WasEndpoint.senders was))
-        (All-filter (λ (sender : Sender). not (sender.thread == x)) SenderIsSound (WasEndpoint.before was).senders (moving.listed.senders offset (WasEndpoint.before was) (WasEndpoint.was was)));
-    words = λ offset n is.
-        let was = was-notification x (s.objects offset) n is in subst (λ (word : ℕ). word < 2 ^ 28) (sym was.2) (moving.listed.words offset was.0 was.1);
-  });
+  listed = relisted kinds s x r w (λ offset. option_map (forgetting x) (s.objects offset)) (λ priority. without x (s.ready priority)) (λ _. 0) (λ _. 0)
+      moving.listed (record {
+        kind = λ offset. forgotten-kind x (s.objects offset);
+        threads = λ thread t is.
+            let was = was-thread x (s.objects thread) t is in subst ThreadIsSound (sym was.2)
+            (caller-fine was.0 (forgotten_caller x was.0.caller) (moving.listed.threads thread was.0 was.1));
+        lists = λ thread priority other. times-kept x (s.ready priority) thread other;
+        queues = λ thread queue other. forgotten-others x thread (s.objects queue) other;
+        stands = λ thread _. forgotten-stands x (s.objects thread);
+        here = λ priority. times-gone x (s.ready priority);
+        there = λ queue. forgotten-gone x (s.objects queue);
+        one_sided = λ offset e is.
+            let was = was-endpoint x (s.objects offset) e is in
+            one-side x (WasEndpoint.before was) e (WasEndpoint.senders was) (WasEndpoint.receivers was)
+            (moving.listed.one_sided offset (WasEndpoint.before was) (WasEndpoint.was was));
+        senders = λ offset e is.
+            let was = was-endpoint x (s.objects offset) e is in
+            subst (All SenderIsSound) (sym (WasEndpoint.senders was))
+            (All-filter (λ (sender : Sender). not (sender.thread == x)) SenderIsSound (WasEndpoint.before was).senders
+            (moving.listed.senders offset (WasEndpoint.before was) (WasEndpoint.was was)));
+        words = λ offset n is.
+            let was = was-notification x (s.objects offset) n is in subst (λ (word : ℕ). word < 2 ^ 28) (sym was.2) (moving.listed.words offset was.0 was.1);
+      });
   rights = record {
     callers = λ thread caller other is.
         (forgotten-stands x (s.objects caller)).awaits ∙ moving.rights.callers thread caller other (caller-forgotten x caller (s.objects thread) is).0;

@@ -1,12 +1,15 @@
 -- Every system call of the thread that runs keeps soundness.
-use Rattle.std.proofs.Common.{ℕ, zero, suc, ◌≡◌, ◌≢◌, ◌∙◌, ◌==◌, ◌||◌, ◌+◌, ◌-◌, ◌/◌, ◌%◌, ◌^◌, ◌<◌, ◌≤◌, Bool, true, false, not, is_some, nat_lt, if◌then◌else◌, List, [], ◌∷◌, Option, Some, None, option_map, Result, Ok, Err, refl, sym, ap, subst, arith}
+use Rattle.std.proofs.Common.{ℕ, zero, suc, ◌≡◌, ◌≢◌, ◌∙◌, ◌==◌, ◌||◌, ◌+◌, ◌-◌, ◌/◌, ◌%◌, ◌^◌, ◌<◌, ◌≤◌, Bool, true, false, not, is_some, nat_lt}
+use Rattle.std.proofs.Common.{if◌then◌else◌, List, [], ◌∷◌, Option, Some, None, option_map, Result, Ok, Err, refl, sym, ap, subst, arith}
 use Rattle.std.specs.Prelude.{All, bit_or}
 use Rattle.std.specs.Option.{option_map_or}
 use Rattle.std.proofs.lemmas.List.Elements.{All-cons, All-nil}
 use Rattle.model.specs.declared.capabilities.Cap.{Cap}
-use Rattle.model.specs.declared.capabilities.Cap.TheVariants.{Empty, Untyped, Endpoint, Notification, CNode, Frame, PageTable, Tcb, RootTable, InterruptControl, InterruptHandler}
+use Rattle.model.specs.declared.capabilities.Cap.TheVariants.{Empty, Untyped, Endpoint, Notification, CNode, Frame, PageTable, Tcb, RootTable, InterruptControl}
+use Rattle.model.specs.declared.capabilities.Cap.TheVariants.{InterruptHandler}
 use Rattle.model.specs.declared.errors.KError.{KError}
-use Rattle.model.specs.declared.errors.KError.TheVariants.{InvalidArgument, InvalidCapability, IllegalOperation, RangeError, AlignmentError, FailedLookup, TruncatedMessage, DeleteFirst, RevokeFirst, NotEnoughMemory}
+use Rattle.model.specs.declared.errors.KError.TheVariants.{InvalidArgument, InvalidCapability, IllegalOperation, RangeError, AlignmentError, FailedLookup}
+use Rattle.model.specs.declared.errors.KError.TheVariants.{TruncatedMessage, DeleteFirst, RevokeFirst, NotEnoughMemory}
 use Rattle.model.specs.declared.lookup_failures.LookupFailure.{LookupFailure}
 use Rattle.model.specs.declared.lookup_failures.LookupFailure.TheVariants.{InvalidRoot, MissingCapability, DepthMismatch, GuardMismatch}
 use Rattle.model.specs.Capabilities.CapabilityWords.{IsCapability}
@@ -18,12 +21,17 @@ use Rattle.model.specs.Kernel.Arguments.{Call}
 use Rattle.model.specs.Kernel.Faults.{capability_fault, unknown_call}
 use Rattle.model.specs.Kernel.Invocations.{invoke}
 use Rattle.model.specs.Kernel.Kinds.{kind_at, kind_of, object_named}
-use Rattle.model.specs.Kernel.Messages.{Message, a0, a1, a7, deliver, deliver_word, extra_capabilities_of, info_word, message_of, passes, passes_with, replied, reply, resumption, signal, signals, with_caller, with_registers}
+use Rattle.model.specs.Kernel.Messages.{Message, a0, a1, a7, deliver, deliver_word, extra_capabilities_of, info_word, message_of, passes, passes_with, replied}
+use Rattle.model.specs.Kernel.Messages.{reply, resumption, signal, signals, with_caller, with_registers}
 use Rattle.model.specs.Kernel.Retype.{NewThread, NewEndpoint, NewNotification}
 use Rattle.model.specs.Kernel.Scheduling.{block, is_runnable, wake}
 use Rattle.model.specs.Kernel.Soundness.{awaits_answer, IsSound}
-use Rattle.model.specs.Kernel.State.{State, Status, Inactive, Runnable, Blocked, AwaitsReply, AwaitsHandler, Object, ThreadObject, EndpointObject, NotificationObject, CNodeObject, FrameObject, PageTableObject, RootTableObject, BySend, ByCall, as_thread, cspace_slot, notification_at, thread_at, with_notification}
-use Rattle.model.specs.Kernel.Steps.{after_invocation, answered, call_of, calls, calls_known, completed, cspace_of, invokes, lacks_capability, named_slot, receive_by, receive_named, receive_on_endpoint, receive_on_notification, refused, registers_of, send_by, send_named, send_on, sender, sends_nothing, signal_on, system_call}
+use Rattle.model.specs.Kernel.State.{State, Status, Inactive, Runnable, Blocked, AwaitsReply, AwaitsHandler, Object, ThreadObject, EndpointObject}
+use Rattle.model.specs.Kernel.State.{NotificationObject, CNodeObject, FrameObject, PageTableObject, RootTableObject, BySend, ByCall, as_thread, cspace_slot}
+use Rattle.model.specs.Kernel.State.{notification_at, thread_at, with_notification}
+use Rattle.model.specs.Kernel.Steps.{after_invocation, answered, call_of, calls, calls_known, completed, cspace_of, invokes, lacks_capability, named_slot}
+use Rattle.model.specs.Kernel.Steps.{receive_by, receive_named, receive_on_endpoint, receive_on_notification, refused, registers_of, send_by, send_named}
+use Rattle.model.specs.Kernel.Steps.{send_on, sender, sends_nothing, signal_on, system_call}
 use Rattle.model.specs.declared.system_calls.SendCall.{SendCall}
 use Rattle.model.specs.declared.system_calls.SendCall.TheVariants.{Calling, Sending, Trying}
 use Rattle.model.specs.declared.system_calls.ReceiveCall.{ReceiveCall}
@@ -40,7 +48,8 @@ use Rattle.soundness.proofs.Events.{fault-whole}
 use Rattle.soundness.proofs.Grants.{thread-kinds}
 use Rattle.soundness.proofs.Invoked.{invoke-whole}
 use Rattle.soundness.proofs.Lookups.{passed}
-use Rattle.soundness.proofs.Messages.{deliver-other, dropped-runs, notification-object, poll-whole, receive-whole, registers-other, reply-whole, running-object, send-whole, signal-whole, try_to_receive-whole, try_to_send-whole, wait-whole, wake-other}
+use Rattle.soundness.proofs.Messages.{deliver-other, dropped-runs, notification-object, poll-whole, receive-whole, registers-other, reply-whole, running-object}
+use Rattle.soundness.proofs.Messages.{send-whole, signal-whole, try_to_receive-whole, try_to_send-whole, wait-whole, wake-other}
 use Rattle.soundness.proofs.Moving.{own_of, put-here, put-other}
 use Rattle.soundness.proofs.QueueSteps.{first-waiter}
 use Rattle.soundness.proofs.Registers.{registers-of, written-sound}
@@ -57,16 +66,18 @@ resolve-left radix guard address left failure is =
     let size : ℕ = guard % 2 ^ 5 in
     let rest : ℕ = left - (size + radix) in
     let found : ℕ × ℕ = (address / 2 ^ rest % 2 ^ radix, rest) in
-    elim (nat_lt left size) as (λ b. ◌≡◌ {A = Found} (if b then Err (GuardMismatch left) else if not (address / 2 ^ (left - size) % 2 ^ size == guard / 2 ^ 5) then Err (GuardMismatch left)
+    elim (nat_lt left size) as (λ b. ◌≡◌ {A = Found} (if b then Err (GuardMismatch left) else
+    if not (address / 2 ^ (left - size) % 2 ^ size == guard / 2 ^ 5) then Err (GuardMismatch left)
     else if nat_lt left (size + radix) then Err (DepthMismatch left) else Ok found) (Err failure) → bits_left_of failure ≤ left) [
       | true ↦ λ h. let e : GuardMismatch left ≡ failure = cc h in subst (λ (f : LookupFailure). bits_left_of f ≤ left) e (omega arith)
       | false ↦ elim (not (address / 2 ^ (left - size) % 2 ^ size == guard / 2 ^ 5)) as (λ b. ◌≡◌ {A = Found} (if b then Err (GuardMismatch left)
           else if nat_lt left (size + radix) then Err (DepthMismatch left) else Ok found) (Err failure) → bits_left_of failure ≤ left) [
             | true ↦ λ h. let e : GuardMismatch left ≡ failure = cc h in subst (λ (f : LookupFailure). bits_left_of f ≤ left) e (omega arith)
-            | false ↦ elim (nat_lt left (size + radix)) as (λ b. ◌≡◌ {A = Found} (if b then Err (DepthMismatch left) else Ok found) (Err failure) → bits_left_of failure ≤ left) [
-              | true ↦ λ h. let e : DepthMismatch left ≡ failure = cc h in subst (λ (f : LookupFailure). bits_left_of f ≤ left) e (omega arith)
-              | false ↦ λ h. let e : ◌≡◌ {A = Found} (Ok found) (Err failure) = h in absurd cc
-            ]
+            | false ↦ elim (nat_lt left (size + radix)) as (λ b. ◌≡◌ {A = Found} (if b then Err (DepthMismatch left) else Ok found) (Err failure) →
+                bits_left_of failure ≤ left) [
+                  | true ↦ λ h. let e : DepthMismatch left ≡ failure = cc h in subst (λ (f : LookupFailure). bits_left_of f ≤ left) e (omega arith)
+                  | false ↦ λ h. let e : ◌≡◌ {A = Found} (Ok found) (Err failure) = h in absurd cc
+                ]
           ]
     ] is
 
@@ -86,7 +97,8 @@ resolve-less radix guard address left place is =
 
 goes-left : (slots : Slots) (slot rest address n : ℕ) (failure : LookupFailure) (stops : Bool)
     → (lookup_within n slots (capability_at slots slot) address rest ≡ Err failure → bits_left_of failure ≤ 32)
-    → ◌≡◌ {A = Found} (if stops then Ok (slot, rest) else lookup_within n slots (capability_at slots slot) address rest) (Err failure) → bits_left_of failure ≤ 32
+    → ◌≡◌ {A = Found} (if stops then Ok (slot, rest) else lookup_within n slots (capability_at slots slot) address rest) (Err failure) →
+    bits_left_of failure ≤ 32
 goes-left slots slot rest address n failure true later is = let e : ◌≡◌ {A = Found} (Ok (slot, rest)) (Err failure) = is in absurd cc
 goes-left slots slot rest address n failure false later is = later is
 
@@ -97,9 +109,11 @@ within-left : (n : ℕ) (slots : Slots) (root : Cap) (address left : ℕ) (failu
     → lookup_within n slots root address left ≡ Err failure → bits_left_of failure ≤ 32
 unfolding lookup_within
 within-left zero slots root address left failure few is =
-    let e : DepthMismatch left ≡ failure = (let f : ◌≡◌ {A = Found} (Err (DepthMismatch left)) (Err failure) = is in cc) in subst (λ (f : LookupFailure). bits_left_of f ≤ 32) e few
+    let e : DepthMismatch left ≡ failure = (let f : ◌≡◌ {A = Found} (Err (DepthMismatch left)) (Err failure) = is in cc) in
+    subst (λ (f : LookupFailure). bits_left_of f ≤ 32) e few
 within-left (suc n) slots (CNode offset radix guard) address left failure few is =
-    elim (resolve radix guard address left) as (λ r. resolve radix guard address left ≡ r → go_on slots offset (λ held rest. lookup_within n slots held address rest) r ≡ Err failure → bits_left_of failure ≤ 32) [
+    elim (resolve radix guard address left) as (λ r. resolve radix guard address left ≡ r →
+    go_on slots offset (λ held rest. lookup_within n slots held address rest) r ≡ Err failure → bits_left_of failure ≤ 32) [
       | Err other ↦ λ resolved so.
           let e : other ≡ failure = (let f : ◌≡◌ {A = Found} (Err other) (Err failure) = so in cc) in
           let less = resolve-left radix guard address left other resolved in
@@ -123,12 +137,14 @@ within-left (suc n) slots (InterruptHandler a) address left failure few is = bad
 called-left : (slots : Slots) (found : Found) (failure : LookupFailure) → ((f : LookupFailure) → found ≡ Err f → bits_left_of f ≤ 32)
     → called slots found ≡ Err failure → bits_left_of failure ≤ 32
 called-left slots (Ok found) failure few is =
-    elim (is_full slots found.0) as (λ b. ◌≡◌ {A = Result ℕ LookupFailure} (if b then Ok found.0 else Err MissingCapability) (Err failure) → bits_left_of failure ≤ 32) [
+    elim (is_full slots found.0) as (λ b. ◌≡◌ {A = Result ℕ LookupFailure} (if b then Ok found.0 else Err MissingCapability) (Err failure) →
+    bits_left_of failure ≤ 32) [
       | true ↦ λ so. let e : ◌≡◌ {A = Result ℕ LookupFailure} (Ok found.0) (Err failure) = so in absurd cc
       | false ↦ λ so. let e : MissingCapability ≡ failure = cc so in subst (λ (f : LookupFailure). bits_left_of f ≤ 32) e (omega arith)
     ] is
 called-left slots (Err other) failure few is =
-    let e : other ≡ failure = (let f : ◌≡◌ {A = Result ℕ LookupFailure} (Err other) (Err failure) = is in cc) in subst (λ (f : LookupFailure). bits_left_of f ≤ 32) e (few other refl)
+    let e : other ≡ failure = (let f : ◌≡◌ {A = Result ℕ LookupFailure} (Err other) (Err failure) = is in cc) in
+    subst (λ (f : LookupFailure). bits_left_of f ≤ 32) e (few other refl)
 
 pub named-left : (s : State) (thread : ℕ) (failure : LookupFailure) → named_slot s thread ≡ Err failure → bits_left_of failure ≤ 32
 named-left s thread failure is =
@@ -139,7 +155,8 @@ named-left s thread failure is =
 -- the slot that is named is full
 pub called-full : (slots : Slots) (found : Found) (slot : ℕ) → called slots found ≡ Ok slot → IsFull slots slot
 called-full slots (Ok found) slot is =
-    elim (is_full slots found.0) as (λ b. is_full slots found.0 ≡ b → ◌≡◌ {A = Result ℕ LookupFailure} (if b then Ok found.0 else Err MissingCapability) (Ok slot) → IsFull slots slot) [
+    elim (is_full slots found.0) as (λ b. is_full slots found.0 ≡ b →
+    ◌≡◌ {A = Result ℕ LookupFailure} (if b then Ok found.0 else Err MissingCapability) (Ok slot) → IsFull slots slot) [
       | true ↦ λ full so. let e : found.0 ≡ slot = cc so in subst (IsFull slots) e full
       | false ↦ λ _ so. let e : ◌≡◌ {A = Result ℕ LookupFailure} (Err MissingCapability) (Ok slot) = so in absurd cc
     ] refl is
@@ -186,7 +203,8 @@ module _ (s : State) (thread : ℕ) (whole : IsSound s) (runs : IsRunning s thre
       let one : List ℕ = read r a0 ∷ two in
       fault-whole s whole thread (capability_fault r.pc (read r a0) in_receive failure) runs (
         small-one r.pc one registers.pc (small-one (read r a0) two (read-sound r a0 registers) (small-one in_receive three less
-            (small-one (failure_number failure) four (number-less failure) (small-one (bits_left_of failure) [] (omega (arith, few)) (All-nil (λ (n : ℕ). n < 2 ^ 32)))))),
+            (small-one (failure_number failure) four (number-less failure)
+            (small-one (bits_left_of failure) [] (omega (arith, few)) (All-nil (λ (n : ℕ). n < 2 ^ 32)))))),
         omega arith,
       )
 
@@ -194,12 +212,16 @@ module _ (s : State) (thread : ℕ) (whole : IsSound s) (runs : IsRunning s thre
   unknown-whole number less =
       let r = registers_of s thread in
       let one : List ℕ = number ∷ [] in
-      fault-whole s whole thread (unknown_call r.pc number) runs (small-one r.pc one registers.pc (small-one number [] less (All-nil (λ (n : ℕ). n < 2 ^ 32))), omega arith)
+      fault-whole s whole thread (unknown_call r.pc number) runs (
+        small-one r.pc one registers.pc (small-one number [] less (All-nil (λ (n : ℕ). n < 2 ^ 32))),
+        omega arith,
+      )
 
 pub passes_with-whole : (s : State) (x : ℕ) (file : RegisterFile) → IsSound s → kind_at s x ≡ Some NewThread → RegistersAreSound file
     → IsSound (passes_with s x file)
 passes_with-whole s x file whole is sound =
-    passes-whole (with_registers s x file) (registers-whole s whole x is file sound) x (thread-kinds s x (record (thread_at s x) { registers = file }) is x ∙ is)
+    passes-whole (with_registers s x file) (registers-whole s whole x is file sound) x
+    (thread-kinds s x (record (thread_at s x) { registers = file }) is x ∙ is)
 
 pub answered-whole : (s : State) (x : ℕ) (kind : SendCall) (number : ℕ) → IsSound s → kind_at s x ≡ Some NewThread → number < 2 ^ 16
     → IsSound (answered s x kind number)
@@ -242,14 +264,16 @@ signaled-object s q badge thread (waiter ∷ others) whole is runs first =
     let s1 = with_notification s q (record n { waiters = others }) in
     let r = write (thread_at s1 waiter).registers a0 badge in
     let s2 = with_registers s1 waiter r in
-    wake-other (deliver_word s1 waiter badge) waiter thread apart_waiter ∙ registers-other s2 waiter thread (advanced (thread_at s2 waiter).registers) apart_waiter
+    wake-other (deliver_word s1 waiter badge) waiter thread apart_waiter
+    ∙ registers-other s2 waiter thread (advanced (thread_at s2 waiter).registers) apart_waiter
     ∙ registers-other s1 waiter thread r apart_waiter
     ∙ put-other s.objects q (Some (NotificationObject (record n { waiters = others }))) thread
     (λ e. let clash : Some NewThread ≡ Some NewNotification = sym runs.kind ∙ ap (kind_at s) e ∙ is in cc)
 
 replied-object : (s : State) (caller thread : ℕ) (status : Status) (message : Message) → thread ≢ caller
     → (replied s caller status message).objects thread ≡ s.objects thread
-replied-object s caller thread AwaitsReply message other = wake-other (deliver s caller 0 message) caller thread other ∙ deliver-other s caller 0 message thread other
+replied-object s caller thread AwaitsReply message other = wake-other (deliver s caller 0 message) caller thread other
+    ∙ deliver-other s caller 0 message thread other
 replied-object s caller thread AwaitsHandler message other =
     let r = (thread_at s caller).registers in
     let resumed : RegisterFile = record r { pc = resumption r.pc message.words } in
@@ -275,7 +299,8 @@ reply-runs s thread None whole runs is = runs
 reply-runs s thread (Some caller) whole runs is =
     let one = with_caller s thread None in
     let other : thread ≢ caller = λ e.
-    (let awaits : awaits_answer (thread_at s thread).status ≡ true = ap (λ (z : ℕ). awaits_answer (thread_at s z).status) e ∙ whole.threads.callers thread caller is in
+    (let awaits : awaits_answer (thread_at s thread).status ≡ true = ap (λ (z : ℕ). awaits_answer (thread_at s z).status) e
+    ∙ whole.threads.callers thread caller is in
     runs-or-awaits (thread_at s thread).status runs.runs awaits) in
     running-object one (replied one caller (thread_at s caller).status (message_of (thread_at s thread))) thread
     (replied-object one caller thread (thread_at s caller).status (message_of (thread_at s thread)) other) (dropped-runs s thread whole runs.kind runs.runs)
@@ -317,19 +342,24 @@ module _ (s : State) (thread : ℕ) (whole : IsSound s) (runs : IsRunning s thre
       let call : Call = record { root = cspace_of s thread; caller = Some thread; slot = slot; capability = capability } in
       let fine = own-message (thread_at s thread) (fine-of s whole thread runs.kind) in
       after-whole kind (invoke s call message.label extra message.words)
-      (λ after so. invoke-whole s after call message.label extra message.words whole (record { root = of_slot (cspace_slot thread) refl; invoked = held is full }) fine.words so)
+      (λ after so. invoke-whole s after call message.label extra message.words whole
+      (record { root = of_slot (cspace_slot thread) refl; invoked = held is full }) fine.words so)
 
   pub sent_on-whole : (kind : SendCall) (endpoint badge : ℕ) (grant_reply : Bool) → kind_at s endpoint ≡ Some NewEndpoint → badge < 2 ^ 28
       → IsSound (send_on s thread kind endpoint badge grant_reply).0
-  sent_on-whole Calling endpoint badge grant_reply is less = send-whole s endpoint (sender thread ByCall badge grant_reply) whole is runs (record { badge = less; sent = tt })
-  sent_on-whole Sending endpoint badge grant_reply is less = send-whole s endpoint (sender thread BySend badge grant_reply) whole is runs (record { badge = less; sent = tt })
-  sent_on-whole Trying endpoint badge grant_reply is less = try_to_send-whole s endpoint (sender thread BySend badge grant_reply) whole is runs (record { badge = less; sent = tt })
+  sent_on-whole Calling endpoint badge grant_reply is less =
+      send-whole s endpoint (sender thread ByCall badge grant_reply) whole is runs (record { badge = less; sent = tt })
+  sent_on-whole Sending endpoint badge grant_reply is less =
+      send-whole s endpoint (sender thread BySend badge grant_reply) whole is runs (record { badge = less; sent = tt })
+  sent_on-whole Trying endpoint badge grant_reply is less = try_to_send-whole s endpoint (sender thread BySend badge grant_reply) whole is runs
+      (record { badge = less; sent = tt })
 
   pub signal_on-whole : (kind : SendCall) (q badge : ℕ) → kind_at s q ≡ Some NewNotification → badge < 2 ^ 28
       → IsSound (signal_on s thread kind q badge).0
   signal_on-whole kind q badge is less =
       let object = signaled-object s q badge thread (notification_at s q).waiters whole is runs refl in
-      answered-whole (signal s q badge) thread kind 0 (signal-whole s q whole is badge less) (running-object s (signal s q badge) thread object runs).kind (omega arith)
+      answered-whole (signal s q badge) thread kind 0 (signal-whole s q whole is badge less) (running-object s (signal s q badge) thread object runs).kind
+      (omega arith)
 
   pub sent_by-whole : (kind : SendCall) (slot : ℕ) (capability : Cap) → IsFull s.slots slot → capability_at s.slots slot ≡ capability
       → IsSound (send_by s thread kind slot capability).0
@@ -413,14 +443,16 @@ called-whole s thread (Sends kind) whole runs = sent_named-whole s thread whole 
 called-whole s thread (Receives kind) whole runs = received_named-whole s thread whole runs kind (named_slot s thread) refl
 called-whole s thread RepliesAndReceives whole runs =
     let after = reply s thread in
-    received_named-whole after thread (reply-whole s thread whole runs.kind) (reply-runs s thread (thread_at s thread).caller whole runs refl) Receiving (named_slot after thread) refl
+    received_named-whole after thread (reply-whole s thread whole runs.kind) (reply-runs s thread (thread_at s thread).caller whole runs refl) Receiving
+    (named_slot after thread) refl
 called-whole s thread Replies whole runs = reply-passes-whole s thread whole runs
 called-whole s thread Yields whole runs =
     let r = advanced (thread_at s thread).registers in
     let after = passes s thread in
     yielded-whole after (passes-whole s whole thread runs.kind) thread
     (thread-kinds s thread (record (thread_at s thread) { registers = r }) runs.kind thread ∙ runs.kind)
-    (ap (λ (o : Option Object). is_runnable (own_of o).status) (put-here s.objects thread (Some (ThreadObject (record (thread_at s thread) { registers = r })))) ∙ runs.runs)
+    (ap (λ (o : Option Object). is_runnable (own_of o).status) (put-here s.objects thread (Some (ThreadObject (record (thread_at s thread) { registers = r }))))
+    ∙ runs.runs)
 called-whole s thread PutsCharacter whole runs = passes-whole s whole thread runs.kind
 
 known-whole : (s : State) (thread number : ℕ) (call : Option SystemCall) → IsSound s → IsRunning s thread

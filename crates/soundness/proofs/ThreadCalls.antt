@@ -1,5 +1,6 @@
 -- Calls on threads, ticks and steps of a thread alone.
-use Rattle.std.proofs.Common.{ℕ, ◌≡◌, ◌∙◌, ◌==◌, ◌&&◌, ◌||◌, ◌-◌, ◌%◌, ◌^◌, ◌<◌, ◌≤◌, Bool, true, false, not, nat_le, if◌then◌else◌, Option, Some, None, Ok, refl, sym, ap, subst, arith}
+use Rattle.std.proofs.Common.{ℕ, ◌≡◌, ◌∙◌, ◌==◌, ◌&&◌, ◌||◌, ◌-◌, ◌%◌, ◌^◌, ◌<◌, ◌≤◌, Bool, true, false, not, nat_le, if◌then◌else◌, Option, Some, None, Ok}
+use Rattle.std.proofs.Common.{refl, sym, ap, subst, arith}
 use Rattle.std.specs.Option.{option_map_or}
 use Rattle.std.proofs.lemmas.Bool.{leb-false, leb-true}
 use Rattle.model.specs.declared.errors.KError.TheVariants.{AlignmentError, IllegalOperation, RangeError}
@@ -49,7 +50,8 @@ module _ (s : State) (whole : IsSound s) (x : ℕ) (is_thread : kind_at s x ≡ 
       → t.status ≡ (thread_at s x).status → t.priority ≡ (thread_at s x).priority → IsSound (with_thread s x t)
   same-whole t fine had status priority =
       let stands = stands-thread t (thread_at s x) status priority in
-      rewritten-whole (kind_at s) s x (runs_of (s.objects x)) (waits_of (s.objects x)) (awaits_answer (thread_at s x).status) (begins s x whole) is_thread t fine had
+      rewritten-whole (kind_at s) s x (runs_of (s.objects x)) (waits_of (s.objects x)) (awaits_answer (thread_at s x).status) (begins s x whole) is_thread t
+      fine had
       (λ p. ap (λ (o : Option Object). runs_of o p) own-object ∙ sym (stands.runs p))
       (λ q. ap (λ (o : Option Object). waits_of o q) own-object ∙ sym (stands.waits q))
       (λ a. stands.awaits ∙ a)
@@ -80,7 +82,8 @@ module _ (s : State) (whole : IsSound s) (x : ℕ) (is_thread : kind_at s x ≡ 
             tail-whole (kind_at s) s x (runs_of (s.objects x)) (waits_of (s.objects x)) (awaits_answer (thread_at s x).status) (begins s x whole) is_thread t
             (priority-fine priority less) refl runs waits (λ a. a)
         | false ↦ λ rests.
-            rewritten-whole (kind_at s) s x (runs_of (s.objects x)) (waits_of (s.objects x)) (awaits_answer (thread_at s x).status) (begins s x whole) is_thread t
+            rewritten-whole (kind_at s) s x (runs_of (s.objects x)) (waits_of (s.objects x)) (awaits_answer (thread_at s x).status) (begins s x whole) is_thread
+            t
             (priority-fine priority less) (λ _ e. e)
             (λ p. ap (λ (o : Option Object). runs_of o p) own-object ∙ ap (λ (b : Bool). if b && (thread_at s x).priority == p then 1 else 0) rests
             ∙ sym (ap (λ (b : Bool). if b && priority == p then 1 else 0) rests))
@@ -136,7 +139,8 @@ module _ (s : State) (whole : IsSound s) (x : ℕ) (is_thread : kind_at s x ≡ 
         | true ↦ λ _. yielded-whole runs
         | false ↦ λ more.
             let large = leb-false slice 1 more in
-            same-whole (record (thread_at s x) { slice = slice - 1 }) (slice-fine (slice - 1) (omega (arith, large)) (omega (arith, bounds.1))) (λ _ e. e) refl refl
+            same-whole (record (thread_at s x) { slice = slice - 1 }) (slice-fine (slice - 1) (omega (arith, large)) (omega (arith, bounds.1))) (λ _ e. e) refl
+            refl
       ] refl
 
 tick-by : (s : State) → IsSound s → (o : Option ℕ) → current s ≡ o → IsSound (option_map_or (ticked s) o s)

@@ -1,5 +1,6 @@
 -- A page table that is unmapped, with the frames in its region, keeps soundness.
-use Rattle.std.proofs.Common.{ℕ, ◌≡◌, ◌≢◌, ◌∙◌, ◌==◌, ◌/◌, ◌^◌, ◌<◌, inl, inr, Bool, true, false, not, is_some, if◌then◌else◌, Option, Some, None, option_map, refl, sym, ap, subst, arith}
+use Rattle.std.proofs.Common.{ℕ, ◌≡◌, ◌≢◌, ◌∙◌, ◌==◌, ◌/◌, ◌^◌, ◌<◌, inl, inr, Bool, true, false, not, is_some, if◌then◌else◌, Option, Some, None, option_map}
+use Rattle.std.proofs.Common.{refl, sym, ap, subst, arith}
 use Rattle.std.specs.Option.{option_map_or}
 use Rattle.std.proofs.lemmas.Bool.{and_from, and_parts, eq-eqb, eqb-true}
 use Rattle.std.proofs.lemmas.Bool.Decides.{eqb_tells}
@@ -7,7 +8,8 @@ use Rattle.model.proofs.Ancestors.{full-open}
 use Rattle.model.proofs.Depths.{depth-same}
 use Rattle.model.proofs.SlotChanges.{capability_of, parent_of, entry-other, entry-same}
 use Rattle.model.specs.declared.capabilities.Cap.{Cap}
-use Rattle.model.specs.declared.capabilities.Cap.TheVariants.{Empty, Untyped, Endpoint, Notification, CNode, Frame, PageTable, Tcb, RootTable, InterruptControl, InterruptHandler}
+use Rattle.model.specs.declared.capabilities.Cap.TheVariants.{Empty, Untyped, Endpoint, Notification, CNode, Frame, PageTable, Tcb, RootTable, InterruptControl}
+use Rattle.model.specs.declared.capabilities.Cap.TheVariants.{InterruptHandler}
 use Rattle.model.specs.declared.capabilities.FrameMapping.{FrameMapping}
 use Rattle.model.specs.declared.capabilities.TableMapping.{TableMapping}
 use Rattle.model.specs.declared.rights.Rights.{Rights}
@@ -21,7 +23,8 @@ use Rattle.model.specs.Kernel.Kinds.{object_named, piece_of, used_of}
 use Rattle.model.specs.Kernel.MappingCalls.{is_in_region, lies_in_region, without_region, without_table}
 use Rattle.model.specs.Kernel.Soundness.{IsSound, MappingsAreSound}
 use Rattle.model.specs.Kernel.State.{State, with_slots}
-use Rattle.soundness.proofs.Carried.{Carries, full-near, full-unless, held-at, held-by, memory-carried, shape-carried, slots-carried, some-passes, threads-carried}
+use Rattle.soundness.proofs.Carried.{Carries, full-near, full-unless, held-at, held-by, memory-carried, shape-carried, slots-carried, some-passes}
+use Rattle.soundness.proofs.Carried.{threads-carried}
 use Rattle.soundness.proofs.Places.{MayHold, full-may_hold}
 
 -- ---- one capability
@@ -121,7 +124,8 @@ derivation-kept old new tree parents full valid = record {
   shallow = λ s. omega (arith, depth-same 256 (parent_at old) (parent_at new) parents s, tree.shallow s);
 }
 
-module _ (s : State) (slot offset : ℕ) (table : TableMapping) (sound : IsSound s) (full : IsFull s.slots slot) (is : capability_at s.slots slot ≡ PageTable offset (Some table)) where
+module _ (s : State) (slot offset : ℕ) (table : TableMapping) (sound : IsSound s) (full : IsFull s.slots slot)
+    (is : capability_at s.slots slot ≡ PageTable offset (Some table)) where
   abbrev old : Slots
   old = s.slots
 
@@ -179,7 +183,8 @@ module _ (s : State) (slot offset : ℕ) (table : TableMapping) (sound : IsSound
   unfolding new middle
   open-still x =
       left-open (recapped s.slots slot (PageTable offset None) x)
-      ∙ either (λ x. is_some (middle x) ≡ is_some (old x)) (ap is_some middle-here ∙ sym (full-open s.slots slot full)) (λ x other. ap is_some (middle-other x other)) x
+      ∙ either (λ x. is_some (middle x) ≡ is_some (old x)) (ap is_some middle-here ∙ sym (full-open s.slots slot full))
+      (λ x other. ap is_some (middle-other x other)) x
 
   full-still : (x : ℕ) → is_full new x ≡ is_full old x
   full-still x = ap not (IsLeft.empty (facts x) ∙ by-slot is_empty refl x)

@@ -16,7 +16,8 @@ use Rattle.soundness.specs.Unused.{IsUnused}
 -- what lies against untyped memory is before the unused part or after it, or it is untyped memory that this was made of
 abbrev pub Against : State → ℕ → ℕ → ℕ → ℕ → ℕ → Piece → Type 0
 Against s slot offset bits watermark y p = ((p.first + p.size ≤ offset + watermark) ⊎ (offset + 2 ^ bits ≤ p.first))
-    ⊎ ((used : Piece) × (used_of (capability_at s.slots y) ≡ Some used) × IsInside (record { first = offset; size = 2 ^ bits }) used × Descendant s.slots y slot)
+    ⊎ ((used : Piece) × (used_of (capability_at s.slots y) ≡ Some used) × IsInside (record { first = offset; size = 2 ^ bits }) used
+    × Descendant s.slots y slot)
 
 module _ (s : State) (sound : IsSound s) (slot offset bits watermark : ℕ) (memory : capability_at s.slots slot ≡ Untyped offset bits watermark) where
   abbrev whole_piece : Piece
@@ -43,7 +44,8 @@ module _ (s : State) (sound : IsSound s) (slot offset bits watermark : ℕ) (mem
   object-elsewhere o k is =
       let name = sound.memory.live o k is in
       let other : name.0 ≢ slot = λ e.
-      (let clash : ◌≡◌ {A = Option (NewObject × ℕ)} None (Some (k, o)) = sym (ap object_named memory) ∙ ap (λ (y : ℕ). object_named (capability_at s.slots y)) (sym e) ∙ name.1 in cc) in
+      (let clash : ◌≡◌ {A = Option (NewObject × ℕ)} None (Some (k, o)) = sym (ap object_named memory)
+      ∙ ap (λ (y : ℕ). object_named (capability_at s.slots y)) (sym e) ∙ name.1 in cc) in
       elim (lies-against name.0 (piece_of_object (k, o)) other (named-piece (capability_at s.slots name.0) (k, o) name.1)) [
         | inl far ↦ far
         | inr near ↦ let clash : None ≡ Some near.0 = sym (named-unused (capability_at s.slots name.0) (k, o) name.1) ∙ near.1 in absurd cc

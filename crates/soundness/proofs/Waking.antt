@@ -1,5 +1,6 @@
 -- Threads that wake one after another: what is sound once they all are inactive is sound once they all run.
-use Rattle.std.proofs.Common.{ℕ, zero, suc, ◌≡◌, ◌∙◌, ◌==◌, ◌+◌, ◌*◌, ◌<◌, ◌≤◌, ◌++◌, ◌||◌, inl, inr, Bool, true, false, if◌then◌else◌, cond, filter, map, List, [], ◌∷◌, Option, Some, None, option_map, refl, sym, ap, subst, arith}
+use Rattle.std.proofs.Common.{ℕ, zero, suc, ◌≡◌, ◌∙◌, ◌==◌, ◌+◌, ◌*◌, ◌<◌, ◌≤◌, ◌++◌, ◌||◌, inl, inr, Bool, true, false, if◌then◌else◌, cond, filter, map, List}
+use Rattle.std.proofs.Common.{[], ◌∷◌, Option, Some, None, option_map, refl, sym, ap, subst, arith}
 use Rattle.std.specs.Prelude.{fold}
 use Rattle.std.specs.List.{range_with_len}
 use Rattle.std.proofs.Math.Bool.{or-true}
@@ -9,7 +10,8 @@ use Rattle.model.specs.Kernel.Kinds.{kind_at, kind_of}
 use Rattle.model.specs.Kernel.Retype.{NewThread}
 use Rattle.model.specs.Kernel.Scheduling.{full_slice, wake}
 use Rattle.model.specs.Kernel.Soundness.{IsSound}
-use Rattle.model.specs.Kernel.State.{State, Inactive, Runnable, Object, ThreadObject, EndpointObject, NotificationObject, CNodeObject, FrameObject, PageTableObject, RootTableObject, ThreadState, put, thread_at}
+use Rattle.model.specs.Kernel.State.{State, Inactive, Runnable, Object, ThreadObject, EndpointObject, NotificationObject, CNodeObject, FrameObject}
+use Rattle.model.specs.Kernel.State.{PageTableObject, RootTableObject, ThreadState, put, thread_at}
 use Rattle.model.specs.Shared.Lists.{without}
 use Rattle.soundness.proofs.LeftThreads.{stilled}
 use Rattle.soundness.proofs.Moving.{own_of, put-here, put-other, runs_of}
@@ -34,13 +36,14 @@ in-tail x n l is = ap (λ b. n == x || b) is ∙ or-true (n == x)
 -- what is in a part of a list passes the test, and is in the list
 pub in-filter : (test : ℕ → Bool) (l : List ℕ) (n : ℕ) → is_in (filter test l) n ≡ true → (test n ≡ true) × (is_in l n ≡ true)
 in-filter test [] n is = let clash : false ≡ true = is in absurd cc
-in-filter test (x ∷ l) n is = elim (test x) as (λ b. test x ≡ b → is_in (cond b (x ∷ filter test l) (filter test l)) n ≡ true → (test n ≡ true) × (is_in (x ∷ l) n ≡ true)) [
-  | true ↦ λ passes so. elim (eqb_tells n x) [
-    | inl here ↦ (ap test here.1 ∙ passes, ap (λ b. b || is_in l n) here.0)
-    | inr other ↦ let rest = in-filter test l n (ap (λ b. b || is_in (filter test l) n) (sym other.0) ∙ so) in (rest.0, in-tail x n l rest.1)
-  ]
-  | false ↦ λ _ so. let rest = in-filter test l n so in (rest.0, in-tail x n l rest.1)
-] refl is
+in-filter test (x ∷ l) n is = elim (test x) as (λ b. test x ≡ b → is_in (cond b (x ∷ filter test l) (filter test l)) n ≡ true → (test n ≡ true)
+    × (is_in (x ∷ l) n ≡ true)) [
+      | true ↦ λ passes so. elim (eqb_tells n x) [
+        | inl here ↦ (ap test here.1 ∙ passes, ap (λ b. b || is_in l n) here.0)
+        | inr other ↦ let rest = in-filter test l n (ap (λ b. b || is_in (filter test l) n) (sym other.0) ∙ so) in (rest.0, in-tail x n l rest.1)
+      ]
+      | false ↦ λ _ so. let rest = in-filter test l n so in (rest.0, in-tail x n l rest.1)
+    ] refl is
 
 pub filter-in : (test : ℕ → Bool) (l : List ℕ) (n : ℕ) → test n ≡ true → is_in l n ≡ true → is_in (filter test l) n ≡ true
 filter-in test [] n passes is = is
@@ -94,7 +97,8 @@ pub in-places : (first count n : ℕ) → first ≤ n → n < first + count → 
 in-places first zero n low high = absurd (omega (arith, low, high))
 in-places first (suc count) n low high = elim (eqb_tells n first) [
   | inl here ↦ ap (λ b. b || is_in (places_from (first + 1) count) (16 * n)) (eq-eqb (16 * n) (16 * first) (ap (λ (m : ℕ). 16 * m) here.1))
-  | inr other ↦ in-tail (16 * first) (16 * n) (places_from (first + 1) count) (in-places (first + 1) count n (omega (arith, low, other.1)) (omega (arith, high)))
+  | inr other ↦ in-tail (16 * first) (16 * n) (places_from (first + 1) count)
+      (in-places (first + 1) count n (omega (arith, low, other.1)) (omega (arith, high)))
 ]
 
 -- ---- one thread
@@ -144,13 +148,15 @@ module _ (s : State) (x : ℕ) (l : List ℕ) (apart : is_in l x ≡ false) wher
         ap (λ b. if b then stilled (put s.objects x now o) else put s.objects x now o) not_in
         ∙ ap (λ b. if b then now else s.objects o) here.0
         ∙ ap (λ (t : ThreadState). Some (ThreadObject t)) (sym (runs-same (is_in (x ∷ l) x) (s.objects x)))
-        ∙ sym (ap (λ b. if b then Some (ThreadObject (running_thread (own_of (stilled_if (is_in (x ∷ l) x) (s.objects x))))) else (if is_in (x ∷ l) o then stilled
+        ∙ sym (ap (λ b. if b then Some (ThreadObject (running_thread (own_of (stilled_if (is_in (x ∷ l) x) (s.objects x))))) else
+        (if is_in (x ∷ l) o then stilled
         (s.objects o) else s.objects o)) here.0)
     | inr other ↦
         let now : Option Object = Some (ThreadObject (running_thread (thread_at s x))) in
         ap (λ b. let k = if b then now else s.objects o in if is_in l o then stilled k else k) other.0
         ∙ sym (ap (λ b. if b || is_in l o then stilled (s.objects o) else s.objects o) other.0)
-        ∙ sym (ap (λ b. if b then Some (ThreadObject (running_thread (own_of (stilled_if (is_in (x ∷ l) x) (s.objects x))))) else (if is_in (x ∷ l) o then stilled
+        ∙ sym (ap (λ b. if b then Some (ThreadObject (running_thread (own_of (stilled_if (is_in (x ∷ l) x) (s.objects x))))) else
+        (if is_in (x ∷ l) o then stilled
         (s.objects o) else s.objects o)) other.0)
   ]
 
@@ -174,11 +180,13 @@ module _ (s : State) (x : ℕ) (l : List ℕ) (apart : is_in l x ≡ false) wher
 -- a thread that is at rest wakes
 wakes-still : (s : State) (x : ℕ) → IsSound s → (t : ThreadState) → s.objects x ≡ Some (ThreadObject t) → t.status ≡ Inactive → IsSound (wake s x)
 wakes-still s x sound t is still =
-    woken-whole (kind_at s) s x (runs_of (s.objects x)) (standing s x Inactive sound (ap (λ (o : Option Object). (own_of o).status) is ∙ still)) (ap (option_map kind_of) is)
+    woken-whole (kind_at s) s x (runs_of (s.objects x)) (standing s x Inactive sound (ap (λ (o : Option Object). (own_of o).status) is ∙ still))
+    (ap (option_map kind_of) is)
 
 -- ---- all of them
 
-pub all-wake : (l : List ℕ) (s : State) → AreApart l → ((o : ℕ) → is_in l o ≡ true → kind_at s o ≡ Some NewThread) → IsSound (resting l s) → IsSound (fold wake s l)
+pub all-wake : (l : List ℕ) (s : State) → AreApart l → ((o : ℕ) → is_in l o ≡ true → kind_at s o ≡ Some NewThread) → IsSound (resting l s) →
+    IsSound (fold wake s l)
 all-wake [] s apart threads sound = sound
 all-wake (x ∷ l) s apart threads sound =
     let here : is_in (x ∷ l) x ≡ true = ap (λ b. b || is_in l x) (eq-eqb x x refl) in

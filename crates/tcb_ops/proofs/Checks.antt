@@ -88,13 +88,15 @@ module _ (s : State) (thread : ℕ) (sound : IsSound s) (there : kind_at s threa
       let own = thread-kind (s.objects thread) there in
       empty-open s.slots slot sound.slots.derivation (own-slot_open s sound.slots thread slot (thread-slot s thread slot index own.0 own.1 less at)) none
 
-  pub may-configure : (root : Cap) (guard : Option ℕ) (cspace_name vspace_name : SlotName) (from : Sources) → Ok from ≡ sources s.slots root thread guard cspace_name vspace_name
+  pub may-configure : (root : Cap) (guard : Option ℕ) (cspace_name vspace_name : SlotName) (from : Sources) →
+      Ok from ≡ sources s.slots root thread guard cspace_name vspace_name
       → MayConfigure s.slots thread guard from.cspace from.vspace
   may-configure root guard cspace_name vspace_name from is =
       let one = passes-both (cnode_source s.slots root cspace_name) _ from (sym is) in
       let two = passes-both (root_source s.slots root vspace_name) _ from one.rest in
       let three = passes-both (room_for_spaces s.slots thread guard one.value two.value) _ from two.rest in
-      let four = passes-both (check (not (is_full s.slots (cspace_slot thread)) && not (is_full s.slots (vspace_slot thread))) DeleteFirst) _ three.value three.first in
+      let four = passes-both (check (not (is_full s.slots (cspace_slot thread)) && not (is_full s.slots (vspace_slot thread))) DeleteFirst) _ three.value
+      three.first in
       let five = passes-both (check (given_guard_fits (capability_at s.slots one.value) guard) IllegalOperation) _ three.value four.rest in
       let six = passes-both (may_have_child s.slots one.value) _ three.value five.rest in
       let free = and_parts (not (is_full s.slots (cspace_slot thread))) (not (is_full s.slots (vspace_slot thread)))

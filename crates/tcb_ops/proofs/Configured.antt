@@ -46,14 +46,16 @@ module _ (o : Tables) (slots : Slots) (old new : List ℕ) (thread : ℕ) (guard
 
   first-open : (slot : ℕ) → slots slot ≡ None → one slot ≡ None
   unfolding one
-  first-open = put-closes slots (cspace_slot thread) (with_guard (capability_at slots from.cspace) guard) (Some from.cspace) (is-open slots (cspace_slot thread) empty_entry may.first)
+  first-open = put-closes slots (cspace_slot thread) (with_guard (capability_at slots from.cspace) guard) (Some from.cspace)
+      (is-open slots (cspace_slot thread) empty_entry may.first)
 
   differs : vspace_slot thread ≡ cspace_slot thread → ⊥
   differs e = omega (arith, e)
 
   second-empty : one (vspace_slot thread) ≡ Some empty_entry
   unfolding one
-  second-empty = still slots (cspace_slot thread) (with_guard (capability_at slots from.cspace) guard) (Some from.cspace) (vspace_slot thread) differs ∙ may.second
+  second-empty = still slots (cspace_slot thread) (with_guard (capability_at slots from.cspace) guard) (Some from.cspace) (vspace_slot thread) differs
+      ∙ may.second
 
   table-still : capability_at one from.vspace ≡ table
   unfolding one table
@@ -68,13 +70,15 @@ module _ (o : Tables) (slots : Slots) (old new : List ℕ) (thread : ℕ) (guard
       let plain = quiet held may.is_cnode in
       let alike = guarded-alike held guard in
       copy-agrees o slots old new (cspace_slot thread) from.cspace (with_guard held guard) agreed same may.first
-      (guarded-valid held guard (may.derivation.valid from.cspace) may.is_cnode may.fits) (alike.single ∙ plain.single) (guarded-plain held guard plain) alike.object
+      (guarded-valid held guard (may.derivation.valid from.cspace) may.is_cnode may.fits) (alike.single ∙ plain.single) (guarded-plain held guard plain)
+      alike.object
 
   second-agrees : Agreed o (spaces_put slots thread guard from.cspace from.vspace) new
   unfolding one table
   second-agrees =
       let plain = root-plain (capability_at slots from.vspace) may.is_root in
-      copy-agrees o one new new (vspace_slot thread) from.vspace (capability_at slots from.vspace) first-agrees (record { size = refl; bytes = λ place none. refl }) second-empty
+      copy-agrees o one new new (vspace_slot thread) from.vspace (capability_at slots from.vspace) first-agrees
+      (record { size = refl; bytes = λ place none. refl }) second-empty
       (may.derivation.valid from.vspace) plain.single plain.unmapped (ap object_named (sym table-still))
 
   pub put-agrees : (now : Slots) → now ≡ spaces_put slots thread guard from.cspace from.vspace → Agreed o now new
@@ -83,11 +87,13 @@ module _ (o : Tables) (slots : Slots) (old new : List ℕ) (thread : ℕ) (guard
   both-closed : (slot : ℕ) → slots slot ≡ None → spaces_put slots thread guard from.cspace from.vspace slot ≡ None
   unfolding one
   both-closed slot none =
-      put-closes one (vspace_slot thread) (capability_at slots from.vspace) (Some from.vspace) (is-open one (vspace_slot thread) empty_entry second-empty) slot (first-open slot none)
+      put-closes one (vspace_slot thread) (capability_at slots from.vspace) (Some from.vspace) (is-open one (vspace_slot thread) empty_entry second-empty) slot
+      (first-open slot none)
 
   pub put-state : (now : Slots) → now ≡ spaces_put slots thread guard from.cspace from.vspace
       → state_of o now new ≡ with_slots (state_of o slots old) (spaces_put slots thread guard from.cspace from.vspace)
-  put-state now is = ap (λ (n : Slots). state_of o n new) is ∙ follows-law o slots (spaces_put slots thread guard from.cspace from.vspace) old new agreed same both-closed
+  put-state now is = ap (λ (n : Slots). state_of o n new) is
+      ∙ follows-law o slots (spaces_put slots thread guard from.cspace from.vspace) old new agreed same both-closed
 
   pub thread-still : (now : Slots) → now ≡ spaces_put slots thread guard from.cspace from.vspace → kind_at (state_of o slots old) thread ≡ Some NewThread
       → kind_at (state_of o now new) thread ≡ Some NewThread
@@ -103,13 +109,15 @@ module _ (o : Tables) (slots : Slots) (old new : List ℕ) (thread : ℕ) (guard
 
 -- ---- a thread changes
 
-pub thread-agrees : (s t : State) (thread : ℕ) (after : ThreadState) (old new : List ℕ) → Agrees s old → SameObjects s t old new → t ≡ with_thread s thread after → Agrees t new
+pub thread-agrees : (s t : State) (thread : ℕ) (after : ThreadState) (old new : List ℕ) → Agrees s old → SameObjects s t old new →
+    t ≡ with_thread s thread after → Agrees t new
 thread-agrees s t thread after old new agrees same is =
     subst (λ (u : State). Agrees u new) (sym is)
     (agrees-less s (with_thread s thread after) old new agrees
     (agree-beside s.slots old new agrees.tables (record {
       size = same.bytes.size;
       bytes = λ table place named low high.
-          same.bytes.bytes place (agrees.frames table place named low high) (λ offset kind there kept. agrees.records table place offset kind named low high there kept);
+          same.bytes.bytes place (agrees.frames table place named low high)
+          (λ offset kind there kept. agrees.records table place offset kind named low high there kept);
     }))
     refl same.bytes.size (less-same s.slots) (λ place none. none) (λ offset kind at. sym (same.kinds offset) ∙ ap (λ (u : State). kind_at u offset) is ∙ at))

@@ -15,7 +15,8 @@ pub record Keeps (s t : State) : Type 0 where
   pub sound : IsSound t
   pub base : SameBase s t
 
-pub priority-keeps : (s : State) (thread priority : ℕ) → IsSound s → kind_at s thread ≡ Some NewThread → priority ≤ 255 → Keeps s (with_priority s thread priority)
+pub priority-keeps : (s : State) (thread priority : ℕ) → IsSound s → kind_at s thread ≡ Some NewThread → priority ≤ 255 →
+    Keeps s (with_priority s thread priority)
 priority-keeps s thread priority sound there few =
     let is : set_priority s thread priority ≡ Ok (with_priority s thread priority) =
     ap (λ b. check b RangeError >>= λ _. Ok (with_priority s thread priority)) (le-leb priority 255 few) in

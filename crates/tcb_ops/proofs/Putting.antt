@@ -9,7 +9,8 @@ use Rattle.model.specs.Capabilities.Slots.{IsDerivation, IsFull, Slots, depth_of
 use Rattle.model.specs.Kernel.State.{cspace_slot}
 use Rattle.model.specs.Kernel.ThreadCalls.{given_guard_fits, with_guard}
 use Rattle.model.specs.declared.capabilities.Cap.{Cap}
-use Rattle.model.specs.declared.capabilities.Cap.TheVariants.{Empty, Untyped, Endpoint, Notification, CNode, Frame, PageTable, Tcb, RootTable, InterruptControl, InterruptHandler}
+use Rattle.model.specs.declared.capabilities.Cap.TheVariants.{Empty, Untyped, Endpoint, Notification, CNode, Frame, PageTable, Tcb, RootTable, InterruptControl}
+use Rattle.model.specs.declared.capabilities.Cap.TheVariants.{InterruptHandler}
 use Rattle.model.specs.declared.slot_entries.Entry.{Entry}
 use Rattle.slots.specs.Kin.{object_at}
 use Rattle.soundness.proofs.Laws.{IsQuiet, cnode-quiet, no-badge, payload-valid}
@@ -22,7 +23,8 @@ quiet c some = elim (cnode_of c) as (λ o. cnode_of c ≡ o → is_some o ≡ tr
   | None ↦ λ is there. absurd cc
 ] refl some
 
-pub guarded-valid : (c : Cap) (guard : Option ℕ) → IsCapability c → is_some (cnode_of c) ≡ true → given_guard_fits c guard ≡ true → IsCapability (with_guard c guard)
+pub guarded-valid : (c : Cap) (guard : Option ℕ) → IsCapability c → is_some (cnode_of c) ≡ true → given_guard_fits c guard ≡ true →
+    IsCapability (with_guard c guard)
 guarded-valid c None valid node fits = valid
 guarded-valid c (Some word) valid node fits = payload-valid c word valid (no-badge c word (quiet c node).silent) fits
 
@@ -52,13 +54,15 @@ still slots slot made parent other differs = elim (eqb_tells other slot) [
   | inr apart ↦ ap (λ b. if b then Some (record { capability = made; parent = parent }) else slots other) apart.0
 ]
 
-pub same-depth : (slots : Slots) (slot : ℕ) (made : Cap) (parent : Option ℕ) (other : ℕ) → IsDerivation slots → slots slot ≡ Some empty_entry → (other ≡ slot → ⊥)
+pub same-depth : (slots : Slots) (slot : ℕ) (made : Cap) (parent : Option ℕ) (other : ℕ) → IsDerivation slots → slots slot ≡ Some empty_entry →
+    (other ≡ slot → ⊥)
     → depth_of (inserted slots slot made parent) other ≡ depth_of slots other
 same-depth slots slot made parent other derivation empty differs =
     depth-leaf 256 (parent_at slots) (parent_at (inserted slots slot made parent)) slot (λ y apart. ap parent_of (still slots slot made parent y apart))
     (λ y p is. full-not-empty slots p slot (derivation.parent_full y p is) empty) other differs
 
-pub room-still : (slots now : Slots) (slot : ℕ) (made : Cap) (parent : Option ℕ) (thread other : ℕ) → IsDerivation slots → slots (cspace_slot thread) ≡ Some empty_entry
+pub room-still : (slots now : Slots) (slot : ℕ) (made : Cap) (parent : Option ℕ) (thread other : ℕ) → IsDerivation slots →
+    slots (cspace_slot thread) ≡ Some empty_entry
     → slot ≡ thread / 16 → IsFull slots other → depth_of slots other < 255 → now ≡ inserted slots slot made parent → depth_of now other < 255
 room-still slots now slot made parent thread other derivation empty at full room is =
     let own : cspace_slot thread ≡ slot = omega (arith, at) in
@@ -72,4 +76,5 @@ pub object-still : (slots now : Slots) (slot : ℕ) (made : Cap) (parent : Optio
 object-still slots now slot made parent thread other empty at full is =
     let own : cspace_slot thread ≡ slot = omega (arith, at) in
     let free : slots slot ≡ Some empty_entry = ap slots (sym own) ∙ empty in
-    ap (λ (n : Slots). object_at n other) is ∙ ap (λ e. object_of (capability_of e)) (still slots slot made parent other (full-not-empty slots other slot full free))
+    ap (λ (n : Slots). object_at n other) is ∙ ap (λ e. object_of (capability_of e))
+    (still slots slot made parent other (full-not-empty slots other slot full free))

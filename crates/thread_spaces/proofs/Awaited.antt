@@ -1,5 +1,6 @@
 -- In a round all capabilities that lead on are awaited, so that those between two that are followed may be passed.
-use Rattle.std.proofs.Common.{ℕ, zero, suc, ◌≡◌, ◌∙◌, ◌==◌, ◌+◌, ◌<◌, ◌≤◌, ◌⊎◌, inl, inr, ◌&&◌, drop, Bool, true, false, not, if◌then◌else◌, Some, List, [], ◌∷◌, ◌++◌, length, refl, sym, ap, subst, arith}
+use Rattle.std.proofs.Common.{ℕ, zero, suc, ◌≡◌, ◌∙◌, ◌==◌, ◌+◌, ◌<◌, ◌≤◌, ◌⊎◌, inl, inr, ◌&&◌, drop, Bool, true, false, not, if◌then◌else◌, Some, List, []}
+use Rattle.std.proofs.Common.{◌∷◌, ◌++◌, length, refl, sym, ap, subst, arith}
 use Rattle.std.specs.Prelude.{fold, slice_get}
 use Rattle.std.specs.List.{All}
 use Rattle.std.specs.Ordering.{is_eq, nat_cmp}
@@ -71,7 +72,8 @@ none-within image r ahead passed = record {
 
 -- so far
 abbrev pub AwaitsUpTo : Image → ℕ → ℕ → Round → Type 0
-AwaitsUpTo image cnode end r = (n : ℕ) (c : CapabilityEntry) → slice_get image.capabilities n ≡ Some c → c.cnode ≡ cnode → n < end → is_cnode_source image c.source ≡ true → awaits r n ≡ true
+AwaitsUpTo image cnode end r = (n : ℕ) (c : CapabilityEntry) → slice_get image.capabilities n ≡ Some c → c.cnode ≡ cnode → n < end →
+    is_cnode_source image c.source ≡ true → awaits r n ≡ true
 
 module _ (image : Image) (cnode first end : ℕ) (listed : AreListedIn cnode image.capabilities first end) where
   others : (c : CapabilityEntry) → c.cnode ≡ cnode → (c.cnode == cnode) ≡ false → ⊥
@@ -89,7 +91,8 @@ module _ (image : Image) (cnode first end : ℕ) (listed : AreListedIn cnode ima
   }
 
 pub up-to-next : (image : Image) (cnode i : ℕ) (r s : Round) → AwaitsMore r s
-    → ((c : CapabilityEntry) → slice_get image.capabilities i ≡ Some c → is_cnode_source image c.source ≡ true → awaits s i ≡ true) → AwaitsUpTo image cnode i r → AwaitsUpTo image cnode (i + 1) s
+    → ((c : CapabilityEntry) → slice_get image.capabilities i ≡ Some c → is_cnode_source image c.source ≡ true → awaits s i ≡ true) →
+    AwaitsUpTo image cnode i r → AwaitsUpTo image cnode (i + 1) s
 up-to-next image cnode i r s more one so_far n c at is less leads = elim (cases_lt n i) [
   | inl before ↦ more.keeps n (so_far n c at is before leads)
   | inr behind ↦
@@ -112,7 +115,8 @@ module _ (image : Image) (found : List ℕ) where
       ∙ none-behind xs zero (λ n c most at. none (suc n) c (omega arith) at)
   none-behind (x ∷ xs) (suc a) none = none-behind xs a (λ n c most at. none (suc n) c (omega (arith, most)) at)
 
-  none-between : (xs : List CapabilityEntry) (a b : ℕ) → a ≤ b → ((n : ℕ) (c : CapabilityEntry) → a ≤ n → n < b → slice_get xs n ≡ Some c → leads_on image found c ≡ false)
+  none-between : (xs : List CapabilityEntry) (a b : ℕ) → a ≤ b →
+      ((n : ℕ) (c : CapabilityEntry) → a ≤ n → n < b → slice_get xs n ≡ Some c → leads_on image found c ≡ false)
       → fold (with_named image) found (drop a xs) ≡ fold (with_named image) found (drop b xs)
   none-between xs zero zero less none = refl
   none-between [] zero (suc b) less none = refl
@@ -121,20 +125,24 @@ module _ (image : Image) (found : List ℕ) where
       ∙ none-between xs zero b (omega arith) (λ n c most before at. none (suc n) c (omega arith) (omega (arith, before)) at)
   none-between xs (suc a) zero less none = absurd (omega (arith, less))
   none-between [] (suc a) (suc b) less none = refl
-  none-between (x ∷ xs) (suc a) (suc b) less none = none-between xs a b (omega (arith, less)) (λ n c most before at. none (suc n) c (omega (arith, most)) (omega (arith, before)) at)
+  none-between (x ∷ xs) (suc a) (suc b) less none = none-between xs a b (omega (arith, less))
+      (λ n c most before at. none (suc n) c (omega (arith, most)) (omega (arith, before)) at)
 
   is-false : (b : Bool) → (b ≡ true → ⊥) → b ≡ false
   is-false true not = absurd (not refl)
   is-false false not = refl
 
   -- where none is ahead, none from the place on leads on
-  pub none-ahead : (r : Round) → r.ahead.keys ≡ [] → AwaitsAll image found r → (n : ℕ) (c : CapabilityEntry) → r.place ≤ n → slice_get image.capabilities n ≡ Some c → leads_on image found c ≡ false
+  pub none-ahead : (r : Round) → r.ahead.keys ≡ [] → AwaitsAll image found r → (n : ℕ) (c : CapabilityEntry) → r.place ≤ n →
+      slice_get image.capabilities n ≡ Some c → leads_on image found c ≡ false
   none-ahead r none all n c most at = is-false (leads_on image found c) (λ leads.
-      let clash : true ≡ false = sym (all.all n c at leads) ∙ awaits-behind r n most ∙ none-among r.ahead.keys n none in absurd (let no : true ≡ false = clash in cc))
+      let clash : true ≡ false = sym (all.all n c at leads) ∙ awaits-behind r n most ∙ none-among r.ahead.keys n none in
+      absurd (let no : true ≡ false = clash in cc))
 
   -- ---- one that is followed
 
-  module _ (r s : Round) (k : ℕ) (rest : List ℕ) (within : IsWithin image r) (all : AwaitsAll image found r) (first : r.ahead.keys ≡ k ∷ rest) (above : All (IsAbove k) rest)
+  module _ (r s : Round) (k : ℕ) (rest : List ℕ) (within : IsWithin image r) (all : AwaitsAll image found r) (first : r.ahead.keys ≡ k ∷ rest)
+      (above : All (IsAbove k) rest)
       (place : s.place ≡ k + 1) (ahead : s.ahead.keys ≡ rest) (passed : s.passed.keys ≡ r.passed.keys) where
     was-ahead : (n : ℕ) → is_among (k ∷ rest) n ≡ true → is_among r.ahead.keys n ≡ true
     was-ahead n is = ap (λ (l : List ℕ). is_among l n) first ∙ is
@@ -179,7 +187,8 @@ module _ (image : Image) (found : List ℕ) where
       followed-place = more.same ∙ place
 
       -- what is left of the round finds the same
-      pub followed-rest : (total : List ℕ) → fold (with_named image) found (drop r.place image.capabilities) ≡ total → fold (with_named image) after (drop t.place image.capabilities) ≡ total
+      pub followed-rest : (total : List ℕ) → fold (with_named image) found (drop r.place image.capabilities) ≡ total →
+          fold (with_named image) after (drop t.place image.capabilities) ≡ total
       followed-rest total so_far =
           ap (λ (n : ℕ). fold (with_named image) after (drop n image.capabilities)) followed-place
           ∙ ap (λ (f : List ℕ). fold (with_named image) f (drop (k + 1) image.capabilities)) follows.is
@@ -204,7 +213,8 @@ module _ (image : Image) (found : List ℕ) where
           all-three true false d one two three = absurd (let clash : false ≡ true = two in cc)
           all-three true true true one two three = absurd (let clash : true ≡ false = three in cc)
 
-          found-new : (c : CapabilityEntry) → is_member c.cnode after ≡ true → is_member c.cnode found ≡ false → (leads_on image found follows.entry ≡ true) × (c.cnode ≡ follows.entry.source)
+          found-new : (c : CapabilityEntry) → is_member c.cnode after ≡ true → is_member c.cnode found ≡ false → (leads_on image found follows.entry ≡ true)
+              × (c.cnode ≡ follows.entry.source)
           found-new c there out = by_test (leads_on image found follows.entry) refl
             where
               here : (b : Bool) → leads_on image found follows.entry ≡ b → is_member c.cnode (if b then found ++ follows.entry.source ∷ [] else found) ≡ true
@@ -219,7 +229,8 @@ module _ (image : Image) (found : List ℕ) where
               ]
               by_test false is = absurd (let clash : true ≡ false = sym (here false is) ∙ out in cc)
 
-          by_found : (n : ℕ) (c : CapabilityEntry) → slice_get image.capabilities n ≡ Some c → leads_on image after c ≡ true → (b : Bool) → is_member c.cnode found ≡ b → awaits t n ≡ true
+          by_found : (n : ℕ) (c : CapabilityEntry) → slice_get image.capabilities n ≡ Some c → leads_on image after c ≡ true → (b : Bool) →
+              is_member c.cnode found ≡ b → awaits t n ≡ true
           by_found n c at leads true there =
               let parts = and_parts (is_member c.cnode after && is_cnode_source image c.source) (not (is_member c.source after)) leads in
               let source = (and_parts (is_member c.cnode after) (is_cnode_source image c.source) parts.0).1 in
@@ -229,7 +240,8 @@ module _ (image : Image) (found : List ℕ) where
                 | inl same ↦
                     let one : follows.entry ≡ c = same_Some follows.entry c (sym follows.there ∙ ap (slice_get image.capabilities) (sym same) ∙ at) in
                     let put : is_member c.source (with_named image found c) ≡ true = named-puts image found c there source in
-                    let in_after : is_member c.source after ≡ true = ap (λ (l : List ℕ). is_member c.source l) (follows.is ∙ ap (with_named image found) one) ∙ put in
+                    let in_after : is_member c.source after ≡ true = ap (λ (l : List ℕ). is_member c.source l) (follows.is ∙ ap (with_named image found) one)
+                    ∙ put in
                     absurd (let clash : true ≡ false = sym in_after ∙ out in cc)
                 | inr still ↦ more.keeps n still
               ]
@@ -241,7 +253,8 @@ module _ (image : Image) (found : List ℕ) where
 
   -- ---- from round to round
 
-  pub next-begins : (r s : Round) → r.ahead.keys ≡ [] → s.place ≡ 0 → s.ahead.keys ≡ r.passed.keys → s.passed.keys ≡ r.ahead.keys → IsWithin image r → AwaitsAll image found r → Begins image found s
+  pub next-begins : (r s : Round) → r.ahead.keys ≡ [] → s.place ≡ 0 → s.ahead.keys ≡ r.passed.keys → s.passed.keys ≡ r.ahead.keys → IsWithin image r →
+      AwaitsAll image found r → Begins image found s
   next-begins r s none place ahead passed within all = record {
     first = place;
     within = record {
@@ -259,7 +272,8 @@ module _ (image : Image) (found : List ℕ) where
   }
 
   -- what a round that begins finds
-  pub round-begun : (r : Round) → Begins image found r → fold (with_named image) found (drop r.place image.capabilities) ≡ fold (with_named image) found image.capabilities
+  pub round-begun : (r : Round) → Begins image found r → fold (with_named image) found (drop r.place image.capabilities) ≡ fold (with_named image) found
+      image.capabilities
   round-begun r begins = ap (λ (n : ℕ). fold (with_named image) found (drop n image.capabilities)) begins.first
 
   -- where none is awaited, nothing more is found
@@ -267,7 +281,8 @@ module _ (image : Image) (found : List ℕ) where
   none-more r none begins =
       none-behind image.capabilities 0 (λ n c most at. none-ahead r none begins.awaits_all n c (subst (λ p. p ≤ n) (sym begins.first) most) at)
 
-pub first-begins : (image : Image) (root : ℕ) (before found : List ℕ) (r s : Round) → before ≡ [] → found ≡ (if is_member root before then before else before ++ root ∷ []) → r.place ≡ 0
+pub first-begins : (image : Image) (root : ℕ) (before found : List ℕ) (r s : Round) → before ≡ [] →
+    found ≡ (if is_member root before then before else before ++ root ∷ []) → r.place ≡ 0
     → AwaitsMore r s → IsWithin image s → AwaitsListed image root s → Begins image found s
 first-begins image root before found r s none put place more within listed = record {
   first = more.same ∙ place;

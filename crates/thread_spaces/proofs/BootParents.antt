@@ -1,5 +1,6 @@
 -- The boot slots that capabilities hang below.
-use Rattle.std.proofs.Common.{ℕ, zero, suc, ◌≡◌, ◌∙◌, ◌==◌, ◌+◌, ◌^◌, ◌<◌, ◌≤◌, ◌&&◌, Bool, true, false, not, if◌then◌else◌, find, take, Option, Some, None, List, [], ◌∷◌, refl, sym, ap, subst, arith}
+use Rattle.std.proofs.Common.{ℕ, zero, suc, ◌≡◌, ◌∙◌, ◌==◌, ◌+◌, ◌^◌, ◌<◌, ◌≤◌, ◌&&◌, Bool, true, false, not, if◌then◌else◌, find, take, Option, Some, None}
+use Rattle.std.proofs.Common.{List, [], ◌∷◌, refl, sym, ap, subst, arith}
 use Rattle.std.specs.Prelude.{slice_get}
 use Rattle.std.specs.Option.{option_map_or}
 use Rattle.std.specs.List.{list_any, range_with_len}
@@ -9,7 +10,8 @@ use Rattle.format_laws.proofs.Laws.{is-fitting}
 use Rattle.soundness.specs.boot_laws.Loading.{all_loaded, is_moved}
 use Rattle.soundness.proofs.Laws.{AreFormed, ReadsBoot, ThreadKept, are-formed, boot-slots-suffice, numbered-back, object-at, original-untyped}
 use Rattle.model.specs.declared.capabilities.Cap.{Cap}
-use Rattle.model.specs.declared.capabilities.Cap.TheVariants.{Empty, Untyped, Endpoint, Notification, CNode, Frame, PageTable, Tcb, RootTable, InterruptControl, InterruptHandler}
+use Rattle.model.specs.declared.capabilities.Cap.TheVariants.{Empty, Untyped, Endpoint, Notification, CNode, Frame, PageTable, Tcb, RootTable, InterruptControl}
+use Rattle.model.specs.declared.capabilities.Cap.TheVariants.{InterruptHandler}
 use Rattle.model.specs.declared.entries.InterruptEntry.{InterruptEntry}
 use Rattle.model.specs.Acceptance.Accepted.{IsWellFormed}
 use Rattle.model.specs.Acceptance.NotedKernel.{boot_parent, is_object_at, object_numbers, object_parent, thread_original, untyped_there}
@@ -92,13 +94,16 @@ module _ (image : Image) (fits : whole_image.fits image ≡ true) (well : IsWell
       (ObjectFits.untyped (IsFitting.object (is-fitting image fits) number (object_at image number) (object-at image number (is-fitting image fits) less)))
 
   stays : (number : ℕ) → is_untyped_type (type_at image number) ≡ false → is_moved image (all_loaded image) number ≡ false
-  stays number plain = ap (λ b. b && list_any (λ c. c.source == number) (take image.header.capabilities image.capabilities)) (original-untyped image (all_loaded image) number ∙ plain)
+  stays number plain = ap (λ b. b && list_any (λ c. c.source == number) (take image.header.capabilities image.capabilities))
+      (original-untyped image (all_loaded image) number ∙ plain)
 
-  pub original-below : (number : ℕ) → number < image.header.objects → is_untyped_type (type_at image number) ≡ false → IsBelowOne image (original_slot image number)
+  pub original-below : (number : ℕ) → number < image.header.objects → is_untyped_type (type_at image number) ≡ false →
+      IsBelowOne image (original_slot image number)
   original-below number less plain = record {
     boot = omega (arith, less, suffice);
     above = (object_at image number).untyped;
-    parent = parent-shown image (original_slot image number) _ (from-loaded image (original_slot image number) _ (is-fitting image fits) (ReadsBoot.original holds number less (stays number plain)));
+    parent = parent-shown image (original_slot image number) _
+        (from-loaded image (original_slot image number) _ (is-fitting image fits) (ReadsBoot.original holds number less (stays number plain)));
     first = IsFirst.first (home-first number less);
   }
 
@@ -110,11 +115,13 @@ module _ (image : Image) (fits : whole_image.fits image ≡ true) (well : IsWell
 
   handler-below : (k : ℕ) (i : InterruptEntry) → slice_get image.interrupts k ≡ Some i → IsBelowOne image (handler_slot image k)
   handler-below k i at =
-      let less : k < image.header.interrupts = subst (λ (n : ℕ). k < n) (IsFitting.interrupts (is-fitting image fits)) (slice_get_within image.interrupts k i at) in
+      let less : k < image.header.interrupts = subst (λ (n : ℕ). k < n) (IsFitting.interrupts (is-fitting image fits))
+      (slice_get_within image.interrupts k i at) in
       record {
         boot = omega (arith, less, suffice);
         above = control_slot image;
-        parent = parent-shown image (handler_slot image k) _ (from-loaded image (handler_slot image k) _ (is-fitting image fits) (ReadsBoot.handler holds k i less at));
+        parent = parent-shown image (handler_slot image k) _
+            (from-loaded image (handler_slot image k) _ (is-fitting image fits) (ReadsBoot.handler holds k i less at));
         first = IsFirst.first control-first;
       }
 
@@ -127,7 +134,8 @@ module _ (image : Image) (fits : whole_image.fits image ≡ true) (well : IsWell
         original-below t.header.tcb thread-inside
         (thread-plain (type_at image t.header.tcb) (ThreadKept.tcb (AreFormed.thread (are-formed image well) listed.number t listed.listed)))
 
-    found-below : (place : ℕ) (found : Option ℕ) → find (is_object_at image place) (object_numbers image) ≡ found → IsBelowOne image (option_map_or (original_slot image) found (thread_original image t))
+    found-below : (place : ℕ) (found : Option ℕ) → find (is_object_at image place) (object_numbers image) ≡ found →
+        IsBelowOne image (option_map_or (original_slot image) found (thread_original image t))
     found-below place None is = thread-below
     found-below place (Some number) is =
         let passed = find-passed (is_object_at image place) (object_numbers image) number is in
@@ -153,9 +161,11 @@ module _ (image : Image) (fits : whole_image.fits image ≡ true) (well : IsWell
     pub pool-first : (offset bits watermark : ℕ) → IsFirst image (boot_parent image t (Untyped offset bits watermark))
     pool-first offset bits watermark = of-found (find (untyped_there image offset) (object_numbers image)) refl
       where
-        of-found : (found : Option ℕ) → find (untyped_there image offset) (object_numbers image) ≡ found → IsFirst image (option_map_or (λ number. (object_at image number).untyped) found 0)
+        of-found : (found : Option ℕ) → find (untyped_there image offset) (object_numbers image) ≡ found →
+            IsFirst image (option_map_or (λ number. (object_at image number).untyped) found 0)
         of-found None is =
-            let some = ObjectFits.untyped (IsFitting.object (is-fitting image fits) t.header.tcb (object_at image t.header.tcb) (object-at image t.header.tcb (is-fitting image fits) thread-inside)) in
+            let some = ObjectFits.untyped (IsFitting.object (is-fitting image fits) t.header.tcb (object_at image t.header.tcb)
+            (object-at image t.header.tcb (is-fitting image fits) thread-inside)) in
             untyped-first 0 (omega (arith, some))
         of-found (Some number) is =
             let passed = find-passed (untyped_there image offset) (object_numbers image) number is in

@@ -6,7 +6,8 @@ use Rattle.std.proofs.lemmas.Option.{slice_get_within}
 use Rattle.format_laws.specs.Fitting.{IsFitting}
 use Rattle.format_laws.proofs.Laws.{is-fitting}
 use Rattle.soundness.specs.boot_laws.Loading.{all_loaded, loaded}
-use Rattle.soundness.proofs.Laws.{AreFormed, IsWithin, ReadsBoot, are-formed, counts-are, described-sound, entry, loaded-end, reads-boot, reads-cspace, reads-listed}
+use Rattle.soundness.proofs.Laws.{AreFormed, IsWithin, ReadsBoot, are-formed, counts-are, described-sound, entry, loaded-end, reads-boot, reads-cspace}
+use Rattle.soundness.proofs.Laws.{reads-listed}
 use Rattle.model.specs.declared.capabilities.Cap.{Cap}
 use Rattle.model.specs.declared.capabilities.Cap.TheVariants.{Empty}
 use Rattle.model.specs.declared.entries.CapabilityEntry.{CapabilityEntry}
@@ -36,10 +37,12 @@ all-within image = record {
 pub Shows : Image → ℕ → Entry → Type 0
 Shows image slot held = (described image).slots slot ≡ Some held
 
-pub from-loaded : (image : Image) (slot : ℕ) (held : Entry) → IsFitting image → (loaded image (all_loaded image)).slots slot ≡ Some held → (described image).slots slot ≡ Some held
+pub from-loaded : (image : Image) (slot : ℕ) (held : Entry) → IsFitting image → (loaded image (all_loaded image)).slots slot ≡ Some held →
+    (described image).slots slot ≡ Some held
 from-loaded image slot held fitting is = sym (ap (λ (s : State). s.slots slot) (loaded-end image (counts-are image fitting))) ∙ is
 
-pub capability-shown : (image : Image) (slot : ℕ) (held : Entry) → (described image).slots slot ≡ Some held → capability_at (described image).slots slot ≡ held.capability
+pub capability-shown : (image : Image) (slot : ℕ) (held : Entry) → (described image).slots slot ≡ Some held →
+    capability_at (described image).slots slot ≡ held.capability
 capability-shown image slot held is = ap (λ (o : Option Entry). option_map_or (λ e. e.capability) o Empty) is
 
 pub parent-shown : (image : Image) (slot : ℕ) (held : Entry) → (described image).slots slot ≡ Some held → parent_at (described image).slots slot ≡ held.parent
@@ -58,12 +61,14 @@ module _ (image : Image) (fits : whole_image.fits image ≡ true) (well : IsWell
   pub listed-shown : (k : ℕ) (c : CapabilityEntry) → slice_get image.capabilities k ≡ Some c
       → (described image).slots (cnode_slot image c.cnode c.index) ≡ Some (entry (listed_capability image c) (Some (listed_parent image c)))
   listed-shown k c at =
-      let less : k < image.header.capabilities = subst (λ (n : ℕ). k < n) (IsFitting.capabilities (is-fitting image fits)) (slice_get_within image.capabilities k c at) in
+      let less : k < image.header.capabilities = subst (λ (n : ℕ). k < n) (IsFitting.capabilities (is-fitting image fits))
+      (slice_get_within image.capabilities k c at) in
       from-loaded image (cnode_slot image c.cnode c.index) _ (is-fitting image fits)
       (reads-listed image (is-fitting image fits) (are-formed image well) (all_loaded image) (all-within image) refl k c less at)
 
   pub root-shown : (k : ℕ) (t : Thread) → slice_get image.threads k ≡ Some t
-      → (described image).slots (cspace_slot (offset_of image t.header.tcb)) ≡ Some (entry (with_payload (original image t.header.cnode) t.header.guard) (Some (original_slot image t.header.cnode)))
+      → (described image).slots (cspace_slot (offset_of image t.header.tcb)) ≡ Some
+      (entry (with_payload (original image t.header.cnode) t.header.guard) (Some (original_slot image t.header.cnode)))
   root-shown k t at =
       let less : k < image.header.threads = subst (λ (n : ℕ). k < n) (IsFitting.threads (is-fitting image fits)) (slice_get_within image.threads k t at) in
       from-loaded image (cspace_slot (offset_of image t.header.tcb)) _ (is-fitting image fits)

@@ -1,5 +1,6 @@
 -- What is true of each full slot that an image describes, section by section.
-use Rattle.std.proofs.Common.{ℕ, zero, suc, ◌≡◌, ◌∙◌, ◌⊎◌, ◌+◌, ◌<◌, inl, inr, Bool, true, false, not, if◌then◌else◌, cond, Some, None, List, [], ◌∷◌, ◌++◌, map, filter, refl, sym, subst, arith}
+use Rattle.std.proofs.Common.{ℕ, zero, suc, ◌≡◌, ◌∙◌, ◌⊎◌, ◌+◌, ◌<◌, inl, inr, Bool, true, false, not, if◌then◌else◌, cond, Some, None, List, [], ◌∷◌, ◌++◌}
+use Rattle.std.proofs.Common.{map, filter, refl, sym, subst, arith}
 use Rattle.std.specs.Prelude.{flat_map, slice_get}
 use Rattle.std.specs.Option.{option_map_or, option_or}
 use Rattle.std.specs.List.{range_with_len}
@@ -13,7 +14,9 @@ use Rattle.model.specs.declared.entries.InterruptEntry.{InterruptEntry}
 use Rattle.model.specs.declared.entries.UntypedEntry.{UntypedEntry}
 use Rattle.model.specs.declared.slot_entries.Entry.{Entry}
 use Rattle.model.specs.Capabilities.Slots.{empty_entry}
-use Rattle.model.specs.Images.Described.{Holding, binding_holding, boot_holdings, described, frame_holding, handler_holding, held_in, holding, holdings, is_listed_pool, is_open_slot, listed_holding, notification_holding, numbered, original_holding, originals, thread_holdings, untyped_holding}
+use Rattle.model.specs.Images.Described.{Holding, binding_holding, boot_holdings, described, frame_holding, handler_holding, held_in, holding, holdings}
+use Rattle.model.specs.Images.Described.{is_listed_pool, is_open_slot, listed_holding, notification_holding, numbered, original_holding, originals}
+use Rattle.model.specs.Images.Described.{thread_holdings, untyped_holding}
 use Rattle.model.specs.Images.Image.{Image, Thread}
 use Rattle.model.specs.Images.Places.{control_slot}
 
@@ -44,11 +47,13 @@ module _ (P : ℕ → Entry → Type 0) where
   each-mapped g [] each = each-none
   each-mapped g (y ∷ ys) each = each-more (g y) (map g ys) (each 0 y refl) (each-mapped g ys (λ j z at. each (suc j) z at))
 
-  each-range : (g : ℕ → Holding) (keeps : ℕ → Bool) (first count : ℕ) → ((n : ℕ) → n < first + count → Is (g n)) → Each (map g (filter keeps (range_with_len first count)))
+  each-range : (g : ℕ → Holding) (keeps : ℕ → Bool) (first count : ℕ) → ((n : ℕ) → n < first + count → Is (g n)) →
+      Each (map g (filter keeps (range_with_len first count)))
   each-range g keeps first zero each = each-none
   each-range g keeps first (suc count) each =
       let rest = each-range g keeps (first + 1) count (λ n less. each n (omega (arith, less))) in
-      elim (keeps first) as (λ b. Each (map g (cond b (first ∷ filter keeps (range_with_len (first + 1) count)) (filter keeps (range_with_len (first + 1) count))))) [
+      elim (keeps first) as (λ b.
+      Each (map g (cond b (first ∷ filter keeps (range_with_len (first + 1) count)) (filter keeps (range_with_len (first + 1) count))))) [
         | true ↦ each-more (g first) (map g (filter keeps (range_with_len (first + 1) count))) (each first (omega arith)) rest
         | false ↦ rest
       ]
@@ -87,7 +92,8 @@ module _ (P : ℕ → Entry → Type 0) where
       each-both _ threads (each-both _ listed (each-both _ bindings (each-both _ signals (each-both _ frames (each-both _ handlers (each-both _ control
       (each-both (map (untyped_holding image) (numbered image.untypeds)) (originals image)
       (each-numbered (untyped_holding image) image.untypeds of.untyped)
-      (each-range (original_holding image) (λ number. not (is_listed_pool image number)) 0 image.header.objects (λ n less. of.original n (omega (arith, less)))))
+      (each-range (original_holding image) (λ number. not (is_listed_pool image number)) 0 image.header.objects
+      (λ n less. of.original n (omega (arith, less)))))
       (each-more _ [] of.control each-none))
       (each-numbered (handler_holding image) image.interrupts of.handler))
       (each-numbered (frame_holding image) image.frames of.frame))
@@ -103,10 +109,12 @@ module _ (P : ℕ → Entry → Type 0) where
   pub each-slot : (image : Image) → OfSections image → (slot : ℕ) (held : Entry) → (described image).slots slot ≡ Some held → (held ≡ empty_entry) ⊎ P slot held
   unfolding described
   each-slot image of slot held is =
-      elim (is_open_slot image slot) as (λ b. (if b then Some (option_map_or (λ e. e) (held_in (holdings image) slot) empty_entry) else None) ≡ Some held → (held ≡ empty_entry) ⊎ P slot held) [
+      elim (is_open_slot image slot) as (λ b. (if b then Some (option_map_or (λ e. e) (held_in (holdings image) slot) empty_entry) else None) ≡ Some held →
+      (held ≡ empty_entry) ⊎ P slot held) [
         | false ↦ λ clash. absurd (none-some held clash)
-        | true ↦ λ there. elim (held_in (holdings image) slot) as (λ o. held_in (holdings image) slot ≡ o → Some (option_map_or (λ e. e) o empty_entry) ≡ Some held → (held ≡ empty_entry) ⊎ P slot held) [
-          | None ↦ λ _ same. inl (sym (same_Some empty_entry held same))
-          | Some e ↦ λ found same. inr (subst (λ (x : Entry). P slot x) (same_Some e held same) (each-holding image of slot e found))
-        ] refl there
+        | true ↦ λ there. elim (held_in (holdings image) slot) as (λ o. held_in (holdings image) slot ≡ o →
+            Some (option_map_or (λ e. e) o empty_entry) ≡ Some held → (held ≡ empty_entry) ⊎ P slot held) [
+              | None ↦ λ _ same. inl (sym (same_Some empty_entry held same))
+              | Some e ↦ λ found same. inr (subst (λ (x : Entry). P slot x) (same_Some e held same) (each-holding image of slot e found))
+            ] refl there
       ] is

@@ -1,5 +1,6 @@
 -- What a thread of a well-formed image reaches are CNodes of the image.
-use Rattle.std.proofs.Common.{ℕ, zero, suc, ◌≡◌, ◌∙◌, ◌<◌, ◌≤◌, ◌||◌, inl, inr, Bool, true, false, Option, Some, None, List, [], ◌∷◌, length, get_or, refl, sym, ap, arith}
+use Rattle.std.proofs.Common.{ℕ, zero, suc, ◌≡◌, ◌∙◌, ◌<◌, ◌≤◌, ◌||◌, inl, inr, Bool, true, false, Option, Some, None, List, [], ◌∷◌, length, get_or, refl, sym}
+use Rattle.std.proofs.Common.{ap, arith}
 use Rattle.std.specs.Prelude.{is_some, nat_eq, slice_get}
 use Rattle.std.specs.Option.{option_map_or}
 use Rattle.std.proofs.lemmas.Bool.{cases_lt, eq-eqb, leb-true}
@@ -13,7 +14,8 @@ use Rattle.model.specs.Acceptance.WellFormed.{radix_of}
 use Rattle.model.specs.Capabilities.CapabilityKinds.{is_guard_word}
 use Rattle.model.specs.Images.Image.{Image, Thread, whole_image}
 use Rattle.model.specs.Images.Places.{type_at}
-use Rattle.model.specs.Kernel.Retype.{NewObject, NewUntyped, NewThread, NewEndpoint, NewNotification, NewCNode, NewFrame, NewPageTable, NewRootTable, is_large_enough, is_small_enough, type_of}
+use Rattle.model.specs.Kernel.Retype.{NewObject, NewUntyped, NewThread, NewEndpoint, NewNotification, NewCNode, NewFrame, NewPageTable, NewRootTable}
+use Rattle.model.specs.Kernel.Retype.{is_large_enough, is_small_enough, type_of}
 use Rattle.model.specs.declared.entries.ObjectEntry.{ObjectEntry}
 use Rattle.thread_spaces.specs.Given.{IsCNode, IsListed}
 use Rattle.thread_spaces.proofs.Rounds.{IsRadixed, reached-radixed}
@@ -68,7 +70,8 @@ radixed-cnode image number fitting is =
 
 -- ---- a thread's
 
-guarded-radixed : (kind : Option NewObject) (guard : ℕ) → option_map_or (λ radix. is_guard_word radix guard) (radix_of kind) false ≡ true → is_some (radix_of kind) ≡ true
+guarded-radixed : (kind : Option NewObject) (guard : ℕ) → option_map_or (λ radix. is_guard_word radix guard) (radix_of kind) false ≡ true →
+    is_some (radix_of kind) ≡ true
 guarded-radixed kind guard is = elim (radix_of kind) as (λ r. option_map_or (λ radix. is_guard_word radix guard) r false ≡ true → is_some r ≡ true) [
   | None ↦ λ clash. clash
   | Some radix ↦ λ _. refl
@@ -79,8 +82,10 @@ root-radixed image t formed listed =
     let kept = formed.thread listed.number t listed.listed in
     guarded-radixed (type_at image t.header.cnode) t.header.guard kept.guard
 
-pub reached-cnode : (image : Image) (t : Thread) → IsFitting image → AreFormed image → IsListed image t → (number : ℕ) → is_member number (reached image t) ≡ true → IsCNode image number
-reached-cnode image t fitting formed listed number there = radixed-cnode image number fitting (reached-radixed image t (root-radixed image t formed listed) number there)
+pub reached-cnode : (image : Image) (t : Thread) → IsFitting image → AreFormed image → IsListed image t → (number : ℕ) →
+    is_member number (reached image t) ≡ true → IsCNode image number
+reached-cnode image t fitting formed listed number there = radixed-cnode image number fitting
+    (reached-radixed image t (root-radixed image t formed listed) number there)
 
 member-at : (numbers : List ℕ) (place number : ℕ) → slice_get numbers place ≡ Some number → is_member number numbers ≡ true
 member-at [] place number at = absurd (none-some number at)
@@ -91,7 +96,9 @@ member-at (x ∷ rest) (suc place) number at = or-second (nat_eq number x) (is_m
     or-second true b is = refl
     or-second false b is = is
 
-pub cnode-at : (image : Image) (t : Thread) (place number : ℕ) (cnodes : List ℕ) → whole_image.fits image ≡ true → IsWellFormed image → IsListed image t → cnodes ≡ reached image t
+pub cnode-at : (image : Image) (t : Thread) (place number : ℕ) (cnodes : List ℕ) → whole_image.fits image ≡ true → IsWellFormed image → IsListed image t →
+    cnodes ≡ reached image t
     → slice_get cnodes place ≡ Some number → IsCNode image number
 cnode-at image t place number cnodes fits formed listed same at =
-    reached-cnode image t (is-fitting image fits) (are-formed image formed) listed number (member-at (reached image t) place number (ap (λ (xs : List ℕ). slice_get xs place) (sym same) ∙ at))
+    reached-cnode image t (is-fitting image fits) (are-formed image formed) listed number
+    (member-at (reached image t) place number (ap (λ (xs : List ℕ). slice_get xs place) (sym same) ∙ at))

@@ -30,12 +30,14 @@ module _ (image : Image) (number : ℕ) where
   ] there
 
   stays-one : (found : List ℕ) (c : CapabilityEntry) → is_member number found ≡ true → is_member number (with_named image found c) ≡ true
-  stays-one found c there = elim (is_member c.cnode found && is_cnode_source image c.source && not (is_member c.source found)) as (λ b. is_member number (if b then found ++ c.source ∷ [] else found) ≡ true) [
-    | true ↦ stays-behind found c.source there
-    | false ↦ there
-  ]
+  stays-one found c there = elim (is_member c.cnode found && is_cnode_source image c.source && not (is_member c.source found))
+      as (λ b. is_member number (if b then found ++ c.source ∷ [] else found) ≡ true) [
+        | true ↦ stays-behind found c.source there
+        | false ↦ there
+      ]
 
-  stays-all : (capabilities : List CapabilityEntry) (found : List ℕ) → is_member number found ≡ true → is_member number (fold (with_named image) found capabilities) ≡ true
+  stays-all : (capabilities : List CapabilityEntry) (found : List ℕ) → is_member number found ≡ true →
+      is_member number (fold (with_named image) found capabilities) ≡ true
   stays-all [] found there = there
   stays-all (c ∷ rest) found there = stays-all rest (with_named image found c) (stays-one found c there)
 
@@ -51,10 +53,11 @@ root-reached image t =
 
 pub member-any : (test : ℕ → Bool) (numbers : List ℕ) (number : ℕ) → is_member number numbers ≡ true → test number ≡ true → list_any test numbers ≡ true
 member-any test [] number there is = absurd (let clash : false ≡ true = there in cc)
-member-any test (x ∷ rest) number there is = elim (nat_eq number x) as (λ b. nat_eq number x ≡ b → (b || is_member number rest) ≡ true → (test x || list_any test rest) ≡ true) [
-  | true ↦ λ same _. ap (λ b. b || list_any test rest) (ap test (sym (eqb-true number x same)) ∙ is)
-  | false ↦ λ _ later. or-second (test x) (list_any test rest) (member-any test rest number later is)
-] refl there
+member-any test (x ∷ rest) number there is = elim (nat_eq number x)
+    as (λ b. nat_eq number x ≡ b → (b || is_member number rest) ≡ true → (test x || list_any test rest) ≡ true) [
+      | true ↦ λ same _. ap (λ b. b || list_any test rest) (ap test (sym (eqb-true number x same)) ∙ is)
+      | false ↦ λ _ later. or-second (test x) (list_any test rest) (member-any test rest number later is)
+    ] refl there
   where
     or-second : (a b : Bool) → b ≡ true → (a || b) ≡ true
     or-second true b is = refl
@@ -67,12 +70,16 @@ pub root-is : (image : Image) (t : Thread) (radix offset : ℕ) → radix_of (ty
 root-is image t radix offset is place =
     let kind = cnode-type (type_at image t.header.cnode) radix is in
     ap (λ (n : ℕ). CNode n radix t.header.guard) place
-    ∙ sym (ap (λ (c : Cap). with_payload c t.header.guard) (original-plain image t.header.cnode (ap is_table_type kind) ∙ ap (λ (k : Option NewObject). first_of_type k (offset_of image t.header.cnode)) kind))
+    ∙ sym (ap (λ (c : Cap). with_payload c t.header.guard) (original-plain image t.header.cnode (ap is_table_type kind)
+    ∙ ap (λ (k : Option NewObject). first_of_type k (offset_of image t.header.cnode)) kind))
 
-pub root-inside : (image : Image) (t : Thread) (radix : ℕ) → radix_of (type_at image t.header.cnode) ≡ Some radix → is_inside image t (noted_root image t) ≡ true
+pub root-inside : (image : Image) (t : Thread) (radix : ℕ) → radix_of (type_at image t.header.cnode) ≡ Some radix →
+    is_inside image t (noted_root image t) ≡ true
 root-inside image t radix is =
     let own : is_own_cnode image (reached image t) (offset_of image t.header.cnode) radix ≡ true =
-    member-any (λ c. (offset_of image c == offset_of image t.header.cnode) && option_map_or (λ own. own == radix) (radix_of (type_at image c)) false) (reached image t) t.header.cnode (root-reached image t)
-    (ap (λ b. b && option_map_or (λ own. own == radix) (radix_of (type_at image t.header.cnode)) false) (eq-eqb (offset_of image t.header.cnode) (offset_of image t.header.cnode) refl)
+    member-any (λ c. (offset_of image c == offset_of image t.header.cnode) && option_map_or (λ own. own == radix) (radix_of (type_at image c)) false)
+    (reached image t) t.header.cnode (root-reached image t)
+    (ap (λ b. b && option_map_or (λ own. own == radix) (radix_of (type_at image t.header.cnode)) false)
+    (eq-eqb (offset_of image t.header.cnode) (offset_of image t.header.cnode) refl)
     ∙ ap (λ (r : Option ℕ). option_map_or (λ own. own == radix) r false) is ∙ eq-eqb radix radix refl) in
     ap (is_among (is_own_cnode image (reached image t))) (sym (root-is image t radix (offset_of image t.header.cnode) is refl)) ∙ own

@@ -31,7 +31,8 @@ module _ (image : Image) (fits : whole_image.fits image ≡ true) (well : IsWell
 
   handler-held : (k : ℕ) (i : InterruptEntry) → slice_get image.interrupts k ≡ Some i → i.line ≡ line → HeldInBoot image (is_handler_of line)
   handler-held k i at same =
-      let less : k < image.header.interrupts = subst (λ (n : ℕ). k < n) (IsFitting.interrupts (is-fitting image fits)) (slice_get_within image.interrupts k i at) in
+      let less : k < image.header.interrupts = subst (λ (n : ℕ). k < n) (IsFitting.interrupts (is-fitting image fits))
+      (slice_get_within image.interrupts k i at) in
       let shown = from-loaded image (handler_slot image k) _ (is-fitting image fits) (ReadsBoot.handler (boot-holds image fits well) k i less at) in
       record {
         slot = handler_slot image k;
@@ -42,18 +43,23 @@ module _ (image : Image) (fits : whole_image.fits image ≡ true) (well : IsWell
   are-bound : OfSections IsBound image
   are-bound = record {
     untyped = λ k u at same.
-        absurd (let less : k < image.header.untypeds = subst (λ (n : ℕ). k < n) (IsFitting.untypeds (is-fitting image fits)) (slice_get_within image.untypeds k u at) in omega (arith, less, same, enough));
+        absurd (let less : k < image.header.untypeds = subst (λ (n : ℕ). k < n) (IsFitting.untypeds (is-fitting image fits))
+        (slice_get_within image.untypeds k u at) in omega (arith, less, same, enough));
     original = λ number less same. absurd (omega (arith, less, same, enough));
     control = λ same. absurd (omega (arith, same, enough));
     handler = λ k i at same.
-        absurd (let less : k < image.header.interrupts = subst (λ (n : ℕ). k < n) (IsFitting.interrupts (is-fitting image fits)) (slice_get_within image.interrupts k i at) in omega (arith, less, same, enough));
+        absurd (let less : k < image.header.interrupts = subst (λ (n : ℕ). k < n) (IsFitting.interrupts (is-fitting image fits))
+        (slice_get_within image.interrupts k i at) in omega (arith, less, same, enough));
     frame = λ k f at same.
-        absurd (let less : k < image.header.frames = subst (λ (n : ℕ). k < n) (IsFitting.frames (is-fitting image fits)) (slice_get_within image.frames k f at) in omega (arith, less, same, enough));
+        absurd (let less : k < image.header.frames = subst (λ (n : ℕ). k < n) (IsFitting.frames (is-fitting image fits))
+        (slice_get_within image.frames k f at) in omega (arith, less, same, enough));
     notification = λ k i at same.
-        absurd (let less : k < image.header.interrupts = subst (λ (n : ℕ). k < n) (IsFitting.interrupts (is-fitting image fits)) (slice_get_within image.interrupts k i at) in omega (arith, less, same, enough));
+        absurd (let less : k < image.header.interrupts = subst (λ (n : ℕ). k < n) (IsFitting.interrupts (is-fitting image fits))
+        (slice_get_within image.interrupts k i at) in omega (arith, less, same, enough));
     binding = λ k i at same. handler-held k i at (omega (arith, same));
     listed = λ k c at same.
-        absurd (let behind = listed-behind image (is-fitting image fits) (are-formed image well) (all_loaded image) (all-within image) k c at in omega (arith, behind, same, real));
+        absurd (let behind = listed-behind image (is-fitting image fits) (are-formed image well) (all_loaded image) (all-within image) k c at in
+        omega (arith, behind, same, real));
     thread = λ k t at.
         let behind = thread-behind image (is-fitting image fits) (are-formed image well) (all_loaded image) (all-within image) k t at in
         each-two IsBound _ _ (λ same. absurd (omega (arith, behind, same, real))) (λ same. absurd (omega (arith, behind, same, real)));

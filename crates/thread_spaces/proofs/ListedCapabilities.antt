@@ -24,7 +24,8 @@ use Rattle.model.specs.Images.Places.{interrupt_of, object_at, offset_of, type_a
 use Rattle.model.specs.Kernel.Retype.{NewObject, NewUntyped, NewThread, NewEndpoint, NewNotification, NewCNode, NewFrame, NewPageTable, NewRootTable, type_of}
 use Rattle.thread_spaces.specs.Given.{IsEntry}
 
-unmoved : (image : Image) (found : Option TableEntry) (kind : Option NewObject) (offset : ℕ) → is_table_type kind ≡ false → mapped_by image found (first_of_type kind offset) ≡ first_of_type kind offset
+unmoved : (image : Image) (found : Option TableEntry) (kind : Option NewObject) (offset : ℕ) → is_table_type kind ≡ false →
+    mapped_by image found (first_of_type kind offset) ≡ first_of_type kind offset
 unmoved image None kind offset plain = refl
 unmoved image (Some t) None offset plain = refl
 unmoved image (Some t) (Some (NewUntyped bits)) offset plain = refl
@@ -36,14 +37,16 @@ unmoved image (Some t) (Some NewFrame) offset plain = refl
 unmoved image (Some t) (Some NewPageTable) offset plain = absurd (let no : true ≡ false = plain in cc)
 unmoved image (Some t) (Some NewRootTable) offset plain = refl
 
-pub original-plain : (image : Image) (number : ℕ) → is_table_type (type_at image number) ≡ false → original image number ≡ first_of_type (type_at image number) (offset_of image number)
+pub original-plain : (image : Image) (number : ℕ) → is_table_type (type_at image number) ≡ false →
+    original image number ≡ first_of_type (type_at image number) (offset_of image number)
 original-plain image number plain = unmoved image (find (λ t. t.table == number) image.tables) (type_at image number) (offset_of image number) plain
 
 -- ---- an object's number, or a handler's
 
 object-source : (image : Image) (c : CapabilityEntry) → c.source < image.header.objects → source_capability image c.source ≡ original image c.source
 object-source image c less =
-    ap (λ b. if b then option_map_or (λ i. InterruptHandler i.line) (slice_get image.interrupts (interrupt_of image c.source)) Empty else original image c.source) (lt-leb image.header.objects c.source less)
+    ap (λ b. if b then option_map_or (λ i. InterruptHandler i.line) (slice_get image.interrupts (interrupt_of image c.source)) Empty else
+    original image c.source) (lt-leb image.header.objects c.source less)
 
 source-kind : (image : Image) (source : ℕ) → source < image.header.objects → source_type image source ≡ type_at image source
 source-kind image source less = ap (λ b. if b then None else type_at image source) (lt-leb image.header.objects source less)
@@ -79,7 +82,8 @@ module _ (image : Image) (c : CapabilityEntry) (fits : whole_image.fits image �
 
   -- ---- what is listed
 
-  pub listed-object : (o : ObjectEntry) (offset : ℕ) → c.source < image.header.objects → slice_get image.objects c.source ≡ Some o → offset ≡ offset_of image c.source
+  pub listed-object : (o : ObjectEntry) (offset : ℕ) → c.source < image.header.objects → slice_get image.objects c.source ≡ Some o →
+      offset ≡ offset_of image c.source
       → limited (first_of_type (type_of o.kind o.size) offset) c.rights c.payload ≡ listed_capability image c
   listed-object o offset less at place =
       let same : object_at image c.source ≡ o = get_or_from_slice_get image.objects c.source o _ at in
@@ -89,8 +93,10 @@ module _ (image : Image) (c : CapabilityEntry) (fits : whole_image.fits image �
       ∙ ap (λ (x : ObjectEntry). limited (first_of_type (type_of x.kind x.size) (offset_of image c.source)) c.rights c.payload) (sym same)
       ∙ ap (λ (held : Cap). limited held c.rights c.payload) (sym (object-source image c less ∙ original-plain image c.source plain))
 
-pub listed-handler : (image : Image) (c : CapabilityEntry) (i : InterruptEntry) → image.header.objects ≤ c.source → slice_get image.interrupts (c.source - image.header.objects) ≡ Some i
+pub listed-handler : (image : Image) (c : CapabilityEntry) (i : InterruptEntry) → image.header.objects ≤ c.source →
+    slice_get image.interrupts (c.source - image.header.objects) ≡ Some i
     → InterruptHandler i.line ≡ listed_capability image c
 listed-handler image c i most at =
-    sym (ap (λ b. limited (if b then option_map_or (λ (e : InterruptEntry). InterruptHandler e.line) (slice_get image.interrupts (interrupt_of image c.source)) Empty else original image c.source) c.rights c.payload) (le-leb image.header.objects c.source most)
+    sym (ap (λ b. limited (if b then option_map_or (λ (e : InterruptEntry). InterruptHandler e.line) (slice_get image.interrupts (interrupt_of image c.source))
+    Empty else original image c.source) c.rights c.payload) (le-leb image.header.objects c.source most)
     ∙ ap (λ (found : Option InterruptEntry). limited (option_map_or (λ e. InterruptHandler e.line) found Empty) c.rights c.payload) at)

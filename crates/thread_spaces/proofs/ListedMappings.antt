@@ -1,5 +1,6 @@
 -- Outside of a thread's CNodes those pages and regions are mapped under its root table that the image lists.
-use Rattle.std.proofs.Common.{ℕ, zero, suc, ◌≡◌, ◌∙◌, ◌==◌, ◌/◌, ◌^◌, ◌<◌, ◌≤◌, inl, inr, Bool, true, false, ◌&&◌, ◌||◌, if◌then◌else◌, find, take, Option, Some, None, List, [], ◌∷◌, refl, sym, ap, subst, arith}
+use Rattle.std.proofs.Common.{ℕ, zero, suc, ◌≡◌, ◌∙◌, ◌==◌, ◌/◌, ◌^◌, ◌<◌, ◌≤◌, inl, inr, Bool, true, false, ◌&&◌, ◌||◌, if◌then◌else◌, find, take, Option}
+use Rattle.std.proofs.Common.{Some, None, List, [], ◌∷◌, refl, sym, ap, subst, arith}
 use Rattle.std.specs.Prelude.{is_none, is_some, slice_get}
 use Rattle.std.specs.Option.{option_map_or}
 use Rattle.std.specs.List.{list_any, range_with_len}
@@ -8,9 +9,11 @@ use Rattle.std.proofs.lemmas.Option.{none-some, same_Some, slice_get_within}
 use Rattle.format_laws.specs.Fitting.{FrameFits, IsFitting, TableFits, ThreadFits}
 use Rattle.format_laws.proofs.Laws.{is-fitting}
 use Rattle.soundness.specs.boot_laws.Loading.{all_loaded, is_moved, original_so_far}
-use Rattle.soundness.proofs.Laws.{AreFormed, CapabilityKept, CountsAreLengths, ReadsBoot, TableKept, ThreadKept, are-formed, boot-slots-suffice, counts-are, first_of_type, limited-frame, limited-table, mapped_by, offsets-apart, original-untyped, range-from}
+use Rattle.soundness.proofs.Laws.{AreFormed, CapabilityKept, CountsAreLengths, ReadsBoot, TableKept, ThreadKept, are-formed, boot-slots-suffice, counts-are}
+use Rattle.soundness.proofs.Laws.{first_of_type, limited-frame, limited-table, mapped_by, offsets-apart, original-untyped, range-from}
 use Rattle.model.specs.declared.capabilities.Cap.{Cap}
-use Rattle.model.specs.declared.capabilities.Cap.TheVariants.{Empty, Untyped, Endpoint, Notification, CNode, Frame, PageTable, Tcb, RootTable, InterruptControl, InterruptHandler}
+use Rattle.model.specs.declared.capabilities.Cap.TheVariants.{Empty, Untyped, Endpoint, Notification, CNode, Frame, PageTable, Tcb, RootTable, InterruptControl}
+use Rattle.model.specs.declared.capabilities.Cap.TheVariants.{InterruptHandler}
 use Rattle.model.specs.declared.entries.CapabilityEntry.{CapabilityEntry}
 use Rattle.model.specs.declared.entries.InterruptEntry.{InterruptEntry}
 use Rattle.model.specs.declared.entries.TableEntry.{TableEntry}
@@ -21,7 +24,8 @@ use Rattle.model.specs.Acceptance.ThreadRules.{reached}
 use Rattle.model.specs.Acceptance.WellFormed.{is_root_type, is_table_type, is_untyped_type, radix_of}
 use Rattle.model.specs.Capabilities.CapabilityKinds.{frame_mapping, table_mapping, with_payload}
 use Rattle.model.specs.Capabilities.Slots.{capability_at}
-use Rattle.model.specs.Images.Described.{binding_holding, described, frame_holding, handler_holding, listed_capability, notification_holding, original, source_capability, untyped_holding}
+use Rattle.model.specs.Images.Described.{binding_holding, described, frame_holding, handler_holding, listed_capability, notification_holding, original}
+use Rattle.model.specs.Images.Described.{source_capability, untyped_holding}
 use Rattle.model.specs.Images.Image.{Image, Thread, whole_image}
 use Rattle.model.specs.Images.Places.{boot_slots, frame_copy_slot, interrupt_of, is_handler, offset_of, original_slot, type_at}
 use Rattle.model.specs.Kernel.AddressSpaces.{maps_page, maps_region, page_size, region_pages}
@@ -56,13 +60,16 @@ some-passed test (y ∷ ys) some = elim (or_cases (test y) (list_any test ys) so
 
 any-number : (test : ℕ → Bool) (bits n : ℕ) → n < 2 ^ bits / 16 → test n ≡ true → list_any test (slot_numbers bits) ≡ true
 unfolding slot_numbers
-any-number test bits n less is = any-at test (range_with_len 0 (2 ^ bits / 16)) n n (range-from 0 (2 ^ bits / 16) n less ∙ ap (λ (m : ℕ). Some m) (omega arith)) is
+any-number test bits n less is = any-at test (range_with_len 0 (2 ^ bits / 16)) n n (range-from 0 (2 ^ bits / 16) n less ∙ ap (λ (m : ℕ). Some m) (omega arith))
+    is
 
-pub find-at : {A : Type 0} (test : A → Bool) (xs : List A) (k : ℕ) (x : A) → slice_get xs k ≡ Some x → list_any test (take k xs) ≡ false → test x ≡ true → find test xs ≡ Some x
+pub find-at : {A : Type 0} (test : A → Bool) (xs : List A) (k : ℕ) (x : A) → slice_get xs k ≡ Some x → list_any test (take k xs) ≡ false → test x ≡ true →
+    find test xs ≡ Some x
 find-at test [] k x at none is = absurd (none-some x at)
 find-at test (y ∷ ys) zero x at none is = ap (λ b. if b then Some y else find test ys) (ap test (same_Some y x at) ∙ is) ∙ at
 find-at test (y ∷ ys) (suc k) x at none is =
-    ap (λ b. if b then Some y else find test ys) (first-none (test y) (list_any test (take k ys)) none) ∙ find-at test ys k x at (rest-none (test y) (list_any test (take k ys)) none) is
+    ap (λ b. if b then Some y else find test ys) (first-none (test y) (list_any test (take k ys)) none)
+    ∙ find-at test ys k x at (rest-none (test y) (list_any test (take k ys)) none) is
   where
     first-none : (a b : Bool) → (a || b) ≡ false → a ≡ false
     first-none true b clash = clash
@@ -74,7 +81,8 @@ find-at test (y ∷ ys) (suc k) x at none is =
 
 -- ---- what capabilities map
 
-no-frame : (image : Image) (found : Option TableEntry) (kind : Option NewObject) (offset : ℕ) → frame_mapping (mapped_by image found (first_of_type kind offset)) ≡ None
+no-frame : (image : Image) (found : Option TableEntry) (kind : Option NewObject) (offset : ℕ) →
+    frame_mapping (mapped_by image found (first_of_type kind offset)) ≡ None
 no-frame image None None offset = refl
 no-frame image (Some e) None offset = refl
 no-frame image None (Some (NewUntyped bits)) offset = refl
@@ -94,7 +102,8 @@ no-frame image (Some e) (Some NewPageTable) offset = refl
 no-frame image None (Some NewRootTable) offset = refl
 no-frame image (Some e) (Some NewRootTable) offset = refl
 
-no-table : (image : Image) (found : Option TableEntry) (kind : Option NewObject) (offset : ℕ) → is_table_type kind ≡ false → table_mapping (mapped_by image found (first_of_type kind offset)) ≡ None
+no-table : (image : Image) (found : Option TableEntry) (kind : Option NewObject) (offset : ℕ) → is_table_type kind ≡ false →
+    table_mapping (mapped_by image found (first_of_type kind offset)) ≡ None
 no-table image None None offset plain = refl
 no-table image (Some e) None offset plain = refl
 no-table image None (Some (NewUntyped bits)) offset plain = refl
@@ -139,7 +148,8 @@ payload-table (RootTable _) payload = refl
 payload-table InterruptControl payload = refl
 payload-table (InterruptHandler _) payload = refl
 
-handler-plain : (found : Option InterruptEntry) → (frame_mapping (option_map_or (λ (i : InterruptEntry). InterruptHandler i.line) found Empty) ≡ None) × (table_mapping (option_map_or (λ (i : InterruptEntry). InterruptHandler i.line) found Empty) ≡ None)
+handler-plain : (found : Option InterruptEntry) → (frame_mapping (option_map_or (λ (i : InterruptEntry). InterruptHandler i.line) found Empty) ≡ None)
+    × (table_mapping (option_map_or (λ (i : InterruptEntry). InterruptHandler i.line) found Empty) ≡ None)
 handler-plain None = (refl, refl)
 handler-plain (Some i) = (refl, refl)
 
@@ -193,7 +203,8 @@ module _ (image : Image) (t : Thread) (fits : whole_image.fits image ≡ true) (
   -- the root table of an entry is the thread's where their offsets are the same
   same-root : (number : ℕ) → number < image.header.objects → (offset_of image number == offset_of image t.header.root) ≡ true → (number == t.header.root) ≡ true
   same-root number less same =
-      eq-eqb number t.header.root (offsets-apart image number t.header.root (is-fitting image fits) (are-formed image well) less root-less (eqb-true (offset_of image number) (offset_of image t.header.root) same))
+      eq-eqb number t.header.root (offsets-apart image number t.header.root (is-fitting image fits) (are-formed image well) less root-less
+      (eqb-true (offset_of image number) (offset_of image t.header.root) same))
 
   root-same : (number : ℕ) → (number == t.header.root) ≡ true → (offset_of image number == offset_of image t.header.root) ≡ true
   root-same number same = eq-eqb (offset_of image number) (offset_of image t.header.root) (ap (offset_of image) (eqb-true number t.header.root same))
@@ -220,7 +231,9 @@ module _ (image : Image) (t : Thread) (fits : whole_image.fits image ≡ true) (
     listed-no-frame : (c : CapabilityEntry) → frame_mapping (listed_capability image c) ≡ None
     listed-no-frame c =
         limited-frame (source_capability image c.source) c.rights c.payload
-        ∙ elim (is_handler image c.source) as (λ b. frame_mapping (if b then option_map_or (λ (i : InterruptEntry). InterruptHandler i.line) (slice_get image.interrupts (interrupt_of image c.source)) Empty else original image c.source) ≡ None) [
+        ∙ elim (is_handler image c.source)
+        as (λ b. frame_mapping (if b then option_map_or (λ (i : InterruptEntry). InterruptHandler i.line)
+        (slice_get image.interrupts (interrupt_of image c.source)) Empty else original image c.source) ≡ None) [
           | true ↦ (handler-plain (slice_get image.interrupts (interrupt_of image c.source))).0
           | false ↦ original-no-frame c.source
         ]
@@ -234,12 +247,14 @@ module _ (image : Image) (t : Thread) (fits : whole_image.fits image ≡ true) (
       frame = λ k f at is.
           let parts = and_parts (offset_of image f.root == root) (f.address / page_size == page) is in
           any-at (lists_page t page) image.frames k f at
-          (both (f.root == t.header.root) (f.address / page_size == page) (same-root f.root (FrameFits.root (IsFitting.frame (is-fitting image fits) k f at)) parts.0) parts.1);
+          (both (f.root == t.header.root) (f.address / page_size == page)
+          (same-root f.root (FrameFits.root (IsFitting.frame (is-fitting image fits) k f at)) parts.0) parts.1);
       notification = λ k i at. no-page (((notification_holding image (k, i)).1).capability) refl;
       binding = λ k i at. no-page (((binding_holding image (k, i)).1).capability) refl;
       listed = λ k c at. no-page (listed_capability image c) (listed-no-frame c);
       thread = λ k u at. each-two PageListed _ _
-          (no-page (with_payload (original image u.header.cnode) u.header.guard) (payload-frame (original image u.header.cnode) u.header.guard ∙ original-no-frame u.header.cnode))
+          (no-page (with_payload (original image u.header.cnode) u.header.guard)
+          (payload-frame (original image u.header.cnode) u.header.guard ∙ original-no-frame u.header.cnode))
           (no-page (original image u.header.root) (original-no-frame u.header.root));
     }
 
@@ -270,14 +285,16 @@ module _ (image : Image) (t : Thread) (fits : whole_image.fits image ≡ true) (
         let shown = from-loaded image slot _ (is-fitting image fits) (ReadsBoot.frame (boot-holds image fits well) k f less at) in
         any-number (maps_page_outside image t page) image.header.memory_bits slot (boot-in-memory slot boot)
         (both (is_none (key_of image (reached image t) slot)) (maps_page root page (capability_at (described image).slots slot)) (boot-outside slot boot)
-        (ap (maps_page root page) (capability-shown image slot _ shown) ∙ both (offset_of image f.root == root) (f.address / page_size == page) (root-same f.root parts.0) parts.1))
+        (ap (maps_page root page) (capability-shown image slot _ shown)
+        ∙ both (offset_of image f.root == root) (f.address / page_size == page) (root-same f.root parts.0) parts.1))
 
     pub pages-are : list_any (maps_page_outside image t page) (slots_of (described image)) ≡ list_any (lists_page t page) image.frames
     pages-are =
         decided (list_any (maps_page_outside image t page) (slots_of (described image))) (list_any (lists_page t page) image.frames)
         (λ some.
         let found = some-passed (maps_page_outside image t page) (slots_of (described image)) some in
-        page-of-slot found.0 (and_parts (is_none (key_of image (reached image t) found.0)) (maps_page root page (capability_at (described image).slots found.0)) (found.1).passes).1)
+        page-of-slot found.0 (and_parts (is_none (key_of image (reached image t) found.0)) (maps_page root page (capability_at (described image).slots found.0))
+        (found.1).passes).1)
         page-there
 
   -- ---- regions
@@ -288,32 +305,53 @@ module _ (image : Image) (t : Thread) (fits : whole_image.fits image ≡ true) (
 
     no-region : (c : Cap) → table_mapping c ≡ None → maps_region root region c ≡ true → list_any (lists_region t region) image.tables ≡ true
     no-region c none clash =
-        absurd (let no : false ≡ true = sym (ap (λ m. option_map_or (λ mapping. (mapping.root == root) && (mapping.region == region)) m false) none) ∙ clash in cc)
+        absurd (let no : false ≡ true = sym (ap (λ m. option_map_or (λ mapping. (mapping.root == root) && (mapping.region == region)) m false) none) ∙ clash in
+        cc)
 
     original-no-table : (number : ℕ) → is_table_type (type_at image number) ≡ false → table_mapping (original image number) ≡ None
     original-no-table number plain = no-table image (find (λ e. e.table == number) image.tables) (type_at image number) (offset_of image number) plain
 
-    original-region : (number : ℕ) (kind : Option NewObject) (found : Option TableEntry) → type_at image number ≡ kind → find (λ e. e.table == number) image.tables ≡ found
-        → maps_region root region (mapped_by image found (first_of_type kind (offset_of image number))) ≡ true → list_any (lists_region t region) image.tables ≡ true
+    original-region : (number : ℕ) (kind : Option NewObject) (found : Option TableEntry) → type_at image number ≡ kind →
+        find (λ e. e.table == number) image.tables ≡ found
+        → maps_region root region (mapped_by image found (first_of_type kind (offset_of image number))) ≡ true →
+        list_any (lists_region t region) image.tables ≡ true
     original-region number (Some NewPageTable) (Some e) kind_is found_is is =
         let passed = find-passed (λ e. e.table == number) image.tables e found_is in
         let parts = and_parts (offset_of image e.root == root) (e.address / page_size / region_pages == region) is in
         any-at (lists_region t region) image.tables passed.place e passed.at
-        (both (e.root == t.header.root) (e.address / page_size / region_pages == region) (same-root e.root (TableFits.root (IsFitting.table (is-fitting image fits) passed.place e passed.at)) parts.0) parts.1)
+        (both (e.root == t.header.root) (e.address / page_size / region_pages == region)
+        (same-root e.root (TableFits.root (IsFitting.table (is-fitting image fits) passed.place e passed.at)) parts.0) parts.1)
     original-region number (Some NewPageTable) None kind_is found_is is = absurd (let no : false ≡ true = is in cc)
-    original-region number None found kind_is found_is is = no-region (mapped_by image found (first_of_type None (offset_of image number))) (no-table image found None (offset_of image number) refl) is
-    original-region number (Some (NewUntyped bits)) found kind_is found_is is = no-region (mapped_by image found (first_of_type (Some (NewUntyped bits)) (offset_of image number))) (no-table image found (Some (NewUntyped bits)) (offset_of image number) refl) is
-    original-region number (Some NewThread) found kind_is found_is is = no-region (mapped_by image found (first_of_type (Some NewThread) (offset_of image number))) (no-table image found (Some NewThread) (offset_of image number) refl) is
-    original-region number (Some NewEndpoint) found kind_is found_is is = no-region (mapped_by image found (first_of_type (Some NewEndpoint) (offset_of image number))) (no-table image found (Some NewEndpoint) (offset_of image number) refl) is
-    original-region number (Some NewNotification) found kind_is found_is is = no-region (mapped_by image found (first_of_type (Some NewNotification) (offset_of image number))) (no-table image found (Some NewNotification) (offset_of image number) refl) is
-    original-region number (Some (NewCNode radix)) found kind_is found_is is = no-region (mapped_by image found (first_of_type (Some (NewCNode radix)) (offset_of image number))) (no-table image found (Some (NewCNode radix)) (offset_of image number) refl) is
-    original-region number (Some NewFrame) found kind_is found_is is = no-region (mapped_by image found (first_of_type (Some NewFrame) (offset_of image number))) (no-table image found (Some NewFrame) (offset_of image number) refl) is
-    original-region number (Some NewRootTable) found kind_is found_is is = no-region (mapped_by image found (first_of_type (Some NewRootTable) (offset_of image number))) (no-table image found (Some NewRootTable) (offset_of image number) refl) is
+    original-region number None found kind_is found_is is = no-region (mapped_by image found (first_of_type None (offset_of image number)))
+        (no-table image found None (offset_of image number) refl) is
+    original-region number (Some (NewUntyped bits)) found kind_is found_is is =
+        no-region (mapped_by image found (first_of_type (Some (NewUntyped bits)) (offset_of image number)))
+        (no-table image found (Some (NewUntyped bits)) (offset_of image number) refl) is
+    original-region number (Some NewThread) found kind_is found_is is =
+        no-region (mapped_by image found (first_of_type (Some NewThread) (offset_of image number)))
+        (no-table image found (Some NewThread) (offset_of image number) refl) is
+    original-region number (Some NewEndpoint) found kind_is found_is is =
+        no-region (mapped_by image found (first_of_type (Some NewEndpoint) (offset_of image number)))
+        (no-table image found (Some NewEndpoint) (offset_of image number) refl) is
+    original-region number (Some NewNotification) found kind_is found_is is =
+        no-region (mapped_by image found (first_of_type (Some NewNotification) (offset_of image number)))
+        (no-table image found (Some NewNotification) (offset_of image number) refl) is
+    original-region number (Some (NewCNode radix)) found kind_is found_is is =
+        no-region (mapped_by image found (first_of_type (Some (NewCNode radix)) (offset_of image number)))
+        (no-table image found (Some (NewCNode radix)) (offset_of image number) refl) is
+    original-region number (Some NewFrame) found kind_is found_is is =
+        no-region (mapped_by image found (first_of_type (Some NewFrame) (offset_of image number)))
+        (no-table image found (Some NewFrame) (offset_of image number) refl) is
+    original-region number (Some NewRootTable) found kind_is found_is is =
+        no-region (mapped_by image found (first_of_type (Some NewRootTable) (offset_of image number)))
+        (no-table image found (Some NewRootTable) (offset_of image number) refl) is
 
     listed-no-table : (k : ℕ) (c : CapabilityEntry) → slice_get image.capabilities k ≡ Some c → table_mapping (listed_capability image c) ≡ None
     listed-no-table k c at =
         limited-table (source_capability image c.source) c.rights c.payload
-        ∙ (elim (is_handler image c.source) as (λ b. is_table_type (if b then None else type_at image c.source) ≡ false → table_mapping (if b then option_map_or (λ (i : InterruptEntry). InterruptHandler i.line) (slice_get image.interrupts (interrupt_of image c.source)) Empty else original image c.source) ≡ None) [
+        ∙ (elim (is_handler image c.source) as (λ b. is_table_type (if b then None else type_at image c.source) ≡ false →
+        table_mapping (if b then option_map_or (λ (i : InterruptEntry). InterruptHandler i.line) (slice_get image.interrupts (interrupt_of image c.source))
+        Empty else original image c.source) ≡ None) [
           | true ↦ λ _. (handler-plain (slice_get image.interrupts (interrupt_of image c.source))).1
           | false ↦ λ plain. original-no-table c.source plain
         ] (CapabilityKept.no_table (AreFormed.capability (are-formed image well) k c at)))
@@ -329,8 +367,11 @@ module _ (image : Image) (t : Thread) (fits : whole_image.fits image ≡ true) (
       binding = λ k i at. no-region (((binding_holding image (k, i)).1).capability) refl;
       listed = λ k c at. no-region (listed_capability image c) (listed-no-table k c at);
       thread = λ k u at. each-two RegionListed _ _
-          (let cnode = cnode-plain k u at in no-region (with_payload (original image u.header.cnode) u.header.guard) (payload-table (original image u.header.cnode) u.header.guard ∙ original-no-table u.header.cnode cnode))
-          (no-region (original image u.header.root) (original-no-table u.header.root (rooted-plain (type_at image u.header.root) (ThreadKept.root (AreFormed.thread (are-formed image well) k u at)))));
+          (let cnode = cnode-plain k u at in no-region (with_payload (original image u.header.cnode) u.header.guard)
+          (payload-table (original image u.header.cnode) u.header.guard ∙ original-no-table u.header.cnode cnode))
+          (no-region (original image u.header.root)
+          (original-no-table u.header.root
+          (rooted-plain (type_at image u.header.root) (ThreadKept.root (AreFormed.thread (are-formed image well) k u at)))));
     }
       where
         some-plain : (kind : Option NewObject) (r : Option ℕ) → radix_of kind ≡ r → is_some r ≡ true → is_table_type kind ≡ false
@@ -339,9 +380,11 @@ module _ (image : Image) (t : Thread) (fits : whole_image.fits image ≡ true) (
 
         cnode-plain : (k : ℕ) (u : Thread) → slice_get image.threads k ≡ Some u → is_table_type (type_at image u.header.cnode) ≡ false
         cnode-plain k u at =
-            some-plain (type_at image u.header.cnode) (radix_of (type_at image u.header.cnode)) refl (root-radixed image u (are-formed image well) (record { number = k; listed = at }))
+            some-plain (type_at image u.header.cnode) (radix_of (type_at image u.header.cnode)) refl
+            (root-radixed image u (are-formed image well) (record { number = k; listed = at }))
 
-    region-of-slot : (slot : ℕ) → maps_region root region (capability_at (described image).slots slot) ≡ true → list_any (lists_region t region) image.tables ≡ true
+    region-of-slot : (slot : ℕ) → maps_region root region (capability_at (described image).slots slot) ≡ true →
+        list_any (lists_region t region) image.tables ≡ true
     region-of-slot slot is = of-slot ((described image).slots slot) refl
       where
         of-slot : (found : Option Entry) → (described image).slots slot ≡ found → list_any (lists_region t region) image.tables ≡ true
@@ -384,20 +427,24 @@ module _ (image : Image) (t : Thread) (fits : whole_image.fits image ≡ true) (
         let slot = original_slot image number in
         let boot : slot < 2 ^ image.header.boot_radix = (let most = enough in omega (arith, less, most)) in
         let stays : is_moved image (all_loaded image) number ≡ false =
-        ap (λ b. b && list_any (λ c. c.source == number) (take image.header.capabilities image.capabilities)) (original-untyped image (all_loaded image) number ∙ plain) in
+        ap (λ b. b && list_any (λ c. c.source == number) (take image.header.capabilities image.capabilities))
+        (original-untyped image (all_loaded image) number ∙ plain) in
         let shown = from-loaded image slot _ (is-fitting image fits) (ReadsBoot.original (boot-holds image fits well) number less stays) in
         let held : original_so_far image (all_loaded image) number ≡ mapped_by image (Some e) (first_of_type (Some NewPageTable) (offset_of image number)) =
-        ap (λ o. mapped_by image o (first_of_type (type_at image number) (offset_of image number))) mapped ∙ ap (λ o. mapped_by image (Some e) (first_of_type o (offset_of image number))) kind in
+        ap (λ o. mapped_by image o (first_of_type (type_at image number) (offset_of image number))) mapped
+        ∙ ap (λ o. mapped_by image (Some e) (first_of_type o (offset_of image number))) kind in
         any-number (maps_region_outside image t region) image.header.memory_bits slot (boot-in-memory slot boot)
         (both (is_none (key_of image (reached image t) slot)) (maps_region root region (capability_at (described image).slots slot)) (boot-outside slot boot)
-        (ap (maps_region root region) (capability-shown image slot _ shown ∙ held) ∙ both (offset_of image e.root == root) (e.address / page_size / region_pages == region) (root-same e.root parts.0) parts.1))
+        (ap (maps_region root region) (capability-shown image slot _ shown ∙ held)
+        ∙ both (offset_of image e.root == root) (e.address / page_size / region_pages == region) (root-same e.root parts.0) parts.1))
 
     pub regions-are : list_any (maps_region_outside image t region) (slots_of (described image)) ≡ list_any (lists_region t region) image.tables
     regions-are =
         decided (list_any (maps_region_outside image t region) (slots_of (described image))) (list_any (lists_region t region) image.tables)
         (λ some.
         let found = some-passed (maps_region_outside image t region) (slots_of (described image)) some in
-        region-of-slot found.0 (and_parts (is_none (key_of image (reached image t) found.0)) (maps_region root region (capability_at (described image).slots found.0)) (found.1).passes).1)
+        region-of-slot found.0 (and_parts (is_none (key_of image (reached image t) found.0))
+        (maps_region root region (capability_at (described image).slots found.0)) (found.1).passes).1)
         region-there
 
   pub mappings-listed : MappingsAreListed image t

@@ -1,5 +1,6 @@
 -- The slots that listed capabilities fill: their keys rise.
-use Rattle.std.proofs.Common.{ℕ, zero, suc, ◌≡◌, ◌∙◌, ◌+◌, ◌<◌, ◌≤◌, true, false, if◌then◌else◌, Some, List, [], ◌∷◌, ◌++◌, length, map, filter, drop, refl, sym, ap, subst, append-nil, append_assoc, arith}
+use Rattle.std.proofs.Common.{ℕ, zero, suc, ◌≡◌, ◌∙◌, ◌+◌, ◌<◌, ◌≤◌, true, false, if◌then◌else◌, Some, List, [], ◌∷◌, ◌++◌, length, map, filter, drop, refl}
+use Rattle.std.proofs.Common.{sym, ap, subst, append-nil, append_assoc, arith}
 use Rattle.std.proofs.lemmas.List.{drop_all}
 use Rattle.std.specs.Prelude.{slice_get, slice_index}
 use Rattle.format_laws.specs.Fitting.{IsFitting}
@@ -18,11 +19,14 @@ abbrev pub slot_in : Image → List ℕ → CapabilityEntry → List NotedSlot
 slot_in image cnodes c = if is_member c.cnode cnodes then listed_slot image c ∷ [] else []
 
 -- one capability after another
-pub one-more : (image : Image) (cnodes : List ℕ) (c : CapabilityEntry) (rest : List CapabilityEntry) → slots_in image cnodes (c ∷ rest) ≡ slot_in image cnodes c ++ slots_in image cnodes rest
-one-more image cnodes c rest = elim (is_member c.cnode cnodes) as (λ b. map (listed_slot image) (if b then c ∷ filter (λ d. is_member d.cnode cnodes) rest else filter (λ d. is_member d.cnode cnodes) rest) ≡ (if b then listed_slot image c ∷ [] else []) ++ slots_in image cnodes rest) [
-  | true ↦ refl
-  | false ↦ refl
-]
+pub one-more : (image : Image) (cnodes : List ℕ) (c : CapabilityEntry) (rest : List CapabilityEntry) → slots_in image cnodes (c ∷ rest) ≡ slot_in image cnodes c
+    ++ slots_in image cnodes rest
+one-more image cnodes c rest = elim (is_member c.cnode cnodes)
+    as (λ b. map (listed_slot image) (if b then c ∷ filter (λ d. is_member d.cnode cnodes) rest else filter (λ d. is_member d.cnode cnodes) rest)
+    ≡ (if b then listed_slot image c ∷ [] else []) ++ slots_in image cnodes rest) [
+      | true ↦ refl
+      | false ↦ refl
+    ]
 
 pub all-in : (image : Image) (t : Thread) (cnodes : List ℕ) → cnodes ≡ reached image t → slots_in image cnodes image.capabilities ≡ image_slots image t
 unfolding image_slots
@@ -39,9 +43,16 @@ rise-from : (image : Image) (cnodes : List ℕ) (capabilities : List CapabilityE
     → RiseFrom least (slots_in image cnodes capabilities)
 rise-from image cnodes [] least low rises = tt
 rise-from image cnodes (c ∷ rest) least low rises =
-    let later = λ (i j : ℕ) (d e : CapabilityEntry) (less : i < j) (one : slice_get rest i ≡ Some d) (two : slice_get rest j ≡ Some e). rises (suc i) (suc j) d e (omega (arith, less)) one two in
-    elim (is_member c.cnode cnodes) as (λ b. RiseFrom least (map (listed_slot image) (if b then c ∷ filter (λ d. is_member d.cnode cnodes) rest else filter (λ d. is_member d.cnode cnodes) rest))) [
-      | true ↦ (low 0 c refl, rise-from image cnodes rest (key_of c + 1) (λ j d at. let less = rises 0 (suc j) c d (omega arith) refl at in omega (arith, less)) later)
+    let later = λ (i j : ℕ) (d e : CapabilityEntry) (less : i < j) (one : slice_get rest i ≡ Some d) (two : slice_get rest j ≡ Some e).
+    rises (suc i) (suc j) d e (omega (arith, less)) one two in
+    elim (is_member c.cnode cnodes)
+    as (λ b. RiseFrom least
+    (map (listed_slot image) (if b then c ∷ filter (λ d. is_member d.cnode cnodes) rest else filter (λ d. is_member d.cnode cnodes) rest))) [
+      | true ↦ (
+        low 0 c refl,
+        rise-from image cnodes rest (key_of c + 1) (λ j d at. let less = rises 0 (suc j) c d (omega arith) refl at in omega (arith, less))
+            later,
+      )
       | false ↦ rise-from image cnodes rest least (λ j d at. low (suc j) d at) later
     ]
 
@@ -60,19 +71,24 @@ to-rise (s ∷ r ∷ rest) least rises (suc k) below =
 
 pub slots-rise : (image : Image) (t : Thread) → IsFitting image → Rise (image_slots image t)
 unfolding image_slots
-slots-rise image t fitting = to-rise (slots_in image (reached image t) image.capabilities) 0 (rise-from image (reached image t) image.capabilities 0 (λ j c at. omega arith) fitting.slots_rise)
+slots-rise image t fitting = to-rise (slots_in image (reached image t) image.capabilities) 0
+    (rise-from image (reached image t) image.capabilities 0 (λ j c at. omega arith) fitting.slots_rise)
 
 -- ---- one after another
 
-pub listed-next : (image : Image) (cnodes : List ℕ) (number : ℕ) (c : CapabilityEntry) (slots after whole : List NotedSlot) → slice_get image.capabilities number ≡ Some c → after ≡ slots ++ slot_in image cnodes c
+pub listed-next : (image : Image) (cnodes : List ℕ) (number : ℕ) (c : CapabilityEntry) (slots after whole : List NotedSlot) →
+    slice_get image.capabilities number ≡ Some c → after ≡ slots ++ slot_in image cnodes c
     → slots ++ slots_in image cnodes (drop number image.capabilities) ≡ whole → after ++ slots_in image cnodes (drop (number + 1) image.capabilities) ≡ whole
 listed-next image cnodes number c slots after whole at is so_far =
     let rest = slots_in image cnodes (drop (number + 1) image.capabilities) in
     ap (λ (xs : List NotedSlot). xs ++ rest) is ∙ append_assoc slots (slot_in image cnodes c) rest
-    ∙ ap (λ (xs : List NotedSlot). slots ++ xs) (sym (ap (slots_in image cnodes) (drop-next image.capabilities number c at) ∙ one-more image cnodes c (drop (number + 1) image.capabilities)))
+    ∙ ap (λ (xs : List NotedSlot). slots ++ xs)
+    (sym (ap (slots_in image cnodes) (drop-next image.capabilities number c at) ∙ one-more image cnodes c (drop (number + 1) image.capabilities)))
     ∙ so_far
 
-pub listed-end : (image : Image) (t : Thread) (cnodes : List ℕ) (number : ℕ) (slots : List NotedSlot) → cnodes ≡ reached image t → length image.capabilities ≤ number
+pub listed-end : (image : Image) (t : Thread) (cnodes : List ℕ) (number : ℕ) (slots : List NotedSlot) → cnodes ≡ reached image t →
+    length image.capabilities ≤ number
     → slots ++ slots_in image cnodes (drop number image.capabilities) ≡ slots_in image cnodes image.capabilities → slots ≡ image_slots image t
 listed-end image t cnodes number slots same most so_far =
-    sym (append-nil slots) ∙ ap (λ (cs : List CapabilityEntry). slots ++ slots_in image cnodes cs) (sym (drop_all number image.capabilities most)) ∙ so_far ∙ all-in image t cnodes same
+    sym (append-nil slots) ∙ ap (λ (cs : List CapabilityEntry). slots ++ slots_in image cnodes cs) (sym (drop_all number image.capabilities most)) ∙ so_far
+    ∙ all-in image t cnodes same

@@ -1,5 +1,6 @@
 -- Where no slot is stray, each is full and one of the thread's CNodes', and so is what it was derived from.
-use Rattle.std.proofs.Common.{ℕ, zero, suc, ◌≡◌, ◌∙◌, ◌+◌, ◌-◌, ◌*◌, ◌/◌, ◌^◌, ◌<◌, ◌≤◌, ◌==◌, ◌&&◌, ◌||◌, Bool, true, false, not, nat_lt, if◌then◌else◌, find, filter, map, Option, Some, None, List, [], ◌∷◌, length, refl, sym, ap, arith}
+use Rattle.std.proofs.Common.{ℕ, zero, suc, ◌≡◌, ◌∙◌, ◌+◌, ◌-◌, ◌*◌, ◌/◌, ◌^◌, ◌<◌, ◌≤◌, ◌==◌, ◌&&◌, ◌||◌, Bool, true, false, not, nat_lt, if◌then◌else◌, find}
+use Rattle.std.proofs.Common.{filter, map, Option, Some, None, List, [], ◌∷◌, length, refl, sym, ap, arith}
 use Rattle.std.specs.Prelude.{slice_get}
 use Rattle.std.specs.Option.{option_map_or}
 use Rattle.std.specs.List.{list_all, list_any}
@@ -9,14 +10,16 @@ use Rattle.format_laws.specs.Fitting.{IsFitting}
 use Rattle.format_laws.proofs.Laws.{is-fitting}
 use Rattle.soundness.proofs.Laws.{are-formed, first_of_type, has-type}
 use Rattle.model.specs.declared.capabilities.Cap.{Cap}
-use Rattle.model.specs.declared.capabilities.Cap.TheVariants.{Empty, Untyped, Endpoint, Notification, CNode, Frame, PageTable, Tcb, RootTable, InterruptControl, InterruptHandler}
+use Rattle.model.specs.declared.capabilities.Cap.TheVariants.{Empty, Untyped, Endpoint, Notification, CNode, Frame, PageTable, Tcb, RootTable, InterruptControl}
+use Rattle.model.specs.declared.capabilities.Cap.TheVariants.{InterruptHandler}
 use Rattle.model.specs.declared.capabilities.TableMapping.{TableMapping}
 use Rattle.model.specs.declared.entries.CapabilityEntry.{CapabilityEntry}
 use Rattle.model.specs.declared.entries.InterruptEntry.{InterruptEntry}
 use Rattle.model.specs.declared.entries.TableEntry.{TableEntry}
 use Rattle.model.specs.Acceptance.Accepted.{IsWellFormed}
 use Rattle.model.specs.Capabilities.CapabilityFields.{is_capability}
-use Rattle.model.specs.Acceptance.NotedStates.{NotedSlot, PointState, SlotKey, has_stray_slots, image_slots, is_foreign, is_own, is_stray, leads_to_boot, listed_slot, notes_outside, number_of, put_in, record_of, slot_at, with_noted, without_key}
+use Rattle.model.specs.Acceptance.NotedStates.{NotedSlot, PointState, SlotKey, has_stray_slots, image_slots, is_foreign, is_own, is_stray, leads_to_boot}
+use Rattle.model.specs.Acceptance.NotedStates.{listed_slot, notes_outside, number_of, put_in, record_of, slot_at, with_noted, without_key}
 use Rattle.model.specs.Acceptance.ThreadRules.{is_member, reached}
 use Rattle.model.specs.Acceptance.WellFormed.{has_slot}
 use Rattle.model.specs.Capabilities.CapabilityKinds.{with_table_mapping}
@@ -25,7 +28,8 @@ use Rattle.model.specs.Images.Described.{limited, listed_capability, original, s
 use Rattle.model.specs.Images.Image.{Image, Thread, whole_image}
 use Rattle.model.specs.Images.Places.{interrupt_of, is_handler, offset_of, type_at}
 use Rattle.model.specs.Kernel.AddressSpaces.{page_size, region_pages}
-use Rattle.model.specs.Kernel.Retype.{NewObject, NewUntyped, NewThread, NewEndpoint, NewNotification, NewCNode, NewFrame, NewPageTable, NewRootTable, first_capability}
+use Rattle.model.specs.Kernel.Retype.{NewObject, NewUntyped, NewThread, NewEndpoint, NewNotification, NewCNode, NewFrame, NewPageTable, NewRootTable}
+use Rattle.model.specs.Kernel.Retype.{first_capability}
 use Rattle.typestate.specs.Differences.{changed}
 use Rattle.typestate.specs.Orders.{is_narrow}
 use Rattle.typestate.specs.Spaces.{AreOwn, is_own_slot}
@@ -74,7 +78,8 @@ table-full InterruptControl mapping = refl
 table-full (InterruptHandler _) mapping = refl
 
 mapped-full : (image : Image) (found : Option TableEntry) (c : Cap)
-    → is_empty (option_map_or (λ t. with_table_mapping c (Some (record { root = offset_of image t.root; region = t.address / page_size / region_pages }))) found c) ≡ is_empty c
+    → is_empty (option_map_or (λ t. with_table_mapping c (Some (record { root = offset_of image t.root; region = t.address / page_size / region_pages }))) found
+    c) ≡ is_empty c
 mapped-full image None c = refl
 mapped-full image (Some t) c = table-full c (Some (record { root = offset_of image t.root; region = t.address / page_size / region_pages }))
 
@@ -85,14 +90,18 @@ original-full image number fitting less =
     ∙ ap (λ (kind : Option NewObject). is_empty (first_of_type kind (offset_of image number))) typed.is
     ∙ first-full typed.kind (offset_of image number)
 
-handler-full : (interrupts : List InterruptEntry) (place : ℕ) → place < length interrupts → is_empty (option_map_or (λ (i : InterruptEntry). InterruptHandler i.line) (slice_get interrupts place) Empty) ≡ false
+handler-full : (interrupts : List InterruptEntry) (place : ℕ) → place < length interrupts →
+    is_empty (option_map_or (λ (i : InterruptEntry). InterruptHandler i.line) (slice_get interrupts place) Empty) ≡ false
 handler-full [] place less = absurd (omega (arith, less))
 handler-full (i ∷ rest) zero less = refl
 handler-full (i ∷ rest) (suc place) less = handler-full rest place (omega (arith, less))
 
-source-full : (image : Image) (source : ℕ) → IsFitting image → source < image.header.objects + image.header.interrupts → is_empty (source_capability image source) ≡ false
+source-full : (image : Image) (source : ℕ) → IsFitting image → source < image.header.objects + image.header.interrupts →
+    is_empty (source_capability image source) ≡ false
 source-full image source fitting inside =
-    elim (is_handler image source) as (λ b. is_handler image source ≡ b → is_empty (if b then option_map_or (λ (i : InterruptEntry). InterruptHandler i.line) (slice_get image.interrupts (interrupt_of image source)) Empty else original image source) ≡ false) [
+    elim (is_handler image source) as (λ b. is_handler image source ≡ b →
+    is_empty (if b then option_map_or (λ (i : InterruptEntry). InterruptHandler i.line) (slice_get image.interrupts (interrupt_of image source)) Empty else
+    original image source) ≡ false) [
       | true ↦ λ is.
           let most = leb-true image.header.objects source is in
           let many = fitting.interrupts in
@@ -100,7 +109,8 @@ source-full image source fitting inside =
       | false ↦ λ is. original-full image source fitting (let below = leb-false image.header.objects source is in omega (arith, below))
     ] refl
 
-listed-full : (image : Image) → whole_image.fits image ≡ true → IsWellFormed image → (k : ℕ) (c : CapabilityEntry) → slice_get image.capabilities k ≡ Some c → is_empty (listed_capability image c) ≡ false
+listed-full : (image : Image) → whole_image.fits image ≡ true → IsWellFormed image → (k : ℕ) (c : CapabilityEntry) → slice_get image.capabilities k ≡ Some c →
+    is_empty (listed_capability image c) ≡ false
 listed-full image fits well k c at =
     limited-full (source_capability image c.source) c.rights c.payload
     ∙ source-full image c.source (is-fitting image fits) (source-inside image c fits well (record { number = k; listed = at }))
@@ -133,7 +143,8 @@ put-kept slot (o ∷ rest) one all =
 noted-kept : (slots : List NotedSlot) (c : NotedSlot) → list_all kept slots ≡ true → is_narrow c ≡ true → list_all kept (with_noted slots c) ≡ true
 noted-kept slots c all narrow =
     let others = filter-kept (λ s. not (number_of s.key == number_of c.key)) slots all in
-    elim (is_empty c.capability) as (λ b. is_empty c.capability ≡ b → list_all kept (if b then without_key c.key slots else put_in c (without_key c.key slots)) ≡ true) [
+    elim (is_empty c.capability) as (λ b. is_empty c.capability ≡ b →
+    list_all kept (if b then without_key c.key slots else put_in c (without_key c.key slots)) ≡ true) [
       | true ↦ λ _. others
       | false ↦ λ full. put-kept c (without_key c.key slots) (ap (λ b. not b && is_narrow c) full ∙ narrow) others
     ] refl
@@ -144,12 +155,15 @@ changed-kept (c ∷ rest) given all narrow =
     let parts = and_parts (is_narrow c) (list_all is_narrow rest) narrow in
     changed-kept rest (with_noted given c) (noted-kept given c all parts.0) parts.1
 
-listed-kept : (image : Image) (cnodes : List ℕ) (capabilities : List CapabilityEntry) → ((k : ℕ) (c : CapabilityEntry) → slice_get capabilities k ≡ Some c → is_empty (listed_capability image c) ≡ false)
+listed-kept : (image : Image) (cnodes : List ℕ) (capabilities : List CapabilityEntry) →
+    ((k : ℕ) (c : CapabilityEntry) → slice_get capabilities k ≡ Some c → is_empty (listed_capability image c) ≡ false)
     → list_all kept (slots_in image cnodes capabilities) ≡ true
 listed-kept image cnodes [] full = refl
 listed-kept image cnodes (c ∷ rest) full =
     let behind = listed-kept image cnodes rest (λ k d at. full (suc k) d at) in
-    elim (is_member c.cnode cnodes) as (λ b. list_all kept (map (listed_slot image) (if b then c ∷ filter (λ d. is_member d.cnode cnodes) rest else filter (λ d. is_member d.cnode cnodes) rest)) ≡ true) [
+    elim (is_member c.cnode cnodes)
+    as (λ b. list_all kept
+    (map (listed_slot image) (if b then c ∷ filter (λ d. is_member d.cnode cnodes) rest else filter (λ d. is_member d.cnode cnodes) rest)) ≡ true) [
       | true ↦ ap (λ b. not b && true && list_all kept (slots_in image cnodes rest)) (full 0 c refl) ∙ behind
       | false ↦ behind
     ]
@@ -163,7 +177,8 @@ given-kept image t fits well = listed-kept image (reached image t) image.capabil
 same-index : (a i b j : ℕ) → i < 2 ^ 32 → j < 2 ^ 32 → a * 2 ^ 32 + i ≡ b * 2 ^ 32 + j → (a ≡ b) × (i ≡ j)
 same-index a i b j less few same = (omega (arith, less, few, same), omega (arith, less, few, same))
 
-module _ (image : Image) (t : Thread) (fits : whole_image.fits image ≡ true) (well : IsWellFormed image) (listed : IsListed image t) (all : List NotedSlot) where
+module _ (image : Image) (t : Thread) (fits : whole_image.fits image ≡ true) (well : IsWellFormed image) (listed : IsListed image t)
+    (all : List NotedSlot) where
   abbrev is-own : SlotKey → Bool
   is-own key = is_own image (reached image t) key
 
@@ -171,7 +186,8 @@ module _ (image : Image) (t : Thread) (fits : whole_image.fits image ≡ true) (
   own-low key own =
       let parts = and_parts (is_member key.cnode (reached image t)) (has_slot image key.cnode key.index) own in
       let cnode = reached-cnode image t (is-fitting image fits) (are-formed image well) listed key.cnode parts.0 in
-      let inside : nat_lt key.index (2 ^ cnode.radix) ≡ true = sym (ap (λ (r : Option ℕ). option_map_or (λ radix. nat_lt key.index (2 ^ radix)) r false) cnode.is) ∙ parts.1 in
+      let inside : nat_lt key.index (2 ^ cnode.radix) ≡ true =
+      sym (ap (λ (r : Option ℕ). option_map_or (λ radix. nat_lt key.index (2 ^ radix)) r false) cnode.is) ∙ parts.1 in
       let less = ltb-true key.index (2 ^ cnode.radix) inside in
       let small = cnode.small in
       let most : 2 ^ cnode.radix ≤ 2 ^ 14 = pow_mono small in
@@ -180,7 +196,8 @@ module _ (image : Image) (t : Thread) (fits : whole_image.fits image ≡ true) (
   own-same : (key other : SlotKey) → key.index < 2 ^ 32 → number_of other ≡ number_of key → is-own other ≡ true → is-own key ≡ true
   own-same key other few same own =
       let parts = same-index other.cnode other.index key.cnode key.index (own-low other own) few same in
-      ap (λ (n : ℕ). is_member n (reached image t) && has_slot image n key.index) (sym parts.0) ∙ ap (λ (n : ℕ). is_member other.cnode (reached image t) && has_slot image other.cnode n) (sym parts.1) ∙ own
+      ap (λ (n : ℕ). is_member n (reached image t) && has_slot image n key.index) (sym parts.0)
+      ∙ ap (λ (n : ℕ). is_member other.cnode (reached image t) && has_slot image other.cnode n) (sym parts.1) ∙ own
 
   record HoldsOne (key : SlotKey) : Type 0 where
     slot : NotedSlot
@@ -189,24 +206,29 @@ module _ (image : Image) (t : Thread) (fits : whole_image.fits image ≡ true) (
   holds-one : (n : ℕ) (key : SlotKey) → leads_to_boot n all (Some key) ≡ true → HoldsOne key
   unfolding leads_to_boot
   holds-one zero key leads = absurd (let clash : false ≡ true = leads in cc)
-  holds-one (suc n) key leads = elim (slot_at all key) as (λ found. slot_at all key ≡ found → option_map_or (λ s. leads_to_boot n all s.parent) found false ≡ true → HoldsOne key) [
-    | None ↦ λ _ clash. absurd (let no : false ≡ true = clash in cc)
-    | Some s ↦ λ at _. record { slot = s; at = at }
-  ] refl leads
+  holds-one (suc n) key leads = elim (slot_at all key) as (λ found. slot_at all key ≡ found →
+      option_map_or (λ s. leads_to_boot n all s.parent) found false ≡ true → HoldsOne key) [
+        | None ↦ λ _ clash. absurd (let no : false ≡ true = clash in cc)
+        | Some s ↦ λ at _. record { slot = s; at = at }
+      ] refl leads
 
   module _ (keys : list_all (λ s. is-own s.key) all ≡ true) where
-    parent-own : (parent : Option SlotKey) → option_map_or (λ key. nat_lt key.index (2 ^ 32)) parent true ≡ true → leads_to_boot (length all) all parent ≡ true → option_map_or is-own parent true ≡ true
+    parent-own : (parent : Option SlotKey) → option_map_or (λ key. nat_lt key.index (2 ^ 32)) parent true ≡ true →
+        leads_to_boot (length all) all parent ≡ true → option_map_or is-own parent true ≡ true
     parent-own None narrow leads = refl
     parent-own (Some key) narrow leads =
         let found = holds-one (length all) key leads in
-        own-same key found.slot.key (ltb-true key.index (2 ^ 32) narrow) (found-key all key found.slot found.at) (found-all (λ s. is-own s.key) all key found.slot keys found.at)
+        own-same key found.slot.key (ltb-true key.index (2 ^ 32) narrow) (found-key all key found.slot found.at)
+        (found-all (λ s. is-own s.key) all key found.slot keys found.at)
 
-    slots-own : (slots : List NotedSlot) → list_any (is_stray image t (reached image t) all) slots ≡ false → list_all kept slots ≡ true → list_all (is_own_slot image (reached image t)) slots ≡ true
+    slots-own : (slots : List NotedSlot) → list_any (is_stray image t (reached image t) all) slots ≡ false → list_all kept slots ≡ true →
+        list_all (is_own_slot image (reached image t)) slots ≡ true
     slots-own [] none kept_all = refl
     slots-own (s ∷ rest) none kept_all =
         let now = or_parts (is_stray image t (reached image t) all s) (list_any (is_stray image t (reached image t) all) rest) none in
         let held = and_parts (kept s) (list_all kept rest) kept_all in
-        let outer = or_parts (not (is-own s.key) || is_foreign image t (reached image t) s.capability || not (is_capability s.capability)) (not (leads_to_boot (length all) all s.parent)) now.0 in
+        let outer = or_parts (not (is-own s.key) || is_foreign image t (reached image t) s.capability || not (is_capability s.capability))
+        (not (leads_to_boot (length all) all s.parent)) now.0 in
         let valid = or_parts (not (is-own s.key) || is_foreign image t (reached image t) s.capability) (not (is_capability s.capability)) outer.0 in
         let inner = or_parts (not (is-own s.key)) (is_foreign image t (reached image t) s.capability) valid.0 in
         let full = and_parts (not (is_empty s.capability)) (is_narrow s) held.0 in
@@ -225,7 +247,8 @@ module _ (image : Image) (t : Thread) (fits : whole_image.fits image ≡ true) (
   keys-own [] none = refl
   keys-own (s ∷ rest) none =
       let now = or_parts (is_stray image t (reached image t) all s) (list_any (is_stray image t (reached image t) all) rest) none in
-      let outer = or_parts (not (is-own s.key) || is_foreign image t (reached image t) s.capability || not (is_capability s.capability)) (not (leads_to_boot (length all) all s.parent)) now.0 in
+      let outer = or_parts (not (is-own s.key) || is_foreign image t (reached image t) s.capability || not (is_capability s.capability))
+      (not (leads_to_boot (length all) all s.parent)) now.0 in
       let valid = or_parts (not (is-own s.key) || is_foreign image t (reached image t) s.capability) (not (is_capability s.capability)) outer.0 in
       let inner = or_parts (not (is-own s.key)) (is_foreign image t (reached image t) s.capability) valid.0 in
       ap (λ b. b && list_all (λ r. is-own r.key) rest) (kept-one (is-own s.key) inner.0) ∙ keys-own rest now.1
@@ -234,14 +257,18 @@ module _ (image : Image) (t : Thread) (fits : whole_image.fits image ≡ true) (
       kept-one true is = refl
       kept-one false clash = absurd (let no : true ≡ false = clash in cc)
 
-none-stray : (image : Image) (t : Thread) (point : ℕ) (state : PointState) (slots : List NotedSlot) → state.slots ≡ slots → has_stray_slots image t point state ≡ false → list_any (is_stray image t (reached image t) slots) slots ≡ false
+none-stray : (image : Image) (t : Thread) (point : ℕ) (state : PointState) (slots : List NotedSlot) → state.slots ≡ slots →
+    has_stray_slots image t point state ≡ false → list_any (is_stray image t (reached image t) slots) slots ≡ false
 unfolding has_stray_slots
 none-stray image t point state slots same none =
     ap (λ (held : List NotedSlot). list_any (is_stray image t (reached image t) held) held) (sym same)
-    ∙ (or_parts (list_any (is_stray image t (reached image t) state.slots) state.slots) (option_map_or (notes_outside image (reached image t)) (record_of t point) false) none).0
+    ∙ (or_parts (list_any (is_stray image t (reached image t) state.slots) state.slots)
+    (option_map_or (notes_outside image (reached image t)) (record_of t point) false) none).0
 
-pub none-stray-own : (image : Image) (t : Thread) (given changes : List NotedSlot) → whole_image.fits image ≡ true → IsWellFormed image → IsListed image t → given ≡ image_slots image t → list_all is_narrow changes ≡ true
-    → (point : ℕ) (state : PointState) → state.slots ≡ changed given changes → has_stray_slots image t point state ≡ false → AreOwn image t (changed given changes)
+pub none-stray-own : (image : Image) (t : Thread) (given changes : List NotedSlot) → whole_image.fits image ≡ true → IsWellFormed image → IsListed image t →
+    given ≡ image_slots image t → list_all is_narrow changes ≡ true
+    → (point : ℕ) (state : PointState) → state.slots ≡ changed given changes → has_stray_slots image t point state ≡ false →
+    AreOwn image t (changed given changes)
 none-stray-own image t given changes fits well listed is narrow point state same none =
     let slots = changed given changes in
     let stray = none-stray image t point state slots same none in

@@ -1,5 +1,6 @@
 -- The boot CNode has a capability to each object that is no untyped memory.
-use Rattle.std.proofs.Common.{ℕ, zero, suc, ◌≡◌, ◌∙◌, ◌==◌, ◌+◌, ◌<◌, ◌⊎◌, inl, inr, Bool, true, false, ◌&&◌, if◌then◌else◌, find, take, Option, Some, None, ◌∷◌, map, refl, sym, ap, arith}
+use Rattle.std.proofs.Common.{ℕ, zero, suc, ◌≡◌, ◌∙◌, ◌==◌, ◌+◌, ◌<◌, ◌⊎◌, inl, inr, Bool, true, false, ◌&&◌, if◌then◌else◌, find, take, Option, Some, None}
+use Rattle.std.proofs.Common.{◌∷◌, map, refl, sym, ap, arith}
 use Rattle.std.specs.Prelude.{option_and_then}
 use Rattle.std.specs.Option.{option_map_or}
 use Rattle.std.specs.List.{list_any, range_with_len}
@@ -29,7 +30,8 @@ use Rattle.thread_spaces.proofs.DescribedSlots.{boot-holds, capability-shown, fr
 
 -- ---- what a first capability names
 
-named-by : (image : Image) (found : Option TableEntry) (kind : NewObject) (offset : ℕ) → is_untyped_type (Some kind) ≡ false → object_of (mapped_by image found (first_of_type (Some kind) offset)) ≡ Some offset
+named-by : (image : Image) (found : Option TableEntry) (kind : NewObject) (offset : ℕ) → is_untyped_type (Some kind) ≡ false →
+    object_of (mapped_by image found (first_of_type (Some kind) offset)) ≡ Some offset
 named-by image found (NewUntyped bits) offset plain = absurd (let clash : true ≡ false = plain in cc)
 named-by image None NewThread offset plain = refl
 named-by image (Some t) NewThread offset plain = refl
@@ -46,7 +48,8 @@ named-by image (Some t) NewPageTable offset plain = refl
 named-by image None NewRootTable offset plain = refl
 named-by image (Some t) NewRootTable offset plain = refl
 
-root-by : (image : Image) (found : Option TableEntry) (kind : Option NewObject) (offset : ℕ) → is_root_type kind ≡ true → mapped_by image found (first_of_type kind offset) ≡ RootTable offset
+root-by : (image : Image) (found : Option TableEntry) (kind : Option NewObject) (offset : ℕ) → is_root_type kind ≡ true →
+    mapped_by image found (first_of_type kind offset) ≡ RootTable offset
 root-by image found None offset is = absurd (let clash : false ≡ true = is in cc)
 root-by image found (Some (NewUntyped bits)) offset is = absurd (let clash : false ≡ true = is in cc)
 root-by image found (Some NewThread) offset is = absurd (let clash : false ≡ true = is in cc)
@@ -92,7 +95,8 @@ record IsThere {A : Type 0} (f : ℕ → Option A) (least bound : ℕ) (x : A) :
   less : number < bound
   is : f number ≡ Some x
 
-next-there : {A : Type 0} (f : ℕ → Option A) (from count : ℕ) (x : A) (o : Option A) → f from ≡ o → (first_some (map f (range_with_len (from + 1) count)) ≡ Some x → IsThere f (from + 1) (from + 1 + count) x)
+next-there : {A : Type 0} (f : ℕ → Option A) (from count : ℕ) (x : A) (o : Option A) → f from ≡ o →
+    (first_some (map f (range_with_len (from + 1) count)) ≡ Some x → IsThere f (from + 1) (from + 1 + count) x)
     → first_some (o ∷ map f (range_with_len (from + 1) count)) ≡ Some x → IsThere f from (from + suc count) x
 next-there f from count x None none rest is =
     let later = rest is in
@@ -100,20 +104,24 @@ next-there f from count x None none rest is =
     record { number = later.number; less = omega (arith, less); is = later.is }
 next-there f from count x (Some y) some rest is = record { number = from; less = omega arith; is = some ∙ is }
 
-first-there : {A : Type 0} (f : ℕ → Option A) (from count : ℕ) (x : A) → first_some (map f (range_with_len from count)) ≡ Some x → IsThere f from (from + count) x
+first-there : {A : Type 0} (f : ℕ → Option A) (from count : ℕ) (x : A) → first_some (map f (range_with_len from count)) ≡ Some x →
+    IsThere f from (from + count) x
 first-there f from zero x is = absurd (none-some x is)
 first-there f from (suc count) x is = next-there f from count x (f from) refl (first-there f (from + 1) count x) is
 
 -- ---- originals
 
 module _ (image : Image) (fits : whole_image.fits image ≡ true) (well : IsWellFormed image) where
-  original-held : (number : ℕ) (test : Cap → Bool) → number < image.header.objects → is_untyped_type (type_at image number) ≡ false → test (original_so_far image (all_loaded image) number) ≡ true
+  original-held : (number : ℕ) (test : Cap → Bool) → number < image.header.objects → is_untyped_type (type_at image number) ≡ false →
+      test (original_so_far image (all_loaded image) number) ≡ true
       → HeldInBoot image test
   original-held number test less plain is =
       let suffice = boot-slots-suffice image (is-fitting image fits) (are-formed image well) in
       let stays : is_moved image (all_loaded image) number ≡ false =
-      ap (λ b. b && list_any (λ c. c.source == number) (take image.header.capabilities image.capabilities)) (original-untyped image (all_loaded image) number ∙ plain) in
-      let shown = from-loaded image (original_slot image number) _ (is-fitting image fits) (ReadsBoot.original (boot-holds image fits well) number less stays) in
+      ap (λ b. b && list_any (λ c. c.source == number) (take image.header.capabilities image.capabilities))
+      (original-untyped image (all_loaded image) number ∙ plain) in
+      let shown = from-loaded image (original_slot image number) _ (is-fitting image fits)
+      (ReadsBoot.original (boot-holds image fits well) number less stays) in
       record {
         slot = original_slot image number;
         boot = omega (arith, less, suffice);
@@ -127,7 +135,8 @@ module _ (image : Image) (fits : whole_image.fits image ≡ true) (well : IsWell
       of-thread : (found : Option Thread) → find (λ t. t.header.tcb == number) image.threads ≡ found → IsPlain (type_at image number)
       of-thread None none =
           object-plain (type_at image number) o
-          (sym (ap (λ (found : Option Thread). option_map_or (λ t. Some (ThreadObject (listed_thread t))) found (option_and_then object (type_at image number))) none) ∙ is)
+          (sym (ap (λ (found : Option Thread). option_map_or (λ t. Some (ThreadObject (listed_thread t))) found (option_and_then object (type_at image number)))
+          none) ∙ is)
       of-thread (Some t) some =
           let passed = find-passed (λ (u : Thread). u.header.tcb == number) image.threads t some in
           let same : t.header.tcb ≡ number = eqb-true t.header.tcb number passed.passes in
@@ -145,8 +154,11 @@ module _ (image : Image) (fits : whole_image.fits image ≡ true) (well : IsWell
             let typed = object-type number o found in
             let less = there.less in
             original-held number (names_object offset) (omega (arith, less)) (ap is_untyped_type typed.is ∙ typed.plain)
-            (ap (λ (t : Option NewObject). names_object offset (mapped_by image (find (λ e. e.table == number) (take image.header.tables image.tables)) (first_of_type t (offset_of image number)))) typed.is
-            ∙ ap (λ (named : Option ℕ). option_map_or (λ n. n == offset) named false) (named-by image (find (λ e. e.table == number) (take image.header.tables image.tables)) typed.kind (offset_of image number) typed.plain)
+            (ap (λ (t : Option NewObject).
+            names_object offset (mapped_by image (find (λ e. e.table == number) (take image.header.tables image.tables))
+            (first_of_type t (offset_of image number)))) typed.is
+            ∙ ap (λ (named : Option ℕ). option_map_or (λ n. n == offset) named false)
+            (named-by image (find (λ e. e.table == number) (take image.header.tables image.tables)) typed.kind (offset_of image number) typed.plain)
             ∙ same.0)
         | inr other ↦
             let clash : None ≡ Some o = sym (ap (λ b. if b then described_object image number else None) other.0) ∙ there.is in
@@ -157,7 +169,8 @@ module _ (image : Image) (fits : whole_image.fits image ≡ true) (well : IsWell
   pub objects-held : (offset : ℕ) → (slot_count ((described image).objects offset) ≡ 0) ⊎ HeldInBoot image (names_object offset)
   objects-held offset = of-object ((described image).objects offset) refl
     where
-      of-object : (found : Option Object) → (described image).objects offset ≡ found → (slot_count ((described image).objects offset) ≡ 0) ⊎ HeldInBoot image (names_object offset)
+      of-object : (found : Option Object) → (described image).objects offset ≡ found →
+          (slot_count ((described image).objects offset) ≡ 0) ⊎ HeldInBoot image (names_object offset)
       of-object None none = inl (ap slot_count none)
       of-object (Some o) some = inr (object-held offset o some)
 
@@ -167,5 +180,7 @@ module _ (image : Image) (fits : whole_image.fits image ≡ true) (well : IsWell
       let root = t.header.root in
       let less = ThreadFits.root (IsFitting.thread (is-fitting image fits) listed.number t listed.listed) in
       original-held root (is_root_at (offset_of image root)) less (root-plain (type_at image root) (ThreadKept.root kept))
-      (ap (is_root_at (offset_of image root)) (root-by image (find (λ e. e.table == root) (take image.header.tables image.tables)) (type_at image root) (offset_of image root) (ThreadKept.root kept))
+      (ap (is_root_at (offset_of image root))
+      (root-by image (find (λ e. e.table == root) (take image.header.tables image.tables)) (type_at image root) (offset_of image root)
+      (ThreadKept.root kept))
       ∙ eq-eqb (offset_of image root) (offset_of image root) refl)

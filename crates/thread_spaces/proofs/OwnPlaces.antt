@@ -1,5 +1,6 @@
 -- Where the CNodes of a thread lie: apart from one another, in memory, and after the boot area.
-use Rattle.std.proofs.Common.{ℕ, ◌≡◌, ◌∙◌, ◌+◌, ◌-◌, ◌*◌, ◌/◌, ◌^◌, ◌<◌, ◌≤◌, ◌==◌, ◌||◌, Bool, true, false, if◌then◌else◌, Option, Some, None, option_map, List, [], ◌∷◌, refl, sym, ap, arith}
+use Rattle.std.proofs.Common.{ℕ, ◌≡◌, ◌∙◌, ◌+◌, ◌-◌, ◌*◌, ◌/◌, ◌^◌, ◌<◌, ◌≤◌, ◌==◌, ◌||◌, Bool, true, false, if◌then◌else◌, Option, Some, None, option_map}
+use Rattle.std.proofs.Common.{List, [], ◌∷◌, refl, sym, ap, arith}
 use Rattle.std.specs.List.{find}
 use Rattle.std.specs.Prelude.{option_and_then}
 use Rattle.std.specs.Option.{option_map_or}
@@ -24,7 +25,8 @@ use Rattle.thread_spaces.proofs.GivenCNodes.{reached-cnode}
 
 -- ---- the slots of a CNode are those of its object
 
-count-of : (kind : Option NewObject) (radix : ℕ) → radix_of kind ≡ Some radix → option_map_or (λ r. 2 ^ r) (radix_of kind) 0 ≡ slot_count (option_and_then object kind)
+count-of : (kind : Option NewObject) (radix : ℕ) → radix_of kind ≡ Some radix →
+    option_map_or (λ r. 2 ^ r) (radix_of kind) 0 ≡ slot_count (option_and_then object kind)
 count-of None radix is = absurd (let no : None ≡ Some radix = is in cc)
 count-of (Some (NewUntyped bits)) radix is = absurd (let no : None ≡ Some radix = is in cc)
 count-of (Some NewThread) radix is = absurd (let no : None ≡ Some radix = is in cc)
@@ -51,14 +53,15 @@ or-second false b is = is
 
 pub find-found : (test : ℕ → Bool) (numbers : List ℕ) (number : ℕ) → find test numbers ≡ Some number → IsFound test numbers number
 find-found test [] number is = absurd (let no : None ≡ Some number = is in cc)
-find-found test (x ∷ rest) number is = elim (test x) as (λ b. test x ≡ b → (if b then Some x else find test rest) ≡ Some number → IsFound test (x ∷ rest) number) [
-  | true ↦ λ yes here.
-      let same : x ≡ number = cc in
-      record { member = ap (λ b. b || is_member number rest) (eq-eqb number x (sym same)); passes = ap test (sym same) ∙ yes }
-  | false ↦ λ _ later.
-      let found = find-found test rest number later in
-      record { member = or-second (number == x) (is_member number rest) found.member; passes = found.passes }
-] refl is
+find-found test (x ∷ rest) number is = elim (test x) as (λ b. test x ≡ b → (if b then Some x else find test rest) ≡ Some number →
+    IsFound test (x ∷ rest) number) [
+      | true ↦ λ yes here.
+          let same : x ≡ number = cc in
+          record { member = ap (λ b. b || is_member number rest) (eq-eqb number x (sym same)); passes = ap test (sym same) ∙ yes }
+      | false ↦ λ _ later.
+          let found = find-found test rest number later in
+          record { member = or-second (number == x) (is_member number rest) found.member; passes = found.passes }
+    ] refl is
 
 -- the CNode of a slot with a key
 pub record IsOwned (image : Image) (cnodes : List ℕ) (slot : ℕ) : Type 0 where
@@ -67,10 +70,13 @@ pub record IsOwned (image : Image) (cnodes : List ℕ) (slot : ℕ) : Type 0 whe
   pub there : stands_in image slot cnode ≡ true
 
 pub key-owned : (image : Image) (cnodes : List ℕ) (slot : ℕ) (key : SlotKey) → key_of image cnodes slot ≡ Some key → IsOwned image cnodes slot
-key-owned image cnodes slot key is = elim (find (stands_in image slot) cnodes) as (λ found. find (stands_in image slot) cnodes ≡ found → option_map (λ cnode. record { cnode = cnode; index = slot - cnode_slot image cnode 0 }) found ≡ Some key → IsOwned image cnodes slot) [
-  | None ↦ λ _ clash. absurd (let no : None ≡ Some key = clash in cc)
-  | Some cnode ↦ λ at _. let found = find-found (stands_in image slot) cnodes cnode at in record { cnode = cnode; member = found.member; there = found.passes }
-] refl is
+key-owned image cnodes slot key is = elim (find (stands_in image slot) cnodes)
+    as (λ found. find (stands_in image slot) cnodes ≡ found →
+    option_map (λ cnode. record { cnode = cnode; index = slot - cnode_slot image cnode 0 }) found ≡ Some key → IsOwned image cnodes slot) [
+      | None ↦ λ _ clash. absurd (let no : None ≡ Some key = clash in cc)
+      | Some cnode ↦ λ at _. let found = find-found (stands_in image slot) cnodes cnode at in
+          record { cnode = cnode; member = found.member; there = found.passes }
+    ] refl is
 
 not-some : {A : Type 0} (found : Option A) → ((x : A) → found ≡ Some x → ⊥) → found ≡ None
 not-some None never = refl
@@ -90,7 +96,8 @@ module _ (image : Image) (t : Thread) (fitting : IsFitting image) (formed : AreF
       let count : slots_of_cnode image cnode ≡ 2 ^ is.radix = ap (λ (r : Option ℕ). option_map_or (λ radix. 2 ^ radix) r 0) is.is in
       omega (arith, most, count)
 
-  pub one-cnode : (a b slot : ℕ) → is_member a (reached image t) ≡ true → is_member b (reached image t) ≡ true → stands_in image slot a ≡ true → stands_in image slot b ≡ true → a ≡ b
+  pub one-cnode : (a b slot : ℕ) → is_member a (reached image t) ≡ true → is_member b (reached image t) ≡ true → stands_in image slot a ≡ true →
+      stands_in image slot b ≡ true → a ≡ b
   one-cnode a b slot first second here there =
       let one = own-cnode a first in
       let two = own-cnode b second in

@@ -38,7 +38,8 @@ module _ (image : Image) (fitting : IsFitting image) (formed : AreFormed image) 
       let home : (object_at image c.source).untyped < 2 ^ image.header.boot_radix = elim (cases_lt c.source image.header.objects) [
         | inl less ↦ let below = home-less c.source less in omega (arith, below, enough)
         | inr most ↦
-            let none : object_at image c.source ≡ record { untyped = 0; kind = 0; size = 0 } = get_or_past image.objects c.source _ (omega (arith, most, fitting.objects)) in
+            let none : object_at image c.source ≡ record { untyped = 0; kind = 0; size = 0 } =
+            get_or_past image.objects c.source _ (omega (arith, most, fitting.objects)) in
             let zero = ap (λ (o : ObjectEntry). o.untyped) none in
             let some = pow_pos image.header.boot_radix in
             omega (arith, zero, some)
@@ -46,12 +47,14 @@ module _ (image : Image) (fitting : IsFitting image) (formed : AreFormed image) 
       let other : source_slot image c.source < 2 ^ image.header.boot_radix = elim (cases_lt c.source image.header.objects) [
         | inl less ↦ subst (λ b. (if b then handler_slot image (interrupt_of image c.source) else original_slot image c.source) < 2 ^ image.header.boot_radix)
             (sym (lt-leb image.header.objects c.source less)) (omega (arith, less, enough))
-        | inr most ↦ elim (is_handler image c.source) as (λ b. (if b then handler_slot image (interrupt_of image c.source) else original_slot image c.source) < 2 ^ image.header.boot_radix) [
-          | true ↦ omega (arith, most, enough, source)
-          | false ↦ omega (arith, most, enough, source)
-        ]
+        | inr most ↦ elim (is_handler image c.source)
+            as (λ b. (if b then handler_slot image (interrupt_of image c.source) else original_slot image c.source) < 2 ^ image.header.boot_radix) [
+              | true ↦ omega (arith, most, enough, source)
+              | false ↦ omega (arith, most, enough, source)
+            ]
       ] in
-      elim (is_untyped (listed_capability image c)) as (λ b. (if b then (object_at image c.source).untyped else source_slot image c.source) < 2 ^ image.header.boot_radix) [ true ↦ home | false ↦ other ]
+      elim (is_untyped (listed_capability image c))
+      as (λ b. (if b then (object_at image c.source).untyped else source_slot image c.source) < 2 ^ image.header.boot_radix) [ true ↦ home | false ↦ other ]
 
   hang-in-boot : OfSections (HangsInBoot image) image
   hang-in-boot = record {
@@ -63,7 +66,8 @@ module _ (image : Image) (fitting : IsFitting image) (formed : AreFormed image) 
     notification = λ k i at parent is. at-most _ parent (let less = InterruptFits.notification (fitting.interrupt k i at) in omega (arith, less, enough)) is;
     binding = λ k i at parent is.
         at-most _ parent
-        (let less : k < image.header.interrupts = subst (λ (n : ℕ). k < n) fitting.interrupts (slice_get_within image.interrupts k i at) in omega (arith, less, enough)) is;
+        (let less : k < image.header.interrupts = subst (λ (n : ℕ). k < n) fitting.interrupts (slice_get_within image.interrupts k i at) in
+        omega (arith, less, enough)) is;
     listed = λ k c at parent is. at-most _ parent (listed-parent-boot k c at) is;
     thread = λ k t at. each-two (HangsInBoot image) _ _
         (λ parent is. at-most _ parent (let less = ThreadFits.cnode (fitting.thread k t at) in omega (arith, less, enough)) is)

@@ -1,5 +1,6 @@
 -- One object more is placed.
-use Rattle.std.proofs.Common.{◌≡◌, ◌∙◌, ℕ, ◌+◌, ◌*◌, ◌==◌, ◌^◌, ◌<◌, ◌≤◌, true, Some, List, [], ◌∷◌, ◌++◌, inl, inr, length, set, take, get_or, refl, sym, ap, arith, add-one, pow_pos, take-suc}
+use Rattle.std.proofs.Common.{◌≡◌, ◌∙◌, ℕ, ◌+◌, ◌*◌, ◌==◌, ◌^◌, ◌<◌, ◌≤◌, true, Some, List, [], ◌∷◌, ◌++◌, inl, inr, length, set, take, get_or, refl, sym, ap}
+use Rattle.std.proofs.Common.{arith, add-one, pow_pos, take-suc}
 use Rattle.std.specs.Prelude.{fold, if◌then◌else◌, slice_get, slice_index}
 use Rattle.std.proofs.lemmas.Bool.Decides.{eqb_tells}
 use Rattle.std.proofs.lemmas.Grind.{get_or-set_at}
@@ -19,7 +20,8 @@ use Rattle.thread_spaces.specs.Given.{AreOffsets}
 
 -- ---- where an object lies
 
-pub place-is : (image : Image) (number : ℕ) → offset_of image number ≡ (untyped_at image (object_at image number).untyped).offset + align (used_before image number) (2 ^ bits_of (object_at image number))
+pub place-is : (image : Image) (number : ℕ) → offset_of image number ≡ (untyped_at image (object_at image number).untyped).offset + align
+    (used_before image number) (2 ^ bits_of (object_at image number))
 unfolding offset_of
 place-is image number = refl
 
@@ -50,7 +52,8 @@ unfolding used_by
 used-none untyped = refl
 
 used-next : (objects : List ObjectEntry) (n : ℕ) (o : ObjectEntry) (untyped : ℕ) → slice_get objects n ≡ Some o
-    → used_by (take (n + 1) objects) untyped ≡ (if o.untyped == untyped then place_of_object (used_by (take n objects) untyped) (bits_of o) 1 else used_by (take n objects) untyped)
+    → used_by (take (n + 1) objects) untyped ≡ (if o.untyped == untyped then place_of_object (used_by (take n objects) untyped) (bits_of o) 1 else
+    used_by (take n objects) untyped)
 unfolding used_by
 used-next objects n o untyped is =
     let at : get_or objects n o ≡ o = get_or_from_slice_get objects n o o is in
@@ -89,7 +92,8 @@ module _ (image : Image) (n : ℕ) (o : ObjectEntry) (used : List ℕ) (end : �
             ∙ sym (next ∙ ap (λ b. if b then place_of_object old (bits_of o) 1 else old) other.0)
       ]
 
-pub placed-after : (image : Image) (n offset : ℕ) (offsets : List ℕ) → offset ≡ offset_of image n → AreOffsets image n offsets → AreOffsets image (n + 1) (offsets ++ offset ∷ [])
+pub placed-after : (image : Image) (n offset : ℕ) (offsets : List ℕ) → offset ≡ offset_of image n → AreOffsets image n offsets →
+    AreOffsets image (n + 1) (offsets ++ offset ∷ [])
 placed-after image n offset offsets is placed = record {
   size = length-append offsets (offset ∷ []) ∙ ap (λ (w : ℕ). w + 1) placed.size;
   place = λ number less. elim (eqb_tells number n) [
@@ -102,7 +106,8 @@ placed-after image n offset offsets is placed = record {
 
 -- ---- by the entries of the object and of its untyped
 
-module _ (image : Image) (number used : ℕ) (o : ObjectEntry) (u : UntypedEntry) (there : slice_get image.objects number ≡ Some o) (home : slice_get image.untypeds o.untyped ≡ Some u)
+module _ (image : Image) (number used : ℕ) (o : ObjectEntry) (u : UntypedEntry) (there : slice_get image.objects number ≡ Some o)
+    (home : slice_get image.untypeds o.untyped ≡ Some u)
     (used_is : used ≡ used_before image number) where
   object-is : object_at image number ≡ o
   object-is = get_or_from_slice_get image.objects number o _ there
@@ -115,11 +120,13 @@ module _ (image : Image) (number used : ℕ) (o : ObjectEntry) (u : UntypedEntry
 
   pub begins : (place size first : ℕ) → place ≡ used → size ≡ 2 ^ bits_of o → first ≡ align place size → first ≡ begin
   begins place size first same sized is =
-      is ∙ ap (λ (n : ℕ). align n size) (same ∙ used_is) ∙ ap (align (used_before image number)) (sized ∙ ap (λ (x : ObjectEntry). 2 ^ bits_of x) (sym object-is))
+      is ∙ ap (λ (n : ℕ). align n size) (same ∙ used_is) ∙ ap (align (used_before image number))
+      (sized ∙ ap (λ (x : ObjectEntry). 2 ^ bits_of x) (sym object-is))
 
   pub offset-is : (base first : ℕ) → base ≡ u.offset → first ≡ begin → base + first ≡ offset_of image number
   offset-is base first same is =
-      ap (λ (n : ℕ). n + first) (same ∙ ap (λ (x : UntypedEntry). x.offset) (sym untyped-is) ∙ ap (λ (x : ObjectEntry). (untyped_at image x.untyped).offset) (sym object-is))
+      ap (λ (n : ℕ). n + first) (same ∙ ap (λ (x : UntypedEntry). x.offset) (sym untyped-is)
+      ∙ ap (λ (x : ObjectEntry). (untyped_at image x.untyped).offset) (sym object-is))
       ∙ ap (λ (n : ℕ). (untyped_at image (object_at image number).untyped).offset + n) is ∙ sym (place-is image number)
 
   pub end-is : (first size : ℕ) → first ≡ begin → size ≡ 2 ^ bits_of o → first + size ≡ place_of_object used (bits_of (object_at image number)) 1

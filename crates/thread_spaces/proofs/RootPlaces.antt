@@ -3,7 +3,8 @@ use Rattle.std.proofs.Common.{ℕ, ◌≡◌, true, false, subst}
 use Rattle.std.proofs.lemmas.Bool.{eqb-true}
 use Rattle.soundness.proofs.Laws.{described-sound}
 use Rattle.model.specs.declared.capabilities.Cap.{Cap}
-use Rattle.model.specs.declared.capabilities.Cap.TheVariants.{Empty, Untyped, Endpoint, Notification, CNode, Frame, PageTable, Tcb, RootTable, InterruptControl, InterruptHandler}
+use Rattle.model.specs.declared.capabilities.Cap.TheVariants.{Empty, Untyped, Endpoint, Notification, CNode, Frame, PageTable, Tcb, RootTable, InterruptControl}
+use Rattle.model.specs.declared.capabilities.Cap.TheVariants.{InterruptHandler}
 use Rattle.model.specs.Acceptance.Accepted.{IsWellFormed}
 use Rattle.model.specs.Capabilities.CapabilityWords.{IsCapability, IsPlace}
 use Rattle.model.specs.Capabilities.Slots.{capability_at}
@@ -27,7 +28,9 @@ valid-place (Tcb _) offset is valid = absurd (let clash : false ≡ true = is in
 valid-place InterruptControl offset is valid = absurd (let clash : false ≡ true = is in cc)
 valid-place (InterruptHandler _) offset is valid = absurd (let clash : false ≡ true = is in cc)
 
-pub root-placed : (image : Image) (t : Thread) → whole_image.fits image ≡ true → IsWellFormed image → IsListed image t → IsPlace (offset_of image t.header.root) 12
+pub root-placed : (image : Image) (t : Thread) → whole_image.fits image ≡ true → IsWellFormed image → IsListed image t →
+    IsPlace (offset_of image t.header.root) 12
 root-placed image t fits well listed =
     let held = root-held image fits well t listed in
-    valid-place (capability_at (described image).slots held.slot) (offset_of image t.header.root) held.holds ((described-sound image fits well).slots.derivation.valid held.slot)
+    valid-place (capability_at (described image).slots held.slot) (offset_of image t.header.root) held.holds
+    ((described-sound image fits well).slots.derivation.valid held.slot)

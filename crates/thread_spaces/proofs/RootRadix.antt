@@ -30,7 +30,8 @@ has-one None is = absurd (let no : false ≡ true = is in cc)
 has-one (Some radix) is = record { radix = radix; is = refl }
 
 -- the root leads into the thread's own CNodes
-pub root-leads-inside : (image : Image) (t : Thread) (root : Cap) → IsWellFormed image → IsListed image t → root ≡ noted_root image t → is_inside image t root ≡ true
+pub root-leads-inside : (image : Image) (t : Thread) (root : Cap) → IsWellFormed image → IsListed image t → root ≡ noted_root image t →
+    is_inside image t root ≡ true
 root-leads-inside image t root formed listed is =
     let one = has-one (radix_of (type_at image t.header.cnode)) (root-radixed image t (are-formed image formed) listed) in
     ap (is_inside image t) is ∙ root-inside image t one.radix one.is
@@ -39,11 +40,13 @@ module _ (image : Image) (t : Thread) (fits : whole_image.fits image ≡ true) (
   pub root-cnode : IsCNode image t.header.cnode
   root-cnode = radixed-cnode image t.header.cnode (is-fitting image fits) (root-radixed image t (are-formed image formed) listed)
 
-  pub root-radix : (h : ThreadHeader) (o : ObjectEntry) (found : Option ℕ) → h ≡ t.header → o ≡ object_at image h.cnode → found ≡ radix_of (type_of o.kind o.size) → found ≡ Some root-cnode.radix
+  pub root-radix : (h : ThreadHeader) (o : ObjectEntry) (found : Option ℕ) → h ≡ t.header → o ≡ object_at image h.cnode →
+      found ≡ radix_of (type_of o.kind o.size) → found ≡ Some root-cnode.radix
   root-radix h o found here entry is =
       is ∙ ap (λ (x : ObjectEntry). radix_of (type_of x.kind x.size)) (entry ∙ ap (λ (g : ThreadHeader). object_at image g.cnode) here) ∙ root-cnode.is
 
-  pub root-fits : (h : ThreadHeader) (radix offset : ℕ) → h ≡ t.header → Some radix ≡ Some root-cnode.radix → offset ≡ offset_of image h.cnode → IsCapability (CNode offset radix h.guard)
+  pub root-fits : (h : ThreadHeader) (radix offset : ℕ) → h ≡ t.header → Some radix ≡ Some root-cnode.radix → offset ≡ offset_of image h.cnode →
+      IsCapability (CNode offset radix h.guard)
   root-fits h radix offset here same place =
       let is : CNode offset radix h.guard ≡ noted_root image t =
       ap (λ (g : ThreadHeader). CNode offset radix g.guard) here
@@ -52,10 +55,12 @@ module _ (image : Image) (t : Thread) (fits : whole_image.fits image ≡ true) (
 
 module _ (image : Image) (t : Thread) (fits : whole_image.fits image ≡ true) (listed : IsListed image t) (h : ThreadHeader) (here : h ≡ t.header) where
   pub table-listed : h.root < image.header.objects
-  table-listed = subst (λ (g : ThreadHeader). g.root < image.header.objects) (sym here) (ThreadFits.root (IsFitting.thread (is-fitting image fits) listed.number t listed.listed))
+  table-listed = subst (λ (g : ThreadHeader). g.root < image.header.objects) (sym here)
+      (ThreadFits.root (IsFitting.thread (is-fitting image fits) listed.number t listed.listed))
 
   pub cnode-listed : h.cnode < image.header.objects
-  cnode-listed = subst (λ (g : ThreadHeader). g.cnode < image.header.objects) (sym here) (ThreadFits.cnode (IsFitting.thread (is-fitting image fits) listed.number t listed.listed))
+  cnode-listed = subst (λ (g : ThreadHeader). g.cnode < image.header.objects) (sym here)
+      (ThreadFits.cnode (IsFitting.thread (is-fitting image fits) listed.number t listed.listed))
 
   pub table-place : (offsets : List ℕ) → AreOffsets image image.header.objects offsets → slice_index offsets h.root ≡ offset_of image t.header.root
   table-place offsets are = are.place h.root table-listed ∙ ap (λ (g : ThreadHeader). offset_of image g.root) here

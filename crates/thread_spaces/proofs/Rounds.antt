@@ -1,5 +1,6 @@
 -- Rounds over the listed capabilities: each finds CNodes after those that are found, and what finds none is the last.
-use Rattle.std.proofs.Common.{ℕ, zero, suc, ◌≡◌, ◌∙◌, ◌+◌, ◌-◌, ◌<◌, ◌≤◌, ◌⊎◌, inl, inr, ◌&&◌, ◌||◌, drop, Bool, true, false, not, if◌then◌else◌, Some, None, List, [], ◌∷◌, ◌++◌, length, refl, sym, ap, subst, arith}
+use Rattle.std.proofs.Common.{ℕ, zero, suc, ◌≡◌, ◌∙◌, ◌+◌, ◌-◌, ◌<◌, ◌≤◌, ◌⊎◌, inl, inr, ◌&&◌, ◌||◌, drop, Bool, true, false, not, if◌then◌else◌, Some, None}
+use Rattle.std.proofs.Common.{List, [], ◌∷◌, ◌++◌, length, refl, sym, ap, subst, arith}
 use Rattle.std.specs.Prelude.{fold, is_some, nat_eq, slice_get}
 use Rattle.std.proofs.lemmas.Option.{none-some, same_Some}
 use Rattle.std.proofs.lemmas.Bool.{eq-eqb, eqb-true, or_cases, or_left, or_right}
@@ -15,7 +16,8 @@ module _ (image : Image) where
   last-round zero found same = refl
   last-round (suc rounds) found same = ap (reached_within rounds image) same ∙ last-round rounds found same
 
-  pub one-round : (rounds : ℕ) (found : List ℕ) → reached_within (suc rounds) image found ≡ reached_within rounds image (fold (with_named image) found image.capabilities)
+  pub one-round : (rounds : ℕ) (found : List ℕ) → reached_within (suc rounds) image found ≡ reached_within rounds image
+      (fold (with_named image) found image.capabilities)
   unfolding reached_within
   one-round rounds found = refl
 
@@ -58,10 +60,12 @@ module _ (image : Image) where
   cnodes-one : (found : List ℕ) (c : CapabilityEntry) → AreCNodes found → AreCNodes (with_named image found c)
   cnodes-one found c are =
       elim (is_member c.cnode found && is_cnode_source image c.source && not (is_member c.source found)) as
-      (λ b. (is_member c.cnode found && is_cnode_source image c.source && not (is_member c.source found)) ≡ b → AreCNodes (if b then found ++ c.source ∷ [] else found)) [
+      (λ b. (is_member c.cnode found && is_cnode_source image c.source && not (is_member c.source found)) ≡ b →
+      AreCNodes (if b then found ++ c.source ∷ [] else found)) [
         | true ↦ λ is number there. elim (member-cases number found c.source there) [
           | inl before ↦ are number before
-          | inr same ↦ subst IsRadixed (sym same) (source-radixed c.source (second-of (is_member c.cnode found) (is_cnode_source image c.source) (not (is_member c.source found)) is))
+          | inr same ↦ subst IsRadixed (sym same)
+              (source-radixed c.source (second-of (is_member c.cnode found) (is_cnode_source image c.source) (not (is_member c.source found)) is))
         ]
         | false ↦ λ _. are
       ] refl
@@ -106,12 +110,14 @@ member-last (x ∷ xs) y = or_right (nat_eq y x) (is_member y (xs ++ y ∷ [])) 
 module _ (image : Image) where
   pub part-one : (found : List ℕ) (c : CapabilityEntry) (n : ℕ) → is_member n found ≡ true → is_member n (with_named image found c) ≡ true
   part-one found c n there =
-      elim (is_member c.cnode found && is_cnode_source image c.source && not (is_member c.source found)) as (λ b. is_member n (if b then found ++ c.source ∷ [] else found) ≡ true) [
+      elim (is_member c.cnode found && is_cnode_source image c.source && not (is_member c.source found))
+      as (λ b. is_member n (if b then found ++ c.source ∷ [] else found) ≡ true) [
         | true ↦ member-with found c.source n there
         | false ↦ there
       ]
 
-  pub named-puts : (found : List ℕ) (c : CapabilityEntry) → is_member c.cnode found ≡ true → is_cnode_source image c.source ≡ true → is_member c.source (with_named image found c) ≡ true
+  pub named-puts : (found : List ℕ) (c : CapabilityEntry) → is_member c.cnode found ≡ true → is_cnode_source image c.source ≡ true →
+      is_member c.source (with_named image found c) ≡ true
   named-puts found c there leads =
       ap (λ b. is_member c.source (if b && is_cnode_source image c.source && not (is_member c.source found) then found ++ c.source ∷ [] else found)) there
       ∙ ap (λ b. is_member c.source (if true && b && not (is_member c.source found) then found ++ c.source ∷ [] else found)) leads
@@ -131,7 +137,8 @@ module _ (image : Image) (t : Thread) where
   abbrev pub IsLeft : ℕ → List ℕ → Type 0
   IsLeft i found = reached_within (length image.capabilities - i) image found ≡ reached image t
 
-  pub round-first : (root : ℕ) (before found : List ℕ) → root ≡ t.header.cnode → before ≡ [] → found ≡ (if is_member root before then before else before ++ root ∷ []) → IsLeft 0 found
+  pub round-first : (root : ℕ) (before found : List ℕ) → root ≡ t.header.cnode → before ≡ [] →
+      found ≡ (if is_member root before then before else before ++ root ∷ []) → IsLeft 0 found
   unfolding reached
   round-first root before found root_is none is =
       let all : length image.capabilities - 0 ≡ length image.capabilities = omega arith in
@@ -139,7 +146,8 @@ module _ (image : Image) (t : Thread) where
       ∙ ap (reached_within (length image.capabilities) image)
       (is ∙ ap (λ (xs : List ℕ). if is_member root xs then xs else xs ++ root ∷ []) none ∙ ap (λ (n : ℕ). let one : List ℕ = n ∷ [] in one) root_is)
 
-  pub round-next : (i : ℕ) (found after : List ℕ) → i < length image.capabilities → after ≡ fold (with_named image) found image.capabilities → IsLeft i found → IsLeft (i + 1) after
+  pub round-next : (i : ℕ) (found after : List ℕ) → i < length image.capabilities → after ≡ fold (with_named image) found image.capabilities → IsLeft i found →
+      IsLeft (i + 1) after
   round-next i found after less is left =
       let more : length image.capabilities - i ≡ suc (length image.capabilities - (i + 1)) = omega (arith, less) in
       ap (reached_within (length image.capabilities - (i + 1)) image) is ∙ sym (one-round image (length image.capabilities - (i + 1)) found)

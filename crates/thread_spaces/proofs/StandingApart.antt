@@ -23,7 +23,8 @@ stands-apart image t fits well listed =
       within = own-in-memory image t fitting formed listed;
       behind = boot-not-own image t fitting formed listed;
       room = boot-room image fitting;
-      outside = λ slot parent none is. boot-not-own image t fitting formed listed parent (let boot = parent-in-boot image fitting formed slot parent is in omega (arith, boot));
+      outside = λ slot parent none is. boot-not-own image t fitting formed listed parent
+          (let boot = parent-in-boot image fitting formed slot parent is in omega (arith, boot));
       parent_boot = boot-parent-boot image fits well t listed;
       parent_pool = λ offset bits watermark. (pool-first image fits well t listed offset bits watermark).first;
       parent_other = λ capability plain. let below = other-below image fits well t listed capability plain in (below.above, below.parent, below.first);

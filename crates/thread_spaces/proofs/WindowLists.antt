@@ -13,7 +13,8 @@ windows-push image [] (v ∷ vs) cnode w are is = absurd are
 windows-push image (c ∷ cs) [] cnode w are is = absurd are
 windows-push image (c ∷ cs) (v ∷ vs) cnode w are is = (are.0, windows-push image cs vs cnode w are.1 is)
 
-pub windows-more : (image : Image) (cnodes : List ℕ) (windows : List Window) (n cnode : ℕ) (w : Window) → slice_get cnodes n ≡ Some cnode → AreWindows image (take n cnodes) windows → IsWindow image cnode w
+pub windows-more : (image : Image) (cnodes : List ℕ) (windows : List Window) (n cnode : ℕ) (w : Window) → slice_get cnodes n ≡ Some cnode →
+    AreWindows image (take n cnodes) windows → IsWindow image cnode w
     → AreWindows image (take (n + 1) cnodes) (windows ++ w ∷ [])
 windows-more image cnodes windows n cnode w at are is =
     let here : get_or cnodes n cnode ≡ cnode = get_or_from_slice_get cnodes n cnode cnode at in
@@ -21,7 +22,8 @@ windows-more image cnodes windows n cnode w at are is =
     rw (add-one n) (take-suc cnodes n cnode (slice_get_within cnodes n cnode at) ∙ ap (λ (x : ℕ). take n cnodes ++ (x ∷ [])) here) in
     subst (λ (cs : List ℕ). AreWindows image cs (windows ++ w ∷ [])) (sym parts) (windows-push image (take n cnodes) windows cnode w are is)
 
-pub windows-made : {E : Type 0} (image : Image) (cnodes : List ℕ) (windows : List Window) (r : Result (List Window) E) → AreWindows image cnodes windows → IfOk r (λ made. made ≡ windows)
+pub windows-made : {E : Type 0} (image : Image) (cnodes : List ℕ) (windows : List Window) (r : Result (List Window) E) → AreWindows image cnodes windows →
+    IfOk r (λ made. made ≡ windows)
     → IfOk r (λ made. AreWindows image cnodes made)
 windows-made image cnodes windows (Ok made) are is = subst (AreWindows image cnodes) (sym is) are
 windows-made image cnodes windows (Err e) are is = tt

@@ -27,7 +27,8 @@ pub record AwaitsMore (r s : Round) : Type 0 where
 
 -- The capabilities of a CNode are awaited that lead to CNodes.
 pub record AwaitsListed (image : Image) (cnode : ℕ) (r : Round) : Type 0 where
-  pub all : (n : ℕ) (c : CapabilityEntry) → slice_get image.capabilities n ≡ Some c → c.cnode ≡ cnode → is_cnode_source image c.source ≡ true → awaits r n ≡ true
+  pub all : (n : ℕ) (c : CapabilityEntry) → slice_get image.capabilities n ≡ Some c → c.cnode ≡ cnode → is_cnode_source image c.source ≡ true →
+      awaits r n ≡ true
 
 -- whether a capability leads from a CNode that is found to one that is not
 abbrev pub leads_on : Image → List ℕ → CapabilityEntry → Bool

@@ -1,5 +1,6 @@
 -- Loops that append what each turn tells or finds, or look whether some of it passes.
-use Rattle.std.proofs.Common.{ℕ, ◌≡◌, ◌∙◌, ◌+◌, ◌<◌, ◌≤◌, ◌||◌, Bool, true, false, Option, Some, None, List, [], ◌∷◌, ◌++◌, length, map, take, get_or, refl, sym, ap, add-one, append-nil, take-suc, take_all}
+use Rattle.std.proofs.Common.{ℕ, ◌≡◌, ◌∙◌, ◌+◌, ◌<◌, ◌≤◌, ◌||◌, Bool, true, false, Option, Some, None, List, [], ◌∷◌, ◌++◌, length, map, take, get_or, refl}
+use Rattle.std.proofs.Common.{sym, ap, add-one, append-nil, take-suc, take_all}
 use Rattle.std.specs.List.{cons_option, filter_map, flat_map, list_any}
 use Rattle.std.specs.Option.{option_map_or, option_to_list}
 use Rattle.std.proofs.lemmas.List.{flat_map_more}
@@ -9,11 +10,14 @@ use Rattle.typestate.specs.declared.log_entries.LogEntry.TheVariants.{Sets}
 use Rattle.typestate.proofs.Linked.{append-again}
 
 -- what one slot more tells
-pub one-more-told : (tell : NotedSlot → List NotedSlot) (slots : List NotedSlot) (i : ℕ) (s : NotedSlot) (old made after : List NotedSlot) → i < length slots → s ≡ get_or slots i s
+pub one-more-told : (tell : NotedSlot → List NotedSlot) (slots : List NotedSlot) (i : ℕ) (s : NotedSlot) (old made after : List NotedSlot) → i < length slots →
+    s ≡ get_or slots i s
     → made ≡ old ++ flat_map tell (take i slots) → after ≡ made ++ tell s → after ≡ old ++ flat_map tell (take (i + 1) slots)
 one-more-told tell slots i s old made after less at before is =
-    let longer : take (i + 1) slots ≡ take i slots ++ (s ∷ []) = rw (add-one i) (take-suc slots i s less ∙ ap (λ (x : NotedSlot). take i slots ++ (x ∷ [])) (sym at)) in
-    is ∙ ap (λ (l : List NotedSlot). l ++ tell s) before ∙ flat_map_more tell old (take i slots) s ∙ ap (λ (l : List NotedSlot). old ++ flat_map tell l) (sym longer)
+    let longer : take (i + 1) slots ≡ take i slots ++ (s ∷ []) =
+    rw (add-one i) (take-suc slots i s less ∙ ap (λ (x : NotedSlot). take i slots ++ (x ∷ [])) (sym at)) in
+    is ∙ ap (λ (l : List NotedSlot). l ++ tell s) before ∙ flat_map_more tell old (take i slots) s
+    ∙ ap (λ (l : List NotedSlot). old ++ flat_map tell l) (sym longer)
 
 -- before the first slot nothing is told
 pub none-told : (tell : NotedSlot → List NotedSlot) (slots old : List NotedSlot) → old ≡ old ++ flat_map tell (take 0 slots)
@@ -68,17 +72,20 @@ entries-again [] ys zs = refl
 entries-again (x ∷ xs) ys zs = ap (λ (l : List LogEntry). x ∷ l) (entries-again xs ys zs)
 
 -- with the entry for one slot more
-pub one-more-entry : (f : NotedSlot → LogEntry) (slots : List NotedSlot) (i : ℕ) (s : NotedSlot) (old made after : List LogEntry) → i < length slots → s ≡ get_or slots i s
+pub one-more-entry : (f : NotedSlot → LogEntry) (slots : List NotedSlot) (i : ℕ) (s : NotedSlot) (old made after : List LogEntry) → i < length slots →
+    s ≡ get_or slots i s
     → made ≡ old ++ map f (take i slots) → after ≡ made ++ f s ∷ [] → after ≡ old ++ map f (take (i + 1) slots)
 one-more-entry f slots i s old made after less at before is =
-    let longer : take (i + 1) slots ≡ take i slots ++ (s ∷ []) = rw (add-one i) (take-suc slots i s less ∙ ap (λ (x : NotedSlot). take i slots ++ (x ∷ [])) (sym at)) in
+    let longer : take (i + 1) slots ≡ take i slots ++ (s ∷ []) =
+    rw (add-one i) (take-suc slots i s less ∙ ap (λ (x : NotedSlot). take i slots ++ (x ∷ [])) (sym at)) in
     is ∙ ap (λ (l : List LogEntry). l ++ f s ∷ []) before ∙ entries-again old (map f (take i slots)) (f s ∷ [])
     ∙ ap (λ (l : List LogEntry). old ++ l) (sym (map-more f (take i slots) s)) ∙ ap (λ (l : List NotedSlot). old ++ map f l) (sym longer)
 
 pub no-entry : (f : NotedSlot → LogEntry) (slots : List NotedSlot) (old : List LogEntry) → old ≡ old ++ map f (take 0 slots)
 no-entry f slots old = sym (append-nil old)
 
-pub all-entries : (f : NotedSlot → LogEntry) (slots : List NotedSlot) (i : ℕ) (old made : List LogEntry) → length slots ≤ i → made ≡ old ++ map f (take i slots) → made ≡ old ++ map f slots
+pub all-entries : (f : NotedSlot → LogEntry) (slots : List NotedSlot) (i : ℕ) (old made : List LogEntry) → length slots ≤ i → made ≡ old
+    ++ map f (take i slots) → made ≡ old ++ map f slots
 all-entries f slots i old made none before = before ∙ ap (λ (l : List NotedSlot). old ++ map f l) (take_all i slots none)
 
 pub sets-of : (f : NotedSlot → NotedSlot) (slots : List NotedSlot) → map (λ s. Sets (f s)) slots ≡ map (λ (s : NotedSlot). Sets s) (map f slots)

@@ -26,7 +26,8 @@ ruled : (at : Point) (s t : Slots) (a b : Result ℕ LookupFailure) (rule : ℕ 
 ruled at s t (Ok slot) b rule same finds = ap (rule slot) finds ∙ ap (λ (r : Result ℕ LookupFailure). ruled_by rule (slot_called at t r)) same
 ruled at s t (Err failure) b rule same finds = ap (λ (r : Result ℕ LookupFailure). ruled_by rule (slot_called at t r)) same
 
-pub by-called : (space : Space) (at : Point) (state : PointState) (rule : ℕ → Cap → Result AfterCall Refusal) → IsSpace space → NothingLeadsOutside space.image.now space.thread.now state.slots
+pub by-called : (space : Space) (at : Point) (state : PointState) (rule : ℕ → Cap → Result AfterCall Refusal) → IsSpace space →
+    NothingLeadsOutside space.image.now space.thread.now state.slots
     → by_capability space.image.now space.thread.now at state rule ≡ ruled_by rule (found_call at state (own_slots space.windows.now state.slots) space.root)
 unfolding noted_kernel
 by-called space at state rule is none =
@@ -38,7 +39,8 @@ by-called space at state rule is none =
     ≡ ruled_by rule (r >>= λ address. slot_called at own (called_slot own space.root address))) [
       | Err refusal ↦ refl
       | Ok address ↦
-          let calls = called-slot-same s own (is_own_cnode image (reached image t)) (slots-agree image t space.windows.now state.slots is.cnodes none) space.root address is.root_inside in
+          let calls = called-slot-same s own (is_own_cnode image (reached image t)) (slots-agree image t space.windows.now state.slots is.cnodes none)
+          space.root address is.root_inside in
           ap (λ (root : Cap). found_slot at (called_slot s root address) >>= λ slot. rule slot (capability_at s slot)) (sym is.root_is)
           ∙ ruled at s own (called_slot s space.root address) (called_slot own space.root address) rule calls.0 calls.1
     ]
@@ -51,6 +53,7 @@ unfolding after_call
 after-known image t at state number kind is same =
     ap (λ (r : Result ℕ Refusal). r >>= λ n. by_number image t at state (call_of n)) (sym is) ∙ same
 
-pub after-unknown : (image : Image) (t : Thread) (at : Point) (state : PointState) (refusal : Refusal) → Err refusal ≡ known at state a7 → after_call image t at state ≡ Err refusal
+pub after-unknown : (image : Image) (t : Thread) (at : Point) (state : PointState) (refusal : Refusal) → Err refusal ≡ known at state a7 →
+    after_call image t at state ≡ Err refusal
 unfolding after_call
 after-unknown image t at state refusal is = ap (λ (r : Result ℕ Refusal). r >>= λ n. by_number image t at state (call_of n)) (sym is)

@@ -1,7 +1,9 @@
 -- What is decoded of a capability is a call on it.
-use Rattle.std.proofs.Common.{ℕ, ◌≡◌, ◌==◌, ◌⊎◌, inl, inr, Bool, true, false, nat_le, if◌then◌else◌, Option, Some, None, Result, Ok, Err, List, length, refl, sym, ap, subst}
+use Rattle.std.proofs.Common.{ℕ, ◌≡◌, ◌==◌, ◌⊎◌, inl, inr, Bool, true, false, nat_le, if◌then◌else◌, Option, Some, None, Result, Ok, Err, List, length, refl}
+use Rattle.std.proofs.Common.{sym, ap, subst}
 use Rattle.model.specs.declared.capabilities.Cap.{Cap}
-use Rattle.model.specs.declared.capabilities.Cap.TheVariants.{Empty, Untyped, Endpoint, Notification, CNode, Frame, PageTable, Tcb, RootTable, InterruptControl, InterruptHandler}
+use Rattle.model.specs.declared.capabilities.Cap.TheVariants.{Empty, Untyped, Endpoint, Notification, CNode, Frame, PageTable, Tcb, RootTable, InterruptControl}
+use Rattle.model.specs.declared.capabilities.Cap.TheVariants.{InterruptHandler}
 use Rattle.model.specs.declared.errors.KError.{KError}
 use Rattle.model.specs.declared.errors.KError.TheVariants.{IllegalOperation, TruncatedMessage}
 use Rattle.model.specs.declared.invocations.Invocation.{Invocation}
@@ -18,7 +20,10 @@ use Rattle.model.specs.declared.refusals.Point.{Point}
 use Rattle.model.specs.Acceptance.NotedStates.{NotedSlot, is_foreign}
 use Rattle.model.specs.Images.Image.{Image, Thread}
 use Rattle.model.specs.Kernel.Arguments.{◌>>=◌, check, wanted}
-use Rattle.model.specs.Kernel.CallForms.{CallForm, acknowledge_label, clear_label, configure_label, copy_label, decode, delete_label, form_of, get_handler_label, map_frame_label, map_table_label, mint_label, move_label, mutate_label, resume_label, retype_label, revoke_label, set_notification_label, set_priority_label, set_register_label, suspend_label, unmap_frame_label, unmap_table_label}
+use Rattle.model.specs.Kernel.CallForms.{CallForm, acknowledge_label, clear_label, configure_label, copy_label, decode, delete_label, form_of}
+use Rattle.model.specs.Kernel.CallForms.{get_handler_label, map_frame_label, map_table_label, mint_label, move_label, mutate_label, resume_label, retype_label}
+use Rattle.model.specs.Kernel.CallForms.{revoke_label, set_notification_label, set_priority_label, set_register_label, suspend_label, unmap_frame_label}
+use Rattle.model.specs.Kernel.CallForms.{unmap_table_label}
 use Rattle.typestate.specs.CNodeCalls.{cnode_after}
 use Rattle.typestate.specs.Invocations.{IsCallOn, held_after}
 
@@ -40,7 +45,8 @@ forms-on (Notification _ _ _) label = tt
 forms-on (CNode offset radix guard) label =
     let c : Cap = CNode offset radix guard in
     one-of c (label == copy_label) _ _ (λ words. tt) (one-of c (label == mint_label) _ _ (λ words. tt) (one-of c (label == move_label) _ _ (λ words. tt)
-    (one-of c (label == mutate_label) _ _ (λ words. tt) (one-of c (label == delete_label) _ _ (λ words. tt) (one-of c (label == revoke_label) _ _ (λ words. tt) tt)))))
+    (one-of c (label == mutate_label) _ _ (λ words. tt)
+    (one-of c (label == delete_label) _ _ (λ words. tt) (one-of c (label == revoke_label) _ _ (λ words. tt) tt)))))
 forms-on (Frame offset r mapping) label =
     let c : Cap = Frame offset r mapping in
     one-of c (label == map_frame_label) _ _ (λ words. refl) (one-of c (label == unmap_frame_label) _ _ (λ words. refl) tt)
@@ -49,17 +55,20 @@ forms-on (PageTable offset mapping) label =
     one-of c (label == map_table_label) _ _ (λ words. tt) (one-of c (label == unmap_table_label) _ _ (λ words. tt) tt)
 forms-on (Tcb offset) label =
     let c : Cap = Tcb offset in
-    one-of c (label == configure_label) _ _ (λ words. tt) (one-of c (label == set_priority_label) _ _ (λ words. tt) (one-of c (label == set_register_label) _ _ (λ words. tt)
+    one-of c (label == configure_label) _ _ (λ words. tt)
+    (one-of c (label == set_priority_label) _ _ (λ words. tt) (one-of c (label == set_register_label) _ _ (λ words. tt)
     (one-of c (label == resume_label) _ _ (λ words. tt) (one-of c (label == suspend_label) _ _ (λ words. tt) tt))))
 forms-on (RootTable _) label = tt
 forms-on InterruptControl label = one-of InterruptControl (label == get_handler_label) _ _ (λ words. tt) tt
 forms-on (InterruptHandler line) label =
     let c : Cap = InterruptHandler line in
-    one-of c (label == acknowledge_label) _ _ (λ words. refl) (one-of c (label == set_notification_label) _ _ (λ words. refl) (one-of c (label == clear_label) _ _ (λ words. refl) tt))
+    one-of c (label == acknowledge_label) _ _ (λ words. refl)
+    (one-of c (label == set_notification_label) _ _ (λ words. refl) (one-of c (label == clear_label) _ _ (λ words. refl) tt))
 
 abbrev decoded_from : Bool → Option CallForm → ℕ → List ℕ → Result Invocation KError
 decoded_from plain found count words =
-    (check plain TruncatedMessage >>= λ _. wanted found IllegalOperation >>= λ form. check (nat_le form.count count) TruncatedMessage >>= λ _. Ok form) >>= λ form. Ok (form.call words)
+    (check plain TruncatedMessage >>= λ _. wanted found IllegalOperation >>= λ form. check (nat_le form.count count) TruncatedMessage >>= λ _. Ok form)
+    >>= λ form. Ok (form.call words)
 
 abbrev called : Invocation → Result Invocation KError
 called call = Ok call
@@ -67,7 +76,8 @@ called call = Ok call
 abbrev failed : KError → Result Invocation KError
 failed error = Err error
 
-from-form : (c : Cap) (plain : Bool) (found : Option CallForm) (count : ℕ) (words : List ℕ) (call : Invocation) → MakesCalls c found → decoded_from plain found count words ≡ Ok call → IsCallOn c call
+from-form : (c : Cap) (plain : Bool) (found : Option CallForm) (count : ℕ) (words : List ℕ) (call : Invocation) → MakesCalls c found →
+    decoded_from plain found count words ≡ Ok call → IsCallOn c call
 from-form c false found count words call makes is = absurd (let clash : failed TruncatedMessage ≡ called call = is in cc)
 from-form c true None count words call makes is = absurd (let clash : failed IllegalOperation ≡ called call = is in cc)
 from-form c true (Some form) count words call makes is =
@@ -82,7 +92,8 @@ decoded-on c label extra words call is = from-form c (extra == 0) (form_of c lab
 
 -- ---- a call on a pool
 
-pub pool-is : (c : Cap) (memory : UntypedMemory) (call : RetypeCall) → IsCallOn c (OnUntyped memory call) → c ≡ Untyped memory.offset memory.bits memory.watermark
+pub pool-is : (c : Cap) (memory : UntypedMemory) (call : RetypeCall) → IsCallOn c (OnUntyped memory call) →
+    c ≡ Untyped memory.offset memory.bits memory.watermark
 pool-is (Untyped offset bits watermark) memory call is = ap (λ (m : UntypedMemory). Untyped m.offset m.bits m.watermark) (sym is)
 pool-is Empty memory call is = absurd is
 pool-is (Endpoint _ _ _) memory call is = absurd is
@@ -139,7 +150,8 @@ module _ (image : Image) (t : Thread) (cnodes : List ℕ) where
 
   -- nor any of them
   pub no-other-call : (c : Cap) (call : Invocation) → is_foreign image t cnodes c ≡ false → IsCallOn c call
-      → ((thread : ℕ) × (on : ThreadCall) × (call ≡ OnThread thread on)) ⊎ (((on : TableCall) × (call ≡ OnTable on)) ⊎ ((line : ℕ) × (name : SlotName) × (call ≡ OnControl line name))) → ⊥
+      → ((thread : ℕ) × (on : ThreadCall) × (call ≡ OnThread thread on)) ⊎
+      (((on : TableCall) × (call ≡ OnTable on)) ⊎ ((line : ℕ) × (name : SlotName) × (call ≡ OnControl line name))) → ⊥
   no-other-call c call own is (inl a) = no-thread c a.0 a.1 own (subst (IsCallOn c) a.2 is)
   no-other-call c call own is (inr (inl a)) = no-table-call c a.0 own (subst (IsCallOn c) a.1 is)
   no-other-call c call own is (inr (inr a)) = no-control c a.0 a.1 own (subst (IsCallOn c) a.2 is)

@@ -1,5 +1,6 @@
 -- Changes that are told at their keys, one after another, are all of them.
-use Rattle.std.proofs.Common.{ℕ, suc, ◌≡◌, ◌∙◌, ◌==◌, ◌||◌, ◌&&◌, Bool, true, false, not, is_some, option_to_list, arith, if◌then◌else◌, Option, Some, None, option_map, option_and_then, List, [], ◌∷◌, ◌++◌, map, refl, sym, ap}
+use Rattle.std.proofs.Common.{ℕ, suc, ◌≡◌, ◌∙◌, ◌==◌, ◌||◌, ◌&&◌, Bool, true, false, not, is_some, option_to_list, arith, if◌then◌else◌, Option, Some, None}
+use Rattle.std.proofs.Common.{option_map, option_and_then, List, [], ◌∷◌, ◌++◌, map, refl, sym, ap}
 use Rattle.std.specs.Option.{option_map_or}
 use Rattle.std.specs.List.{filter, flat_map, list_any}
 use Rattle.std.proofs.lemmas.Bool.Decides.{nat_tests}
@@ -8,7 +9,8 @@ use Rattle.model.specs.Acceptance.NotedStates.{NotedSlot, SlotKey, is_same_key, 
 use Rattle.model.specs.Capabilities.CapabilityKinds.{frame_mapping, is_untyped}
 use Rattle.model.specs.Capabilities.Slots.{is_empty}
 use Rattle.model.specs.declared.capabilities.Cap.{Cap}
-use Rattle.model.specs.declared.capabilities.Cap.TheVariants.{Empty, Untyped, Endpoint, Notification, CNode, Frame, PageTable, Tcb, RootTable, InterruptControl, InterruptHandler}
+use Rattle.model.specs.declared.capabilities.Cap.TheVariants.{Empty, Untyped, Endpoint, Notification, CNode, Frame, PageTable, Tcb, RootTable, InterruptControl}
+use Rattle.model.specs.declared.capabilities.Cap.TheVariants.{InterruptHandler}
 use Rattle.typestate.specs.declared.points.NotedSlots.{NotedSlots}
 use Rattle.typestate.specs.declared.slot_changes.Removed.{Removed}
 use Rattle.typestate.specs.declared.slot_changes.Removed.TheVariants.{One, Below}
@@ -22,7 +24,8 @@ use Rattle.typestate.specs.Removals.{may_lose}
 use Rattle.typestate.specs.Replays.{exchanged, replayed, turned}
 use Rattle.typestate.specs.declared.log_entries.LogEntry.{LogEntry}
 use Rattle.typestate.specs.declared.log_entries.LogEntry.TheVariants.{Sets}
-use Rattle.typestate.specs.SlotChanges.{cap_left, emptied, followed, heir, is_parent, is_removed, loses_children, noted_descends, noted_outside, noted_parent, slot_left, slots_left, what_stays, without_gone}
+use Rattle.typestate.specs.SlotChanges.{cap_left, emptied, followed, heir, is_parent, is_removed, loses_children, noted_descends, noted_outside, noted_parent}
+use Rattle.typestate.specs.SlotChanges.{slot_left, slots_left, what_stays, without_gone}
 use Rattle.typestate.proofs.Compared.{is_changed, same-place, unchanged}
 use Rattle.typestate.proofs.Linked.{filter-found, kept as kept-by}
 use Rattle.typestate.proofs.LevelByLevel.{descends-longer, descends-same, listed-goes}
@@ -62,7 +65,8 @@ leave-append found (x ∷ xs) ys first second = (first.0, leave-append found xs 
 
 changed-append : (key : SlotKey) (xs ys : List NotedSlot) → is_changed (xs ++ ys) key ≡ (is_changed xs key || is_changed ys key)
 changed-append key [] ys = refl
-changed-append key (x ∷ xs) ys = ap (λ b. is_same_key x.key key || b) (changed-append key xs ys) ∙ or-again (is_same_key x.key key) (is_changed xs key) (is_changed ys key)
+changed-append key (x ∷ xs) ys = ap (λ b. is_same_key x.key key || b) (changed-append key xs ys)
+    ∙ or-again (is_same_key x.key key) (is_changed xs key) (is_changed ys key)
   where
     or-again : (a b c : Bool) → (a || (b || c)) ≡ ((a || b) || c)
     or-again true b c = refl
@@ -97,17 +101,20 @@ module _ (slots : List NotedSlot) (tell : NotedSlot → List NotedSlot) where
   told-own : (changes : List NotedSlot) → HoldOwn slots changes → flat_map (told_of tell) changes ≡ told changes
   told-own [] own = refl
   told-own (c ∷ rest) own =
-      ap (λ (o : Option NotedSlot). option_map_or tell o [] ++ flat_map (told_of tell) rest) (sym own.0) ∙ ap (λ (l : List NotedSlot). told_at tell slots c.key ++ l) (told-own rest own.1)
+      ap (λ (o : Option NotedSlot). option_map_or tell o [] ++ flat_map (told_of tell) rest) (sym own.0)
+      ∙ ap (λ (l : List NotedSlot). told_at tell slots c.key ++ l) (told-own rest own.1)
 
   told-here : (k key : SlotKey) (s : NotedSlot) → slot_at slots key ≡ Some s → is_same_key k key ≡ true → told_at tell slots k ≡ tell s
   told-here k key s at is = ap (λ o. option_map_or tell o []) (same-place slots k key (eqb-true (number_of k) (number_of key) is) ∙ at)
 
-  told-among : (keys : List NotedSlot) (key : SlotKey) (s : NotedSlot) → slot_at slots key ≡ Some s → is_changed keys key ≡ true → is_changed (tell s) key ≡ true → is_changed (told keys) key ≡ true
+  told-among : (keys : List NotedSlot) (key : SlotKey) (s : NotedSlot) → slot_at slots key ≡ Some s → is_changed keys key ≡ true →
+      is_changed (tell s) key ≡ true → is_changed (told keys) key ≡ true
   told-among [] key s at some tells = absurd (let clash : false ≡ true = some in cc)
-  told-among (k ∷ rest) key s at some tells = elim (is_same_key k.key key) as (λ b. is_same_key k.key key ≡ b → (b || is_changed rest key) ≡ true → is_changed (told_at tell slots k.key ++ told rest) key ≡ true) [
-    | true ↦ λ is _. in-first key (told_at tell slots k.key) (told rest) (ap (λ l. is_changed l key) (told-here k.key key s at is) ∙ tells)
-    | false ↦ λ _ later. in-second key (told_at tell slots k.key) (told rest) (told-among rest key s at later tells)
-  ] refl some
+  told-among (k ∷ rest) key s at some tells = elim (is_same_key k.key key)
+      as (λ b. is_same_key k.key key ≡ b → (b || is_changed rest key) ≡ true → is_changed (told_at tell slots k.key ++ told rest) key ≡ true) [
+        | true ↦ λ is _. in-first key (told_at tell slots k.key) (told rest) (ap (λ l. is_changed l key) (told-here k.key key s at is) ∙ tells)
+        | false ↦ λ _ later. in-second key (told_at tell slots k.key) (told rest) (told-among rest key s at later tells)
+      ] refl some
 
   abbrev is_named : List SlotKey → SlotKey → Bool
   is_named keys key = list_any (λ k. is_same_key k key) keys
@@ -115,14 +122,17 @@ module _ (slots : List NotedSlot) (tell : NotedSlot → List NotedSlot) where
   told-named : (keys : List SlotKey) (key : SlotKey) (s : NotedSlot) → slot_at slots key ≡ Some s → is_named keys key ≡ true → is_changed (tell s) key ≡ true
       → is_changed (flat_map (told_at tell slots) keys) key ≡ true
   told-named [] key s at some tells = absurd (let clash : false ≡ true = some in cc)
-  told-named (k ∷ rest) key s at some tells = elim (is_same_key k key) as (λ b. is_same_key k key ≡ b → (b || is_named rest key) ≡ true → is_changed (told_at tell slots k ++ flat_map (told_at tell slots) rest) key ≡ true) [
-    | true ↦ λ is _. in-first key (told_at tell slots k) (flat_map (told_at tell slots) rest) (ap (λ l. is_changed l key) (told-here k key s at is) ∙ tells)
-    | false ↦ λ _ later. in-second key (told_at tell slots k) (flat_map (told_at tell slots) rest) (told-named rest key s at later tells)
-  ] refl some
+  told-named (k ∷ rest) key s at some tells = elim (is_same_key k key)
+      as (λ b. is_same_key k key ≡ b → (b || is_named rest key) ≡ true → is_changed (told_at tell slots k ++ flat_map (told_at tell slots) rest) key ≡ true) [
+        | true ↦ λ is _. in-first key (told_at tell slots k) (flat_map (told_at tell slots) rest) (ap (λ l. is_changed l key) (told-here k key s at is) ∙ tells)
+        | false ↦ λ _ later. in-second key (told_at tell slots k) (flat_map (told_at tell slots) rest) (told-named rest key s at later tells)
+      ] refl some
 
-  module _ (found : SlotKey → Option NotedSlot) (by : ByNumber found) (leave : (key : SlotKey) (s : NotedSlot) → slot_at slots key ≡ Some s → AllLeave found (tell s)) where
+  module _ (found : SlotKey → Option NotedSlot) (by : ByNumber found)
+      (leave : (key : SlotKey) (s : NotedSlot) → slot_at slots key ≡ Some s → AllLeave found (tell s)) where
     leave-at : (k : SlotKey) → AllLeave found (told_at tell slots k)
-    leave-at k = elim (slot_at slots k) as (λ o. slot_at slots k ≡ o → AllLeave found (option_map_or tell o [])) [ None ↦ λ _. tt | Some s ↦ λ at. leave k s at ] refl
+    leave-at k = elim (slot_at slots k) as (λ o. slot_at slots k ≡ o → AllLeave found (option_map_or tell o []))
+        [ None ↦ λ _. tt | Some s ↦ λ at. leave k s at ] refl
 
     leave-told : (keys : List NotedSlot) → AllLeave found (told keys)
     leave-told [] = tt
@@ -183,7 +193,8 @@ cap-kept gone slots key (RootTable _) none = refl
 cap-kept gone slots key InterruptControl none = refl
 cap-kept gone slots key (InterruptHandler _) none = refl
 
-heir-same : (n : ℕ) (gone : SlotKey → Bool) (slots : List NotedSlot) (parent : Option SlotKey) → option_map_or gone parent false ≡ false → noted_outside (suc n) gone slots parent ≡ parent
+heir-same : (n : ℕ) (gone : SlotKey → Bool) (slots : List NotedSlot) (parent : Option SlotKey) → option_map_or gone parent false ≡ false →
+    noted_outside (suc n) gone slots parent ≡ parent
 unfolding noted_outside
 heir-same n gone _ None stays = refl
 heir-same n gone slots (Some p) stays = ap (λ b. if b then noted_outside n gone slots (noted_parent slots p) else Some p) stays
@@ -195,7 +206,8 @@ or-neither false b is = (refl, is)
 own-some : (slots : List NotedSlot) (test : NotedSlot → Bool) (cs : List NotedSlot) → HoldOwn slots cs → HoldOwn slots (filter test cs)
 own-some slots test [] own = tt
 own-some slots test (c ∷ rest) own =
-    let more = own-some slots test rest own.1 in elim (test c) as (λ b. HoldOwn slots (if b then c ∷ filter test rest else filter test rest)) [ true ↦ (own.0, more) | false ↦ more ]
+    let more = own-some slots test rest own.1 in elim (test c) as (λ b. HoldOwn slots (if b then c ∷ filter test rest else filter test rest))
+    [ true ↦ (own.0, more) | false ↦ more ]
 
 module _ (image changes : List NotedSlot) (unlinked : AreUnlinked image) (ordered : RiseFrom 0 changes) (rises : RiseFrom 0 (changed image changes))
     (full : (key : SlotKey) (s : NotedSlot) → slot_at (changed image changes) key ≡ Some s → is_empty s.capability ≡ false) where
@@ -211,7 +223,8 @@ module _ (image changes : List NotedSlot) (unlinked : AreUnlinked image) (ordere
     | None ↦ λ _. refl
     | Some p ↦ λ is.
         let linked : is_linked s ≡ true = ap (λ (o : Option SlotKey). is_some o || is_some (frame_mapping s.capability)) is in
-        absurd (let clash : true ≡ false = sym (held-any is_linked image key (ap (λ (o : Option NotedSlot). option_map_or is_linked o false) here ∙ linked)) ∙ unlinked in cc)
+        absurd (let clash : true ≡ false = sym (held-any is_linked image key (ap (λ (o : Option NotedSlot). option_map_or is_linked o false) here ∙ linked))
+        ∙ unlinked in cc)
   ] refl
 
   -- what no change names is the image's, and was derived from none of the thread's slots
@@ -227,7 +240,8 @@ module _ (image changes : List NotedSlot) (unlinked : AreUnlinked image) (ordere
     left-is key = stay-at (what_stays gone noted) (stays-keeps gone noted) noted 0 key rises
 
     stays-full : (key : SlotKey) (s : NotedSlot) → slot_at noted key ≡ Some s → is_empty (slot_left gone noted s).capability ≡ false
-    stays-full key s at = ap is_empty (sym (reset-left gone noted s.key s.capability)) ∙ reset-full (loses_children gone noted s.key) s.capability ∙ full key s at
+    stays-full key s at = ap is_empty (sym (reset-left gone noted s.key s.capability)) ∙ reset-full (loses_children gone noted s.key) s.capability
+        ∙ full key s at
 
     abbrev touched : NotedSlot → Bool
     touched s = option_map_or gone s.parent false || is_untyped s.capability
@@ -235,10 +249,15 @@ module _ (image changes : List NotedSlot) (unlinked : AreUnlinked image) (ordere
     removal-leaves : (key : SlotKey) (s : NotedSlot) → slot_at noted key ≡ Some s → AllLeave (slot_at left) (removal_change gone noted s)
     removal-leaves key s at =
         let wanted : slot_at left s.key ≡ what_stays gone noted s = left-is s.key ∙ ap (option_and_then (what_stays gone noted)) (here-again key s at) in
-        elim (gone s.key) as (λ b. gone s.key ≡ b → AllLeave (slot_at left) (if b then emptied s.key ∷ [] else if touched s then slot_left gone noted s ∷ [] else [])) [
+        elim (gone s.key) as (λ b. gone s.key ≡ b → AllLeave (slot_at left)
+        (if b then emptied s.key ∷ [] else if touched s then slot_left gone noted s ∷ [] else [])) [
           | true ↦ λ is. (sym (wanted ∙ ap (λ b. if b then None else Some (slot_left gone noted s)) is), tt)
           | false ↦ λ is. elim (touched s) as (λ b. AllLeave (slot_at left) (if b then slot_left gone noted s ∷ [] else [])) [
-            | true ↦ (ap (λ b. if b then None else Some (slot_left gone noted s)) (stays-full key s at) ∙ sym (wanted ∙ ap (λ b. if b then None else Some (slot_left gone noted s)) is), tt)
+            | true ↦ (
+              ap (λ b. if b then None else Some (slot_left gone noted s)) (stays-full key s at)
+                  ∙ sym (wanted ∙ ap (λ b. if b then None else Some (slot_left gone noted s)) is),
+              tt,
+            )
             | false ↦ tt
           ]
         ] refl
@@ -246,29 +265,38 @@ module _ (image changes : List NotedSlot) (unlinked : AreUnlinked image) (ordere
     untouched : (s : NotedSlot) → touched s ≡ false → slot_left gone noted s ≡ s
     untouched s is =
         let parts = or-neither (option_map_or gone s.parent false) (is_untyped s.capability) is in
-        ap (λ (c : Cap). let r : NotedSlot = record { key = s.key; capability = c; parent = heir gone noted s } in r) (cap-same gone noted s.key s.capability parts.1)
-        ∙ ap (λ (p : Option SlotKey). let r : NotedSlot = record { key = s.key; capability = s.capability; parent = p } in r) (heir-same 255 gone noted s.parent parts.0)
+        ap (λ (c : Cap). let r : NotedSlot = record { key = s.key; capability = c; parent = heir gone noted s } in r)
+        (cap-same gone noted s.key s.capability parts.1)
+        ∙ ap (λ (p : Option SlotKey). let r : NotedSlot = record { key = s.key; capability = s.capability; parent = p } in r)
+        (heir-same 255 gone noted s.parent parts.0)
 
-    removal-rest : (key : SlotKey) (s : NotedSlot) → slot_at noted key ≡ Some s → is_changed (removal_change gone noted s) key ≡ false → Some s ≡ slot_at left key
+    removal-rest : (key : SlotKey) (s : NotedSlot) → slot_at noted key ≡ Some s → is_changed (removal_change gone noted s) key ≡ false →
+        Some s ≡ slot_at left key
     removal-rest key s at none =
         let same : is_same_key s.key key ≡ true = eq-eqb (number_of s.key) (number_of key) (found-key noted key s at) in
         let wanted : slot_at left key ≡ what_stays gone noted s = left-is key ∙ ap (option_and_then (what_stays gone noted)) at in
-        elim (gone s.key) as (λ b. gone s.key ≡ b → is_changed (if b then emptied s.key ∷ [] else if touched s then slot_left gone noted s ∷ [] else []) key ≡ false → Some s ≡ slot_at left key) [
+        elim (gone s.key) as (λ b. gone s.key ≡ b → is_changed (if b then emptied s.key ∷ [] else if touched s then slot_left gone noted s ∷ [] else []) key
+        ≡ false → Some s ≡ slot_at left key) [
           | true ↦ λ _ clash. absurd (let nope : true ≡ false = sym (ap (λ b. b || false) same) ∙ clash in cc)
-          | false ↦ λ is. elim (touched s) as (λ b. touched s ≡ b → is_changed (if b then slot_left gone noted s ∷ [] else []) key ≡ false → Some s ≡ slot_at left key) [
-            | true ↦ λ _ clash. absurd (let nope : true ≡ false = sym (ap (λ b. b || false) same) ∙ clash in cc)
-            | false ↦ λ stays _. sym (wanted ∙ ap (λ b. if b then None else Some (slot_left gone noted s)) is ∙ ap (λ (r : NotedSlot). Some r) (untouched s stays))
-          ] refl
+          | false ↦ λ is. elim (touched s) as (λ b. touched s ≡ b → is_changed (if b then slot_left gone noted s ∷ [] else []) key ≡ false →
+              Some s ≡ slot_at left key) [
+                | true ↦ λ _ clash. absurd (let nope : true ≡ false = sym (ap (λ b. b || false) same) ∙ clash in cc)
+                | false ↦ λ stays _. sym (wanted ∙ ap (λ b. if b then None else Some (slot_left gone noted s)) is
+                    ∙ ap (λ (r : NotedSlot). Some r) (untouched s stays))
+              ] refl
         ] refl none
 
     -- a slot that stays, of which no child goes, is left as it is, where what it was derived from stays
     left-alone : (s : NotedSlot) → option_map_or gone s.parent false ≡ false → loses_children gone noted s.key ≡ false → slot_left gone noted s ≡ s
     left-alone s stays none =
-        ap (λ (c : Cap). let r : NotedSlot = record { key = s.key; capability = c; parent = heir gone noted s } in r) (cap-kept gone noted s.key s.capability none)
-        ∙ ap (λ (p : Option SlotKey). let r : NotedSlot = record { key = s.key; capability = s.capability; parent = p } in r) (heir-same 255 gone noted s.parent stays)
+        ap (λ (c : Cap). let r : NotedSlot = record { key = s.key; capability = c; parent = heir gone noted s } in r)
+        (cap-kept gone noted s.key s.capability none)
+        ∙ ap (λ (p : Option SlotKey). let r : NotedSlot = record { key = s.key; capability = s.capability; parent = p } in r)
+        (heir-same 255 gone noted s.parent stays)
 
     module _ (keys : List SlotKey) (touched_ : List NotedSlot) (own : HoldOwn noted touched_)
-        (stay : (key : SlotKey) (s : NotedSlot) → slot_at noted key ≡ Some s → is_changed touched_ key ≡ false → is_named noted (removal_change gone noted) keys key ≡ false
+        (stay : (key : SlotKey) (s : NotedSlot) → slot_at noted key ≡ Some s → is_changed touched_ key ≡ false →
+        is_named noted (removal_change gone noted) keys key ≡ false
         → (gone s.key ≡ false) × (option_map_or gone s.parent false ≡ false) × (loses_children gone noted s.key ≡ false)) where
       abbrev tell : NotedSlot → List NotedSlot
       tell = removal_change gone noted
@@ -311,15 +339,18 @@ module _ (image changes : List NotedSlot) (unlinked : AreUnlinked image) (ordere
 
     left-follows : (c : NotedSlot) → left_by (follow c) ≡ option_map follow (left_by c)
     left-follows c = ap (λ (k : Cap). if is_empty k then None else Some (follow c)) capability-same
-        ∙ (elim (is_empty c.capability) as (λ b. (if b then None else Some (follow c)) ≡ option_map follow (if b then None else Some c)) [ true ↦ refl | false ↦ refl ])
+        ∙ (elim (is_empty c.capability) as (λ b. (if b then None else Some (follow c)) ≡ option_map follow (if b then None else Some c))
+        [ true ↦ refl | false ↦ refl ])
       where
         capability-same : (follow c).capability ≡ c.capability
-        capability-same = elim (is_parent from c.parent) as (λ b. (if b then record c { parent = Some to } else c).capability ≡ c.capability) [ true ↦ refl | false ↦ refl ]
+        capability-same = elim (is_parent from c.parent) as (λ b. (if b then record c { parent = Some to } else c).capability ≡ c.capability)
+            [ true ↦ refl | false ↦ refl ]
 
     kept-leave : (cs : List NotedSlot) → HoldOwn noted cs → AllLeave (slot_at children) (map follow cs)
     kept-leave [] own = tt
     kept-leave (c ∷ rest) own = (
-      left-follows c ∙ ap (option_map follow) (sym own.0) ∙ sym (children-is c.key) ∙ same-place children c.key (follow c).key (sym (ap number_of (follows-keeps from to c))),
+      left-follows c ∙ ap (option_map follow) (sym own.0) ∙ sym (children-is c.key)
+          ∙ same-place children c.key (follow c).key (sym (ap number_of (follows-keeps from to c))),
       kept-leave rest own.1,
     )
 
@@ -327,13 +358,23 @@ module _ (image changes : List NotedSlot) (unlinked : AreUnlinked image) (ordere
     exchanged-follows : (s : NotedSlot) → is_parent to s.parent ≡ false → exchanged from to s ≡ follow s
     exchanged-follows s off = by-parent s.parent off
       where
-        by-parent : (p : Option SlotKey) → is_parent to p ≡ false → (let r : NotedSlot = record { key = s.key; capability = s.capability; parent = option_map (turned from to) p } in r)
-            ≡ (if is_parent from p then (let r : NotedSlot = record { key = s.key; capability = s.capability; parent = Some to } in r) else (let r : NotedSlot = record { key = s.key; capability = s.capability; parent = p } in r))
+        by-parent : (p : Option SlotKey) → is_parent to p ≡ false →
+            (let r : NotedSlot = record { key = s.key; capability = s.capability; parent = option_map (turned from to) p } in r)
+            ≡ (if is_parent from p then (let r : NotedSlot = record { key = s.key; capability = s.capability; parent = Some to } in r) else
+            (let r : NotedSlot = record { key = s.key; capability = s.capability; parent = p } in r))
         by-parent None off = refl
-        by-parent (Some p) off = elim (is_same_key p from) as (λ b. (let r : NotedSlot = record { key = s.key; capability = s.capability; parent = Some (if b then to else if is_same_key p to then from else p) } in r) ≡ (if b then (let r : NotedSlot = record { key = s.key; capability = s.capability; parent = Some to } in r) else (let r : NotedSlot = record { key = s.key; capability = s.capability; parent = Some p } in r))) [
-          | true ↦ refl
-          | false ↦ ap (λ d. (let r : NotedSlot = record { key = s.key; capability = s.capability; parent = Some (if d then from else p) } in r)) off
-        ]
+        by-parent (Some p) off = elim (is_same_key p from)
+            as (λ b. (let r : NotedSlot = record {
+              key = s.key;
+              capability = s.capability;
+              parent =
+                  Some (if b then to else if is_same_key p to then from else p);
+            } in r)
+            ≡ (if b then (let r : NotedSlot = record { key = s.key; capability = s.capability; parent = Some to } in r) else
+            (let r : NotedSlot = record { key = s.key; capability = s.capability; parent = Some p } in r))) [
+              | true ↦ refl
+              | false ↦ ap (λ d. (let r : NotedSlot = record { key = s.key; capability = s.capability; parent = Some (if d then from else p) } in r)) off
+            ]
 
     left-same : (c s : NotedSlot) → left_by c ≡ Some s → c ≡ s
     left-same c s is = elim (is_empty c.capability) as (λ b. (if b then None else Some c) ≡ Some s → c ≡ s) [
@@ -356,7 +397,8 @@ module _ (image changes : List NotedSlot) (unlinked : AreUnlinked image) (ordere
             let left : left_by c ≡ Some s = sym (changed-at changes image 0 key ordered ∙ ap (λ o. found_or o (slot_at image key)) here) ∙ at in
             let passes : has_parent to (left_by c) ≡ true = ap (has_parent to) left ∙ is in
             let there : slot_at below_to key ≡ Some c =
-            filter-found (λ c. has_parent to (left_by c)) changes 0 (number_of key) ordered ∙ ap (kept-by (λ c. has_parent to (left_by c))) here ∙ ap (λ b. if b then Some c else None) passes in
+            filter-found (λ c. has_parent to (left_by c)) changes 0 (number_of key) ordered ∙ ap (kept-by (λ c. has_parent to (left_by c))) here
+            ∙ ap (λ b. if b then Some c else None) passes in
             sym (among kept key (follow c) (map-at follow (follows-keeps from to) below_to key ∙ ap (option_map follow) there)) ∙ none
 
     kept-rest : (key : SlotKey) → is_changed kept key ≡ false → slot_at swapped key ≡ slot_at children key
@@ -368,7 +410,8 @@ module _ (image changes : List NotedSlot) (unlinked : AreUnlinked image) (ordere
 
     pub children-made : changed swapped kept ≡ children
     children-made =
-        looks-equal (changed swapped kept) children 0 0 (changes-rise swapped kept (map-rises (exchanged from to) (λ s. refl) noted 0 rises)) (map-rises follow (follows-keeps from to) noted 0 rises)
+        looks-equal (changed swapped kept) children 0 0 (changes-rise swapped kept (map-rises (exchanged from to) (λ s. refl) noted 0 rises))
+        (map-rises follow (follows-keeps from to) noted 0 rises)
         (λ key. changed-to (slot_at children) (same-place children) kept swapped
         (kept-leave below_to (own-some noted (λ c. has_parent to (left_by c)) changes (hold-own image changes 0 ordered))) key (kept-rest key))
 
@@ -394,18 +437,19 @@ module _ (slots : List NotedSlot) (rises : RiseFrom 0 slots) (gone : SlotKey →
     below : is_parent key child.parent ≡ true
 
   no-loss : (ChildGoes → ⊥) → loses_children gone slots key ≡ false
-  no-loss none = elim (list_any goes slots) as (λ b. list_any goes slots ≡ b → (b && not (list_any (λ x. not (gone x.key) && is_parent key (heir gone slots x)) slots)) ≡ false) [
-    | false ↦ λ _. refl
-    | true ↦ λ some.
-        let found = any-held goes slots 0 rises some in
-        absurd (elim (slot_at slots found.key) as (λ o. slot_at slots found.key ≡ o → option_map_or goes o false ≡ true → ⊥) [
-          | None ↦ λ _ clash. let no : false ≡ true = clash in cc
-          | Some x ↦ λ at is. elim (gone x.key) as (λ b. gone x.key ≡ b → (b && is_parent key x.parent) ≡ true → ⊥) [
-            | false ↦ λ _ clash. let no : false ≡ true = clash in cc
-            | true ↦ λ removed below. none (record { at = found.key; child = x; held = at; removed = removed; below = below })
-          ] refl is
-        ] refl found.holding)
-  ] refl
+  no-loss none = elim (list_any goes slots) as (λ b. list_any goes slots ≡ b →
+      (b && not (list_any (λ x. not (gone x.key) && is_parent key (heir gone slots x)) slots)) ≡ false) [
+        | false ↦ λ _. refl
+        | true ↦ λ some.
+            let found = any-held goes slots 0 rises some in
+            absurd (elim (slot_at slots found.key) as (λ o. slot_at slots found.key ≡ o → option_map_or goes o false ≡ true → ⊥) [
+              | None ↦ λ _ clash. let no : false ≡ true = clash in cc
+              | Some x ↦ λ at is. elim (gone x.key) as (λ b. gone x.key ≡ b → (b && is_parent key x.parent) ≡ true → ⊥) [
+                | false ↦ λ _ clash. let no : false ≡ true = clash in cc
+                | true ↦ λ removed below. none (record { at = found.key; child = x; held = at; removed = removed; below = below })
+              ] refl is
+            ] refl found.holding)
+      ] refl
 
 record HasParent (key : SlotKey) (above : Option SlotKey) : Type 0 where
   parent : SlotKey
@@ -419,7 +463,8 @@ parent-is key (Some p) is = record { parent = p; there = refl; same = is }
 found-at : (slots : List NotedSlot) (key : SlotKey) (s : NotedSlot) → slot_at slots key ≡ Some s → slot_at slots s.key ≡ Some s
 found-at slots key s at = same-place slots s.key key (found-key slots key s at) ∙ at
 
-above-stays : (n : ℕ) (slots : List NotedSlot) (root k p key : SlotKey) → noted_parent slots k ≡ Some p → number_of p ≡ number_of key → noted_descends (suc n) slots root key ≡ false → is_same_key key root ≡ false
+above-stays : (n : ℕ) (slots : List NotedSlot) (root k p key : SlotKey) → noted_parent slots k ≡ Some p → number_of p ≡ number_of key →
+    noted_descends (suc n) slots root key ≡ false → is_same_key key root ≡ false
     → noted_descends (suc n) slots root k ≡ false
 unfolding noted_descends
 above-stays n slots root k p key above same stays isnt =
@@ -432,16 +477,19 @@ above-stays n slots root k p key above same stays isnt =
     shorter false so stays = refl
 
 -- only a slot that a removal names loses children
-pub never-loses : (slots : List NotedSlot) → RiseFrom 0 slots → (which : Removed) (key : SlotKey) → is_removed slots which key ≡ false → may_lose slots which key ≡ false → loses_children (is_removed slots which) slots key ≡ false
+pub never-loses : (slots : List NotedSlot) → RiseFrom 0 slots → (which : Removed) (key : SlotKey) → is_removed slots which key ≡ false →
+    may_lose slots which key ≡ false → loses_children (is_removed slots which) slots key ≡ false
 never-loses slots rises (One gone) key stays isnt =
     no-loss slots rises (is_removed slots (One gone)) key (λ c.
-    let there : slot_at slots gone ≡ Some c.child = same-place slots gone c.child.key (eqb-true (number_of gone) (number_of c.child.key) c.removed) ∙ found-at slots c.at c.child c.held in
+    let there : slot_at slots gone ≡ Some c.child = same-place slots gone c.child.key (eqb-true (number_of gone) (number_of c.child.key) c.removed)
+    ∙ found-at slots c.at c.child c.held in
     let above : noted_parent slots gone ≡ c.child.parent = ap (option_and_then (λ (x : NotedSlot). x.parent)) there in
     let clash : true ≡ false = sym c.below ∙ ap (is_parent key) (sym above) ∙ isnt in cc)
 never-loses slots rises (Below root) key stays isnt =
     no-loss slots rises (is_removed slots (Below root)) key (λ c.
     let p = parent-is key c.child.parent c.below in
-    let above : noted_parent slots c.child.key ≡ Some p.parent = ap (option_and_then (λ (x : NotedSlot). x.parent)) (found-at slots c.at c.child c.held) ∙ p.there in
+    let above : noted_parent slots c.child.key ≡ Some p.parent = ap (option_and_then (λ (x : NotedSlot). x.parent)) (found-at slots c.at c.child c.held)
+    ∙ p.there in
     let same : number_of p.parent ≡ number_of key = eqb-true (number_of p.parent) (number_of key) p.same in
     let clash : true ≡ false = sym c.removed ∙ above-stays 255 slots root c.child.key p.parent key above same stays isnt in cc)
 
@@ -453,19 +501,26 @@ module _ (n : NotedSlots) (rises : RiseFrom 0 (slots_of n)) (key : SlotKey) (s :
   owned : HoldOwn here n.changes.now
   owned = hold-own n.image.now n.changes.now 0 (from-first n.changes.now n.ordered)
 
-  passes-touched : (root : SlotKey) (going cs : List NotedSlot) → HoldOwn here cs → is_changed cs key ≡ true → is_changed (filter (λ c. hangs_below root going (left_by c)) cs) key ≡ false → hangs_below root going (Some s) ≡ false
+  passes-touched : (root : SlotKey) (going cs : List NotedSlot) → HoldOwn here cs → is_changed cs key ≡ true →
+      is_changed (filter (λ c. hangs_below root going (left_by c)) cs) key ≡ false → hangs_below root going (Some s) ≡ false
   passes-touched root going [] own some none = absurd (let clash : false ≡ true = some in cc)
-  passes-touched root going (c ∷ rest) own some none = elim (is_same_key c.key key) as (λ b. is_same_key c.key key ≡ b → (b || is_changed rest key) ≡ true → hangs_below root going (Some s) ≡ false) [
-    | true ↦ λ same _.
-        let left : left_by c ≡ Some s = sym own.0 ∙ same-place here c.key key (eqb-true (number_of c.key) (number_of key) same) ∙ at in
-        elim (hangs_below root going (left_by c)) as (λ b. hangs_below root going (left_by c) ≡ b → is_changed (if b then c ∷ filter (λ c. hangs_below root going (left_by c)) rest else filter (λ c. hangs_below root going (left_by c)) rest) key ≡ false → hangs_below root going (Some s) ≡ false) [
-          | true ↦ λ _ clash. absurd (let no : true ≡ false = sym (ap (λ b. b || is_changed (filter (λ c. hangs_below root going (left_by c)) rest) key) same) ∙ clash in cc)
-          | false ↦ λ isnt _. ap (hangs_below root going) (sym left) ∙ isnt
-        ] refl none
-    | false ↦ λ isnt later. passes-touched root going rest own.1 later (dropped (hangs_below root going (left_by c)) none)
-  ] refl some
+  passes-touched root going (c ∷ rest) own some none = elim (is_same_key c.key key)
+      as (λ b. is_same_key c.key key ≡ b → (b || is_changed rest key) ≡ true → hangs_below root going (Some s) ≡ false) [
+        | true ↦ λ same _.
+            let left : left_by c ≡ Some s = sym own.0 ∙ same-place here c.key key (eqb-true (number_of c.key) (number_of key) same) ∙ at in
+            elim (hangs_below root going (left_by c)) as (λ b. hangs_below root going (left_by c) ≡ b →
+            is_changed (if b then c ∷ filter (λ c. hangs_below root going (left_by c)) rest else filter (λ c. hangs_below root going (left_by c)) rest) key
+            ≡ false → hangs_below root going (Some s) ≡ false) [
+              | true ↦ λ _ clash. absurd (let no : true ≡ false =
+                  sym (ap (λ b. b || is_changed (filter (λ c. hangs_below root going (left_by c)) rest) key) same)
+                  ∙ clash in cc)
+              | false ↦ λ isnt _. ap (hangs_below root going) (sym left) ∙ isnt
+            ] refl none
+        | false ↦ λ isnt later. passes-touched root going rest own.1 later (dropped (hangs_below root going (left_by c)) none)
+      ] refl some
     where
-      dropped : (b : Bool) → is_changed (if b then c ∷ filter (λ c. hangs_below root going (left_by c)) rest else filter (λ c. hangs_below root going (left_by c)) rest) key ≡ false
+      dropped : (b : Bool) → is_changed (if b then c ∷ filter (λ c. hangs_below root going (left_by c)) rest else
+          filter (λ c. hangs_below root going (left_by c)) rest) key ≡ false
           → is_changed (filter (λ c. hangs_below root going (left_by c)) rest) key ≡ false
       dropped true none = (or-both (is_same_key c.key key) (is_changed (filter (λ c. hangs_below root going (left_by c)) rest) key) none).1
       dropped false none = none
@@ -477,7 +532,8 @@ module _ (n : NotedSlots) (rises : RiseFrom 0 (slots_of n)) (key : SlotKey) (s :
   ] refl
 
   -- what hangs below none of those that go does not go
-  above-apart : (test other : SlotKey → Bool) → ((p : SlotKey) → test p ≡ false → other p ≡ false) → (o : Option SlotKey) → option_map_or test o false ≡ false → option_map_or other o false ≡ false
+  above-apart : (test other : SlotKey → Bool) → ((p : SlotKey) → test p ≡ false → other p ≡ false) → (o : Option SlotKey) → option_map_or test o false ≡ false →
+      option_map_or other o false ≡ false
   above-apart test other so None none = none
   above-apart test other so (Some p) none = so p none
 
@@ -492,24 +548,28 @@ module _ (n : NotedSlots) (rises : RiseFrom 0 (slots_of n)) (key : SlotKey) (s :
   may-not gone (Some p) none = ap (λ (m : ℕ). number_of p == m) (found-key here key s at) ∙ (or-both (is_same_key p key) false none).0
 
   unnamed-stay : (which : Removed) → is_changed (touched_by n which) key ≡ false → list_any (λ k. is_same_key k key) (named_by here which) ≡ false
-      → (is_removed here which s.key ≡ false) × (option_map_or (is_removed here which) s.parent false ≡ false) × (loses_children (is_removed here which) here s.key ≡ false)
+      → (is_removed here which s.key ≡ false) × (option_map_or (is_removed here which) s.parent false ≡ false)
+      × (loses_children (is_removed here which) here s.key ≡ false)
   unfolding noted_descends
   unnamed-stay (One gone) none isnt =
       let parts = or-both (is_same_key gone key) (list_any (λ k. is_same_key k key) (option_to_list (noted_parent here gone))) isnt in
       let stays : is_same_key gone s.key ≡ false = number-apart s.key key gone (found-key here key s at) parts.0 in (
         stays,
-        above-apart (λ p. is_same_key p gone || false) (is_same_key gone) (λ p off. flipped (number_of p) (number_of gone) (or-both (is_same_key p gone) false off).0) s.parent (untouched-hangs gone [] none),
+        above-apart (λ p. is_same_key p gone || false) (is_same_key gone)
+            (λ p off. flipped (number_of p) (number_of gone) (or-both (is_same_key p gone) false off).0) s.parent (untouched-hangs gone [] none),
         never-loses here rises (One gone) s.key stays (may-not gone (noted_parent here gone) parts.1),
       )
   unnamed-stay (Below root) none isnt =
       let going = below_by 256 n root in
       let free = untouched-hangs root going none in
       let above : option_map_or (is_removed here (Below root)) s.parent false ≡ false =
-      above-apart (λ p. is_same_key p root || is_some (slot_at going p)) (noted_descends 256 here root) (λ p off. sym (listed-goes n root 256 p) ∙ (or-both (is_same_key p root) (is_some (slot_at going p)) off).1) s.parent free in
+      above-apart (λ p. is_same_key p root || is_some (slot_at going p)) (noted_descends 256 here root)
+      (λ p off. sym (listed-goes n root 256 p) ∙ (or-both (is_same_key p root) (is_some (slot_at going p)) off).1) s.parent free in
       let stays : noted_descends 256 here root s.key ≡ false = stays-off going free above in (
         stays,
         above,
-        never-loses here rises (Below root) s.key stays (ap (λ (m : ℕ). m == number_of root) (found-key here key s at) ∙ flipped (number_of root) (number_of key) (or-both (is_same_key root key) false isnt).0),
+        never-loses here rises (Below root) s.key stays (ap (λ (m : ℕ). m == number_of root) (found-key here key s at)
+            ∙ flipped (number_of root) (number_of key) (or-both (is_same_key root key) false isnt).0),
       )
     where
       shorter : (p : SlotKey) (b : Bool) → noted_descends 255 here root p ≡ b → noted_descends 256 here root p ≡ false → b ≡ false
@@ -519,16 +579,20 @@ module _ (n : NotedSlots) (rises : RiseFrom 0 (slots_of n)) (key : SlotKey) (s :
       both-off : (a b : Bool) → a ≡ false → b ≡ false → (a || b) ≡ false
       both-off a b one other = ap (λ x. x || b) one ∙ other
 
-      stays-off : (going : List NotedSlot) → hangs_below root going (Some s) ≡ false → option_map_or (noted_descends 256 here root) s.parent false ≡ false → noted_descends 256 here root s.key ≡ false
+      stays-off : (going : List NotedSlot) → hangs_below root going (Some s) ≡ false → option_map_or (noted_descends 256 here root) s.parent false ≡ false →
+          noted_descends 256 here root s.key ≡ false
       stays-off going free above =
           ap (λ (o : Option SlotKey). option_map_or (λ parent. is_same_key parent root || noted_descends 255 here root parent) o false) parent-here
-          ∙ (elim s.parent as (λ o. option_map_or (λ p. is_same_key p root || is_some (slot_at going p)) o false ≡ false → option_map_or (noted_descends 256 here root) o false ≡ false
+          ∙ (elim s.parent as (λ o. option_map_or (λ p. is_same_key p root || is_some (slot_at going p)) o false ≡ false →
+          option_map_or (noted_descends 256 here root) o false ≡ false
           → option_map_or (λ parent. is_same_key parent root || noted_descends 255 here root parent) o false ≡ false) [
             | None ↦ λ _ _. refl
-            | Some p ↦ λ one other. both-off (is_same_key p root) (noted_descends 255 here root p) (or-both (is_same_key p root) (is_some (slot_at going p)) one).0 (shorter p (noted_descends 255 here root p) refl other)
+            | Some p ↦ λ one other. both-off (is_same_key p root) (noted_descends 255 here root p)
+                (or-both (is_same_key p root) (is_some (slot_at going p)) one).0 (shorter p (noted_descends 255 here root p) refl other)
           ] free above)
 
-pub changes-make : (n : NotedSlots) (change : SlotChange) → RiseFrom 0 (slots_of n) → ((key : SlotKey) (s : NotedSlot) → slot_at (slots_of n) key ≡ Some s → is_empty s.capability ≡ false)
+pub changes-make : (n : NotedSlots) (change : SlotChange) → RiseFrom 0 (slots_of n) →
+    ((key : SlotKey) (s : NotedSlot) → slot_at (slots_of n) key ≡ Some s → is_empty s.capability ≡ false)
     → replayed (slots_of n) (changes_of n change) ≡ slots_left (slots_of n) change
 changes-make n Nothing rises full = refl
 changes-make n (Puts s) rises full = refl
@@ -537,9 +601,12 @@ changes-make n (Moves from s) rises full =
     let swapped = map (exchanged from s.key) (slots_of n) in
     let last : List LogEntry = Sets s ∷ Sets (emptied from) ∷ [] in
     replayed-more (map (λ (c : NotedSlot). Sets c) kept) last swapped
-    ∙ ap (λ (l : List NotedSlot). replayed l last) (sets-made kept swapped ∙ children-made n.image.now n.changes.now n.unlinked (from-first n.changes.now n.ordered) rises full from s.key)
+    ∙ ap (λ (l : List NotedSlot). replayed l last) (sets-made kept swapped
+    ∙ children-made n.image.now n.changes.now n.unlinked (from-first n.changes.now n.ordered) rises full from s.key)
 changes-make n (Removes which) rises full =
     sets-made (removal_changes n which) (slots_of n)
-    ∙ removal-made n.image.now n.changes.now n.unlinked (from-first n.changes.now n.ordered) rises full (is_removed (slots_of n) which) (named_by (slots_of n) which) (touched_by n which)
-    (own-some (slots_of n) (λ c. hangs_below (named which) (all_below n which) (left_by c)) n.changes.now (hold-own n.image.now n.changes.now 0 (from-first n.changes.now n.ordered)))
+    ∙ removal-made n.image.now n.changes.now n.unlinked (from-first n.changes.now n.ordered) rises full (is_removed (slots_of n) which)
+    (named_by (slots_of n) which) (touched_by n which)
+    (own-some (slots_of n) (λ c. hangs_below (named which) (all_below n which) (left_by c)) n.changes.now
+    (hold-own n.image.now n.changes.now 0 (from-first n.changes.now n.ordered)))
     (λ key s at none isnt. unnamed-stay n rises key s at which none isnt)

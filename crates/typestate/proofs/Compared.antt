@@ -14,7 +14,8 @@ is_changed changes key = list_any (λ c. is_same_key c.key key) changes
 pub unchanged : (slots changes : List NotedSlot) (key : SlotKey) → is_changed changes key ≡ false → slot_at (changed slots changes) key ≡ slot_at slots key
 unchanged slots [] key none = refl
 unchanged slots (c ∷ rest) key none =
-    elim (is_same_key c.key key) as (λ b. (b || is_changed rest key) ≡ false → (is_same_key c.key key ≡ b) → slot_at (changed (with_noted slots c) rest) key ≡ slot_at slots key) [
+    elim (is_same_key c.key key) as (λ b. (b || is_changed rest key) ≡ false → (is_same_key c.key key ≡ b) →
+    slot_at (changed (with_noted slots c) rest) key ≡ slot_at slots key) [
       | true ↦ λ clash _. absurd (let no : true ≡ false = clash in cc)
       | false ↦ λ later is. unchanged (with_noted slots c) rest key later ∙ noted-at slots c key ∙ ap (λ b. if b then left_by c else slot_at slots key) is
     ] none refl
@@ -23,14 +24,17 @@ pub same-place : (slots : List NotedSlot) (a b : SlotKey) → number_of a ≡ nu
 same-place slots a b same = ap (λ n. find (λ (s : NotedSlot). number_of s.key == n) slots) same
 
 -- what a change names was compared
-compared-at : (slots others keys : List NotedSlot) (key : SlotKey) → is_changed keys key ≡ true → are_same_at slots others keys ≡ true → is_same_held (slot_at slots key) (slot_at others key) ≡ true
+compared-at : (slots others keys : List NotedSlot) (key : SlotKey) → is_changed keys key ≡ true → are_same_at slots others keys ≡ true →
+    is_same_held (slot_at slots key) (slot_at others key) ≡ true
 compared-at slots others [] key some same = absurd (let clash : false ≡ true = some in cc)
 compared-at slots others (k ∷ rest) key some same =
     let parts = and_parts (is_same_held (slot_at slots k.key) (slot_at others k.key)) (are_same_at slots others rest) same in
-    elim (is_same_key k.key key) as (λ b. (b || is_changed rest key) ≡ true → is_same_key k.key key ≡ b → is_same_held (slot_at slots key) (slot_at others key) ≡ true) [
+    elim (is_same_key k.key key) as (λ b. (b || is_changed rest key) ≡ true → is_same_key k.key key ≡ b →
+    is_same_held (slot_at slots key) (slot_at others key) ≡ true) [
       | true ↦ λ _ is.
           let e = eqb-true (number_of k.key) (number_of key) is in
-          ap (λ found. is_same_held found (slot_at others key)) (sym (same-place slots k.key key e)) ∙ ap (is_same_held (slot_at slots k.key)) (sym (same-place others k.key key e)) ∙ parts.0
+          ap (λ found. is_same_held found (slot_at others key)) (sym (same-place slots k.key key e))
+          ∙ ap (is_same_held (slot_at slots k.key)) (sym (same-place others k.key key e)) ∙ parts.0
       | false ↦ λ later _. compared-at slots others rest key later parts.1
     ] some refl
 
@@ -46,7 +50,8 @@ module _ (image changes more : List NotedSlot) where
   abbrev theirs : List NotedSlot
   theirs = changed image more
 
-  held-at : are_same_at mine theirs changes ≡ true → are_same_at mine theirs more ≡ true → (key : SlotKey) → is_same_held (slot_at mine key) (slot_at theirs key) ≡ true
+  held-at : are_same_at mine theirs changes ≡ true → are_same_at mine theirs more ≡ true → (key : SlotKey) →
+      is_same_held (slot_at mine key) (slot_at theirs key) ≡ true
   held-at first second key =
       elim (is_changed changes key) as (λ b. is_changed changes key ≡ b → is_same_held (slot_at mine key) (slot_at theirs key) ≡ true) [
         | true ↦ λ is. compared-at mine theirs changes key is first
@@ -73,7 +78,9 @@ module _ (image changes more : List NotedSlot) where
       ap (λ b. b && are_same_at mine theirs more) (all-held held changes) ∙ all-held held more)
 
 pub compared-with : (image other changes more : List NotedSlot) → other ≡ image → RiseFrom 0 image
-    → (are_same_at (changed image changes) (changed other more) changes && are_same_at (changed image changes) (changed other more) more) ≡ are_same_slots (changed image changes) (changed other more)
+    → (are_same_at (changed image changes) (changed other more) changes && are_same_at (changed image changes) (changed other more) more) ≡ are_same_slots
+    (changed image changes) (changed other more)
 compared-with image other changes more same rises =
-    subst (λ (o : List NotedSlot). (are_same_at (changed image changes) (changed o more) changes && are_same_at (changed image changes) (changed o more) more) ≡ are_same_slots (changed image changes) (changed o more)) (sym same)
+    subst (λ (o : List NotedSlot). (are_same_at (changed image changes) (changed o more) changes && are_same_at (changed image changes) (changed o more) more)
+    ≡ are_same_slots (changed image changes) (changed o more)) (sym same)
     (compared image changes more rises)

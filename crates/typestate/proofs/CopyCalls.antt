@@ -13,7 +13,8 @@ use Rattle.model.specs.Kernel.Arguments.{◌>>=◌, argument_slot, check, destin
 use Rattle.model.specs.Kernel.CNodeCalls.{copy, mint}
 use Rattle.model.specs.Kernel.State.{State, with_slots}
 use Rattle.model.specs.declared.capabilities.Cap.{Cap}
-use Rattle.model.specs.declared.capabilities.Cap.TheVariants.{Empty, Untyped, Endpoint, Notification, CNode, Frame, PageTable, Tcb, RootTable, InterruptControl, InterruptHandler}
+use Rattle.model.specs.declared.capabilities.Cap.TheVariants.{Empty, Untyped, Endpoint, Notification, CNode, Frame, PageTable, Tcb, RootTable, InterruptControl}
+use Rattle.model.specs.declared.capabilities.Cap.TheVariants.{InterruptHandler}
 use Rattle.model.specs.declared.errors.KError.{KError}
 use Rattle.model.specs.declared.errors.KError.TheVariants.{IllegalOperation, RangeError}
 use Rattle.model.specs.declared.invocations.CNodeCall.TheVariants.{Copy, Mint}
@@ -65,19 +66,26 @@ minted_to s word payload x y = do
 copied-child : (s : State) (word x y : ℕ) → slots_allowed (copied_to s word x y) ≡ with_child s.slots x y (copy_of (capability_at s.slots y) word)
 copied-child s word x y = by-tests (may_be_copied (capability_at s.slots y)) (nat_lt (depth_of s.slots y) 255)
   where
-    by-tests : (a b : Bool) → slots_allowed (check a IllegalOperation >>= λ _. check b IllegalOperation >>= λ _. Ok (with_slots s (inserted s.slots x (copied (capability_at s.slots y) word) (Some y))))
-        ≡ (check a IllegalOperation >>= λ _. Ok (copied (capability_at s.slots y) word)) >>= λ capability. check b IllegalOperation >>= λ _. Ok (inserted s.slots x capability (Some y))
+    by-tests : (a b : Bool) → slots_allowed (check a IllegalOperation >>= λ _. check b IllegalOperation >>= λ _.
+        Ok (with_slots s (inserted s.slots x (copied (capability_at s.slots y) word) (Some y))))
+        ≡ (check a IllegalOperation >>= λ _. Ok (copied (capability_at s.slots y) word)) >>= λ capability. check b IllegalOperation >>= λ _.
+        Ok (inserted s.slots x capability (Some y))
     by-tests true true = refl
     by-tests true false = refl
     by-tests false b = refl
 
-minted-child : (s : State) (word payload x y : ℕ) → slots_allowed (minted_to s word payload x y) ≡ with_child s.slots x y (minted_copy_of (capability_at s.slots y) word payload)
+minted-child : (s : State) (word payload x y : ℕ) → slots_allowed (minted_to s word payload x y) ≡ with_child s.slots x y
+    (minted_copy_of (capability_at s.slots y) word payload)
 minted-child s word payload x y =
     let held = capability_at s.slots y in
     by-tests (may_be_copied held) (not (is_badged held)) (badge_fits held payload) (guard_fits held payload) (nat_lt (depth_of s.slots y) 255)
   where
-    by-tests : (a b c d e : Bool) → slots_allowed (check a IllegalOperation >>= λ _. check b IllegalOperation >>= λ _. check c RangeError >>= λ _. check d IllegalOperation >>= λ _. check e IllegalOperation >>= λ _. Ok (with_slots s (inserted s.slots x (with_payload (copied (capability_at s.slots y) word) payload) (Some y))))
-        ≡ (check a IllegalOperation >>= λ _. check b IllegalOperation >>= λ _. check c RangeError >>= λ _. check d IllegalOperation >>= λ _. Ok (with_payload (copied (capability_at s.slots y) word) payload)) >>= λ capability. check e IllegalOperation >>= λ _. Ok (inserted s.slots x capability (Some y))
+    by-tests : (a b c d e : Bool) → slots_allowed (check a IllegalOperation >>= λ _. check b IllegalOperation >>= λ _. check c RangeError >>= λ _.
+        check d IllegalOperation >>= λ _. check e IllegalOperation >>= λ _.
+        Ok (with_slots s (inserted s.slots x (with_payload (copied (capability_at s.slots y) word) payload) (Some y))))
+        ≡ (check a IllegalOperation >>= λ _. check b IllegalOperation >>= λ _. check c RangeError >>= λ _. check d IllegalOperation >>= λ _.
+        Ok (with_payload (copied (capability_at s.slots y) word) payload)) >>= λ capability. check e IllegalOperation >>= λ _.
+        Ok (inserted s.slots x capability (Some y))
     by-tests true true true true true = refl
     by-tests true true true true false = refl
     by-tests true true true false e = refl
@@ -112,7 +120,8 @@ module _ (image : Image) (t : Thread) (at : Point) (slots : List NotedSlot) (cap
   copy-by-ends destination source word =
       let s = noted_kernel image t slots in
       allowed-state image t at (travels source) (copy s (call_on image t 0 capability) destination source word)
-      ∙ ap (λ r. allowed_slots image t at (travels source) (slots_allowed r)) (by-ends (destination_slot all capability destination) (source_slot all root source) (copied_to s word))
+      ∙ ap (λ r. allowed_slots image t at (travels source) (slots_allowed r))
+      (by-ends (destination_slot all capability destination) (source_slot all root source) (copied_to s word))
 
   pub mint-by-ends : (destination source : SlotName) (word payload : ℕ) → cnode_after image t at slots capability (Mint destination source word payload)
       ≡ allowed_slots image t at (travels source) (slots_allowed (mint_of_ends (noted_kernel image t slots) (ends destination source) word payload))
@@ -120,7 +129,8 @@ module _ (image : Image) (t : Thread) (at : Point) (slots : List NotedSlot) (cap
   mint-by-ends destination source word payload =
       let s = noted_kernel image t slots in
       allowed-state image t at (travels source) (mint s (call_on image t 0 capability) destination source word payload)
-      ∙ ap (λ r. allowed_slots image t at (travels source) (slots_allowed r)) (by-ends (destination_slot all capability destination) (source_slot all root source) (minted_to s word payload))
+      ∙ ap (λ r. allowed_slots image t at (travels source) (slots_allowed r))
+      (by-ends (destination_slot all capability destination) (source_slot all root source) (minted_to s word payload))
 
   travels-is : (source : SlotName) (x y : ℕ) (e : Ends) → AreEnds image t all root source x y e → travels source ≡ may_travel e.held
   travels-is source x y e are = ap (names_such may_travel all) are.named ∙ ap may_travel are.held
@@ -128,15 +138,18 @@ module _ (image : Image) (t : Thread) (at : Point) (slots : List NotedSlot) (cap
   pub copy-refused : (destination source : SlotName) (word : ℕ) (error : KError) → ends destination source ≡ Err error
       → cnode_after image t at slots capability (Copy destination source word) ≡ Err (CallRefused at error)
   copy-refused destination source word error is =
-      copy-by-ends destination source word ∙ ap (λ r. allowed_slots image t at (travels source) (slots_allowed (copy_of_ends (noted_kernel image t slots) r word))) is
+      copy-by-ends destination source word
+      ∙ ap (λ r. allowed_slots image t at (travels source) (slots_allowed (copy_of_ends (noted_kernel image t slots) r word))) is
 
   pub mint-refused : (destination source : SlotName) (word payload : ℕ) (error : KError) → ends destination source ≡ Err error
       → cnode_after image t at slots capability (Mint destination source word payload) ≡ Err (CallRefused at error)
   mint-refused destination source word payload error is =
-      mint-by-ends destination source word payload ∙ ap (λ r. allowed_slots image t at (travels source) (slots_allowed (mint_of_ends (noted_kernel image t slots) r word payload))) is
+      mint-by-ends destination source word payload
+      ∙ ap (λ r. allowed_slots image t at (travels source) (slots_allowed (mint_of_ends (noted_kernel image t slots) r word payload))) is
 
   pub copy-goes : (destination source : SlotName) (word x y : ℕ) (e : Ends) → ends destination source ≡ Ok (x, y) → AreEnds image t all root source x y e
-      → cnode_after image t at slots capability (Copy destination source word) ≡ allowed_slots image t at (may_travel e.held) (with_child all x y (copy_of e.held word))
+      → cnode_after image t at slots capability (Copy destination source word) ≡ allowed_slots image t at (may_travel e.held)
+      (with_child all x y (copy_of e.held word))
   unfolding noted_kernel
   copy-goes destination source word x y e is are =
       let s = noted_kernel image t slots in
@@ -146,8 +159,10 @@ module _ (image : Image) (t : Thread) (at : Point) (slots : List NotedSlot) (cap
       ∙ ap (λ b. allowed_slots image t at b (with_child all x y (copy_of (capability_at all y) word))) (travels-is source x y e are)
       ∙ ap (λ (held : Cap). allowed_slots image t at (may_travel e.held) (with_child all x y (copy_of held word))) are.held
 
-  pub mint-goes : (destination source : SlotName) (word payload x y : ℕ) (e : Ends) → ends destination source ≡ Ok (x, y) → AreEnds image t all root source x y e
-      → cnode_after image t at slots capability (Mint destination source word payload) ≡ allowed_slots image t at (may_travel e.held) (with_child all x y (minted_copy_of e.held word payload))
+  pub mint-goes : (destination source : SlotName) (word payload x y : ℕ) (e : Ends) → ends destination source ≡ Ok (x, y) →
+      AreEnds image t all root source x y e
+      → cnode_after image t at slots capability (Mint destination source word payload) ≡ allowed_slots image t at (may_travel e.held)
+      (with_child all x y (minted_copy_of e.held word payload))
   unfolding noted_kernel
   mint-goes destination source word payload x y e is are =
       let s = noted_kernel image t slots in
@@ -159,12 +174,14 @@ module _ (image : Image) (t : Thread) (at : Point) (slots : List NotedSlot) (cap
 
 -- ---- the ends that were named
 
-pub ends-ok : (image : Image) (t : Thread) (all : Slots) (root : Cap) (source : SlotName) (r : Result (ℕ × ℕ) KError) (e : Ends) → NamesEnds image t all root source r (Ok e)
+pub ends-ok : (image : Image) (t : Thread) (all : Slots) (root : Cap) (source : SlotName) (r : Result (ℕ × ℕ) KError) (e : Ends) →
+    NamesEnds image t all root source r (Ok e)
     → (x : ℕ) × (y : ℕ) × (r ≡ Ok (x, y)) × AreEnds image t all root source x y e
 ends-ok image t _ _ source (Ok places) e are = (places.0, places.1, refl, are)
 ends-ok image t _ _ source (Err error) e are = absurd are
 
-pub ends-err : (image : Image) (t : Thread) (all : Slots) (root : Cap) (source : SlotName) (r : Result (ℕ × ℕ) KError) (error : KError) → NamesEnds image t all root source r (Err error) → r ≡ Err error
+pub ends-err : (image : Image) (t : Thread) (all : Slots) (root : Cap) (source : SlotName) (r : Result (ℕ × ℕ) KError) (error : KError) →
+    NamesEnds image t all root source r (Err error) → r ≡ Err error
 ends-err image t _ _ source (Ok places) error are = absurd are
 ends-err image t _ _ source (Err other) error are = ap (λ (e : KError). let r : Result (ℕ × ℕ) KError = Err e in r) are
 
@@ -205,7 +222,8 @@ copy-full held word full = elim (may_be_copied held) as (λ b. IfOk (check b Ill
 pub mint-full : (held : Cap) (word payload : ℕ) → is_empty held ≡ false → IfOk (minted_copy_of held word payload) (λ made. is_empty made ≡ false)
 mint-full held word payload full = by-tests (may_be_copied held) (not (is_badged held)) (badge_fits held payload) (guard_fits held payload)
   where
-    by-tests : (a b c d : Bool) → IfOk (check a IllegalOperation >>= λ _. check b IllegalOperation >>= λ _. check c RangeError >>= λ _. check d IllegalOperation >>= λ _. Ok (with_payload (copied held word) payload)) (λ made. is_empty made ≡ false)
+    by-tests : (a b c d : Bool) → IfOk (check a IllegalOperation >>= λ _. check b IllegalOperation >>= λ _. check c RangeError >>= λ _. check d IllegalOperation
+        >>= λ _. Ok (with_payload (copied held word) payload)) (λ made. is_empty made ≡ false)
     by-tests true true true true = not-empty-with (copied held word) payload (not-empty held word full)
     by-tests true true true false = tt
     by-tests true true false d = tt
@@ -228,24 +246,32 @@ module _ (image : Image) (t : Thread) (at : Point) (slots : List NotedSlot) (roo
   child-tests capability travels =
       ap (λ d. allowed_slots image t at travels (check (nat_lt d 255) IllegalOperation >>= λ _. Ok (inserted below x capability (Some y)))) depth-same
 
-  pub too-deep : (capability : Cap) (travels : Bool) → nat_lt (noted_depth 256 slots e.from) 255 ≡ false → allowed_slots image t at travels (with_child below x y (Ok capability)) ≡ Err (CallRefused at IllegalOperation)
+  pub too-deep : (capability : Cap) (travels : Bool) → nat_lt (noted_depth 256 slots e.from) 255 ≡ false →
+      allowed_slots image t at travels (with_child below x y (Ok capability)) ≡ Err (CallRefused at IllegalOperation)
   too-deep capability travels deep =
-      child-tests capability travels ∙ ap (λ b. allowed_slots image t at travels (check b IllegalOperation >>= λ _. Ok (inserted below x capability (Some y)))) deep
+      child-tests capability travels ∙ ap (λ b. allowed_slots image t at travels (check b IllegalOperation >>= λ _. Ok (inserted below x capability (Some y))))
+      deep
 
-  pub stays-home : (capability : Cap) (travels : Bool) → nat_lt (noted_depth 256 slots e.from) 255 ≡ true → travels ≡ false → allowed_slots image t at travels (with_child below x y (Ok capability)) ≡ Err (CallRefused at IllegalOperation)
+  pub stays-home : (capability : Cap) (travels : Bool) → nat_lt (noted_depth 256 slots e.from) 255 ≡ true → travels ≡ false →
+      allowed_slots image t at travels (with_child below x y (Ok capability)) ≡ Err (CallRefused at IllegalOperation)
   stays-home capability travels room no-way =
-      child-tests capability travels ∙ ap (λ b. allowed_slots image t at travels (check b IllegalOperation >>= λ _. Ok (inserted below x capability (Some y)))) room
+      child-tests capability travels ∙ ap (λ b. allowed_slots image t at travels (check b IllegalOperation >>= λ _. Ok (inserted below x capability (Some y))))
+      room
       ∙ ap (λ b. allowed_slots image t at b (Ok (inserted below x capability (Some y)))) no-way
 
-  pub child-put : (capability : Cap) (travels : Bool) → RiseFrom 0 slots → is_empty capability ≡ false → nat_lt (noted_depth 256 slots e.from) 255 ≡ true → travels ≡ true
-      → allowed_slots image t at travels (with_child below x y (Ok capability)) ≡ Ok (with_noted slots (record { key = e.to; capability = capability; parent = Some e.from }))
+  pub child-put : (capability : Cap) (travels : Bool) → RiseFrom 0 slots → is_empty capability ≡ false → nat_lt (noted_depth 256 slots e.from) 255 ≡ true →
+      travels ≡ true
+      → allowed_slots image t at travels (with_child below x y (Ok capability)) ≡ Ok
+      (with_noted slots (record { key = e.to; capability = capability; parent = Some e.from }))
   child-put capability travels rises full room way =
       let s : NotedSlot = record { key = e.to; capability = capability; parent = Some e.from } in
       let to = key-named image (reached image t) x e.to are.to in
       let from = key-named image (reached image t) y e.from are.from in
       let mine : IsOwnSlot image t s = record { key = to.own; full = full; parent = from.own } in
-      child-tests capability travels ∙ ap (λ b. allowed_slots image t at travels (check b IllegalOperation >>= λ _. Ok (inserted below x capability (Some y)))) room
+      child-tests capability travels ∙ ap (λ b. allowed_slots image t at travels (check b IllegalOperation >>= λ _. Ok (inserted below x capability (Some y))))
+      room
       ∙ ap (λ b. allowed_slots image t at b (Ok (inserted below x capability (Some y)))) way
       ∙ ap (λ n. let r : Result (List NotedSlot) Refusal = Ok (noted_after image t (inserted below n capability (Some y))) in r) (sym to.place)
-      ∙ ap (λ n. let r : Result (List NotedSlot) Refusal = Ok (noted_after image t (inserted below (slot_of_key image e.to) capability (Some n))) in r) (sym from.place)
+      ∙ ap (λ n. let r : Result (List NotedSlot) Refusal = Ok (noted_after image t (inserted below (slot_of_key image e.to) capability (Some n))) in r)
+      (sym from.place)
       ∙ ap (λ (l : List NotedSlot). let r : Result (List NotedSlot) Refusal = Ok l in r) (put-back image t stand slots s rises own mine)

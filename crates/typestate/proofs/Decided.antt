@@ -23,16 +23,21 @@ use Rattle.typestate.specs.Calls.{call_on}
 use Rattle.typestate.specs.CNodeCalls.{cnode_after}
 use Rattle.typestate.specs.SlotChanges.{slots_after}
 
-pub decided-by : (image : Image) (t : Thread) (at : Point) (state : PointState) (call : Call) (c : Invocation) (answers : Bool) → invoked image t at state call c answers ≡ leaves state answers (slots_after image t at state.slots call c)
+pub decided-by : (image : Image) (t : Thread) (at : Point) (state : PointState) (call : Call) (c : Invocation) (answers : Bool) →
+    invoked image t at state call c answers ≡ leaves state answers (slots_after image t at state.slots call c)
 decided-by image t at state call c answers =
     let s = noted_kernel image t state.slots in
     elim (kernel_allows at (perform s call c)) as (λ (r : Result State Refusal).
-    (r >>= λ after. demand (not (loses_pool s.slots call c)) (PoolLost at) >>= λ _. demand (may_call s.slots call c) (CallRefused at IllegalOperation) >>= λ _. Ok (behind_call state answers (noted_after image t after.slots)))
-    ≡ leaves state answers (r >>= λ after. demand (not (loses_pool s.slots call c)) (PoolLost at) >>= λ _. demand (may_call s.slots call c) (CallRefused at IllegalOperation) >>= λ _. Ok (noted_after image t after.slots))) [
+    (r >>= λ after. demand (not (loses_pool s.slots call c)) (PoolLost at) >>= λ _. demand (may_call s.slots call c) (CallRefused at IllegalOperation) >>= λ _.
+    Ok (behind_call state answers (noted_after image t after.slots)))
+    ≡ leaves state answers (r >>= λ after. demand (not (loses_pool s.slots call c)) (PoolLost at) >>= λ _.
+    demand (may_call s.slots call c) (CallRefused at IllegalOperation) >>= λ _. Ok (noted_after image t after.slots))) [
       | Err refusal ↦ refl
       | Ok after ↦ elim (loses_pool s.slots call c) as (λ b.
-          (demand (not b) (PoolLost at) >>= λ _. demand (may_call s.slots call c) (CallRefused at IllegalOperation) >>= λ _. Ok (behind_call state answers (noted_after image t after.slots)))
-          ≡ leaves state answers (demand (not b) (PoolLost at) >>= λ _. demand (may_call s.slots call c) (CallRefused at IllegalOperation) >>= λ _. Ok (noted_after image t after.slots))) [
+          (demand (not b) (PoolLost at) >>= λ _. demand (may_call s.slots call c) (CallRefused at IllegalOperation) >>= λ _.
+          Ok (behind_call state answers (noted_after image t after.slots)))
+          ≡ leaves state answers (demand (not b) (PoolLost at) >>= λ _. demand (may_call s.slots call c) (CallRefused at IllegalOperation) >>= λ _.
+          Ok (noted_after image t after.slots))) [
             | true ↦ refl
             | false ↦ elim (may_call s.slots call c) as (λ b.
                 (demand b (CallRefused at IllegalOperation) >>= λ _. Ok (behind_call state answers (noted_after image t after.slots)))
@@ -46,9 +51,11 @@ decided-by image t at state call c answers =
 -- the slot of a CNode's own capability does not count
 pub by-slots : (image : Image) (t : Thread) (at : Point) (state : PointState) (slot : ℕ) (capability : Cap) (c : CNodeCall) (answers : Bool)
     → invoked image t at state (call_on image t slot capability) (OnCNode c) answers ≡ leaves state answers (cnode_after image t at state.slots capability c)
-by-slots image t at state slot capability c answers = decided-by image t at state (call_on image t slot capability) (OnCNode c) answers ∙ ap (leaves state answers) (anywhere c)
+by-slots image t at state slot capability c answers = decided-by image t at state (call_on image t slot capability) (OnCNode c) answers
+    ∙ ap (leaves state answers) (anywhere c)
   where
-    anywhere : (c : CNodeCall) → slots_after image t at state.slots (call_on image t slot capability) (OnCNode c) ≡ cnode_after image t at state.slots capability c
+    anywhere : (c : CNodeCall) → slots_after image t at state.slots (call_on image t slot capability) (OnCNode c) ≡ cnode_after image t at state.slots
+        capability c
     anywhere (Copy destination source word) = refl
     anywhere (Mint destination source word payload) = refl
     anywhere (Move destination source) = refl

@@ -1,5 +1,6 @@
 -- What descends from a slot, found level by level: what the next level adds are the children of the newest one.
-use Rattle.std.proofs.Common.{ℕ, suc, ◌≡◌, ◌∙◌, ◌==◌, ◌≤◌, ◌+◌, ◌||◌, ◌&&◌, inl, inr, Bool, true, false, not, if◌then◌else◌, is_some, Option, Some, None, option_and_then, List, [], ◌∷◌, ◌++◌, refl, sym, ap, subst, arith}
+use Rattle.std.proofs.Common.{ℕ, suc, ◌≡◌, ◌∙◌, ◌==◌, ◌≤◌, ◌+◌, ◌||◌, ◌&&◌, inl, inr, Bool, true, false, not, if◌then◌else◌, is_some, Option, Some, None}
+use Rattle.std.proofs.Common.{option_and_then, List, [], ◌∷◌, ◌++◌, refl, sym, ap, subst, arith}
 use Rattle.std.specs.List.{AllByRecursion, filter_map, flat_map, list_any}
 use Rattle.std.specs.List.Sorted.{IsStrictlySortedBy}
 use Rattle.std.specs.Option.{option_map_or}
@@ -43,7 +44,8 @@ changed-found (c ∷ rest) key = elim (is_same_key c.key key) as (λ b. (b || is
 
 changed-append : (key : SlotKey) (xs ys : List NotedSlot) → is_changed (xs ++ ys) key ≡ (is_changed xs key || is_changed ys key)
 changed-append key [] ys = refl
-changed-append key (x ∷ xs) ys = ap (λ b. is_same_key x.key key || b) (changed-append key xs ys) ∙ or-again (is_same_key x.key key) (is_changed xs key) (is_changed ys key)
+changed-append key (x ∷ xs) ys = ap (λ b. is_same_key x.key key || b) (changed-append key xs ys)
+    ∙ or-again (is_same_key x.key key) (is_changed xs key) (is_changed ys key)
   where
     or-again : (a b c : Bool) → (a || (b || c)) ≡ ((a || b) || c)
     or-again true b c = refl
@@ -53,7 +55,8 @@ one-of-none : (o : Option SlotKey) → is_one_of [] o ≡ false
 one-of-none None = refl
 one-of-none (Some _) = refl
 
-one-of-more : (s : NotedSlot) (rest : List NotedSlot) (o : Option SlotKey) → (option_map_or (λ q. is_same_key q s.key) o false || is_one_of rest o) ≡ is_one_of (s ∷ rest) o
+one-of-more : (s : NotedSlot) (rest : List NotedSlot) (o : Option SlotKey) →
+    (option_map_or (λ q. is_same_key q s.key) o false || is_one_of rest o) ≡ is_one_of (s ∷ rest) o
 one-of-more s rest None = refl
 one-of-more s rest (Some q) = ap (λ b. b || is_changed rest q) (same-eqb (number_of q) (number_of s.key))
 
@@ -65,7 +68,8 @@ others-at root key (c ∷ rest) =
     elim (eqb_tells (number_of c.key) (number_of root)) [
       | inl same ↦
           ap (λ b. is_changed ((if b then [] else c ∷ []) ++ flat_map (if_other root) rest) key) same.0 ∙ more
-          ∙ ap (λ n. is_changed rest key && not (number_of key == n)) (sym same.1) ∙ gone (is_changed rest key) (number_of c.key == number_of key) (number_of key == number_of c.key) (same-eqb (number_of c.key) (number_of key))
+          ∙ ap (λ n. is_changed rest key && not (number_of key == n)) (sym same.1)
+          ∙ gone (is_changed rest key) (number_of c.key == number_of key) (number_of key == number_of c.key) (same-eqb (number_of c.key) (number_of key))
           ∙ ap (λ n. (number_of c.key == number_of key || is_changed rest key) && not (number_of key == n)) same.1
       | inr other ↦
           ap (λ b. is_changed ((if b then [] else c ∷ []) ++ flat_map (if_other root) rest) key) other.0 ∙ ap (λ b. is_same_key c.key key || b) more
@@ -101,11 +105,13 @@ module _ (n : NotedSlots) (root : SlotKey) where
   child-at p key =
       let first = from-first cs n.ordered in
       changed-found (children_of cs p) key ∙ ap is_some (filter-found (λ c. has_parent p (left_by c)) cs 0 (number_of key) first)
-      ∙ (elim (slot_at cs key) as (λ o. slot_at cs key ≡ o → is_some (kept (λ c. has_parent p (left_by c)) o) ≡ option_map_or (λ q. is_same_key q p) (noted_parent slots key) false) [
+      ∙ (elim (slot_at cs key) as (λ o. slot_at cs key ≡ o →
+      is_some (kept (λ c. has_parent p (left_by c)) o) ≡ option_map_or (λ q. is_same_key q p) (noted_parent slots key) false) [
         | None ↦ λ none. sym (ap (λ o. option_map_or (λ q. is_same_key q p) o false) (parentless (changed-found cs key ∙ ap is_some none)))
         | Some c ↦ λ here.
             let holds : slot_at slots key ≡ left_by c = changed-at cs n.image.now 0 key first ∙ ap (λ o. found_or o (slot_at n.image.now key)) here in
-            tested (has_parent p (left_by c)) c ∙ on-held (left_by c) ∙ sym (ap (λ (o : Option NotedSlot). option_map_or (λ q. is_same_key q p) (option_and_then (λ (s : NotedSlot). s.parent) o) false) holds)
+            tested (has_parent p (left_by c)) c ∙ on-held (left_by c)
+            ∙ sym (ap (λ (o : Option NotedSlot). option_map_or (λ q. is_same_key q p) (option_and_then (λ (s : NotedSlot). s.parent) o) false) holds)
       ] refl)
     where
       parentless : is_changed cs key ≡ false → noted_parent slots key ≡ None
@@ -122,12 +128,14 @@ module _ (n : NotedSlots) (root : SlotKey) where
       on-held None = refl
       on-held (Some s) = refl
 
-  children-at : (going : List NotedSlot) (key : SlotKey) → is_changed (flat_map (λ (s : NotedSlot). children_of cs s.key) going) key ≡ is_one_of going (noted_parent slots key)
+  children-at : (going : List NotedSlot) (key : SlotKey) → is_changed (flat_map (λ (s : NotedSlot). children_of cs s.key) going) key ≡ is_one_of going
+      (noted_parent slots key)
   children-at [] key = sym (one-of-none (noted_parent slots key))
   children-at (s ∷ rest) key =
       changed-append key (children_of cs s.key) (flat_map (λ (s : NotedSlot). children_of cs s.key) rest)
       ∙ ap (λ b. b || is_changed (flat_map (λ (s : NotedSlot). children_of cs s.key) rest) key) (child-at s.key key)
-      ∙ ap (λ b. option_map_or (λ q. is_same_key q s.key) (noted_parent slots key) false || b) (children-at rest key) ∙ one-of-more s rest (noted_parent slots key)
+      ∙ ap (λ b. option_map_or (λ q. is_same_key q s.key) (noted_parent slots key) false || b) (children-at rest key)
+      ∙ one-of-more s rest (noted_parent slots key)
 
   -- ---- levels
 
@@ -142,7 +150,8 @@ module _ (n : NotedSlots) (root : SlotKey) where
       on-parent None = refl
       on-parent (Some p) = ap (λ b. b || false) (same-eqb (number_of p) (number_of root))
 
-  pub more-below : (k : ℕ) (numbers more : List ℕ) (newest children next : List NotedSlot) → children ≡ flat_map (λ (s : NotedSlot). children_of cs s.key) newest
+  pub more-below : (k : ℕ) (numbers more : List ℕ) (newest children next : List NotedSlot) →
+      children ≡ flat_map (λ (s : NotedSlot). children_of cs s.key) newest
       → ((m : ℕ) → is_found more m ≡ (is_found numbers m || list_any (λ c. number_of c.key == m) children)) → next ≡ flat_map (if_other root) children
       → AreBelow k n root numbers newest → AreBelow (suc k) n root more next
   unfolding noted_descends
@@ -164,14 +173,18 @@ module _ (n : NotedSlots) (root : SlotKey) where
           ≡ (option_map_or (λ parent. is_same_key parent root || below k parent) o false || is_one_of (flat_map (if_other root) children) o)
       on-parent None = refl
       on-parent (Some p) =
-          ap (λ b. is_same_key p root || b) ((so p).1 ∙ ap (λ b. below k p || b) (sym (named-by p))) ∙ either (is_same_key p root) (below k p) (is_changed children p)
+          ap (λ b. is_same_key p root || b) ((so p).1 ∙ ap (λ b. below k p || b) (sym (named-by p)))
+          ∙ either (is_same_key p root) (below k p) (is_changed children p)
           ∙ ap (λ b. (is_same_key p root || below k p) || b) (sym (others-at root p children))
 
   -- where no slot is new, none is later
-  pub all-are-below : (k j : ℕ) (numbers : List ℕ) (newest : List NotedSlot) → newest ≡ [] → k ≤ j → AreBelow k n root numbers newest → AreBelow j n root numbers newest
+  pub all-are-below : (k j : ℕ) (numbers : List ℕ) (newest : List NotedSlot) → newest ≡ [] → k ≤ j → AreBelow k n root numbers newest →
+      AreBelow j n root numbers newest
   all-are-below k j numbers newest none less so =
-      let nothing : (key : SlotKey) → is_one_of newest (noted_parent slots key) ≡ false = λ key. ap (λ (l : List NotedSlot). is_one_of l (noted_parent slots key)) none ∙ one-of-none (noted_parent slots key) in
-      let still : (key : SlotKey) → below (suc k) key ≡ below k key = λ key. (so key).1 ∙ ap (λ b. below k key || b) (nothing key) ∙ sym (or-false (below k key)) in
+      let nothing : (key : SlotKey) → is_one_of newest (noted_parent slots key) ≡ false = λ key.
+      ap (λ (l : List NotedSlot). is_one_of l (noted_parent slots key)) none ∙ one-of-none (noted_parent slots key) in
+      let still : (key : SlotKey) → below (suc k) key ≡ below k key = λ key. (so key).1 ∙ ap (λ b. below k key || b) (nothing key)
+      ∙ sym (or-false (below k key)) in
       let same : (i : ℕ) → k ≤ i → (key : SlotKey) → below i key ≡ below k key = λ i more. steady n root k i still more in
       λ key. (
         (so key).0 ∙ sym (same j less key),
@@ -224,14 +237,17 @@ module _ (changes : List NotedSlot) where
                   let nothing : found changes m ≡ None = sym here ∙ none in
                   more ∙ ap (λ (o : Option NotedSlot). if is_found rest m then o else None) nothing ∙ either-none (is_found rest m) ∙ sym nothing
               | Some c ↦ λ is.
-                  ap (λ b. if b then Some c else found (filter_map (found changes) rest) m) (eq-eqb (number_of c.key) m (found-number changes q c is ∙ same.1)) ∙ sym is ∙ here
+                  ap (λ b. if b then Some c else found (filter_map (found changes) rest) m) (eq-eqb (number_of c.key) m (found-number changes q c is ∙ same.1))
+                  ∙ sym is ∙ here
             ] refl)
             ∙ sym (ap (λ b. if b || is_found rest m then found changes m else None) (equal-is m q (sym same.1)))
         | inr other ↦
-            (elim (found changes q) as (λ o. found changes q ≡ o → found (cons o (filter_map (found changes) rest)) m ≡ (if is_found rest m then found changes m else None)) [
+            (elim (found changes q) as (λ o. found changes q ≡ o →
+            found (cons o (filter_map (found changes) rest)) m ≡ (if is_found rest m then found changes m else None)) [
               | None ↦ λ _. more
               | Some c ↦ λ is.
-                  ap (λ b. if b then Some c else found (filter_map (found changes) rest) m) (ne_eqb (number_of c.key) m (λ same. other.1 (sym (found-number changes q c is) ∙ same))) ∙ more
+                  ap (λ b. if b then Some c else found (filter_map (found changes) rest) m)
+                  (ne_eqb (number_of c.key) m (λ same. other.1 (sym (found-number changes q c is) ∙ same))) ∙ more
             ] refl)
             ∙ sym (ap (λ b. if b || is_found rest m then found changes m else None) (other-is m q (λ same. other.1 (sym same))))
       ]
@@ -250,20 +266,23 @@ module _ (changes : List NotedSlot) where
       other-is a b other = grind (arith, nat_tests)
 
 -- those of the numbers that were found below a root are the changes whose slots descend from it
-pub numbered-below : (n : NotedSlots) (root : SlotKey) (k : ℕ) (numbers : List ℕ) (newest : List NotedSlot) → IsStrictlySortedBy nat_cmp numbers → AreBelow k n root numbers newest
+pub numbered-below : (n : NotedSlots) (root : SlotKey) (k : ℕ) (numbers : List ℕ) (newest : List NotedSlot) → IsStrictlySortedBy nat_cmp numbers →
+    AreBelow k n root numbers newest
     → filter_map (found n.changes.now) numbers ≡ below_by k n root
 numbered-below n root k numbers newest sorted so =
     let cs = n.changes.now in
     let first = from-first cs n.ordered in
     let test : NotedSlot → Bool = λ c. noted_descends k (slots_of n) root c.key in
     looks-equal (filter_map (found cs) numbers) (below_by k n root) 0 0 (all-rise cs numbers 0 sorted (all-from-zero numbers)) (filter-rises test cs 0 first)
-    (λ key. all-found cs numbers (number_of key) ∙ tested test (number_of key) (found cs (number_of key)) (λ c is. ap (is_found numbers) (sym (found-number cs (number_of key) c is)) ∙ (so c.key).0)
+    (λ key. all-found cs numbers (number_of key) ∙ tested test (number_of key) (found cs (number_of key))
+    (λ c is. ap (is_found numbers) (sym (found-number cs (number_of key) c is)) ∙ (so c.key).0)
     ∙ sym (filter-found test cs 0 (number_of key) first))
   where
     none-slot : Option NotedSlot
     none-slot = None
 
-    tested : (test : NotedSlot → Bool) (m : ℕ) (o : Option NotedSlot) → ((c : NotedSlot) → o ≡ Some c → is_found numbers m ≡ test c) → (if is_found numbers m then o else None) ≡ kept test o
+    tested : (test : NotedSlot → Bool) (m : ℕ) (o : Option NotedSlot) → ((c : NotedSlot) → o ≡ Some c → is_found numbers m ≡ test c) →
+        (if is_found numbers m then o else None) ≡ kept test o
     tested test m None so = elim (is_found numbers m) as (λ b. (if b then none-slot else none-slot) ≡ none-slot) [ true ↦ refl | false ↦ refl ]
     tested test m (Some c) so = ap (λ b. if b then Some c else None) (so c refl)
 

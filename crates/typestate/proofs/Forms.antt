@@ -17,22 +17,27 @@ behind_form count found = wanted found IllegalOperation >>= λ form. check (nat_
 form-behind : (count : ℕ) (found : Option CallForm) (form : CallForm) → behind_form count found ≡ Ok form → behind_form form.count found ≡ Ok form
 form-behind count None form is = absurd (let clash : Err IllegalOperation ≡ Ok form = is in cc)
 form-behind count (Some f) form is =
-    elim (nat_le f.count count) as (λ b. (check b TruncatedMessage >>= λ _. Ok f) ≡ Ok form → (check (nat_le f.count form.count) TruncatedMessage >>= λ _. Ok f) ≡ Ok form) [
+    elim (nat_le f.count count) as (λ b. (check b TruncatedMessage >>= λ _. Ok f) ≡ Ok form →
+    (check (nat_le f.count form.count) TruncatedMessage >>= λ _. Ok f) ≡ Ok form) [
       | false ↦ λ refused. absurd (let clash : Err TruncatedMessage ≡ Ok form = refused in cc)
       | true ↦ λ same.
           let one : f ≡ form = (let both : Ok f ≡ Ok form = same in cc) in
-          ap (λ (x : CallForm). check (nat_le x.count form.count) TruncatedMessage >>= λ _. Ok x) one ∙ ap (λ b. check b TruncatedMessage >>= λ _. Ok form) (le-itself form.count)
+          ap (λ (x : CallForm). check (nat_le x.count form.count) TruncatedMessage >>= λ _. Ok x) one
+          ∙ ap (λ b. check b TruncatedMessage >>= λ _. Ok form) (le-itself form.count)
     ] is
 
-pub form-again : (capability : Cap) (label extra count : ℕ) (form : CallForm) → form_called capability label extra count ≡ Ok form → form_called capability label 0 form.count ≡ Ok form
+pub form-again : (capability : Cap) (label extra count : ℕ) (form : CallForm) → form_called capability label extra count ≡ Ok form →
+    form_called capability label 0 form.count ≡ Ok form
 form-again capability label extra count form is =
-    elim (extra == 0) as (λ b. (check b TruncatedMessage >>= λ _. behind_form count (form_of capability label)) ≡ Ok form → behind_form form.count (form_of capability label) ≡ Ok form) [
+    elim (extra == 0) as (λ b. (check b TruncatedMessage >>= λ _. behind_form count (form_of capability label)) ≡ Ok form →
+    behind_form form.count (form_of capability label) ≡ Ok form) [
       | false ↦ λ refused. absurd (let clash : Err TruncatedMessage ≡ Ok form = refused in cc)
       | true ↦ λ same. form-behind count (form_of capability label) form same
     ] is
 
 -- what is decoded from the words of a form
-pub decode-form : (capability : Cap) (label extra count : ℕ) (form : CallForm) (words : List ℕ) → form_called capability label extra count ≡ Ok form → length words ≡ form.count
+pub decode-form : (capability : Cap) (label extra count : ℕ) (form : CallForm) (words : List ℕ) → form_called capability label extra count ≡ Ok form →
+    length words ≡ form.count
     → decode capability label 0 words ≡ Ok (form.call words)
 unfolding decode
 decode-form capability label extra count form words is long =

@@ -1,5 +1,6 @@
 -- A CNode that is looked at first tells what a look at all of them would.
-use Rattle.std.proofs.Common.{ℕ, zero, suc, ◌≡◌, ◌∙◌, ◌==◌, ◌+◌, ◌/◌, ◌^◌, ◌<◌, ◌≤◌, ◌||◌, Bool, true, false, if◌then◌else◌, Some, None, List, [], ◌∷◌, pow_pos, refl, sym, ap, subst, arith}
+use Rattle.std.proofs.Common.{ℕ, zero, suc, ◌≡◌, ◌∙◌, ◌==◌, ◌+◌, ◌/◌, ◌^◌, ◌<◌, ◌≤◌, ◌||◌, Bool, true, false, if◌then◌else◌, Some, None, List, [], ◌∷◌, pow_pos}
+use Rattle.std.proofs.Common.{refl, sym, ap, subst, arith}
 use Rattle.std.specs.Prelude.{is_some, slice_get}
 use Rattle.std.specs.Coded.{le_prop}
 use Rattle.std.specs.List.{find, list_any}
@@ -57,9 +58,11 @@ begins-there offset radix w is =
     let parts = and_parts (w.offset == offset) (w.radix == radix) is in
     ap (λ n. is_within (n / 16 + 0) (2 ^ w.radix) (offset / 16)) (eqb-true w.offset offset parts.0) ∙ first-within (offset / 16) (2 ^ w.radix) (pow_pos w.radix)
 
-pub at-found : (ws : List Window) (offset radix : ℕ) (w : Window) → AreApart ws → IsThere ws w → is_at offset radix w ≡ true → find (is_at offset radix) ws ≡ Some w
+pub at-found : (ws : List Window) (offset radix : ℕ) (w : Window) → AreApart ws → IsThere ws w → is_at offset radix w ≡ true →
+    find (is_at offset radix) ws ≡ Some w
 at-found ws offset radix w apart there is = only-passes (is_at offset radix) ws there.0 w there.1 is (λ m v at passes.
-    let both : Some v ≡ Some w = sym (apart (offset / 16) m v at (begins-there offset radix v passes)) ∙ apart (offset / 16) there.0 w there.1 (begins-there offset radix w is) in cc)
+    let both : Some v ≡ Some w = sym (apart (offset / 16) m v at (begins-there offset radix v passes))
+    ∙ apart (offset / 16) there.0 w there.1 (begins-there offset radix w is) in cc)
 
 -- ---- the CNodes of a thread
 
@@ -67,7 +70,8 @@ record ListedWindow (image : Image) (cnodes : List ℕ) (w : Window) : Type 0 wh
   mine : is_member w.cnode cnodes ≡ true
   window : IsWindow image w.cnode w
 
-listed-at : (image : Image) (cnodes : List ℕ) (ws : List Window) (n : ℕ) (w : Window) → AreWindows image cnodes ws → slice_get ws n ≡ Some w → ListedWindow image cnodes w
+listed-at : (image : Image) (cnodes : List ℕ) (ws : List Window) (n : ℕ) (w : Window) → AreWindows image cnodes ws → slice_get ws n ≡ Some w →
+    ListedWindow image cnodes w
 listed-at image [] [] n w are at = absurd (let clash : None ≡ Some w = at in cc)
 listed-at image [] (v ∷ vs) n w are at = absurd are
 listed-at image (cnode ∷ cnodes) [] n w are at = absurd are
@@ -96,9 +100,11 @@ same-window image v w same one other =
     ∙ same-radix w.cnode w.offset v.radix w.radix v.small radix w.small
   where
     same-radix : (cnode offset v w : ℕ) (small : v ≤ 14) → v ≡ w → (few : w ≤ 14)
-        → (let x : Window = record { cnode = cnode; offset = offset; radix = v; small = small } in x) ≡ (let x : Window = record { cnode = cnode; offset = offset; radix = w; small = few } in x)
+        → (let x : Window = record { cnode = cnode; offset = offset; radix = v; small = small } in x)
+        ≡ (let x : Window = record { cnode = cnode; offset = offset; radix = w; small = few } in x)
     same-radix cnode offset v w small same =
-        subst (λ (n : ℕ). (few : n ≤ 14) → (let x : Window = record { cnode = cnode; offset = offset; radix = v; small = small } in x) ≡ (let x : Window = record { cnode = cnode; offset = offset; radix = n; small = few } in x)) same
+        subst (λ (n : ℕ). (few : n ≤ 14) → (let x : Window = record { cnode = cnode; offset = offset; radix = v; small = small } in x)
+        ≡ (let x : Window = record { cnode = cnode; offset = offset; radix = n; small = few } in x)) same
         (λ few. ap (λ (s : v ≤ 14). let x : Window = record { cnode = cnode; offset = offset; radix = v; small = s } in x) (le_prop small few))
 
 pub windows-apart : (image : Image) (t : Thread) (ws : List Window) → StandsApart image t → AreWindows image (reached image t) ws → AreApart ws
@@ -107,5 +113,6 @@ windows-apart image t ws apart are slot n w at stands =
     only-passes (stands_within slot) ws n w at stands (λ m v there passes.
     let other = listed-at image (reached image t) ws m v are there in
     same-window image v w
-    (apart.apart v.cnode w.cnode slot other.mine mine.mine (sym (stands-same image v.cnode v slot other.window) ∙ passes) (sym (stands-same image w.cnode w slot mine.window) ∙ stands))
+    (apart.apart v.cnode w.cnode slot other.mine mine.mine (sym (stands-same image v.cnode v slot other.window) ∙ passes)
+    (sym (stands-same image w.cnode w slot mine.window) ∙ stands))
     other.window mine.window)

@@ -1,12 +1,14 @@
 -- What a thread's space carries, taken out: each fact has one proof at most, or is found below a bound.
-use Rattle.std.proofs.Common.{ℕ, zero, suc, ◌≡◌, ◌∙◌, ◌^◌, ◌<◌, ◌⊎◌, inl, inr, Bool, true, false, Option, Some, None, List, [], ◌∷◌, refl, sym, ap, subst, arith}
+use Rattle.std.proofs.Common.{ℕ, zero, suc, ◌≡◌, ◌∙◌, ◌^◌, ◌<◌, ◌⊎◌, inl, inr, Bool, true, false, Option, Some, None, List, [], ◌∷◌, refl, sym, ap, subst}
+use Rattle.std.proofs.Common.{arith}
 use Rattle.std.proofs.Math.Logic.{∥∥₁_elim, ∥∥₁_map}
 use Rattle.std.proofs.lemmas.Bool.Decides.{eqb_tells}
 use Rattle.std.specs.Coded.{coded_bool, coded_option, coded_ℕ, le_prop}
 use base.Stored.{Coded-set}
 pub use Rattle.image_reading.proofs.Laws.{decides-test, test-decides}
 use Rattle.model.specs.declared.capabilities.Cap.{Cap}
-use Rattle.model.specs.declared.capabilities.Cap.TheVariants.{Empty, Untyped, Endpoint, Notification, CNode, Frame, PageTable, Tcb, RootTable, InterruptControl, InterruptHandler}
+use Rattle.model.specs.declared.capabilities.Cap.TheVariants.{Empty, Untyped, Endpoint, Notification, CNode, Frame, PageTable, Tcb, RootTable, InterruptControl}
+use Rattle.model.specs.declared.capabilities.Cap.TheVariants.{InterruptHandler}
 use Rattle.model.specs.Acceptance.NotedKernel.{boot_parent, key_of}
 use Rattle.model.specs.Acceptance.NotedStates.{SlotKey}
 use Rattle.model.specs.Acceptance.ThreadRules.{reached}
@@ -42,7 +44,8 @@ found-below (suc n) test some = elim (test n) as (λ b. test n ≡ b → ((s : �
 
 held-out : (image : Image) (test : Cap → Bool) → ∥ HeldInBoot image test ∥₁ → HeldInBoot image test
 held-out image test some =
-    let place = found-below (2 ^ image.header.boot_radix) (λ slot. test (capability_at (described image).slots slot)) (∥∥₁_map some (λ h. (h.slot, h.boot, h.holds))) in
+    let place = found-below (2 ^ image.header.boot_radix) (λ slot. test (capability_at (described image).slots slot))
+    (∥∥₁_map some (λ h. (h.slot, h.boot, h.holds))) in
     record { slot = place.0; boot = place.1; holds = place.2 }
 
 zero-out : (image : Image) (test : Cap → Bool) (n : ℕ) → ∥ (n ≡ 0) ⊎ HeldInBoot image test ∥₁ → (n ≡ 0) ⊎ HeldInBoot image test
@@ -74,7 +77,8 @@ empty-out image test c some = elim (is_empty c) as (λ b. is_empty c ≡ b → (
   ])))
 ] refl
 
-above-out : (slots : Slots) (o : Option ℕ) → ∥ ((above : ℕ) × (o ≡ Some above) × (parent_at slots above ≡ None)) ∥₁ → ((above : ℕ) × (o ≡ Some above) × (parent_at slots above ≡ None))
+above-out : (slots : Slots) (o : Option ℕ) → ∥ ((above : ℕ) × (o ≡ Some above) × (parent_at slots above ≡ None)) ∥₁ →
+    ((above : ℕ) × (o ≡ Some above) × (parent_at slots above ≡ None))
 above-out slots None some = absurd (∥∥₁_elim some (λ a b. absurd a) (λ x. let clash : None ≡ Some x.0 = x.1 in cc))
 above-out slots (Some above) some = (
   above,
@@ -127,9 +131,12 @@ apart-of space =
       outside = λ slot parent none is. none-out (key_of image (reached image t) parent) (∥∥₁_map space.given (λ g. g.apart.outside slot parent none is));
       parent_boot = λ capability. ∥∥₁_elim space.given le_prop (λ g. g.apart.parent_boot capability);
       parent_pool = λ offset bits watermark. ∥∥₁_elim space.given (Coded-set (coded_option coded_ℕ) _ _) (λ g. g.apart.parent_pool offset bits watermark);
-      parent_other = λ capability off. above-out slots (parent_at slots (boot_parent image t capability)) (∥∥₁_map space.given (λ g. g.apart.parent_other capability off));
-      objects = λ offset. zero-out image (names_object offset) (slot_count ((described image).objects offset)) (∥∥₁_map space.given (λ g. g.apart.objects offset));
-      lines = λ line less. empty-out image (is_handler_of line) (capability_at slots (line_slot image.header.boot_radix line)) (∥∥₁_map space.given (λ g. g.apart.lines line less));
+      parent_other = λ capability off. above-out slots (parent_at slots (boot_parent image t capability))
+          (∥∥₁_map space.given (λ g. g.apart.parent_other capability off));
+      objects = λ offset. zero-out image (names_object offset) (slot_count ((described image).objects offset))
+          (∥∥₁_map space.given (λ g. g.apart.objects offset));
+      lines = λ line less. empty-out image (is_handler_of line) (capability_at slots (line_slot image.header.boot_radix line))
+          (∥∥₁_map space.given (λ g. g.apart.lines line less));
       root = held-out image (is_root_at (offset_of image t.header.root)) (∥∥₁_map space.given (λ g. g.apart.root));
     }
 

@@ -1,5 +1,6 @@
 -- Calls on handlers: an acknowledgement changes no slot, and nothing else is allowed.
-use Rattle.std.proofs.Common.{ℕ, ◌≡◌, ◌∙◌, ◌==◌, ◌/◌, ◌^◌, ◌<◌, ◌&&◌, ◌||◌, inl, inr, Bool, true, false, not, nat_lt, if◌then◌else◌, Option, Some, None, Result, Ok, Err, List, length, get_or, refl, sym, ap, subst, arith}
+use Rattle.std.proofs.Common.{ℕ, ◌≡◌, ◌∙◌, ◌==◌, ◌/◌, ◌^◌, ◌<◌, ◌&&◌, ◌||◌, inl, inr, Bool, true, false, not, nat_lt, if◌then◌else◌, Option, Some, None, Result}
+use Rattle.std.proofs.Common.{Ok, Err, List, length, get_or, refl, sym, ap, subst, arith}
 use Rattle.std.specs.Option.{option_map_or}
 use Rattle.std.specs.List.{list_any, range_with_len}
 use Rattle.std.proofs.lemmas.Bool.{ne_eqb}
@@ -15,7 +16,8 @@ use Rattle.model.specs.Images.Described.{described}
 use Rattle.model.specs.Images.Image.{Image, Thread}
 use Rattle.model.specs.Kernel.Arguments.{◌>>=◌, argument_slot, check}
 use Rattle.model.specs.Kernel.InterruptCalls.{bind, may_be_bound}
-use Rattle.model.specs.Kernel.Removal.{SlotSet, delete, ends, ends_filled, is_slot_of, remove, some_inside, some_outside, takes_last, wants_revoke_first, with_bindings, without_slots}
+use Rattle.model.specs.Kernel.Removal.{SlotSet, delete, ends, ends_filled, is_slot_of, remove, some_inside, some_outside, takes_last, wants_revoke_first}
+use Rattle.model.specs.Kernel.Removal.{with_bindings, without_slots}
 use Rattle.model.specs.Kernel.State.{State, binding_slot, slots_of, with_slots}
 use Rattle.model.specs.declared.capabilities.Cap.{Cap}
 use Rattle.model.specs.declared.capabilities.Cap.TheVariants.{Empty}
@@ -77,7 +79,8 @@ module _ (image : Image) (t : Thread) (stand : StandsApart image t) (slots : Lis
       ap (λ b. b && takes_last s alone (is_handler_of l)) (ne_eqb slot (binding_slot s l) (λ same. absurd (omega (arith, same, boot)))))
 
   cap-there : (slot : ℕ) → slot < 2 ^ image.header.boot_radix → capability_at all slot ≡ capability_at (described image).slots slot
-  cap-there slot boot = ap (λ (o : Option Entry). option_map_or (λ h. h.capability) o Empty) (noted-there image t stand slots slot (stand.behind slot (omega (arith, boot))))
+  cap-there slot boot = ap (λ (o : Option Entry). option_map_or (λ h. h.capability) o Empty)
+      (noted-there image t stand slots slot (stand.behind slot (omega (arith, boot))))
 
   not-ends : (offset : ℕ) → HeldInBoot image (names_object offset) → ends s set offset ≡ false
   unfolding noted_kernel described
@@ -93,7 +96,8 @@ module _ (image : Image) (t : Thread) (stand : StandsApart image t) (slots : Lis
   fills-none offset = elim (stand.objects offset) [
     | inl none ↦
         ap (λ b. ends s set offset && b) (found-none image.header.memory_bits (λ slot. is_slot_of s offset slot && not (set slot) && is_full s.slots slot)
-        (λ slot. ap (λ b. b && not (set slot) && is_full s.slots slot) (ap (λ n. is_within (offset / 16) n slot) none ∙ nowhere (offset / 16) slot))) ∙ and-none (ends s set offset)
+        (λ slot. ap (λ b. b && not (set slot) && is_full s.slots slot) (ap (λ n. is_within (offset / 16) n slot) none ∙ nowhere (offset / 16) slot)))
+        ∙ and-none (ends s set offset)
     | inr e ↦ ap (λ b. b && list_any (λ slot. is_slot_of s offset slot && not (set slot) && is_full s.slots slot) (slots_of s)) (not-ends offset e)
   ]
 
@@ -139,11 +143,13 @@ module _ (image : Image) (t : Thread) (at : Point) (slots : List NotedSlot) (hel
   abbrev named_by : SlotName → Result ℕ KError
   named_by name = argument_slot (noted_slots image t slots) (noted_root image t) name
 
-  bind-is : (name : SlotName) (named : Result ℕ KError) → named_by name ≡ named → bind kernel (call_on image t (slot_of_key image held.key) held.capability) line name ≡ bound_behind named
+  bind-is : (name : SlotName) (named : Result ℕ KError) → named_by name ≡ named →
+      bind kernel (call_on image t (slot_of_key image held.key) held.capability) line name ≡ bound_behind named
   unfolding noted_kernel
   bind-is name named is = ap bound_behind is
 
-  pub bind-refused : (name : SlotName) (error : KError) → named_by name ≡ Err error → held_after image t at slots held (OnHandler line (SetNotification name)) ≡ Err (CallRefused at error)
+  pub bind-refused : (name : SlotName) (error : KError) → named_by name ≡ Err error →
+      held_after image t at slots held (OnHandler line (SetNotification name)) ≡ Err (CallRefused at error)
   bind-refused name error is = kernel-refuses image t at false false _ error (bind-is name (Err error) is)
 
   module _ (name : SlotName) (source : ℕ) (is : named_by name ≡ Ok source) (c : Cap) (holds : capability_at (noted_slots image t slots) source ≡ c) where
@@ -152,14 +158,19 @@ module _ (image : Image) (t : Thread) (at : Point) (slots : List NotedSlot) (hel
     held-is = holds
 
     behind : (full : Bool) (bindable : Bool) → not (is_empty c) ≡ full → may_be_bound c ≡ bindable → bound_behind (Ok source)
-        ≡ ((check full FailedLookup >>= λ _. Ok source) >>= λ source. check bindable InvalidCapability >>= λ _. check (nat_lt (depth_of kernel.slots source) 255) IllegalOperation >>= λ _.
-        delete kernel (binding_slot kernel line) >>= λ after. Ok (with_slots after (inserted after.slots (binding_slot kernel line) (capability_at kernel.slots source) (Some source))))
+        ≡ ((check full FailedLookup >>= λ _. Ok source) >>= λ source. check bindable InvalidCapability >>= λ _.
+        check (nat_lt (depth_of kernel.slots source) 255) IllegalOperation >>= λ _.
+        delete kernel (binding_slot kernel line) >>= λ after.
+        Ok (with_slots after (inserted after.slots (binding_slot kernel line) (capability_at kernel.slots source) (Some source))))
     behind full bindable f b =
         let rest : ℕ → Result State KError = λ source. check (nat_lt (depth_of kernel.slots source) 255) IllegalOperation >>= λ _.
-        delete kernel (binding_slot kernel line) >>= λ after. Ok (with_slots after (inserted after.slots (binding_slot kernel line) (capability_at kernel.slots source) (Some source))) in
+        delete kernel (binding_slot kernel line) >>= λ after.
+        Ok (with_slots after (inserted after.slots (binding_slot kernel line) (capability_at kernel.slots source) (Some source))) in
         let asked : Bool → Result ℕ KError = λ x. check x FailedLookup >>= λ _. Ok source in
-        ap (λ (x : Bool). asked x >>= λ source. check (may_be_bound (capability_at kernel.slots source)) InvalidCapability >>= λ _. rest source) (ap (λ (x : Cap). not (is_empty x)) held-is ∙ f)
-        ∙ elim full as (λ x. (asked x >>= λ source. check (may_be_bound (capability_at kernel.slots source)) InvalidCapability >>= λ _. rest source) ≡ (asked x >>= λ source. check bindable InvalidCapability >>= λ _. rest source)) [
+        ap (λ (x : Bool). asked x >>= λ source. check (may_be_bound (capability_at kernel.slots source)) InvalidCapability >>= λ _. rest source)
+        (ap (λ (x : Cap). not (is_empty x)) held-is ∙ f)
+        ∙ elim full as (λ x. (asked x >>= λ source. check (may_be_bound (capability_at kernel.slots source)) InvalidCapability >>= λ _. rest source)
+        ≡ (asked x >>= λ source. check bindable InvalidCapability >>= λ _. rest source)) [
           | true ↦ ap (λ (x : Bool). check x InvalidCapability >>= λ _. rest source) (ap may_be_bound held-is ∙ b)
           | false ↦ refl
         ]
@@ -167,15 +178,20 @@ module _ (image : Image) (t : Thread) (at : Point) (slots : List NotedSlot) (hel
     pub bind-vacant : is_empty c ≡ true → held_after image t at slots held (OnHandler line (SetNotification name)) ≡ Err (CallRefused at FailedLookup)
     bind-vacant empty = kernel-refuses image t at false false _ FailedLookup (bind-is name (Ok source) is ∙ behind false (may_be_bound c) (ap not empty) refl)
 
-    pub bind-unbound : is_empty c ≡ false → may_be_bound c ≡ false → held_after image t at slots held (OnHandler line (SetNotification name)) ≡ Err (CallRefused at InvalidCapability)
+    pub bind-unbound : is_empty c ≡ false → may_be_bound c ≡ false →
+        held_after image t at slots held (OnHandler line (SetNotification name)) ≡ Err (CallRefused at InvalidCapability)
     bind-unbound full other = kernel-refuses image t at false false _ InvalidCapability (bind-is name (Ok source) is ∙ behind true false (ap not full) other)
 
-    pub bind-never : is_empty c ≡ false → may_be_bound c ≡ true → held_after image t at slots held (OnHandler line (SetNotification name)) ≡ Err (CallRefused at IllegalOperation)
+    pub bind-never : is_empty c ≡ false → may_be_bound c ≡ true →
+        held_after image t at slots held (OnHandler line (SetNotification name)) ≡ Err (CallRefused at IllegalOperation)
     bind-never full bindable =
         let after = deletes image t stand slots line in
-        let put : State → Result State KError = λ after. Ok (with_slots after (inserted after.slots (binding_slot kernel line) (capability_at kernel.slots source) (Some source))) in
+        let put : State → Result State KError = λ after.
+        Ok (with_slots after (inserted after.slots (binding_slot kernel line) (capability_at kernel.slots source) (Some source))) in
         ap (chain image t at false false) (bind-is name (Ok source) is ∙ behind true true (ap not full) bindable)
-        ∙ (elim (nat_lt (depth_of kernel.slots source) 255) as (λ x. chain image t at false false (check x IllegalOperation >>= λ _. delete kernel (binding_slot kernel line) >>= put) ≡ Err (CallRefused at IllegalOperation)) [
+        ∙ (elim (nat_lt (depth_of kernel.slots source) 255)
+        as (λ x. chain image t at false false (check x IllegalOperation >>= λ _. delete kernel (binding_slot kernel line) >>= put) ≡ Err
+        (CallRefused at IllegalOperation)) [
           | true ↦ ap (λ (r : Result State KError). chain image t at false false (r >>= put)) after.1
           | false ↦ refl
         ])

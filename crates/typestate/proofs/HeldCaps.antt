@@ -1,5 +1,6 @@
 -- What a thread's slots hold: nothing leads outside, and a slot with another capability is a change of the noted ones.
-use Rattle.std.proofs.Common.{ℕ, ◌≡◌, ◌∙◌, ◌==◌, ◌&&◌, ◌||◌, true, false, not, Bool, Option, Some, None, is_none, is_some, Result, Ok, List, [], ◌∷◌, refl, sym, ap, subst}
+use Rattle.std.proofs.Common.{ℕ, ◌≡◌, ◌∙◌, ◌==◌, ◌&&◌, ◌||◌, true, false, not, Bool, Option, Some, None, is_none, is_some, Result, Ok, List, [], ◌∷◌, refl, sym}
+use Rattle.std.proofs.Common.{ap, subst}
 use Rattle.std.specs.List.{list_any}
 use Rattle.std.specs.Option.{option_map_or}
 use Rattle.std.proofs.lemmas.Bool.{eqb-true}
@@ -32,14 +33,17 @@ use Rattle.typestate.proofs.SlotMaps.{found-passes, held_at, noted-holds}
 use Rattle.typestate.proofs.Standing.{IsOwnSlot, found-own, noted-there}
 
 -- what a slot holds is none that the thread may not have
-pub held-near : (image : Image) (t : Thread) (slots : List NotedSlot) (key : SlotKey) → NothingLeadsOutside image t slots → is_foreign image t (reached image t) (held_at slots key) ≡ false
+pub held-near : (image : Image) (t : Thread) (slots : List NotedSlot) (key : SlotKey) → NothingLeadsOutside image t slots →
+    is_foreign image t (reached image t) (held_at slots key) ≡ false
 held-near image t slots key none =
     elim (slot_at slots key) as (λ o. slot_at slots key ≡ o → is_foreign image t (reached image t) (option_map_or (λ r. r.capability) o Empty) ≡ false) [
       | None ↦ λ _. refl
-      | Some r ↦ λ at. found-passes (λ (x : NotedSlot). is_foreign image t (reached image t) x.capability) (λ (x : NotedSlot). is_same_key x.key key) slots r none at
+      | Some r ↦ λ at. found-passes (λ (x : NotedSlot). is_foreign image t (reached image t) x.capability) (λ (x : NotedSlot). is_same_key x.key key) slots r
+          none at
     ] refl
 
-pub root-near : (image : Image) (t : Thread) (cnodes : List ℕ) (offset : ℕ) → is_foreign image t cnodes (RootTable offset) ≡ false → offset ≡ offset_of image t.header.root
+pub root-near : (image : Image) (t : Thread) (cnodes : List ℕ) (offset : ℕ) → is_foreign image t cnodes (RootTable offset) ≡ false →
+    offset ≡ offset_of image t.header.root
 root-near image t cnodes offset near = eqb-true offset (offset_of image t.header.root) (not-false (offset == offset_of image t.header.root) near)
   where
     not-false : (b : Bool) → not b ≡ false → b ≡ true
@@ -47,8 +51,10 @@ root-near image t cnodes offset near = eqb-true offset (offset_of image t.header
     not-false false clash = absurd (let nope : true ≡ false = clash in cc)
 
 -- a root table that a slot of this name holds
-pub root-found : (image : Image) (t : Thread) (slots : List NotedSlot) (root : Cap) (name : SlotName) (slot offset : ℕ) (key : SlotKey) (held : Cap) → NothingLeadsOutside image t slots
-    → argument_slot (noted_slots image t slots) root name ≡ Ok slot → key_of image (reached image t) slot ≡ Some key → capability_at (noted_slots image t slots) slot ≡ held → held ≡ RootTable offset
+pub root-found : (image : Image) (t : Thread) (slots : List NotedSlot) (root : Cap) (name : SlotName) (slot offset : ℕ) (key : SlotKey) (held : Cap) →
+    NothingLeadsOutside image t slots
+    → argument_slot (noted_slots image t slots) root name ≡ Ok slot → key_of image (reached image t) slot ≡ Some key →
+    capability_at (noted_slots image t slots) slot ≡ held → held ≡ RootTable offset
     → (root_named (noted_slots image t slots) root name ≡ Ok offset) × (offset ≡ offset_of image t.header.root)
 root-found image t slots root name slot offset key held none found keyed holds is =
     let all = noted_slots image t slots in
@@ -61,7 +67,8 @@ root-found image t slots root name slot offset key held none found keyed holds i
     )
 
 -- no page table is among the thread's slots
-pub none-among : (f g : NotedSlot → Bool) → ((s : NotedSlot) → f s ≡ false → g s ≡ false) → (slots : List NotedSlot) → list_any f slots ≡ false → list_any g slots ≡ false
+pub none-among : (f g : NotedSlot → Bool) → ((s : NotedSlot) → f s ≡ false → g s ≡ false) → (slots : List NotedSlot) → list_any f slots ≡ false →
+    list_any g slots ≡ false
 none-among f g each [] none = refl
 none-among f g each (s ∷ rest) none =
     ap (λ b. b || list_any g rest) (each s (or-first (f s) (list_any f rest) none)) ∙ none-among f g each rest (or-rest (f s) (list_any f rest) none)
@@ -89,7 +96,8 @@ module _ (image : Image) (t : Thread) (stand : StandsApart image t) (slots : Lis
 
   -- ---- another capability in a slot
 
-  pub recap-back : (held : NotedSlot) (c : Cap) → RiseFrom 0 slots → slot_at slots held.key ≡ Some held → boot_parent image t c ≡ boot_parent image t held.capability → is_empty c ≡ false
+  pub recap-back : (held : NotedSlot) (c : Cap) → RiseFrom 0 slots → slot_at slots held.key ≡ Some held →
+      boot_parent image t c ≡ boot_parent image t held.capability → is_empty c ≡ false
       → noted_after image t (recapped all (slot_of_key image held.key) c) ≡ with_noted slots (record { key = held.key; capability = c; parent = held.parent })
   recap-back held c rises is boot full =
       let own = found-own image t slots held.key held are is in
@@ -109,7 +117,8 @@ module _ (image : Image) (t : Thread) (stand : StandsApart image t) (slots : Lis
   -- a test passes among the thread's slots or outside
   pub some-taken : (test : Cap → Bool) → RiseFrom 0 slots → test Empty ≡ false
       → holds_some (noted_kernel image t slots) test
-      ≡ (list_any (λ s. test s.capability) slots || list_any (λ slot. is_outside image t slot && test (capability_at (described image).slots slot)) (slots_of (described image)))
+      ≡ (list_any (λ s. test s.capability) slots || list_any (λ slot. is_outside image t slot && test (capability_at (described image).slots slot))
+      (slots_of (described image)))
   unfolding noted_kernel described
   some-taken test rises none =
       let bits = image.header.memory_bits in
@@ -122,7 +131,8 @@ module _ (image : Image) (t : Thread) (stand : StandsApart image t) (slots : Lis
       (λ key mine empty.
       let keyed = own-named image t stand key mine in
       ap (λ (k : Option SlotKey). is_some k && test (capability_at all (slot_of_key image key))) keyed
-      ∙ ap test (noted-holds image t slots (slot_of_key image key) key keyed ∙ ap (λ (o : Option NotedSlot). option_map_or (λ r. r.capability) o Empty) empty) ∙ none)
+      ∙ ap test (noted-holds image t slots (slot_of_key image key) key keyed ∙ ap (λ (o : Option NotedSlot). option_map_or (λ r. r.capability) o Empty) empty)
+      ∙ none)
       (λ key r mine at.
       let keyed = own-named image t stand key mine in
       ap (λ (k : Option SlotKey). is_some k && test (capability_at all (slot_of_key image key))) keyed
@@ -132,8 +142,11 @@ module _ (image : Image) (t : Thread) (stand : StandsApart image t) (slots : Lis
       or-none true = refl
       or-none false = refl
 
-      either : (test : Cap → Bool) (slot : ℕ) → test (capability_at all slot) ≡ (is_some (key_of image cnodes slot) && test (capability_at all slot) || (is_outside image t slot && test (capability_at (described image).slots slot)))
-      either test slot = elim (key_of image cnodes slot) as (λ o. key_of image cnodes slot ≡ o → test (capability_at all slot) ≡ (is_some o && test (capability_at all slot) || (is_none o && test (capability_at (described image).slots slot)))) [
-        | None ↦ λ out. ap test (cap-there slot out)
-        | Some key ↦ λ _. or-none (test (capability_at all slot))
-      ] refl
+      either : (test : Cap → Bool) (slot : ℕ) → test (capability_at all slot)
+          ≡ (is_some (key_of image cnodes slot) && test (capability_at all slot)
+          || (is_outside image t slot && test (capability_at (described image).slots slot)))
+      either test slot = elim (key_of image cnodes slot) as (λ o. key_of image cnodes slot ≡ o →
+          test (capability_at all slot) ≡ (is_some o && test (capability_at all slot) || (is_none o && test (capability_at (described image).slots slot)))) [
+            | None ↦ λ out. ap test (cap-there slot out)
+            | Some key ↦ λ _. or-none (test (capability_at all slot))
+          ] refl

@@ -1,5 +1,6 @@
 -- What an argument names stands in one of the thread's CNodes.
-use Rattle.std.proofs.Common.{ℕ, zero, suc, ◌≡◌, ◌∙◌, ◌==◌, ◌+◌, ◌/◌, ◌^◌, ◌<◌, ◌&&◌, ◌||◌, Bool, true, false, not, nat_le, nat_lt, if◌then◌else◌, Some, None, Result, Ok, Err, List, refl, sym, ap, subst}
+use Rattle.std.proofs.Common.{ℕ, zero, suc, ◌≡◌, ◌∙◌, ◌==◌, ◌+◌, ◌/◌, ◌^◌, ◌<◌, ◌&&◌, ◌||◌, Bool, true, false, not, nat_le, nat_lt, if◌then◌else◌, Some, None}
+use Rattle.std.proofs.Common.{Result, Ok, Err, List, refl, sym, ap, subst}
 use Rattle.model.specs.Acceptance.NotedKernel.{key_of, noted_slots}
 use Rattle.model.specs.Acceptance.NotedStates.{NotedSlot, SlotKey, is_own_cnode}
 use Rattle.model.specs.Acceptance.ThreadRules.{reached}
@@ -8,7 +9,8 @@ use Rattle.model.specs.Capabilities.Slots.{Slots, capability_at}
 use Rattle.model.specs.Images.Image.{Image, Thread}
 use Rattle.model.specs.Kernel.Arguments.{◌>>=◌, argument_slot, check, whole}
 use Rattle.model.specs.declared.capabilities.Cap.{Cap}
-use Rattle.model.specs.declared.capabilities.Cap.TheVariants.{Empty, Untyped, Endpoint, Notification, CNode, Frame, PageTable, Tcb, RootTable, InterruptControl, InterruptHandler}
+use Rattle.model.specs.declared.capabilities.Cap.TheVariants.{Empty, Untyped, Endpoint, Notification, CNode, Frame, PageTable, Tcb, RootTable, InterruptControl}
+use Rattle.model.specs.declared.capabilities.Cap.TheVariants.{InterruptHandler}
 use Rattle.model.specs.declared.errors.KError.{KError}
 use Rattle.model.specs.declared.errors.KError.TheVariants.{FailedLookup, RangeError}
 use Rattle.model.specs.declared.invocations.SlotName.{SlotName}
@@ -69,7 +71,8 @@ whole-inside : (own : ℕ → ℕ → Bool) (found : Result (ℕ × ℕ) LookupF
 whole-inside own (Ok found) inside = elim (found.1 == 0) as (λ b. NamesInside own (if b then Ok found.0 else Err FailedLookup)) [ true ↦ inside | false ↦ tt ]
 whole-inside own (Err failure) inside = tt
 
-pub argument-inside : (s t : Slots) (own : ℕ → ℕ → Bool) → AgreeInside s t own → (root : Cap) (name : SlotName) → is_among own root ≡ true → NamesInside own (argument_slot s root name)
+pub argument-inside : (s t : Slots) (own : ℕ → ℕ → Bool) → AgreeInside s t own → (root : Cap) (name : SlotName) → is_among own root ≡ true →
+    NamesInside own (argument_slot s root name)
 argument-inside s t own agree root name mine =
     elim (nat_lt 0 name.depth && nat_le name.depth 32) as (λ b. NamesInside own (check b RangeError >>= λ _. whole (lookup s root name.address name.depth))) [
       | true ↦ whole-inside own (lookup s root name.address name.depth) (looks-inside s t own agree name.address (suc name.depth) root name.depth mine)
@@ -79,7 +82,8 @@ argument-inside s t own agree root name mine =
 -- ---- by its key
 
 held-slot : (all : Slots) (r : Result ℕ KError) (slot : ℕ) (held : Cap) → with_held all r ≡ Ok (slot, held) → r ≡ Ok slot
-held-slot all (Ok found) slot held is = ap (λ (n : ℕ). let r : Result ℕ KError = Ok n in r) (let both : Ok (found, capability_at all found) ≡ Ok (slot, held) = is in ap first-of both)
+held-slot all (Ok found) slot held is = ap (λ (n : ℕ). let r : Result ℕ KError = Ok n in r)
+    (let both : Ok (found, capability_at all found) ≡ Ok (slot, held) = is in ap first-of both)
   where
     first-of : Result (ℕ × Cap) KError → ℕ
     first-of (Ok pair) = pair.0
@@ -88,10 +92,12 @@ held-slot all (Err error) slot held is = absurd (let clash : Err error ≡ Ok (s
 
 held-error : (all : Slots) (r : Result ℕ KError) (error : KError) → with_held all r ≡ Err error → r ≡ Err error
 held-error all (Ok found) error is = absurd (let clash : Ok (found, capability_at all found) ≡ Err error = is in cc)
-held-error all (Err other) error is = let same : other ≡ error = (let both : Err other ≡ Err error = is in cc) in ap (λ (e : KError). let r : Result ℕ KError = Err e in r) same
+held-error all (Err other) error is = let same : other ≡ error = (let both : Err other ≡ Err error = is in cc) in
+    ap (λ (e : KError). let r : Result ℕ KError = Err e in r) same
 
 module _ (image : Image) (t : Thread) (windows : List Window) (slots : List NotedSlot) (root : Cap) (name : SlotName)
-    (are : AreWindows image (reached image t) windows) (none : NothingLeadsOutside image t slots) (mine : is_among (is_own_cnode image (reached image t)) root ≡ true) where
+    (are : AreWindows image (reached image t) windows) (none : NothingLeadsOutside image t slots)
+    (mine : is_among (is_own_cnode image (reached image t)) root ≡ true) where
   abbrev all : Slots
   all = noted_slots image t slots
 
@@ -114,7 +120,8 @@ module _ (image : Image) (t : Thread) (windows : List Window) (slots : List Note
       → NamesSlot image t all (argument_slot all root name) (Ok (key, held))
   found-names slot key held is at holds =
       let keyed : key_of image (reached image t) slot ≡ Some key = sym (keys-same image (reached image t) windows slot are) ∙ at in
-      subst (λ (r : Result ℕ KError). NamesSlot image t all r (Ok (key, held))) (sym (found-all slot is)) (keyed, noted-holds image t slots slot key keyed ∙ sym holds)
+      subst (λ (r : Result ℕ KError). NamesSlot image t all r (Ok (key, held))) (sym (found-all slot is))
+      (keyed, noted-holds image t slots slot key keyed ∙ sym holds)
 
   pub refused-names : (error : KError) → argument_slot own root name ≡ Err error → NamesSlot image t all (argument_slot all root name) (Err error)
   refused-names error is = subst (λ (r : Result ℕ KError). NamesSlot image t all r (Err error)) (sym (refused-all error is)) refl
@@ -122,7 +129,9 @@ module _ (image : Image) (t : Thread) (windows : List Window) (slots : List Note
   -- it has a key
   pub has-key : (slot : ℕ) → argument_slot own root name ≡ Ok slot → key_in windows slot ≡ None → ⊥
   has-key slot is missing =
-      let inside : StandsInside (is_own_cnode image (reached image t)) slot = subst (NamesInside (is_own_cnode image (reached image t))) (found-all slot is) (argument-inside all own (is_own_cnode image (reached image t)) agree root name mine) in
+      let inside : StandsInside (is_own_cnode image (reached image t)) slot =
+      subst (NamesInside (is_own_cnode image (reached image t))) (found-all slot is)
+      (argument-inside all own (is_own_cnode image (reached image t)) agree root name mine) in
       let keyed = own-key image (reached image t) inside.offset inside.radix inside.index inside.mine inside.below in
       let found : key_of image (reached image t) slot ≡ Some keyed.0 = subst (λ n. key_of image (reached image t) n ≡ Some keyed.0) inside.place keyed.1 in
       absurd (let clash : None ≡ Some keyed.0 = sym missing ∙ keys-same image (reached image t) windows slot are ∙ found in cc)

@@ -9,7 +9,8 @@ use Rattle.model.specs.Capabilities.Slots.{Slots, depth_within, empty_entry, par
 use Rattle.model.specs.Images.Described.{described}
 use Rattle.model.specs.Images.Image.{Image, Thread}
 use Rattle.model.specs.declared.capabilities.Cap.{Cap}
-use Rattle.model.specs.declared.capabilities.Cap.TheVariants.{Empty, Untyped, Endpoint, Notification, CNode, Frame, PageTable, Tcb, RootTable, InterruptControl, InterruptHandler}
+use Rattle.model.specs.declared.capabilities.Cap.TheVariants.{Empty, Untyped, Endpoint, Notification, CNode, Frame, PageTable, Tcb, RootTable, InterruptControl}
+use Rattle.model.specs.declared.capabilities.Cap.TheVariants.{InterruptHandler}
 use Rattle.model.specs.declared.slot_entries.Entry.{Entry}
 use Rattle.typestate.specs.SlotChanges.{boot_depth, noted_depth}
 use Rattle.typestate.specs.Spaces.{AreOwn, StandsApart}
@@ -91,12 +92,14 @@ module _ (image : Image) (t : Thread) (stand : StandsApart image t) (slots : Lis
 
   depth-of-found : (n : ℕ) (found : Option NotedSlot) → ((s : NotedSlot) → found ≡ Some s → IsOwnSlot image t s)
       → ((key : SlotKey) → is_own image cnodes key ≡ true → depth_within n parents (slot_of_key image key) ≡ noted_depth n slots key)
-      → option_map_or (λ parent. depth_within n parents parent + 1) (parent_found found) 0 ≡ option_map_or (λ s. option_map_or (noted_depth n slots) s.parent (boot_depth n s.capability) + 1) found 0
+      → option_map_or (λ parent. depth_within n parents parent + 1) (parent_found found) 0 ≡ option_map_or
+      (λ s. option_map_or (noted_depth n slots) s.parent (boot_depth n s.capability) + 1) found 0
   depth-of-found n None own above = refl
   depth-of-found n (Some s) own above = by-parent s.parent (own s refl).parent
     where
       by-parent : (parent : Option SlotKey) → option_map_or (is_own image cnodes) parent true ≡ true
-          → depth_within n parents (option_map_or (slot_of_key image) parent (boot_parent image t s.capability)) + 1 ≡ option_map_or (noted_depth n slots) parent (boot_depth n s.capability) + 1
+          → depth_within n parents (option_map_or (slot_of_key image) parent (boot_parent image t s.capability)) + 1 ≡ option_map_or (noted_depth n slots)
+          parent (boot_depth n s.capability) + 1
       by-parent None mine = ap (λ d. d + 1) (boot-depth-is n s.capability)
       by-parent (Some p) mine = ap (λ d. d + 1) (above p mine)
 

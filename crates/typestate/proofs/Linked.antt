@@ -1,5 +1,6 @@
 -- The children of a slot are found by their links.
-use Rattle.std.proofs.Common.{ℕ, ◌≡◌, ◌∙◌, ◌==◌, ◌+◌, ◌<◌, ◌≤◌, inl, inr, ◌||◌, ◌&&◌, Bool, true, false, not, is_some, if◌then◌else◌, Option, Some, None, option_and_then, List, [], ◌∷◌, ◌++◌, refl, sym, ap, subst, arith}
+use Rattle.std.proofs.Common.{ℕ, ◌≡◌, ◌∙◌, ◌==◌, ◌+◌, ◌<◌, ◌≤◌, inl, inr, ◌||◌, ◌&&◌, Bool, true, false, not, is_some, if◌then◌else◌, Option, Some, None}
+use Rattle.std.proofs.Common.{option_and_then, List, [], ◌∷◌, ◌++◌, refl, sym, ap, subst, arith}
 use Rattle.std.specs.List.{AllByRecursion, filter, filter_map, list_any}
 use Rattle.std.specs.List.Sorted.{IsStrictlySortedBy}
 use Rattle.std.specs.Option.{option_map_or}
@@ -66,10 +67,11 @@ filter-rises test (c ∷ rest) least rises =
 -- what is found has the number
 pub found-number : (cs : List NotedSlot) (n : ℕ) (c : NotedSlot) → found cs n ≡ Some c → number_of c.key ≡ n
 found-number [] n c is = absurd (let clash : None ≡ Some c = is in cc)
-found-number (d ∷ rest) n c is = elim (number_of d.key == n) as (λ b. number_of d.key == n ≡ b → (if b then Some d else found rest n) ≡ Some c → number_of c.key ≡ n) [
-  | true ↦ λ same here. let one : d ≡ c = cc in ap (λ (s : NotedSlot). number_of s.key) (sym one) ∙ eqb-true (number_of d.key) n same
-  | false ↦ λ _ later. found-number rest n c later
-] refl is
+found-number (d ∷ rest) n c is = elim (number_of d.key == n) as (λ b. number_of d.key == n ≡ b → (if b then Some d else found rest n) ≡ Some c →
+    number_of c.key ≡ n) [
+      | true ↦ λ same here. let one : d ≡ c = cc in ap (λ (s : NotedSlot). number_of s.key) (sym one) ∙ eqb-true (number_of d.key) n same
+      | false ↦ λ _ later. found-number rest n c later
+    ] refl is
 
 abbrev named : ℕ → ℕ × ℕ → Bool
 named m q = q.0 == m
@@ -78,12 +80,14 @@ abbrev has_number : ℕ → ℕ × ℕ → Bool
 has_number n q = q.1 == n
 
 -- a link is one of those from its number
-pub from-here : (m : ℕ) (links : List (ℕ × ℕ)) (n : ℕ) → list_any (λ (q : ℕ × ℕ). is_eq (link_cmp (m, n) q)) links ≡ true → list_any (has_number n) (filter (named m) links) ≡ true
+pub from-here : (m : ℕ) (links : List (ℕ × ℕ)) (n : ℕ) → list_any (λ (q : ℕ × ℕ). is_eq (link_cmp (m, n) q)) links ≡ true →
+    list_any (has_number n) (filter (named m) links) ≡ true
 from-here m [] n some = some
 from-here m (q ∷ rest) n some = elim (eqb_tells q.0 m) [
   | inl same ↦
       subst (λ b. list_any (has_number n) (if b then q ∷ filter (named m) rest else filter (named m) rest) ≡ true) (sym same.0)
-      (first-or (is_eq (link_cmp (m, n) q)) (q.1 == n) (list_any (λ (r : ℕ × ℕ). is_eq (link_cmp (m, n) r)) rest) (list_any (has_number n) (filter (named m) rest)) (equal-both m n q.0 q.1) (from-here m rest n) some)
+      (first-or (is_eq (link_cmp (m, n) q)) (q.1 == n) (list_any (λ (r : ℕ × ℕ). is_eq (link_cmp (m, n) r)) rest)
+      (list_any (has_number n) (filter (named m) rest)) (equal-both m n q.0 q.1) (from-here m rest n) some)
   | inr other ↦
       subst (λ b. list_any (has_number n) (if b then q ∷ filter (named m) rest else filter (named m) rest) ≡ true) (sym other.0)
       (from-here m rest n (ap (λ b. b || list_any (λ (r : ℕ × ℕ). is_eq (link_cmp (m, n) r)) rest) (sym (apart m n q.0 q.1 other.1)) ∙ some))
@@ -129,7 +133,8 @@ module _ (changes : List NotedSlot) (parent : SlotKey) (m : ℕ) where
             ] refl)
             ∙ sym (ap (λ b. if b || list_any (has_number n) rest then kept test (found changes n) else None) same.0)
         | inr other ↦
-            (elim (child q) as (λ o. child q ≡ o → found (cons o (filter_map child rest)) n ≡ (if list_any (has_number n) rest then kept test (found changes n) else None)) [
+            (elim (child q) as (λ o. child q ≡ o → found (cons o (filter_map child rest)) n
+            ≡ (if list_any (has_number n) rest then kept test (found changes n) else None)) [
               | None ↦ λ _. more
               | Some c ↦ λ is.
                   let number : number_of c.key ≡ q.1 = found-number changes q.1 c (passes (found changes q.1) c is) in
@@ -144,7 +149,8 @@ module _ (changes : List NotedSlot) (parent : SlotKey) (m : ℕ) where
 
       passes : (o : Option NotedSlot) (c : NotedSlot) → kept test o ≡ Some c → o ≡ Some c
       passes None c is = absurd (let clash : None ≡ Some c = is in cc)
-      passes (Some d) c is = elim (test d) as (λ b. (if b then Some d else None) ≡ Some c → Some d ≡ Some c) [ true ↦ λ same. same | false ↦ λ clash. absurd (let no : None ≡ Some c = clash in cc) ] is
+      passes (Some d) c is = elim (test d) as (λ b. (if b then Some d else None) ≡ Some c → Some d ≡ Some c)
+          [ true ↦ λ same. same | false ↦ λ clash. absurd (let no : None ≡ Some c = clash in cc) ] is
 
   -- links rise from a number on
   abbrev AllFrom : ℕ → List (ℕ × ℕ) → Type 0
@@ -161,10 +167,12 @@ module _ (changes : List NotedSlot) (parent : SlotKey) (m : ℕ) where
   child-number : (q : ℕ × ℕ) (c : NotedSlot) → child q ≡ Some c → number_of c.key ≡ q.1
   child-number q c is = found-number changes q.1 c (elim (found changes q.1) as (λ o. kept test o ≡ Some c → o ≡ Some c) [
     | None ↦ λ clash. absurd (let no : None ≡ Some c = clash in cc)
-    | Some d ↦ elim (test d) as (λ b. (if b then Some d else None) ≡ Some c → Some d ≡ Some c) [ true ↦ λ same. same | false ↦ λ clash. absurd (let no : None ≡ Some c = clash in cc) ]
+    | Some d ↦ elim (test d) as (λ b. (if b then Some d else None) ≡ Some c → Some d ≡ Some c)
+        [ true ↦ λ same. same | false ↦ λ clash. absurd (let no : None ≡ Some c = clash in cc) ]
   ] is)
 
-  children-rise : (links : List (ℕ × ℕ)) (least : ℕ) → IsStrictlySortedBy link_cmp links → AllFrom least links → RiseFrom least (filter_map child (filter (named m) links))
+  children-rise : (links : List (ℕ × ℕ)) (least : ℕ) → IsStrictlySortedBy link_cmp links → AllFrom least links →
+      RiseFrom least (filter_map child (filter (named m) links))
   unfolding IsStrictlySortedBy
   children-rise [] least sorted from = tt
   children-rise (q ∷ rest) least sorted from = elim (eqb_tells q.0 m) [
@@ -175,10 +183,12 @@ module _ (changes : List NotedSlot) (parent : SlotKey) (m : ℕ) where
           | Some c ↦ λ is.
               let number = child-number q c is in (
                 omega (arith, number, from.0 same.1),
-                subst (λ k. RiseFrom (k + 1) (filter_map child (filter (named m) rest))) (sym number) (children-rise rest (q.1 + 1) sorted.1 (all-behind q rest same.1 sorted.0)),
+                subst (λ k. RiseFrom (k + 1) (filter_map child (filter (named m) rest))) (sym number)
+                    (children-rise rest (q.1 + 1) sorted.1 (all-behind q rest same.1 sorted.0)),
               )
         ] refl)
-    | inr other ↦ subst (λ b. RiseFrom least (filter_map child (if b then q ∷ filter (named m) rest else filter (named m) rest))) (sym other.0) (children-rise rest least sorted.1 from.1)
+    | inr other ↦ subst (λ b. RiseFrom least (filter_map child (if b then q ∷ filter (named m) rest else filter (named m) rest))) (sym other.0)
+        (children-rise rest least sorted.1 from.1)
   ]
 
   all-from-zero : (links : List (ℕ × ℕ)) → AllFrom 0 links
@@ -186,10 +196,13 @@ module _ (changes : List NotedSlot) (parent : SlotKey) (m : ℕ) where
   all-from-zero (q ∷ rest) = (λ _. omega arith, all-from-zero rest)
 
   -- the children by their links, of which each has one from a number, are the changes that leave children
-  pub linked-children : (links : List (ℕ × ℕ)) → Rise changes → ((slot : ℕ) → option_map_or test (found changes slot) false ≡ true → has_link links m slot ≡ true) → IsStrictlySortedBy link_cmp links → filter_map child (filter (named m) links) ≡ children_of changes parent
+  pub linked-children : (links : List (ℕ × ℕ)) → Rise changes →
+      ((slot : ℕ) → option_map_or test (found changes slot) false ≡ true → has_link links m slot ≡ true) → IsStrictlySortedBy link_cmp links →
+      filter_map child (filter (named m) links) ≡ children_of changes parent
   linked-children links rises linked sorted =
       let first = from-first changes rises in
-      looks-equal (filter_map child (filter (named m) links)) (children_of changes parent) 0 0 (children-rise links 0 sorted (all-from-zero links)) (filter-rises test changes 0 first)
+      looks-equal (filter_map child (filter (named m) links)) (children_of changes parent) 0 0 (children-rise links 0 sorted (all-from-zero links))
+      (filter-rises test changes 0 first)
       (λ key. same-at (number_of key) ∙ sym (filter-found test changes 0 (number_of key) first))
     where
       all-or : (b : Bool) (o : Option NotedSlot) → (is_some o ≡ true → b ≡ true) → (if b then o else None) ≡ o
@@ -218,8 +231,10 @@ append-again (x ∷ xs) ys zs = ap (λ (l : List NotedSlot). x ∷ l) (append-ag
 in-range : (a b m : ℕ) → (is_le (ordering_then (nat_cmp m a) (nat_cmp 0 b)) && not (is_le (ordering_then (nat_cmp (m + 1) a) (nat_cmp 0 b)))) ≡ (a == m)
 in-range a b m = grind (arith, nat_tests)
 
-pub named-links : (m : ℕ) (links : List (ℕ × ℕ)) → filter (λ (q : ℕ × ℕ). is_le (link_cmp (m, 0) q) && not (is_le (link_cmp (m + 1, 0) q))) links ≡ filter (λ (q : ℕ × ℕ). q.0 == m) links
+pub named-links : (m : ℕ) (links : List (ℕ × ℕ)) → filter (λ (q : ℕ × ℕ). is_le (link_cmp (m, 0) q) && not (is_le (link_cmp (m + 1, 0) q))) links ≡ filter
+    (λ (q : ℕ × ℕ). q.0 == m) links
 named-links m [] = refl
 named-links m (q ∷ rest) =
-    ap (λ b. if b then q ∷ filter (λ (q : ℕ × ℕ). is_le (link_cmp (m, 0) q) && not (is_le (link_cmp (m + 1, 0) q))) rest else filter (λ (q : ℕ × ℕ). is_le (link_cmp (m, 0) q) && not (is_le (link_cmp (m + 1, 0) q))) rest) (in-range q.0 q.1 m)
+    ap (λ b. if b then q ∷ filter (λ (q : ℕ × ℕ). is_le (link_cmp (m, 0) q) && not (is_le (link_cmp (m + 1, 0) q))) rest else
+    filter (λ (q : ℕ × ℕ). is_le (link_cmp (m, 0) q) && not (is_le (link_cmp (m + 1, 0) q))) rest) (in-range q.0 q.1 m)
     ∙ ap (λ (l : List (ℕ × ℕ)). if q.0 == m then q ∷ l else l) (named-links m rest)

@@ -8,7 +8,8 @@ use Rattle.model.specs.Acceptance.NotedStates.{NotedSlot, SlotKey, is_same_key, 
 use Rattle.typestate.specs.Families.{AreNamed, KeepsLinks, found, has_link}
 use Rattle.typestate.specs.PackedChanges.{has_name}
 
-module _ (test : ℕ → NotedSlot → Bool) (old new : List NotedSlot) (change : NotedSlot) (put : (key : SlotKey) → slot_at new key ≡ (if is_same_key change.key key then Some change else slot_at old key)) where
+module _ (test : ℕ → NotedSlot → Bool) (old new : List NotedSlot) (change : NotedSlot)
+    (put : (key : SlotKey) → slot_at new key ≡ (if is_same_key change.key key then Some change else slot_at old key)) where
   put-at : (n : ℕ) → found new n ≡ (if number_of change.key == n then Some change else found old n)
   put-at n =
       let key : SlotKey = record { cnode = 0; index = n } in
@@ -22,14 +23,16 @@ module _ (test : ℕ → NotedSlot → Bool) (old new : List NotedSlot) (change 
   -- where links are added
   pub put-linked : (before after : List (ℕ × ℕ)) → AreNamed test old before → KeepsLinks before after → HasNumber after → AreNamed test new after
   put-linked before after linked keeps has parent child is =
-      elim (number_of change.key == child) as (λ b. number_of change.key == child ≡ b → option_map_or (test parent) (if b then Some change else found old child) false ≡ true → has_link after parent child ≡ true) [
+      elim (number_of change.key == child) as (λ b. number_of change.key == child ≡ b →
+      option_map_or (test parent) (if b then Some change else found old child) false ≡ true → has_link after parent child ≡ true) [
         | true ↦ λ same here. subst (λ n. has_link after parent n ≡ true) (eqb-true (number_of change.key) child same) (has parent here)
         | false ↦ λ _ there. keeps parent child (linked parent child there)
       ] refl (sym (ap (λ o. option_map_or (test parent) o false) (put-at child)) ∙ is)
 
   -- where links of what stood there before are taken away
   pub replaced-linked : (before after : List (ℕ × ℕ)) (was : NotedSlot) → number_of was.key ≡ number_of change.key → AreNamed test new before
-      → ((parent child : ℕ) → (child == number_of was.key) ≡ false → has_link before parent child ≡ true → has_link after parent child ≡ true) → HasNumber after → AreNamed test new after
+      → ((parent child : ℕ) → (child == number_of was.key) ≡ false → has_link before parent child ≡ true → has_link after parent child ≡ true) →
+      HasNumber after → AreNamed test new after
   replaced-linked before after was place linked others has parent child is =
       elim (child == number_of was.key) as (λ b. child == number_of was.key ≡ b → has_link after parent child ≡ true) [
         | true ↦ λ same.

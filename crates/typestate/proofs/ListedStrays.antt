@@ -33,11 +33,13 @@ neither false b first second = second
 module _ (space : Space) (slots : List NotedSlot) where
   one-beside : (s : NotedSlot) → is_stray_in space [] s ≡ false → is_stray_in space slots s ≡ false
   one-beside s =
-      beside (not (is_own space.image.now (cnodes_of space) s.key) || is_foreign space.image.now space.thread.now (cnodes_of space) s.capability || not (is_capability s.capability))
+      beside (not (is_own space.image.now (cnodes_of space) s.key) || is_foreign space.image.now space.thread.now (cnodes_of space) s.capability
+      || not (is_capability s.capability))
       (leads_to_boot 0 [] s.parent) (leads_to_boot (length slots) slots s.parent) (leads-beside (length slots) slots s.parent)
 
   pub none-beside : (listed : List NotedSlot) → list_any (is_stray_in space []) listed ≡ false → list_any (is_stray_in space slots) listed ≡ false
   none-beside [] none = refl
   none-beside (s ∷ rest) none =
-      neither (is_stray_in space slots s) (list_any (is_stray_in space slots) rest) (one-beside s (first-not (is_stray_in space [] s) (list_any (is_stray_in space []) rest) none))
+      neither (is_stray_in space slots s) (list_any (is_stray_in space slots) rest)
+      (one-beside s (first-not (is_stray_in space [] s) (list_any (is_stray_in space []) rest) none))
       (none-beside rest (rest-not (is_stray_in space [] s) (list_any (is_stray_in space []) rest) none))

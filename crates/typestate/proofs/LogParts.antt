@@ -54,15 +54,18 @@ pub next-part : (log : List LogEntry) (shorter longer : Part) → Holds log shor
 next-part log shorter longer held more next =
     let first : longer.first ≡ shorter.first = sym next.0 in
     ap (λ (n : ℕ). take (longer.end - n) (drop n log)) first
-    ∙ ap (λ (n : ℕ). take n (drop shorter.first log)) (let split : longer.end - shorter.first ≡ (shorter.end - shorter.first) + (longer.end - shorter.end) = omega (arith, held.0, next.1) in split)
+    ∙ ap (λ (n : ℕ). take n (drop shorter.first log)) (let split : longer.end - shorter.first ≡ (shorter.end - shorter.first) + (longer.end - shorter.end) =
+    omega (arith, held.0, next.1) in split)
     ∙ take-add (shorter.end - shorter.first) (longer.end - shorter.end) (drop shorter.first log)
     ∙ ap (λ (l : List LogEntry). part_of log shorter ++ take (longer.end - shorter.end) l)
-    (drop-drop (shorter.end - shorter.first) shorter.first log ∙ ap (λ (n : ℕ). drop n log) (let whole : shorter.first + (shorter.end - shorter.first) ≡ shorter.end = omega (arith, held.0) in whole))
+    (drop-drop (shorter.end - shorter.first) shorter.first log
+    ∙ ap (λ (n : ℕ). drop n log) (let whole : shorter.first + (shorter.end - shorter.first) ≡ shorter.end = omega (arith, held.0) in whole))
 
 -- changes that are shown, with the entries behind them
 pub next-changes : (log : List LogEntry) (shown more : List NotedSlot) (shorter longer : Part) → Holds log shorter → Holds log longer → IsNext shorter longer
     → ((slots : List NotedSlot) → Rise slots → AreUnlinked slots → changed slots shown ≡ replayed slots (part_of log shorter))
-    → ((slots : List NotedSlot) → Rise slots → AreUnlinked slots → changed slots more ≡ replayed (changed slots shown) (take (longer.end - shorter.end) (drop shorter.end log)))
+    → ((slots : List NotedSlot) → Rise slots → AreUnlinked slots →
+    changed slots more ≡ replayed (changed slots shown) (take (longer.end - shorter.end) (drop shorter.end log)))
     → (slots : List NotedSlot) → Rise slots → AreUnlinked slots → changed slots more ≡ replayed slots (part_of log longer)
 next-changes log shown more shorter longer held after next same put slots rises unlinked =
     let made = take (longer.end - shorter.end) (drop shorter.end log) in

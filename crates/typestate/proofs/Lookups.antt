@@ -1,5 +1,6 @@
 -- A lookup goes the same way in two maps of slots that hold the same in all CNodes that it comes to.
-use Rattle.std.proofs.Common.{ℕ, zero, suc, ◌≡◌, ◌∙◌, ◌==◌, ◌+◌, ◌-◌, ◌/◌, ◌%◌, ◌^◌, ◌<◌, ◌&&◌, ◌||◌, Bool, true, false, not, nat_le, nat_lt, if◌then◌else◌, Result, Ok, Err, refl, ap, mod-lt}
+use Rattle.std.proofs.Common.{ℕ, zero, suc, ◌≡◌, ◌∙◌, ◌==◌, ◌+◌, ◌-◌, ◌/◌, ◌%◌, ◌^◌, ◌<◌, ◌&&◌, ◌||◌, Bool, true, false, not, nat_le, nat_lt, if◌then◌else◌}
+use Rattle.std.proofs.Common.{Result, Ok, Err, refl, ap, mod-lt}
 use Rattle.std.proofs.lemmas.Nat.{pow_pos}
 use Rattle.model.specs.Capabilities.Lookup.{called, called_slot, go_on, is_cnode, lookup, lookup_within, resolve}
 use Rattle.model.specs.Capabilities.Slots.{Slots, capability_at, is_empty, is_full}
@@ -9,7 +10,8 @@ use Rattle.model.specs.declared.invocations.SlotName.{SlotName}
 use Rattle.model.specs.Kernel.Arguments.{◌>>=◌, argument_slot, check, whole}
 use Rattle.typestate.specs.Spaces.{is_among}
 use Rattle.model.specs.declared.capabilities.Cap.{Cap}
-use Rattle.model.specs.declared.capabilities.Cap.TheVariants.{Empty, Untyped, Endpoint, Notification, CNode, Frame, PageTable, Tcb, RootTable, InterruptControl, InterruptHandler}
+use Rattle.model.specs.declared.capabilities.Cap.TheVariants.{Empty, Untyped, Endpoint, Notification, CNode, Frame, PageTable, Tcb, RootTable, InterruptControl}
+use Rattle.model.specs.declared.capabilities.Cap.TheVariants.{InterruptHandler}
 use Rattle.model.specs.declared.lookup_failures.LookupFailure.{LookupFailure}
 use Rattle.model.specs.declared.lookup_failures.LookupFailure.TheVariants.{MissingCapability, DepthMismatch, GuardMismatch}
 
@@ -29,15 +31,20 @@ pub index-below : (radix guard address left : ℕ) → IsIndexIn radix (resolve 
 index-below radix guard address left =
     let size = guard % 2 ^ 5 in
     let rest = left - (size + radix) in
-    elim (nat_lt left size) as (λ b. IsIndexIn radix (if b then Err (GuardMismatch left) else if not (address / 2 ^ (left - size) % 2 ^ size == guard / 2 ^ 5) then Err (GuardMismatch left) else if nat_lt left (size + radix) then Err (DepthMismatch left) else Ok (address / 2 ^ rest % 2 ^ radix, rest))) [
+    elim (nat_lt left size) as (λ b. IsIndexIn radix (if b then Err (GuardMismatch left) else
+    if not (address / 2 ^ (left - size) % 2 ^ size == guard / 2 ^ 5) then Err (GuardMismatch left) else if nat_lt left (size + radix) then
+    Err (DepthMismatch left) else Ok (address / 2 ^ rest % 2 ^ radix, rest))) [
       | true ↦ tt
-      | false ↦ elim (address / 2 ^ (left - size) % 2 ^ size == guard / 2 ^ 5) as (λ b. IsIndexIn radix (if not b then Err (GuardMismatch left) else if nat_lt left (size + radix) then Err (DepthMismatch left) else Ok (address / 2 ^ rest % 2 ^ radix, rest))) [
-        | false ↦ tt
-        | true ↦ elim (nat_lt left (size + radix)) as (λ b. IsIndexIn radix (if b then Err (DepthMismatch left) else Ok (address / 2 ^ rest % 2 ^ radix, rest))) [
-          | true ↦ tt
-          | false ↦ mod-lt (address / 2 ^ rest) (pow_pos radix)
-        ]
-      ]
+      | false ↦ elim (address / 2 ^ (left - size) % 2 ^ size == guard / 2 ^ 5)
+          as (λ b. IsIndexIn radix (if not b then Err (GuardMismatch left) else if nat_lt left (size + radix) then Err (DepthMismatch left) else
+          Ok (address / 2 ^ rest % 2 ^ radix, rest))) [
+            | false ↦ tt
+            | true ↦ elim (nat_lt left (size + radix))
+                as (λ b. IsIndexIn radix (if b then Err (DepthMismatch left) else Ok (address / 2 ^ rest % 2 ^ radix, rest))) [
+                  | true ↦ tt
+                  | false ↦ mod-lt (address / 2 ^ rest) (pow_pos radix)
+                ]
+          ]
     ]
 
 -- what is found holds the same in both maps
@@ -51,26 +58,34 @@ pub record GoesSame (s t : Slots) (a b : Result (ℕ × ℕ) LookupFailure) : Ty
 
 module _ (s t : Slots) (own : ℕ → ℕ → Bool) (agree : AgreeInside s t own) (address : ℕ) where
   goes-on : (n offset : ℕ) (place : ℕ × ℕ) → capability_at s (offset / 16 + place.0) ≡ capability_at t (offset / 16 + place.0)
-      → GoesSame s t (lookup_within n s (capability_at s (offset / 16 + place.0)) address place.1) (lookup_within n t (capability_at s (offset / 16 + place.0)) address place.1)
-      → GoesSame s t (go_on s offset (λ held rest. lookup_within n s held address rest) (Ok place)) (go_on t offset (λ held rest. lookup_within n t held address rest) (Ok place))
+      → GoesSame s t (lookup_within n s (capability_at s (offset / 16 + place.0)) address place.1)
+      (lookup_within n t (capability_at s (offset / 16 + place.0)) address place.1)
+      → GoesSame s t (go_on s offset (λ held rest. lookup_within n s held address rest) (Ok place))
+      (go_on t offset (λ held rest. lookup_within n t held address rest) (Ok place))
   goes-on n offset place same behind =
       let slot = offset / 16 + place.0 in
       let held = capability_at s slot in
-      let further : (if place.1 == 0 || not (is_cnode held) then Ok (slot, place.1) else lookup_within n t held address place.1) ≡ go_on t offset (λ other rest. lookup_within n t other address rest) (Ok place)
+      let further : (if place.1 == 0 || not (is_cnode held) then Ok (slot, place.1) else lookup_within n t held address place.1) ≡ go_on t offset
+      (λ other rest. lookup_within n t other address rest) (Ok place)
       = ap (λ (other : Cap). if place.1 == 0 || not (is_cnode other) then Ok (slot, place.1) else lookup_within n t other address place.1) same in
       record {
-        result = ap (λ (found : Result (ℕ × ℕ) LookupFailure). if place.1 == 0 || not (is_cnode held) then Ok (slot, place.1) else found) behind.result ∙ further;
-        finds = elim (place.1 == 0 || not (is_cnode held)) as (λ b. FindsSame s t (if b then Ok (slot, place.1) else lookup_within n s held address place.1)) [ true ↦ same | false ↦ behind.finds ];
+        result = ap (λ (found : Result (ℕ × ℕ) LookupFailure). if place.1 == 0 || not (is_cnode held) then Ok (slot, place.1) else found) behind.result
+            ∙ further;
+        finds = elim (place.1 == 0 || not (is_cnode held)) as (λ b. FindsSame s t (if b then Ok (slot, place.1) else lookup_within n s held address place.1))
+            [ true ↦ same | false ↦ behind.finds ];
       }
 
   resolved-same : (n offset radix : ℕ) (found : Result (ℕ × ℕ) LookupFailure) → own offset radix ≡ true → IsIndexIn radix found
       → ((held : Cap) (left : ℕ) → is_among own held ≡ true → GoesSame s t (lookup_within n s held address left) (lookup_within n t held address left))
-      → GoesSame s t (go_on s offset (λ held rest. lookup_within n s held address rest) found) (go_on t offset (λ held rest. lookup_within n t held address rest) found)
+      → GoesSame s t (go_on s offset (λ held rest. lookup_within n s held address rest) found)
+      (go_on t offset (λ held rest. lookup_within n t held address rest) found)
   resolved-same n offset radix (Err failure) mine index behind = record { result = refl; finds = tt }
   resolved-same n offset radix (Ok place) mine index behind =
-      goes-on n offset place (agree.same offset radix place.0 mine index) (behind (capability_at s (offset / 16 + place.0)) place.1 (agree.inside offset radix place.0 mine index))
+      goes-on n offset place (agree.same offset radix place.0 mine index)
+      (behind (capability_at s (offset / 16 + place.0)) place.1 (agree.inside offset radix place.0 mine index))
 
-  pub looks-same : (n : ℕ) (root : Cap) (left : ℕ) → is_among own root ≡ true → GoesSame s t (lookup_within n s root address left) (lookup_within n t root address left)
+  pub looks-same : (n : ℕ) (root : Cap) (left : ℕ) → is_among own root ≡ true →
+      GoesSame s t (lookup_within n s root address left) (lookup_within n t root address left)
   unfolding lookup_within
   looks-same zero root left mine = record { result = refl; finds = tt }
   looks-same (suc n) Empty left mine = record { result = refl; finds = tt }
@@ -97,7 +112,8 @@ called-same s t (Ok found) same = ap (λ (held : Cap). if not (is_empty held) th
 called-same s t (Err failure) same = refl
 
 called-finds : (s t : Slots) (found : Result (ℕ × ℕ) LookupFailure) → FindsSame s t found → CallsSame s t (called s found)
-called-finds s t (Ok found) same = elim (is_full s found.0) as (λ b. CallsSame s t (if b then Ok found.0 else Err MissingCapability)) [ true ↦ same | false ↦ tt ]
+called-finds s t (Ok found) same = elim (is_full s found.0) as (λ b. CallsSame s t (if b then Ok found.0 else Err MissingCapability))
+    [ true ↦ same | false ↦ tt ]
 called-finds s t (Err failure) same = tt
 
 pub called-slot-same : (s t : Slots) (own : ℕ → ℕ → Bool) → AgreeInside s t own → (root : Cap) (address : ℕ) → is_among own root ≡ true
@@ -125,7 +141,10 @@ pub argument-same : (s t : Slots) (own : ℕ → ℕ → Bool) → AgreeInside s
     → with_held s (argument_slot s root name) ≡ with_held t (argument_slot t root name)
 argument-same s t own agree root name mine =
     let goes = looks-same s t own agree name.address (suc name.depth) root name.depth mine in
-    elim (nat_lt 0 name.depth && nat_le name.depth 32) as (λ b. with_held s (check b RangeError >>= λ _. whole (lookup s root name.address name.depth)) ≡ with_held t (check b RangeError >>= λ _. whole (lookup t root name.address name.depth))) [
-      | true ↦ whole-held s t (lookup s root name.address name.depth) goes.finds ∙ ap (λ (found : Result (ℕ × ℕ) LookupFailure). with_held t (whole found)) goes.result
+    elim (nat_lt 0 name.depth && nat_le name.depth 32)
+    as (λ b. with_held s (check b RangeError >>= λ _. whole (lookup s root name.address name.depth)) ≡ with_held t
+    (check b RangeError >>= λ _. whole (lookup t root name.address name.depth))) [
+      | true ↦ whole-held s t (lookup s root name.address name.depth) goes.finds
+          ∙ ap (λ (found : Result (ℕ × ℕ) LookupFailure). with_held t (whole found)) goes.result
       | false ↦ refl
     ]

@@ -1,5 +1,6 @@
 -- New capabilities in empty slots of a thread's CNode are changes of its noted slots.
-use Rattle.std.proofs.Common.{get_or, ℕ, zero, suc, ◌≡◌, ◌∙◌, ◌+◌, ◌-◌, ◌/◌, ◌^◌, ◌<◌, ◌≤◌, ◌&&◌, inl, inr, true, false, not, nat_lt, if◌then◌else◌, Option, Some, None, option_and_then, List, ◌∷◌, map, refl, sym, ap, subst, arith}
+use Rattle.std.proofs.Common.{get_or, ℕ, zero, suc, ◌≡◌, ◌∙◌, ◌+◌, ◌-◌, ◌/◌, ◌^◌, ◌<◌, ◌≤◌, ◌&&◌, inl, inr, true, false, not, nat_lt, if◌then◌else◌, Option}
+use Rattle.std.proofs.Common.{Some, None, option_and_then, List, ◌∷◌, map, refl, sym, ap, subst, arith}
 use Rattle.std.specs.Option.{option_map_or}
 use Rattle.std.specs.List.{range_with_len}
 use Rattle.std.proofs.lemmas.Bool.{eq-eqb, ne_eqb}
@@ -54,7 +55,8 @@ module _ (f : ℕ → NotedSlot) where
         ∙ noted-at base (f i) (f i).key
         ∙ ap (λ b. if b then left_by (f i) else slot_at base (f i).key) (eq-eqb (number_of (f i).key) (number_of (f i).key) refl)
         ∙ ap (λ b. if b then None else Some (f i)) full)
-    | inr other ↦ changes-hit (with_noted base (f a)) (a + 1) n i (let apart-now = other.1 in omega (arith, from, apart-now)) (omega (arith, below)) full (λ j lower upper. apart j lower (omega (arith, upper)))
+    | inr other ↦ changes-hit (with_noted base (f a)) (a + 1) n i (let apart-now = other.1 in omega (arith, from, apart-now)) (omega (arith, below)) full
+        (λ j lower upper. apart j lower (omega (arith, upper)))
   ]
 
 -- ---- new objects without slots of their own
@@ -79,7 +81,8 @@ within-at : (first count i : ℕ) → i < count → is_within first count (first
 within-at first count i less = grind (arith, nat_tests)
 
 module _ (image : Image) (t : Thread) (stand : StandsApart image t) (slots : List NotedSlot) (are : AreOwn image t slots) (rises : RiseFrom 0 slots)
-    (held : NotedSlot) (is : slot_at slots held.key ≡ Some held) (memory : UntypedMemory) (pool : held.capability ≡ Untyped memory.offset memory.bits memory.watermark) (mark : ℕ)
+    (held : NotedSlot) (is : slot_at slots held.key ≡ Some held) (memory : UntypedMemory)
+    (pool : held.capability ≡ Untyped memory.offset memory.bits memory.watermark) (mark : ℕ)
     (m : Makeable) (w : Window) (own : IsOwnWindow image t w) (index count offset : ℕ) (fits : index + count ≤ 2 ^ w.radix) where
   abbrev cnodes : List ℕ
   cnodes = reached image t
@@ -121,8 +124,10 @@ module _ (image : Image) (t : Thread) (stand : StandsApart image t) (slots : Lis
 
   made-own : (i : ℕ) → i < count → is_own image cnodes (made i).key ≡ true
   made-own i less =
-      let small : nat_lt (index + i) (2 ^ w.radix) ≡ true = (let bound : index + i < 2 ^ w.radix = omega (arith, less, fits) in grind (arith, nat_tests, bound)) in
-      ap (λ b. b && has_slot image w.cnode (index + i)) own.mine ∙ ap (λ (o : Option ℕ). option_map_or (λ radix. nat_lt (index + i) (2 ^ radix)) o false) own.is.size ∙ small
+      let small : nat_lt (index + i) (2 ^ w.radix) ≡ true =
+      (let bound : index + i < 2 ^ w.radix = omega (arith, less, fits) in grind (arith, nat_tests, bound)) in
+      ap (λ b. b && has_slot image w.cnode (index + i)) own.mine
+      ∙ ap (λ (o : Option ℕ). option_map_or (λ radix. nat_lt (index + i) (2 ^ radix)) o false) own.is.size ∙ small
 
   made-place : (i : ℕ) → slot_of_key image (made i).key ≡ W + i
   made-place i =
@@ -143,43 +148,60 @@ module _ (image : Image) (t : Thread) (stand : StandsApart image t) (slots : Lis
 
   same-noted : (a b : Slots) (key : SlotKey) → a (slot_of_key image key) ≡ b (slot_of_key image key) → noted_of image cnodes a key ≡ noted_of image cnodes b key
   same-noted a b key same =
-      ap (λ (o : Option Entry). if not (is_empty (option_map_or (λ h. h.capability) o Empty)) then Some (let s : NotedSlot = record { key = key; capability = option_map_or (λ h. h.capability) o Empty; parent = option_and_then (key_of image cnodes) (option_map_or (λ h. h.parent) o None) } in s) else None) same
+      ap (λ (o : Option Entry). if not (is_empty (option_map_or (λ h. h.capability) o Empty)) then
+      Some (let s : NotedSlot = record {
+        key = key;
+        capability = option_map_or (λ h. h.capability) o Empty;
+        parent =
+            option_and_then (key_of image cnodes) (option_map_or (λ h. h.parent) o None);
+      } in s) else None) same
 
-  other-key : (key : SlotKey) → is_own image cnodes key ≡ true → is_within W count (slot_of_key image key) ≡ false → noted_of image cnodes after key ≡ slot_at listed key
+  other-key : (key : SlotKey) → is_own image cnodes key ≡ true → is_within W count (slot_of_key image key) ≡ false →
+      noted_of image cnodes after key ≡ slot_at listed key
   other-key key mine out =
       let x = slot_of_key image key in
-      same-noted after used key (ap (λ b. if b then Some (let e : Entry = record { capability = first_capability (new_of m) (place_of_new objects (x - W)); parent = Some P } in e) else with_new_slots objects used x) out ∙ none-new x)
+      same-noted after used key
+      (ap (λ b. if b then Some (let e : Entry = record { capability = first_capability (new_of m) (place_of_new objects (x - W)); parent = Some P } in e)
+      else with_new_slots objects used x) out ∙ none-new x)
       ∙ sym (after-at image t stand used key mine) ∙ ap (λ l. slot_at l key) pool-back
       ∙ sym (changes-miss made base key 0 count (λ i _ below. ne_eqb (number_of (made i).key) (number_of key) (λ same.
       let less : i < count = omega (arith, below) in
       let one : (made i).key ≡ key = same-own-key image t stand (made i).key key (made-own i less) mine same in
-      absurd (let clash : true ≡ false = sym (within-at W count i less) ∙ ap (is_within W count) (sym (made-place i) ∙ ap (slot_of_key image) one) ∙ out in cc))))
+      absurd (let clash : true ≡ false = sym (within-at W count i less) ∙ ap (is_within W count) (sym (made-place i) ∙ ap (slot_of_key image) one) ∙ out in
+      cc))))
 
   made-key : (i : ℕ) → i < count → noted_of image cnodes after (made i).key ≡ slot_at listed (made i).key
   made-key i less =
       let held-entry : Entry = record { capability = (made i).capability; parent = Some P } in
       let x = slot_of_key image (made i).key in
       let here : after x ≡ Some held-entry =
-      ap (λ b. if b then Some (let e : Entry = record { capability = first_capability (new_of m) (place_of_new objects (x - W)); parent = Some P } in e) else with_new_slots objects used x)
+      ap (λ b. if b then Some (let e : Entry = record { capability = first_capability (new_of m) (place_of_new objects (x - W)); parent = Some P } in e) else
+      with_new_slots objects used x)
       (ap (is_within W count) (made-place i) ∙ within-at W count i less)
-      ∙ ap (λ n. Some (let e : Entry = record { capability = first_capability (new_of m) (place_of_new objects n); parent = Some P } in e)) (ap (λ y. y - W) (made-place i) ∙ omega arith) in
+      ∙ ap (λ n. Some (let e : Entry = record { capability = first_capability (new_of m) (place_of_new objects n); parent = Some P } in e))
+      (ap (λ y. y - W) (made-place i) ∙ omega arith) in
       back-of image t stand after (made i).key held-entry here
-      ∙ ap (λ b. if not b then Some (let s : NotedSlot = record { key = (made i).key; capability = (made i).capability; parent = key_of image cnodes P } in s) else None) (first-full m (place_of_new objects i))
-      ∙ ap (λ (p : Option SlotKey). Some (let s : NotedSlot = record { key = (made i).key; capability = (made i).capability; parent = p } in s)) (own-named image t stand held.key held-own)
-      ∙ sym (changes-hit made base 0 count i (omega arith) (omega (arith, less)) (first-full m (place_of_new objects i)) (λ j lower upper. ne_eqb (number_of (made j).key) (number_of (made i).key) (λ same.
+      ∙ ap (λ b. if not b then Some (let s : NotedSlot = record { key = (made i).key; capability = (made i).capability; parent = key_of image cnodes P } in s)
+      else None) (first-full m (place_of_new objects i))
+      ∙ ap (λ (p : Option SlotKey). Some (let s : NotedSlot = record { key = (made i).key; capability = (made i).capability; parent = p } in s))
+      (own-named image t stand held.key held-own)
+      ∙ sym (changes-hit made base 0 count i (omega arith) (omega (arith, less)) (first-full m (place_of_new objects i))
+      (λ j lower upper. ne_eqb (number_of (made j).key) (number_of (made i).key) (λ same.
       absurd (omega (arith, same, lower)))))
 
   at-key : (key : SlotKey) → is_own image cnodes key ≡ true → noted_of image cnodes after key ≡ slot_at listed key
-  at-key key mine = elim (is_within W count (slot_of_key image key)) as (λ b. is_within W count (slot_of_key image key) ≡ b → noted_of image cnodes after key ≡ slot_at listed key) [
-    | false ↦ λ out. other-key key mine out
-    | true ↦ λ within.
-        let parts = within-from W count (slot_of_key image key) within in
-        let i = slot_of_key image key - W in
-        let place : slot_of_key image (made i).key ≡ slot_of_key image key = (let from = parts.0 in made-place i ∙ omega (arith, from)) in
-        let named : Some (made i).key ≡ Some key = sym (own-named image t stand (made i).key (made-own i parts.1)) ∙ ap (key_of image cnodes) place ∙ own-named image t stand key mine in
-        let one : (made i).key ≡ key = cc in
-        subst (λ (k : SlotKey). noted_of image cnodes after k ≡ slot_at listed k) one (made-key i parts.1)
-  ] refl
+  at-key key mine = elim (is_within W count (slot_of_key image key))
+      as (λ b. is_within W count (slot_of_key image key) ≡ b → noted_of image cnodes after key ≡ slot_at listed key) [
+        | false ↦ λ out. other-key key mine out
+        | true ↦ λ within.
+            let parts = within-from W count (slot_of_key image key) within in
+            let i = slot_of_key image key - W in
+            let place : slot_of_key image (made i).key ≡ slot_of_key image key = (let from = parts.0 in made-place i ∙ omega (arith, from)) in
+            let named : Some (made i).key ≡ Some key = sym (own-named image t stand (made i).key (made-own i parts.1)) ∙ ap (key_of image cnodes) place
+            ∙ own-named image t stand key mine in
+            let one : (made i).key ≡ key = cc in
+            subst (λ (k : SlotKey). noted_of image cnodes after k ≡ slot_at listed k) one (made-key i parts.1)
+      ] refl
 
   -- ---- the whole
 
@@ -192,5 +214,6 @@ module _ (image : Image) (t : Thread) (stand : StandsApart image t) (slots : Lis
   pub made-back : noted_after image t after ≡ listed
   made-back =
       after-is image t stand after listed (changes-rise slots (pool_used held memory mark ∷ slots_made first held.key (new_of m) offset count) rises)
-      (changes-own count 0 base (omega arith) (put-own image t stand slots (pool_used held memory mark) (λ key r found. (found-own image t slots key r are found).key) held-own))
+      (changes-own count 0 base (omega arith)
+      (put-own image t stand slots (pool_used held memory mark) (λ key r found. (found-own image t slots key r are found).key) held-own))
       at-key

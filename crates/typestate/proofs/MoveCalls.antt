@@ -1,5 +1,6 @@
 -- Move: what a slot held stands in another one, and its children hang below that.
-use Rattle.std.proofs.Common.{ℕ, ◌≡◌, ◌∙◌, ◌==◌, ◌+◌, ◌≤◌, ◌≢◌, true, false, if◌then◌else◌, inl, inr, Option, Some, None, option_map, List, [], ◌∷◌, map, refl, sym, ap, subst}
+use Rattle.std.proofs.Common.{ℕ, ◌≡◌, ◌∙◌, ◌==◌, ◌+◌, ◌≤◌, ◌≢◌, true, false, if◌then◌else◌, inl, inr, Option, Some, None, option_map, List, [], ◌∷◌, map, refl}
+use Rattle.std.proofs.Common.{sym, ap, subst}
 use Rattle.std.specs.Option.{option_map_or}
 use Rattle.std.proofs.lemmas.Bool.{eq-eqb, ne_eqb}
 use Rattle.std.proofs.lemmas.Bool.Decides.{eqb_tells}
@@ -43,8 +44,10 @@ map-rises g keeps (s ∷ rest) least rises =
 pub follows-keeps : (from to : SlotKey) → KeepsKey (followed from to)
 follows-keeps from to s = elim (is_parent from s.parent) as (λ b. (if b then record s { parent = Some to } else s).key ≡ s.key) [ true ↦ refl | false ↦ refl ]
 
-module _ (image : Image) (t : Thread) (stand : StandsApart image t) (slots : List NotedSlot) (are : AreOwn image t slots) (from to : SlotKey) (source : NotedSlot)
-    (mine : is_own image (reached image t) from ≡ true) (yours : is_own image (reached image t) to ≡ true) (held : slot_at slots from ≡ Some source) (vacant : slot_at slots to ≡ None) where
+module _ (image : Image) (t : Thread) (stand : StandsApart image t) (slots : List NotedSlot) (are : AreOwn image t slots) (from to : SlotKey)
+    (source : NotedSlot)
+    (mine : is_own image (reached image t) from ≡ true) (yours : is_own image (reached image t) to ≡ true) (held : slot_at slots from ≡ Some source)
+    (vacant : slot_at slots to ≡ None) where
   abbrev cnodes : List ℕ
   cnodes = reached image t
 
@@ -84,19 +87,26 @@ module _ (image : Image) (t : Thread) (stand : StandsApart image t) (slots : Lis
     where
       by-parent : (parent : Option SlotKey) → option_map_or (is_own image cnodes) parent true ≡ true
           → adopted F (Some T) (entry_below s (option_map_or (slot_of_key image) parent (boot_parent image t s.capability)))
-          ≡ kernel_entry image t (if is_parent from parent then record { key = s.key; capability = s.capability; parent = Some to } else record { key = s.key; capability = s.capability; parent = parent })
+          ≡ kernel_entry image t (if is_parent from parent then record { key = s.key; capability = s.capability; parent = Some to } else
+          record { key = s.key; capability = s.capability; parent = parent })
       by-parent None own =
           let boot = boot_parent image t s.capability in
-          let other : (boot == F) ≡ false = ne_eqb boot F (λ same. absurd (let clash : None ≡ Some from = sym (boot-there image t stand slots are s.capability) ∙ ap (key_of image cnodes) same ∙ own-named image t stand from mine in cc)) in
+          let other : (boot == F) ≡ false =
+          ne_eqb boot F (λ same. absurd (let clash : None ≡ Some from = sym (boot-there image t stand slots are s.capability)
+          ∙ ap (key_of image cnodes) same ∙ own-named image t stand from mine in cc)) in
           ap (λ b. if b then record (entry_below s boot) { parent = Some T } else entry_below s boot) other
       by-parent (Some p) own = elim (eqb_tells (number_of p) (number_of from)) [
         | inl same ↦
             let place : p ≡ from = same-own-key image t stand p from own mine same.1 in
-            ap (λ b. if b then record (entry_below s (slot_of_key image p)) { parent = Some T } else entry_below s (slot_of_key image p)) (eq-eqb (slot_of_key image p) F (ap (slot_of_key image) place))
-            ∙ ap (λ b. kernel_entry image t (if b then record { key = s.key; capability = s.capability; parent = Some to } else record { key = s.key; capability = s.capability; parent = Some p })) (sym same.0)
+            ap (λ b. if b then record (entry_below s (slot_of_key image p)) { parent = Some T } else entry_below s (slot_of_key image p))
+            (eq-eqb (slot_of_key image p) F (ap (slot_of_key image) place))
+            ∙ ap (λ b. kernel_entry image t (if b then record { key = s.key; capability = s.capability; parent = Some to } else
+            record { key = s.key; capability = s.capability; parent = Some p })) (sym same.0)
         | inr other ↦
-            ap (λ b. if b then record (entry_below s (slot_of_key image p)) { parent = Some T } else entry_below s (slot_of_key image p)) (places-apart image t stand p from own mine other.1)
-            ∙ ap (λ b. kernel_entry image t (if b then record { key = s.key; capability = s.capability; parent = Some to } else record { key = s.key; capability = s.capability; parent = Some p })) (sym other.0)
+            ap (λ b. if b then record (entry_below s (slot_of_key image p)) { parent = Some T } else entry_below s (slot_of_key image p))
+            (places-apart image t stand p from own mine other.1)
+            ∙ ap (λ b. kernel_entry image t (if b then record { key = s.key; capability = s.capability; parent = Some to } else
+            record { key = s.key; capability = s.capability; parent = Some p })) (sym other.0)
       ]
 
   follow-own : (s : NotedSlot) → IsOwnSlot image t s → IsOwnSlot image t (follow s)
@@ -119,7 +129,8 @@ module _ (image : Image) (t : Thread) (stand : StandsApart image t) (slots : Lis
   abbrev listed : List NotedSlot
   listed = moved slots from moving
 
-  listed-at : (key : SlotKey) → slot_at listed key ≡ (if is_same_key from key then None else (if is_same_key to key then left_by moving else slot_at children key))
+  listed-at : (key : SlotKey) → slot_at listed key ≡ (if is_same_key from key then None else
+      (if is_same_key to key then left_by moving else slot_at children key))
   listed-at key =
       noted-at (with_noted children moving) (emptied from) key ∙ ap (λ found. if is_same_key from key then None else found) (noted-at children moving key)
 
@@ -136,20 +147,24 @@ module _ (image : Image) (t : Thread) (stand : StandsApart image t) (slots : Lis
       → after (slot_of_key image key) ≡ Some (adopted F (Some T) (noted_entry image t slots key))
   after-other key own not-from not-to =
       let x = slot_of_key image key in
-      ap (λ b. if b then Some empty_entry else with_entry with_children T (all F) x) (places-apart image t stand key from own mine (λ same. not-from (sym same)))
+      ap (λ b. if b then Some empty_entry else with_entry with_children T (all F) x)
+      (places-apart image t stand key from own mine (λ same. not-from (sym same)))
       ∙ ap (λ b. if b then all F else with_children x) (places-apart image t stand key to own yours (λ same. not-to (sym same)))
       ∙ ap (option_map (adopted F (Some T))) (noted-here image t stand slots key own)
 
-  other-back : (key : SlotKey) → is_own image cnodes key ≡ true → number_of from ≢ number_of key → number_of to ≢ number_of key → back key ≡ slot_at children key
+  other-back : (key : SlotKey) → is_own image cnodes key ≡ true → number_of from ≢ number_of key → number_of to ≢ number_of key →
+      back key ≡ slot_at children key
   other-back key own not-from not-to =
       back-of image t stand after key (adopted F (Some T) (noted_entry image t slots key)) (after-other key own not-from not-to)
-      ∙ (elim (slot_at slots key) as (λ o. slot_at slots key ≡ o → back_of image t stand key (adopted F (Some T) (option_map_or (kernel_entry image t) o empty_entry)) ≡ option_map follow o) [
+      ∙ (elim (slot_at slots key) as (λ o. slot_at slots key ≡ o →
+      back_of image t stand key (adopted F (Some T) (option_map_or (kernel_entry image t) o empty_entry)) ≡ option_map follow o) [
         | None ↦ λ _. refl
         | Some s ↦ λ found.
             let own-s = found-own image t slots key s are found in
             let place : (follow s).key ≡ key = follows-keeps from to s ∙ same-own-key image t stand s.key key own-s.key own (found-key slots key s found) in
             ap (back_of image t stand key) (adopts s own-s)
-            ∙ subst (λ (k : SlotKey). back_of image t stand k (kernel_entry image t (follow s)) ≡ Some (follow s)) place (entry-back image t stand (follow s) (follow-own s own-s))
+            ∙ subst (λ (k : SlotKey). back_of image t stand k (kernel_entry image t (follow s)) ≡ Some (follow s)) place
+            (entry-back image t stand (follow s) (follow-own s own-s))
       ] refl)
       ∙ sym (map-at follow (follows-keeps from to) slots key)
 
@@ -177,7 +192,8 @@ module _ (image : Image) (t : Thread) (stand : StandsApart image t) (slots : Lis
     | None ↦ λ _ clash. absurd (let nothing : None ≡ Some r = clash in cc)
     | Some s ↦ λ is here.
         let one : follow s ≡ r = (let both : Some (follow s) ≡ Some r = here in cc) in
-        subst (λ (k : SlotKey). is_own image cnodes k ≡ true) (sym (follows-keeps from to s) ∙ ap (λ (x : NotedSlot). x.key) one) (found-own image t slots key s are is).key
+        subst (λ (k : SlotKey). is_own image cnodes k ≡ true) (sym (follows-keeps from to s) ∙ ap (λ (x : NotedSlot). x.key) one)
+        (found-own image t slots key s are is).key
   ] refl (sym (map-at follow (follows-keeps from to) slots key) ∙ found)
 
   pub move-back : RiseFrom 0 slots → noted_after image t (relocated all F T) ≡ moved slots from moving

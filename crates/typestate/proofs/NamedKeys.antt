@@ -1,5 +1,6 @@
 -- From slots of a thread's CNodes to their keys, and back.
-use Rattle.std.proofs.Common.{ℕ, zero, suc, ◌≡◌, ◌∙◌, ◌==◌, ◌+◌, ◌-◌, ◌*◌, ◌/◌, ◌^◌, ◌<◌, ◌≤◌, ◌≢◌, ◌&&◌, ◌||◌, inl, inr, Bool, true, false, nat_lt, if◌then◌else◌, Option, Some, None, option_map, List, [], ◌∷◌, ◌++◌, map, filter, refl, sym, ap, subst, arith}
+use Rattle.std.proofs.Common.{ℕ, zero, suc, ◌≡◌, ◌∙◌, ◌==◌, ◌+◌, ◌-◌, ◌*◌, ◌/◌, ◌^◌, ◌<◌, ◌≤◌, ◌≢◌, ◌&&◌, ◌||◌, inl, inr, Bool, true, false, nat_lt}
+use Rattle.std.proofs.Common.{if◌then◌else◌, Option, Some, None, option_map, List, [], ◌∷◌, ◌++◌, map, filter, refl, sym, ap, subst, arith}
 use Rattle.std.specs.Option.{option_map_or}
 use Rattle.std.specs.List.{cons_option, filter_map, find, flat_map, list_any, range_with_len}
 use Rattle.std.proofs.lemmas.Bool.{and_parts, eq-eqb}
@@ -34,13 +35,15 @@ find-member test (y ∷ ys) x is = elim (test y) as (λ b. (if b then Some y els
   | false ↦ λ later. or-second (x == y) (is_member x ys) (find-member test ys x later)
 ] is
 
-find-only : (test : ℕ → Bool) (xs : List ℕ) (x : ℕ) → is_member x xs ≡ true → test x ≡ true → ((y : ℕ) → is_member y xs ≡ true → test y ≡ true → y ≡ x) → find test xs ≡ Some x
+find-only : (test : ℕ → Bool) (xs : List ℕ) (x : ℕ) → is_member x xs ≡ true → test x ≡ true → ((y : ℕ) → is_member y xs ≡ true → test y ≡ true → y ≡ x) →
+    find test xs ≡ Some x
 find-only test [] x member passes only = absurd (let clash : false ≡ true = member in cc)
 find-only test (y ∷ ys) x member passes only = elim (test y) as (λ b. test y ≡ b → (if b then Some y else find test ys) ≡ Some x) [
   | true ↦ λ is. ap (λ n. Some n) (only y (ap (λ b. b || is_member y ys) (eq-eqb y y refl)) is)
   | false ↦ λ isnt. elim (eqb_tells x y) [
     | inl same ↦ absurd (let clash : false ≡ true = sym isnt ∙ ap test (sym same.1) ∙ passes in cc)
-    | inr other ↦ find-only test ys x (sym (ap (λ b. b || is_member x ys) other.0) ∙ member) passes (λ z among is. only z (or-second (z == y) (is_member z ys) among) is)
+    | inr other ↦ find-only test ys x (sym (ap (λ b. b || is_member x ys) other.0) ∙ member) passes
+        (λ z among is. only z (or-second (z == y) (is_member z ys) among) is)
   ]
 ] refl
 
@@ -73,19 +76,20 @@ abbrev key_at : Image → ℕ → ℕ → SlotKey
 key_at image slot cnode = record { cnode = cnode; index = slot - cnode_slot image cnode 0 }
 
 pub key-named : (image : Image) (cnodes : List ℕ) (slot : ℕ) (key : SlotKey) → key_of image cnodes slot ≡ Some key → IsNamed image cnodes slot key
-key-named image cnodes slot key is = elim (find (stands_in image slot) cnodes) as (λ found. find (stands_in image slot) cnodes ≡ found → option_map (key_at image slot) found ≡ Some key → IsNamed image cnodes slot key) [
-  | None ↦ λ _ clash. absurd (let no : None ≡ Some key = clash in cc)
-  | Some cnode ↦ λ at here.
-      let same : key_at image slot cnode ≡ key = (let both : Some (key_at image slot cnode) ≡ Some key = here in cc) in
-      let stands = find-passes (stands_in image slot) cnodes cnode at in
-      let from = within-from (cnode_slot image cnode 0) (slots_of_cnode image cnode) slot stands in
-      let made : IsNamed image cnodes slot (key_at image slot cnode) = record {
-        place = back (offset_of image cnode / 16) slot from;
-        own = ap (λ b. b && has_slot image cnode (slot - cnode_slot image cnode 0)) (find-member (stands_in image slot) cnodes cnode at)
-            ∙ has-slot-is image cnode (slot - cnode_slot image cnode 0) ∙ within-index (cnode_slot image cnode 0) (slots_of_cnode image cnode) slot stands;
-      } in
-      subst (λ (k : SlotKey). IsNamed image cnodes slot k) same made
-] refl is
+key-named image cnodes slot key is = elim (find (stands_in image slot) cnodes)
+    as (λ found. find (stands_in image slot) cnodes ≡ found → option_map (key_at image slot) found ≡ Some key → IsNamed image cnodes slot key) [
+      | None ↦ λ _ clash. absurd (let no : None ≡ Some key = clash in cc)
+      | Some cnode ↦ λ at here.
+          let same : key_at image slot cnode ≡ key = (let both : Some (key_at image slot cnode) ≡ Some key = here in cc) in
+          let stands = find-passes (stands_in image slot) cnodes cnode at in
+          let from = within-from (cnode_slot image cnode 0) (slots_of_cnode image cnode) slot stands in
+          let made : IsNamed image cnodes slot (key_at image slot cnode) = record {
+            place = back (offset_of image cnode / 16) slot from;
+            own = ap (λ b. b && has_slot image cnode (slot - cnode_slot image cnode 0)) (find-member (stands_in image slot) cnodes cnode at)
+                ∙ has-slot-is image cnode (slot - cnode_slot image cnode 0) ∙ within-index (cnode_slot image cnode 0) (slots_of_cnode image cnode) slot stands;
+          } in
+          subst (λ (k : SlotKey). IsNamed image cnodes slot k) same made
+    ] refl is
   where
     back : (first slot : ℕ) → first + 0 ≤ slot → first + (slot - (first + 0)) ≡ slot
     back first slot from = omega (arith, from)
@@ -94,7 +98,8 @@ module _ (image : Image) (t : Thread) (stand : StandsApart image t) where
   abbrev cnodes : List ℕ
   cnodes = reached image t
 
-  own-parts : (key : SlotKey) → is_own image cnodes key ≡ true → (is_member key.cnode cnodes ≡ true) × (nat_lt key.index (slots_of_cnode image key.cnode) ≡ true)
+  own-parts : (key : SlotKey) → is_own image cnodes key ≡ true → (is_member key.cnode cnodes ≡ true)
+      × (nat_lt key.index (slots_of_cnode image key.cnode) ≡ true)
   own-parts key own =
       let parts = and_parts (is_member key.cnode cnodes) (has_slot image key.cnode key.index) own in
       (parts.0, sym (has-slot-is image key.cnode key.index) ∙ parts.1)
@@ -104,7 +109,8 @@ module _ (image : Image) (t : Thread) (stand : StandsApart image t) where
       let parts = own-parts key own in
       let slot = slot_of_key image key in
       let stands : stands_in image slot key.cnode ≡ true = index-within (offset_of image key.cnode / 16) (slots_of_cnode image key.cnode) key.index parts.1 in
-      ap (option_map (key_at image slot)) (find-only (stands_in image slot) cnodes key.cnode parts.0 stands (λ y member is. stand.apart y key.cnode slot member parts.0 is stands))
+      ap (option_map (key_at image slot)) (find-only (stands_in image slot) cnodes key.cnode parts.0 stands
+      (λ y member is. stand.apart y key.cnode slot member parts.0 is stands))
       ∙ ap (λ i. let k : SlotKey = record { cnode = key.cnode; index = i } in Some k) (index-back (offset_of image key.cnode / 16) key.index)
     where
       index-back : (first index : ℕ) → (first + index) - (first + 0) ≡ index
@@ -144,7 +150,8 @@ keys-append (x ∷ xs) ys least middle bound first second = (first.0, keys-appen
 abbrev key_of_index : ℕ → ℕ → SlotKey
 key_of_index cnode index = record { cnode = cnode; index = index }
 
-range-between : (cnode a n least bound : ℕ) → least ≤ cnode * 2 ^ 32 + a → cnode * 2 ^ 32 + a + n ≤ bound → KeysBetween least bound (map (key_of_index cnode) (range_with_len a n))
+range-between : (cnode a n least bound : ℕ) → least ≤ cnode * 2 ^ 32 + a → cnode * 2 ^ 32 + a + n ≤ bound →
+    KeysBetween least bound (map (key_of_index cnode) (range_with_len a n))
 range-between cnode a zero least bound from to = omega (arith, from, to)
 range-between cnode a (suc n) least bound from to =
     (omega (arith, from), range-between cnode (a + 1) n (number_of (key_of_index cnode a) + 1) bound (omega arith) (omega (arith, to)))
@@ -153,13 +160,18 @@ keys-between : (image : Image) (test : ℕ → Bool) (a n : ℕ) → ((cnode : �
     → KeysBetween (a * 2 ^ 32) ((a + n) * 2 ^ 32) (flat_map (keys_of_cnode image) (filter test (range_with_len a n)))
 keys-between image test a zero few = omega arith
 keys-between image test a (suc n) few =
-    let next = keys-lower (flat_map (keys_of_cnode image) (filter test (range_with_len (a + 1) n))) (a * 2 ^ 32) ((a + 1) * 2 ^ 32) ((a + suc n) * 2 ^ 32) (omega arith)
-    (subst (λ m. KeysBetween ((a + 1) * 2 ^ 32) (m * 2 ^ 32) (flat_map (keys_of_cnode image) (filter test (range_with_len (a + 1) n)))) (let e : a + 1 + n ≡ a + suc n = omega arith in e) (keys-between image test (a + 1) n few)) in
-    elim (test a) as (λ b. test a ≡ b → KeysBetween (a * 2 ^ 32) ((a + suc n) * 2 ^ 32) (flat_map (keys_of_cnode image) (if b then a ∷ filter test (range_with_len (a + 1) n) else filter test (range_with_len (a + 1) n)))) [
+    let next = keys-lower (flat_map (keys_of_cnode image) (filter test (range_with_len (a + 1) n))) (a * 2 ^ 32) ((a + 1) * 2 ^ 32) ((a + suc n) * 2 ^ 32)
+    (omega arith)
+    (subst (λ m. KeysBetween ((a + 1) * 2 ^ 32) (m * 2 ^ 32) (flat_map (keys_of_cnode image) (filter test (range_with_len (a + 1) n))))
+    (let e : a + 1 + n ≡ a + suc n = omega arith in e) (keys-between image test (a + 1) n few)) in
+    elim (test a) as (λ b. test a ≡ b → KeysBetween (a * 2 ^ 32) ((a + suc n) * 2 ^ 32)
+    (flat_map (keys_of_cnode image) (if b then a ∷ filter test (range_with_len (a + 1) n) else filter test (range_with_len (a + 1) n)))) [
       | false ↦ λ _. next
       | true ↦ λ is.
-          let behind = subst (λ m. KeysBetween ((a + 1) * 2 ^ 32) (m * 2 ^ 32) (flat_map (keys_of_cnode image) (filter test (range_with_len (a + 1) n)))) (let e : a + 1 + n ≡ a + suc n = omega arith in e) (keys-between image test (a + 1) n few) in
-          keys-append (keys_of_cnode image a) (flat_map (keys_of_cnode image) (filter test (range_with_len (a + 1) n))) (a * 2 ^ 32) ((a + 1) * 2 ^ 32) ((a + suc n) * 2 ^ 32)
+          let behind = subst (λ m. KeysBetween ((a + 1) * 2 ^ 32) (m * 2 ^ 32) (flat_map (keys_of_cnode image) (filter test (range_with_len (a + 1) n))))
+          (let e : a + 1 + n ≡ a + suc n = omega arith in e) (keys-between image test (a + 1) n few) in
+          keys-append (keys_of_cnode image a) (flat_map (keys_of_cnode image) (filter test (range_with_len (a + 1) n))) (a * 2 ^ 32) ((a + 1) * 2 ^ 32)
+          ((a + suc n) * 2 ^ 32)
           (range-between a 0 (slots_of_cnode image a) (a * 2 ^ 32) ((a + 1) * 2 ^ 32) (omega arith) (fits a (slots_of_cnode image a) (few a is))) behind
     ] refl
   where
@@ -191,26 +203,34 @@ range-among : (cnode a n index : ℕ) → a ≤ index → index < a + n → is_a
 range-among cnode a zero index from below = absurd (omega (arith, from, below))
 range-among cnode a (suc n) index from below = elim (eqb_tells (number_of (key_of_index cnode a)) (number_of (key_of_index cnode index))) [
   | inl same ↦ ap (λ b. b || is_among (key_of_index cnode index) (map (key_of_index cnode) (range_with_len (a + 1) n))) same.0
-  | inr other ↦ or-second (is_same_key (key_of_index cnode a) (key_of_index cnode index)) _ (range-among cnode (a + 1) n index (later a index from other.1) (omega (arith, below)))
+  | inr other ↦ or-second (is_same_key (key_of_index cnode a) (key_of_index cnode index)) _
+      (range-among cnode (a + 1) n index (later a index from other.1) (omega (arith, below)))
 ]
   where
     later : (a index : ℕ) → a ≤ index → cnode * 2 ^ 32 + a ≢ cnode * 2 ^ 32 + index → a + 1 ≤ index
     later a index from other = omega (arith, from, other)
 
-keys-among : (image : Image) (test : ℕ → Bool) (a n : ℕ) (key : SlotKey) → test key.cnode ≡ true → nat_lt key.index (slots_of_cnode image key.cnode) ≡ true → a ≤ key.cnode → key.cnode < a + n
+keys-among : (image : Image) (test : ℕ → Bool) (a n : ℕ) (key : SlotKey) → test key.cnode ≡ true → nat_lt key.index (slots_of_cnode image key.cnode) ≡ true →
+    a ≤ key.cnode → key.cnode < a + n
     → is_among key (flat_map (keys_of_cnode image) (filter test (range_with_len a n))) ≡ true
 keys-among image test a zero key mine below from to = absurd (omega (arith, from, to))
 keys-among image test a (suc n) key mine below from to =
     let rest = flat_map (keys_of_cnode image) (filter test (range_with_len (a + 1) n)) in
     elim (eqb_tells a key.cnode) [
       | inl same ↦
-          let first : is_among key (keys_of_cnode image key.cnode) ≡ true = range-among key.cnode 0 (slots_of_cnode image key.cnode) key.index (omega arith) (less key.index (slots_of_cnode image key.cnode) below) in
+          let first : is_among key (keys_of_cnode image key.cnode) ≡ true =
+          range-among key.cnode 0 (slots_of_cnode image key.cnode) key.index (omega arith) (less key.index (slots_of_cnode image key.cnode) below) in
           let here : is_among key (keys_of_cnode image a ++ rest) ≡ true =
-          among-append key (keys_of_cnode image a) rest ∙ ap (λ c. is_among key (keys_of_cnode image c) || is_among key rest) same.1 ∙ ap (λ b. b || is_among key rest) first in
-          ap (λ b. is_among key (flat_map (keys_of_cnode image) (if b then a ∷ filter test (range_with_len (a + 1) n) else filter test (range_with_len (a + 1) n)))) (ap test same.1 ∙ mine) ∙ here
+          among-append key (keys_of_cnode image a) rest ∙ ap (λ c. is_among key (keys_of_cnode image c) || is_among key rest) same.1
+          ∙ ap (λ b. b || is_among key rest) first in
+          ap (λ b. is_among key
+          (flat_map (keys_of_cnode image) (if b then a ∷ filter test (range_with_len (a + 1) n) else filter test (range_with_len (a + 1) n))))
+          (ap test same.1 ∙ mine) ∙ here
       | inr other ↦
           let next : is_among key rest ≡ true = keys-among image test (a + 1) n key mine below (further a key.cnode from other.1) (omega (arith, to)) in
-          elim (test a) as (λ b. is_among key (flat_map (keys_of_cnode image) (if b then a ∷ filter test (range_with_len (a + 1) n) else filter test (range_with_len (a + 1) n))) ≡ true) [
+          elim (test a) as (λ b.
+          is_among key (flat_map (keys_of_cnode image) (if b then a ∷ filter test (range_with_len (a + 1) n) else filter test (range_with_len (a + 1) n)))
+          ≡ true) [
             | true ↦ among-append key (keys_of_cnode image a) rest ∙ or-second (is_among key (keys_of_cnode image a)) (is_among key rest) next
             | false ↦ next
           ]
@@ -225,18 +245,24 @@ keys-among image test a (suc n) key mine below from to =
 range-own : (image : Image) (numbers : List ℕ) (cnode a n : ℕ) → is_member cnode numbers ≡ true → a + n ≤ slots_of_cnode image cnode
     → EachKey (λ k. is_own image numbers k ≡ true) (map (key_of_index cnode) (range_with_len a n))
 range-own image numbers cnode a zero member few = tt
-range-own image numbers cnode a (suc n) member few =
-    (ap (λ b. b && has_slot image cnode a) member ∙ has-slot-is image cnode a ∙ below a (slots_of_cnode image cnode) (omega (arith, few)), range-own image numbers cnode (a + 1) n member (omega (arith, few)))
+range-own image numbers cnode a (suc n) member few = (
+  ap (λ b. b && has_slot image cnode a) member ∙ has-slot-is image cnode a ∙ below a (slots_of_cnode image cnode) (omega (arith, few)),
+  range-own image numbers cnode (a + 1) n member (omega (arith, few)),
+)
   where
     below : (i n : ℕ) → i < n → nat_lt i n ≡ true
     below i n less = grind (arith, nat_tests)
 
-keys-own : (image : Image) (numbers : List ℕ) (ns : List ℕ) → EachKey (λ k. is_own image numbers k ≡ true) (flat_map (keys_of_cnode image) (filter (λ number. is_member number numbers) ns))
+keys-own : (image : Image) (numbers : List ℕ) (ns : List ℕ) →
+    EachKey (λ k. is_own image numbers k ≡ true) (flat_map (keys_of_cnode image) (filter (λ number. is_member number numbers) ns))
 keys-own image numbers [] = tt
 keys-own image numbers (n ∷ ns) =
     let next = keys-own image numbers ns in
-    elim (is_member n numbers) as (λ b. is_member n numbers ≡ b → EachKey (λ k. is_own image numbers k ≡ true) (flat_map (keys_of_cnode image) (if b then n ∷ filter (λ number. is_member number numbers) ns else filter (λ number. is_member number numbers) ns))) [
-      | true ↦ λ is. each-append (λ k. is_own image numbers k ≡ true) (keys_of_cnode image n) (flat_map (keys_of_cnode image) (filter (λ number. is_member number numbers) ns))
+    elim (is_member n numbers) as (λ b. is_member n numbers ≡ b →
+    EachKey (λ k. is_own image numbers k ≡ true)
+    (flat_map (keys_of_cnode image) (if b then n ∷ filter (λ number. is_member number numbers) ns else filter (λ number. is_member number numbers) ns))) [
+      | true ↦ λ is. each-append (λ k. is_own image numbers k ≡ true) (keys_of_cnode image n)
+          (flat_map (keys_of_cnode image) (filter (λ number. is_member number numbers) ns))
           (range-own image numbers n 0 (slots_of_cnode image n) is (omega arith)) next
       | false ↦ λ _. next
     ] refl
@@ -246,7 +272,8 @@ keys-own image numbers (n ∷ ns) =
 abbrev pub KeepsKeys : (SlotKey → Option NotedSlot) → Type 0
 KeepsKeys f = (k : SlotKey) (s : NotedSlot) → f k ≡ Some s → s.key ≡ k
 
-pub kept-rise : (f : SlotKey → Option NotedSlot) → KeepsKeys f → (keys : List SlotKey) (least bound : ℕ) → KeysBetween least bound keys → RiseFrom least (filter_map f keys)
+pub kept-rise : (f : SlotKey → Option NotedSlot) → KeepsKeys f → (keys : List SlotKey) (least bound : ℕ) → KeysBetween least bound keys →
+    RiseFrom least (filter_map f keys)
 kept-rise f keeps [] least bound between = tt
 kept-rise f keeps (k ∷ rest) least bound between = elim (f k) as (λ o. f k ≡ o → RiseFrom least (cons_option o (filter_map f rest))) [
   | None ↦ λ _. rise-lower (filter_map f rest) least (number_of k + 1) (omega (arith, between.0)) (kept-rise f keeps rest (number_of k + 1) bound between.1)
@@ -259,7 +286,8 @@ kept-rise f keeps (k ∷ rest) least bound between = elim (f k) as (λ o. f k �
     rise-lower [] low least less rises = tt
     rise-lower (s ∷ rest) low least less rises = (omega (arith, less, rises.0), rises.1)
 
-pub kept-each : (f : SlotKey → Option NotedSlot) → KeepsKeys f → (P : SlotKey → Type 0) (keys : List SlotKey) (key : SlotKey) (s : NotedSlot) → EachKey P keys → slot_at (filter_map f keys) key ≡ Some s → P s.key
+pub kept-each : (f : SlotKey → Option NotedSlot) → KeepsKeys f → (P : SlotKey → Type 0) (keys : List SlotKey) (key : SlotKey) (s : NotedSlot) → EachKey P keys →
+    slot_at (filter_map f keys) key ≡ Some s → P s.key
 kept-each f keeps P [] key s each found = absurd (let clash : None ≡ Some s = found in cc)
 kept-each f keeps P (k ∷ rest) key s each found = elim (f k) as (λ o. f k ≡ o → slot_at (cons_option o (filter_map f rest)) key ≡ Some s → P s.key) [
   | None ↦ λ _ later. kept-each f keeps P rest key s each.1 later
@@ -269,11 +297,14 @@ kept-each f keeps P (k ∷ rest) key s each found = elim (f k) as (λ o. f k ≡
   ] at
 ] refl found
 
-module _ (f : SlotKey → Option NotedSlot) (keeps : KeepsKeys f) (P : SlotKey → Type 0) (one : (a b : SlotKey) → P a → P b → number_of a ≡ number_of b → a ≡ b) where
-  kept-none : (keys : List SlotKey) (least bound : ℕ) (key : SlotKey) → KeysBetween least bound keys → number_of key < least → slot_at (filter_map f keys) key ≡ None
+module _ (f : SlotKey → Option NotedSlot) (keeps : KeepsKeys f) (P : SlotKey → Type 0)
+    (one : (a b : SlotKey) → P a → P b → number_of a ≡ number_of b → a ≡ b) where
+  kept-none : (keys : List SlotKey) (least bound : ℕ) (key : SlotKey) → KeysBetween least bound keys → number_of key < least →
+      slot_at (filter_map f keys) key ≡ None
   kept-none keys least bound key between less = none-below (filter_map f keys) least key (kept-rise f keeps keys least bound between) less
 
-  pub kept-at : (keys : List SlotKey) (least bound : ℕ) (key : SlotKey) → KeysBetween least bound keys → EachKey P keys → P key → is_among key keys ≡ true → slot_at (filter_map f keys) key ≡ f key
+  pub kept-at : (keys : List SlotKey) (least bound : ℕ) (key : SlotKey) → KeysBetween least bound keys → EachKey P keys → P key → is_among key keys ≡ true →
+      slot_at (filter_map f keys) key ≡ f key
   kept-at [] least bound key between each mine among = absurd (let clash : false ≡ true = among in cc)
   kept-at (k ∷ rest) least bound key between each mine among = elim (eqb_tells (number_of k) (number_of key)) [
     | inl same ↦
@@ -283,7 +314,8 @@ module _ (f : SlotKey → Option NotedSlot) (keeps : KeepsKeys f) (P : SlotKey �
           | Some s ↦ λ is. first-found s (filter_map f rest) key (ap number_of (keeps k s is) ∙ same.1) ∙ sym is ∙ here
         ] refl
     | inr other ↦
-        let later : slot_at (filter_map f rest) key ≡ f key = kept-at rest (number_of k + 1) bound key between.1 each.1 mine (sym (ap (λ b. b || is_among key rest) other.0) ∙ among) in
+        let later : slot_at (filter_map f rest) key ≡ f key =
+        kept-at rest (number_of k + 1) bound key between.1 each.1 mine (sym (ap (λ b. b || is_among key rest) other.0) ∙ among) in
         elim (f k) as (λ o. f k ≡ o → slot_at (cons_option o (filter_map f rest)) key ≡ f key) [
           | None ↦ λ _. later
           | Some s ↦ λ is. ap (λ n. if n == number_of key then Some s else slot_at (filter_map f rest) key) (ap number_of (keeps k s is))
@@ -293,13 +325,16 @@ module _ (f : SlotKey → Option NotedSlot) (keeps : KeepsKeys f) (P : SlotKey �
 
 -- ---- all of a thread's
 
-pub keys-rise : (image : Image) (t : Thread) → StandsApart image t → KeysBetween (0 * 2 ^ 32) ((0 + image.header.objects) * 2 ^ 32) (keys_of image (reached image t))
+pub keys-rise : (image : Image) (t : Thread) → StandsApart image t →
+    KeysBetween (0 * 2 ^ 32) ((0 + image.header.objects) * 2 ^ 32) (keys_of image (reached image t))
 keys-rise image t stand = keys-between image (λ number. is_member number (reached image t)) 0 image.header.objects stand.small
 
-pub own-among : (image : Image) (t : Thread) → StandsApart image t → (key : SlotKey) → is_own image (reached image t) key ≡ true → is_among key (keys_of image (reached image t)) ≡ true
+pub own-among : (image : Image) (t : Thread) → StandsApart image t → (key : SlotKey) → is_own image (reached image t) key ≡ true →
+    is_among key (keys_of image (reached image t)) ≡ true
 own-among image t stand key own =
     let parts = own-parts image t stand key own in
-    keys-among image (λ number. is_member number (reached image t)) 0 image.header.objects key parts.0 parts.1 (omega arith) (omega (arith, stand.listed key.cnode parts.0))
+    keys-among image (λ number. is_member number (reached image t)) 0 image.header.objects key parts.0 parts.1 (omega arith)
+    (omega (arith, stand.listed key.cnode parts.0))
 
 pub each-own : (image : Image) (t : Thread) → EachKey (λ k. is_own image (reached image t) k ≡ true) (keys_of image (reached image t))
 each-own image t = keys-own image (reached image t) (object_numbers image)

@@ -8,7 +8,8 @@ use Rattle.typestate.proofs.PutPlaces.{IsPut}
 use Rattle.typestate.proofs.Rising.{RiseFrom, first-found, none-below}
 use Rattle.typestate.proofs.Standing.{found-all}
 
-found-behind : (s : NotedSlot) (rest : List NotedSlot) (key : SlotKey) (r : NotedSlot) → RiseFrom (number_of s.key + 1) rest → slot_at rest key ≡ Some r → slot_at (s ∷ rest) key ≡ Some r
+found-behind : (s : NotedSlot) (rest : List NotedSlot) (key : SlotKey) (r : NotedSlot) → RiseFrom (number_of s.key + 1) rest → slot_at rest key ≡ Some r →
+    slot_at (s ∷ rest) key ≡ Some r
 found-behind s rest key r rises at = elim (eqb_tells (number_of s.key) (number_of key)) [
   | inl same ↦
       let is = same.1 in
@@ -17,7 +18,8 @@ found-behind s rest key r rises at = elim (eqb_tells (number_of s.key) (number_o
 ]
 
 -- what holds of each slot that is found, where keys rise, holds of all
-all-looked : (test : NotedSlot → Bool) (slots : List NotedSlot) (least : ℕ) → RiseFrom least slots → ((key : SlotKey) (s : NotedSlot) → slot_at slots key ≡ Some s → test s ≡ true)
+all-looked : (test : NotedSlot → Bool) (slots : List NotedSlot) (least : ℕ) → RiseFrom least slots →
+    ((key : SlotKey) (s : NotedSlot) → slot_at slots key ≡ Some s → test s ≡ true)
     → list_all test slots ≡ true
 all-looked test [] least rises each = refl
 all-looked test (s ∷ rest) least rises each =

@@ -1,5 +1,6 @@
 -- A map from numbers to packed changes, as the list of its changes.
-use Rattle.std.proofs.Common.{ℕ, ◌≡◌, ◌∙◌, ◌==◌, ◌*◌, ◌+◌, ◌/◌, ◌%◌, ◌<◌, ◌^◌, inl, inr, ◌&&◌, Bool, true, false, cond, if◌then◌else◌, nat_lt, Option, Some, None, option_map, List, [], ◌∷◌, map, refl, sym, ap, subst, arith}
+use Rattle.std.proofs.Common.{ℕ, ◌≡◌, ◌∙◌, ◌==◌, ◌*◌, ◌+◌, ◌/◌, ◌%◌, ◌<◌, ◌^◌, inl, inr, ◌&&◌, Bool, true, false, cond, if◌then◌else◌, nat_lt, Option, Some}
+use Rattle.std.proofs.Common.{None, option_map, List, [], ◌∷◌, map, refl, sym, ap, subst, arith}
 use Rattle.std.specs.List.{list_all}
 use Rattle.std.specs.Map.{keys_of}
 use Rattle.std.specs.Option.{option_map_or}
@@ -58,7 +59,8 @@ module _ (slots : List (ℕ × ℕ)) where
   ]
 
   -- the change to the slot of each number, after one was put
-  pub put-found : (es new : List (ℕ × PackedChange)) (n m : ℕ) (packed : PackedChange) (c : NotedSlot) → n ≡ number_of c.key → unpacked_change slots (number_of c.key) packed ≡ c
+  pub put-found : (es new : List (ℕ × PackedChange)) (n m : ℕ) (packed : PackedChange) (c : NotedSlot) → n ≡ number_of c.key →
+      unpacked_change slots (number_of c.key) packed ≡ c
       → packed_at new m ≡ cond (is_eq (nat_cmp n m)) (Some packed) (packed_at es m)
       → found (map (unpacked_entry slots) new) m ≡ (if number_of c.key == m then Some c else found (map (unpacked_entry slots) es) m)
   put-found es new n m packed c is back same =
@@ -79,17 +81,30 @@ module _ (slots : List (ℕ × ℕ)) where
       turned a b off = grind (arith, nat_tests)
 
   -- what is kept of a change is the change again
-  pub unpacked-is : (packed : PackedChange) (change : NotedSlot) → numbered_key (number_of change.key) ≡ change.key → cap_of packed.head packed.word ≡ change.capability
+  pub unpacked-is : (packed : PackedChange) (change : NotedSlot) → numbered_key (number_of change.key) ≡ change.key →
+      cap_of packed.head packed.word ≡ change.capability
       → option_map (λ name. numbered_key (renamed slots name)) packed.parent ≡ change.parent → unpacked_change slots (number_of change.key) packed ≡ change
   unpacked-is packed change key capability parent =
-      ap (λ (k : SlotKey). let s : NotedSlot = record { key = k; capability = cap_of packed.head packed.word; parent = option_map (λ name. numbered_key (renamed slots name)) packed.parent } in s) key
-      ∙ ap (λ (k : Cap). let s : NotedSlot = record { key = change.key; capability = k; parent = option_map (λ name. numbered_key (renamed slots name)) packed.parent } in s) capability
+      ap (λ (k : SlotKey). let s : NotedSlot =
+      record {
+        key = k;
+        capability = cap_of packed.head packed.word;
+        parent =
+            option_map (λ name. numbered_key (renamed slots name)) packed.parent;
+      } in s) key
+      ∙ ap (λ (k : Cap). let s : NotedSlot = record {
+        key = change.key;
+        capability = k;
+        parent =
+            option_map (λ name. numbered_key (renamed slots name)) packed.parent;
+      } in s) capability
       ∙ ap (λ (p : Option SlotKey). let s : NotedSlot = record { key = change.key; capability = change.capability; parent = p } in s) parent
 
   pub numbers-are : (es : List (ℕ × PackedChange)) → map (λ (s : NotedSlot). number_of s.key) (map (unpacked_entry slots) es) ≡ keys_of es
   numbers-are [] = refl
   numbers-are (e ∷ es) =
-      ap (λ (n : ℕ). n ∷ map (λ (s : NotedSlot). number_of s.key) (map (unpacked_entry slots) es)) (number-back e.0) ∙ ap (λ (l : List ℕ). e.0 ∷ l) (numbers-are es)
+      ap (λ (n : ℕ). n ∷ map (λ (s : NotedSlot). number_of s.key) (map (unpacked_entry slots) es)) (number-back e.0)
+      ∙ ap (λ (l : List ℕ). e.0 ∷ l) (numbers-are es)
 
   pub all-narrow : (es : List (ℕ × PackedChange)) → list_all is_narrow (map (unpacked_entry slots) es) ≡ true
   all-narrow [] = refl
@@ -108,40 +123,50 @@ module _ (old new : List (ℕ × ℕ)) (one other : SlotKey) (first : nat_lt one
       by-tests (m == number_of one) (m == number_of other)
       ∙ sym (ap (λ k. if k == number_of one then other else if k == number_of other then one else numbered_key m) (number-back m))
     where
-      by-tests : (a b : Bool) → numbered_key (if a then number_of other else if b then number_of one else m) ≡ (if a then other else if b then one else numbered_key m)
+      by-tests : (a b : Bool) → numbered_key (if a then number_of other else if b then number_of one else m)
+          ≡ (if a then other else if b then one else numbered_key m)
       by-tests true b = key-back other second
       by-tests false true = key-back one first
       by-tests false false = refl
 
-  turned-parent : (p : Option ℕ) → option_map (λ name. numbered_key (renamed new name)) p ≡ option_map (turned one other) (option_map (λ name. numbered_key (renamed old name)) p)
+  turned-parent : (p : Option ℕ) → option_map (λ name. numbered_key (renamed new name)) p ≡ option_map (turned one other)
+      (option_map (λ name. numbered_key (renamed old name)) p)
   turned-parent None = refl
   turned-parent (Some name) = ap (λ (k : SlotKey). Some k) (ap numbered_key (turn name) ∙ turned-key (renamed old name))
 
   pub exchanged-entries : (es : List (ℕ × PackedChange)) → map (unpacked_entry new) es ≡ map (exchanged one other) (map (unpacked_entry old) es)
   exchanged-entries [] = refl
   exchanged-entries (e ∷ es) =
-      ap (λ (p : Option SlotKey). let s : NotedSlot = record { key = numbered_key e.0; capability = cap_of e.1.head e.1.word; parent = p } in s ∷ map (unpacked_entry new) es) (turned-parent e.1.parent)
+      ap (λ (p : Option SlotKey). let s : NotedSlot = record { key = numbered_key e.0; capability = cap_of e.1.head e.1.word; parent = p } in
+      s ∷ map (unpacked_entry new) es) (turned-parent e.1.parent)
       ∙ ap (λ (l : List NotedSlot). exchanged one other (unpacked_entry old e) ∷ l) (exchanged-entries es)
 
 -- ---- links
 
 -- each child of a slot has its link from the slot's name
-pub child-linked : (slots names : List (ℕ × ℕ)) (es : List (ℕ × PackedChange)) (links : List (ℕ × ℕ)) (parent : SlotKey) → AreInverse slots names → AreLinked es links
-    → (slot : ℕ) → option_map_or (λ c. has_parent parent (left_by c)) (found (map (unpacked_entry slots) es) slot) false ≡ true → has_link links (renamed names (number_of parent)) slot ≡ true
+pub child-linked : (slots names : List (ℕ × ℕ)) (es : List (ℕ × PackedChange)) (links : List (ℕ × ℕ)) (parent : SlotKey) → AreInverse slots names →
+    AreLinked es links
+    → (slot : ℕ) → option_map_or (λ c. has_parent parent (left_by c)) (found (map (unpacked_entry slots) es) slot) false ≡ true →
+    has_link links (renamed names (number_of parent)) slot ≡ true
 child-linked slots names es links parent inverse linked slot is =
-    linked (renamed names (number_of parent)) slot (of-packed (packed_at es slot) (sym (ap (λ o. option_map_or (λ c. has_parent parent (left_by c)) o false) (unpacked-found slots es slot)) ∙ is))
+    linked (renamed names (number_of parent)) slot
+    (of-packed (packed_at es slot) (sym (ap (λ o. option_map_or (λ c. has_parent parent (left_by c)) o false) (unpacked-found slots es slot)) ∙ is))
   where
-    of-parent : (p : Option ℕ) → option_map_or (λ (k : SlotKey). number_of k == number_of parent) (option_map (λ m. numbered_key (renamed slots m)) p) false ≡ true → has_name (renamed names (number_of parent)) p ≡ true
+    of-parent : (p : Option ℕ) → option_map_or (λ (k : SlotKey). number_of k == number_of parent) (option_map (λ m. numbered_key (renamed slots m)) p) false
+        ≡ true → has_name (renamed names (number_of parent)) p ≡ true
     of-parent None is = is
     of-parent (Some m) is =
-        let here : renamed slots m ≡ number_of parent = sym (number-back (renamed slots m)) ∙ eqb-true (number_of (numbered_key (renamed slots m))) (number_of parent) is in
+        let here : renamed slots m ≡ number_of parent = sym (number-back (renamed slots m))
+        ∙ eqb-true (number_of (numbered_key (renamed slots m))) (number_of parent) is in
         eq-eqb m (renamed names (number_of parent)) (sym (inverse m).1 ∙ ap (renamed names) here)
 
-    of-packed : (o : Option PackedChange) → option_map_or (λ c. has_parent parent (left_by c)) (option_map (unpacked_change slots slot) o) false ≡ true → is_named (renamed names (number_of parent)) o ≡ true
+    of-packed : (o : Option PackedChange) → option_map_or (λ c. has_parent parent (left_by c)) (option_map (unpacked_change slots slot) o) false ≡ true →
+        is_named (renamed names (number_of parent)) o ≡ true
     of-packed None is = is
     of-packed (Some p) is =
         let c : NotedSlot = unpacked_change slots slot p in
-        of-parent p.parent (elim (is_empty c.capability) as (λ b. has_parent parent (if b then None else Some c) ≡ true → option_map_or (λ (k : SlotKey). number_of k == number_of parent) c.parent false ≡ true) [
+        of-parent p.parent (elim (is_empty c.capability) as (λ b. has_parent parent (if b then None else Some c) ≡ true →
+        option_map_or (λ (k : SlotKey). number_of k == number_of parent) c.parent false ≡ true) [
           | true ↦ λ clash. absurd (let no : false ≡ true = clash in cc)
           | false ↦ λ here. here
         ] is)
@@ -153,9 +178,11 @@ pub put-linked : (es new : List (ℕ × PackedChange)) (n : ℕ) (packed : Packe
     → ((name : ℕ) → has_name name packed.parent ≡ true → has_link after name n ≡ true) → AreLinked new after
 put-linked es new n packed before after put linked others own name slot is = elim (eqb_tells slot n) [
   | inl same ↦
-      let here : is_named name (Some packed) ≡ true = sym (ap (λ b. is_named name (cond b (Some packed) (packed_at es slot))) (eq-test n slot ∙ same.0)) ∙ sym (ap (is_named name) (put slot)) ∙ is in
+      let here : is_named name (Some packed) ≡ true = sym (ap (λ b. is_named name (cond b (Some packed) (packed_at es slot))) (eq-test n slot ∙ same.0))
+      ∙ sym (ap (is_named name) (put slot)) ∙ is in
       subst (λ k. has_link after name k ≡ true) (sym same.1) (own name here)
   | inr other ↦
-      let there : is_named name (packed_at es slot) ≡ true = sym (ap (λ b. is_named name (cond b (Some packed) (packed_at es slot))) (eq-test n slot ∙ other.0)) ∙ sym (ap (is_named name) (put slot)) ∙ is in
+      let there : is_named name (packed_at es slot) ≡ true = sym (ap (λ b. is_named name (cond b (Some packed) (packed_at es slot))) (eq-test n slot ∙ other.0))
+      ∙ sym (ap (is_named name) (put slot)) ∙ is in
       others name slot other.0 (linked name slot there)
 ]

@@ -12,7 +12,8 @@ abbrev pub found_or : Option NotedSlot → Option NotedSlot → Option NotedSlot
 found_or None held = held
 found_or (Some change) held = left_by change
 
-pub changed-at : (changes slots : List NotedSlot) (least : ℕ) (key : SlotKey) → RiseFrom least changes → slot_at (changed slots changes) key ≡ found_or (slot_at changes key) (slot_at slots key)
+pub changed-at : (changes slots : List NotedSlot) (least : ℕ) (key : SlotKey) → RiseFrom least changes →
+    slot_at (changed slots changes) key ≡ found_or (slot_at changes key) (slot_at slots key)
 changed-at [] slots least key rises = refl
 changed-at (c ∷ rest) slots least key rises =
     changed-at rest (with_noted slots c) (number_of c.key + 1) key rises.1 ∙ ap (found_or (slot_at rest key)) (noted-at slots c key)
@@ -37,6 +38,7 @@ put-changes slots old new c rises before behind same =
     ∙ ap (λ held. if is_same_key c.key key then left_by c else held) (sym (changed-at old slots 0 key (from-first old before)))
     ∙ sym (noted-at (changed slots old) c key))
   where
-    chosen : (b : Bool) (key : SlotKey) → found_or (if b then Some c else slot_at old key) (slot_at slots key) ≡ (if b then left_by c else found_or (slot_at old key) (slot_at slots key))
+    chosen : (b : Bool) (key : SlotKey) → found_or (if b then Some c else slot_at old key) (slot_at slots key)
+        ≡ (if b then left_by c else found_or (slot_at old key) (slot_at slots key))
     chosen true key = refl
     chosen false key = refl

@@ -1,5 +1,6 @@
 -- Among changes whose keys rise, each is the last one to its slot.
-use Rattle.std.proofs.Common.{ℕ, ◌≡◌, ◌∙◌, ◌==◌, ◌<◌, ◌+◌, ◌||◌, Bool, true, false, if◌then◌else◌, Option, Some, None, is_some, List, [], ◌∷◌, refl, sym, ap, arith}
+use Rattle.std.proofs.Common.{ℕ, ◌≡◌, ◌∙◌, ◌==◌, ◌<◌, ◌+◌, ◌||◌, Bool, true, false, if◌then◌else◌, Option, Some, None, is_some, List, [], ◌∷◌, refl, sym, ap}
+use Rattle.std.proofs.Common.{arith}
 use Rattle.std.specs.List.{list_any}
 use Rattle.std.specs.Option.{option_map_or}
 use Rattle.std.proofs.lemmas.Bool.Decides.{nat_tests}
@@ -21,7 +22,8 @@ not-named : (changes : List NotedSlot) (least : ℕ) (key : SlotKey) → RiseFro
 not-named [] least key rises less = refl
 not-named (c ∷ rest) least key rises less =
     let most : number_of key < number_of c.key = omega (arith, rises.0, less) in
-    ap (λ b. b || is_changed rest key) (other-number (number_of c.key) (number_of key) most) ∙ not-named rest (number_of c.key + 1) key rises.1 (omega (arith, most))
+    ap (λ b. b || is_changed rest key) (other-number (number_of c.key) (number_of key) most)
+    ∙ not-named rest (number_of c.key + 1) key rises.1 (omega (arith, most))
 
 -- each slot holds what its change leaves
 abbrev pub HoldOwn : List NotedSlot → List NotedSlot → Type 0
@@ -44,12 +46,15 @@ any-own test slots (c ∷ rest) own =
     ∙ ap (λ b. option_map_or test (slot_at slots c.key) false || b) (any-own test slots rest own.1)
 
 -- what no change names is the image's, and was derived from none of the thread's slots
-pub unnamed-parent : (n : NotedSlots) (key : SlotKey) (s : NotedSlot) → slot_at (slots_of n) key ≡ Some s → is_changed n.changes.now key ≡ false → s.parent ≡ None
+pub unnamed-parent : (n : NotedSlots) (key : SlotKey) (s : NotedSlot) → slot_at (slots_of n) key ≡ Some s → is_changed n.changes.now key ≡ false →
+    s.parent ≡ None
 unnamed-parent n key s at none =
     let here : slot_at n.image.now key ≡ Some s = sym (unchanged n.image.now n.changes.now key none) ∙ at in
     elim s.parent as (λ p. s.parent ≡ p → p ≡ None) [
       | None ↦ λ _. refl
       | Some p ↦ λ is.
           let linked : is_linked s ≡ true = ap (λ (o : Option SlotKey). is_some o || is_some (frame_mapping s.capability)) is in
-          absurd (let clash : true ≡ false = sym (held-any is_linked n.image.now key (ap (λ (o : Option NotedSlot). option_map_or is_linked o false) here ∙ linked)) ∙ n.unlinked in cc)
+          absurd (let clash : true ≡ false =
+          sym (held-any is_linked n.image.now key (ap (λ (o : Option NotedSlot). option_map_or is_linked o false) here ∙ linked)) ∙ n.unlinked in
+          cc)
     ] refl

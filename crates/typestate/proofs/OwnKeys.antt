@@ -18,7 +18,8 @@ taken false true = refl
 taken false false = refl
 
 -- a slot of the thread's
-pub own-told : (image : Image) (cnodes : List ℕ) (windows : List Window) (key : SlotKey) → AreWindows image cnodes windows → list_any (has_key key) windows ≡ is_own image cnodes key
+pub own-told : (image : Image) (cnodes : List ℕ) (windows : List Window) (key : SlotKey) → AreWindows image cnodes windows →
+    list_any (has_key key) windows ≡ is_own image cnodes key
 own-told image [] [] key are = refl
 own-told image [] (w ∷ ws) key are = absurd are
 own-told image (cnode ∷ cnodes) [] key are = absurd are
@@ -40,11 +41,14 @@ own-told image (cnode ∷ cnodes) (w ∷ ws) key are =
     ])
 
 -- a CNode of the thread's
-pub own-cnode-told : (image : Image) (cnodes : List ℕ) (windows : List Window) (offset radix : ℕ) → AreWindows image cnodes windows → list_any (is_at offset radix) windows ≡ is_own_cnode image cnodes offset radix
+pub own-cnode-told : (image : Image) (cnodes : List ℕ) (windows : List Window) (offset radix : ℕ) → AreWindows image cnodes windows →
+    list_any (is_at offset radix) windows ≡ is_own_cnode image cnodes offset radix
 own-cnode-told image [] [] offset radix are = refl
 own-cnode-told image [] (w ∷ ws) offset radix are = absurd are
 own-cnode-told image (cnode ∷ cnodes) [] offset radix are = absurd are
 own-cnode-told image (cnode ∷ cnodes) (w ∷ ws) offset radix are =
     ap (λ n. (n == offset) && (w.radix == radix) || list_any (is_at offset radix) ws) (are.0).place
-    ∙ ap (λ (r : Option ℕ). (offset_of image cnode == offset) && option_map_or (λ own. own == radix) r false || list_any (is_at offset radix) ws) (sym (are.0).size)
-    ∙ ap (λ b. (offset_of image cnode == offset) && option_map_or (λ own. own == radix) (radix_of (type_at image cnode)) false || b) (own-cnode-told image cnodes ws offset radix are.1)
+    ∙ ap (λ (r : Option ℕ). (offset_of image cnode == offset) && option_map_or (λ own. own == radix) r false || list_any (is_at offset radix) ws)
+    (sym (are.0).size)
+    ∙ ap (λ b. (offset_of image cnode == offset) && option_map_or (λ own. own == radix) (radix_of (type_at image cnode)) false || b)
+    (own-cnode-told image cnodes ws offset radix are.1)

@@ -1,12 +1,14 @@
 -- What maps a page is found among the slots that are named with it.
-use Rattle.std.proofs.Common.{ℕ, ◌≡◌, ◌==◌, inl, inr, ◌||◌, Bool, true, false, if◌then◌else◌, Option, Some, None, option_and_then, List, [], ◌∷◌, refl, sym, subst, arith}
+use Rattle.std.proofs.Common.{ℕ, ◌≡◌, ◌==◌, inl, inr, ◌||◌, Bool, true, false, if◌then◌else◌, Option, Some, None, option_and_then, List, [], ◌∷◌, refl, sym}
+use Rattle.std.proofs.Common.{subst, arith}
 use Rattle.std.specs.Prelude.{filter, option_map}
 use Rattle.std.specs.List.{list_any}
 use Rattle.std.specs.Option.{option_map_or}
 use Rattle.std.proofs.lemmas.Bool.{and_parts, eqb-true, or_cases, or_left, or_right}
 use Rattle.std.proofs.lemmas.Bool.Decides.{nat_tests}
 use Rattle.model.specs.declared.capabilities.Cap.{Cap}
-use Rattle.model.specs.declared.capabilities.Cap.TheVariants.{Empty, Untyped, Endpoint, Notification, Tcb, CNode, Frame, PageTable, RootTable, InterruptControl, InterruptHandler}
+use Rattle.model.specs.declared.capabilities.Cap.TheVariants.{Empty, Untyped, Endpoint, Notification, Tcb, CNode, Frame, PageTable, RootTable, InterruptControl}
+use Rattle.model.specs.declared.capabilities.Cap.TheVariants.{InterruptHandler}
 use Rattle.model.specs.declared.capabilities.FrameMapping.{FrameMapping}
 use Rattle.model.specs.declared.instructions.Access.{Access}
 use Rattle.model.specs.Acceptance.NotedStates.{NotedSlot, number_of}
@@ -39,10 +41,11 @@ module _ (test : NotedSlot → Bool) (changes : List NotedSlot) where
     where
       any-found : (cs : List NotedSlot) (n : ℕ) → option_map_or test (found cs n) false ≡ true → list_any test cs ≡ true
       any-found [] n is = absurd (let clash : false ≡ true = is in cc)
-      any-found (c ∷ more) n is = elim (number_of c.key == n) as (λ b. option_map_or test (if b then Some c else found more n) false ≡ true → (test c || list_any test more) ≡ true) [
-        | true ↦ λ here. or_left (test c) (list_any test more) here
-        | false ↦ λ later. or_right (test c) (list_any test more) (any-found more n later)
-      ] is
+      any-found (c ∷ more) n is = elim (number_of c.key == n) as (λ b. option_map_or test (if b then Some c else found more n) false ≡ true →
+          (test c || list_any test more) ≡ true) [
+            | true ↦ λ here. or_left (test c) (list_any test more) here
+            | false ↦ λ later. or_right (test c) (list_any test more) (any-found more n later)
+          ] is
 
   named-at : (slots : List (ℕ × ℕ)) (n : ℕ) → list_any (λ (q : ℕ × ℕ). q.1 == n) slots ≡ true → passes n ≡ true → list_any passes_at slots ≡ true
   named-at [] n some is = absurd (let clash : false ≡ true = some in cc)
@@ -75,7 +78,8 @@ page-mapped : (root page : ℕ) (mapping : Option FrameMapping) → option_map_o
 page-mapped root page None is = is
 page-mapped root page (Some m) is = (and_parts (m.root == root) (m.page == page) is).1
 
-page-reached : (root page : ℕ) (test : MappedFrame → Bool) (capability : Cap) → option_map_or test (page_of root page capability) false ≡ true → is_there page (frame_mapping capability) ≡ true
+page-reached : (root page : ℕ) (test : MappedFrame → Bool) (capability : Cap) → option_map_or test (page_of root page capability) false ≡ true →
+    is_there page (frame_mapping capability) ≡ true
 page-reached root page test Empty is = is
 page-reached root page test (Untyped _ _ _) is = is
 page-reached root page test (Endpoint _ _ _) is = is
@@ -83,7 +87,8 @@ page-reached root page test (Notification _ _ _) is = is
 page-reached root page test (CNode _ _ _) is = is
 page-reached root page test (Frame _ _ None) is = is
 page-reached root page test (Frame offset _ (Some m)) is =
-    elim (is_page root page m) as (λ b. is_page root page m ≡ b → option_map_or test (if b then Some (record { frame = offset; allowed = m.rights }) else None) false ≡ true → (m.page == page) ≡ true) [
+    elim (is_page root page m) as (λ b. is_page root page m ≡ b →
+    option_map_or test (if b then Some (record { frame = offset; allowed = m.rights }) else None) false ≡ true → (m.page == page) ≡ true) [
       | true ↦ λ here _. (and_parts (m.root == root) (m.page == page) here).1
       | false ↦ λ _ clash. absurd (let no : false ≡ true = clash in cc)
     ] refl is
@@ -102,23 +107,26 @@ holds access root page c = option_map_or (holds_for access root page) (left_by c
 pub takes-at-page : (root page : ℕ) (c : NotedSlot) → takes root page c ≡ true → leaves_at page c ≡ true
 takes-at-page root page c is = of-held (left_by c) is
   where
-    of-held : (held : Option NotedSlot) → option_map_or (λ s. maps_page root page s.capability) held false ≡ true → option_map_or (λ p. p == page) (option_and_then (λ s. option_map (λ m. m.page) (frame_mapping s.capability)) held) false ≡ true
+    of-held : (held : Option NotedSlot) → option_map_or (λ s. maps_page root page s.capability) held false ≡ true →
+        option_map_or (λ p. p == page) (option_and_then (λ s. option_map (λ m. m.page) (frame_mapping s.capability)) held) false ≡ true
     of-held None is = is
     of-held (Some s) is = page-mapped root page (frame_mapping s.capability) is
 
 pub holds-at-page : (access : Access) (root page : ℕ) (c : NotedSlot) → holds access root page c ≡ true → leaves_at page c ≡ true
 holds-at-page access root page c is = of-held (left_by c) is
   where
-    of-held : (held : Option NotedSlot) → option_map_or (holds_for access root page) held false ≡ true → option_map_or (λ p. p == page) (option_and_then (λ s. option_map (λ m. m.page) (frame_mapping s.capability)) held) false ≡ true
+    of-held : (held : Option NotedSlot) → option_map_or (holds_for access root page) held false ≡ true →
+        option_map_or (λ p. p == page) (option_and_then (λ s. option_map (λ m. m.page) (frame_mapping s.capability)) held) false ≡ true
     of-held None is = is
     of-held (Some s) is = page-reached root page (λ m. allows access m.allowed) s.capability is
 
 -- a change that leaves one page leaves no other
 pub pages-apart : (one : ℕ) (change : NotedSlot) (other : ℕ) → leaves_at one change ≡ false → leaves_at other change ≡ true → (one == other) ≡ false
-pages-apart one change other off is = elim (page_left change) as (λ o. option_map_or (λ p. p == one) o false ≡ false → option_map_or (λ p. p == other) o false ≡ true → (one == other) ≡ false) [
-  | None ↦ λ _ clash. absurd (let no : false ≡ true = clash in cc)
-  | Some p ↦ λ apart here. apart-from p one other apart here
-] off is
+pages-apart one change other off is = elim (page_left change) as (λ o. option_map_or (λ p. p == one) o false ≡ false →
+    option_map_or (λ p. p == other) o false ≡ true → (one == other) ≡ false) [
+      | None ↦ λ _ clash. absurd (let no : false ≡ true = clash in cc)
+      | Some p ↦ λ apart here. apart-from p one other apart here
+    ] off is
   where
     apart-from : (p a b : ℕ) → (p == a) ≡ false → (p == b) ≡ true → (a == b) ≡ false
     apart-from p a b off is = grind (arith, nat_tests)

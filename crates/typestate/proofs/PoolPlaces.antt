@@ -1,5 +1,6 @@
 -- Retype: the CNode that is named, the room in the pool, and the places of the new objects.
-use Rattle.std.proofs.Common.{ℕ, zero, suc, ◌≡◌, ◌∙◌, ◌==◌, ◌+◌, ◌-◌, ◌*◌, ◌/◌, ◌%◌, ◌^◌, ◌<◌, ◌≤◌, ◌&&◌, ◌||◌, inl, inr, Bool, true, false, not, nat_le, nat_lt, if◌then◌else◌, Option, Some, None, is_some, Result, Ok, Err, List, [], ◌∷◌, pow_pos, refl, sym, ap, subst, arith}
+use Rattle.std.proofs.Common.{ℕ, zero, suc, ◌≡◌, ◌∙◌, ◌==◌, ◌+◌, ◌-◌, ◌*◌, ◌/◌, ◌%◌, ◌^◌, ◌<◌, ◌≤◌, ◌&&◌, ◌||◌, inl, inr, Bool, true, false, not, nat_le}
+use Rattle.std.proofs.Common.{nat_lt, if◌then◌else◌, Option, Some, None, is_some, Result, Ok, Err, List, [], ◌∷◌, pow_pos, refl, sym, ap, subst, arith}
 use Rattle.std.specs.Option.{option_map_or}
 use Rattle.std.specs.List.{find, list_any, range_with_len}
 use Rattle.std.proofs.Math.Nat.{add-mul-mod_self_right, div-add-mod, mul-le-mul_right}
@@ -27,7 +28,8 @@ use Rattle.model.specs.Capabilities.Placement.{placement}
 use Rattle.model.specs.Capabilities.Slots.{Slots, depth_of, is_empty, is_full, recapped}
 use Rattle.model.specs.Images.Image.{Image, Thread}
 use Rattle.model.specs.Kernel.Arguments.{◌>>=◌, check, wanted}
-use Rattle.model.specs.Kernel.Retype.{NewObject, NewUntyped, NewThread, NewEndpoint, NewNotification, NewCNode, NewFrame, NewPageTable, NewRootTable, NewObjects, any_full, object_bits, type_of, with_first_capabilities, with_new_slots}
+use Rattle.model.specs.Kernel.Retype.{NewObject, NewUntyped, NewThread, NewEndpoint, NewNotification, NewCNode, NewFrame, NewPageTable, NewRootTable}
+use Rattle.model.specs.Kernel.Retype.{NewObjects, any_full, object_bits, type_of, with_first_capabilities, with_new_slots}
 use Rattle.model.specs.Kernel.State.{slot_of}
 use Rattle.typestate.specs.declared.pool_calls.Makeable.{Makeable}
 use Rattle.typestate.specs.declared.pool_calls.NewPlace.{NewPlace}
@@ -65,25 +67,28 @@ or-second : (a b : Bool) → b ≡ true → (a || b) ≡ true
 or-second true b is = refl
 or-second false b is = is
 
-window-found : (image : Image) (cnodes : List ℕ) (ws : List Window) (test : Window → Bool) (w : Window) → AreWindows image cnodes ws → find test ws ≡ Some w → FoundWindow image cnodes test w
+window-found : (image : Image) (cnodes : List ℕ) (ws : List Window) (test : Window → Bool) (w : Window) → AreWindows image cnodes ws → find test ws ≡ Some w →
+    FoundWindow image cnodes test w
 window-found image [] [] test w are found = absurd (let no : None ≡ Some w = found in cc)
 window-found image [] (v ∷ vs) test w are found = absurd are
 window-found image (cnode ∷ cnodes) [] test w are found = absurd are
-window-found image (cnode ∷ cnodes) (v ∷ vs) test w are found = elim (test v) as (λ b. test v ≡ b → (if b then Some v else find test vs) ≡ Some w → FoundWindow image (cnode ∷ cnodes) test w) [
-  | true ↦ λ is here.
-      let same : v ≡ w = (let both : Some v ≡ Some w = here in cc) in
-      let first : FoundWindow image (cnode ∷ cnodes) test v = record {
-        passes = is;
-        mine = ap (λ b. b || is_member v.cnode cnodes) (eq-eqb v.cnode cnode (are.0).object);
-        window = subst (λ n. IsWindow image n v) (sym (are.0).object) are.0;
-      } in
-      subst (λ (x : Window). FoundWindow image (cnode ∷ cnodes) test x) same first
-  | false ↦ λ _ later.
-      let rest = window-found image cnodes vs test w are.1 later in
-      record { passes = rest.passes; mine = or-second (w.cnode == cnode) (is_member w.cnode cnodes) rest.mine; window = rest.window }
-] refl found
+window-found image (cnode ∷ cnodes) (v ∷ vs) test w are found =
+    elim (test v) as (λ b. test v ≡ b → (if b then Some v else find test vs) ≡ Some w → FoundWindow image (cnode ∷ cnodes) test w) [
+      | true ↦ λ is here.
+          let same : v ≡ w = (let both : Some v ≡ Some w = here in cc) in
+          let first : FoundWindow image (cnode ∷ cnodes) test v = record {
+            passes = is;
+            mine = ap (λ b. b || is_member v.cnode cnodes) (eq-eqb v.cnode cnode (are.0).object);
+            window = subst (λ n. IsWindow image n v) (sym (are.0).object) are.0;
+          } in
+          subst (λ (x : Window). FoundWindow image (cnode ∷ cnodes) test x) same first
+      | false ↦ λ _ later.
+          let rest = window-found image cnodes vs test w are.1 later in
+          record { passes = rest.passes; mine = or-second (w.cnode == cnode) (is_member w.cnode cnodes) rest.mine; window = rest.window }
+    ] refl found
 
-pub own-window : (image : Image) (t : Thread) (ws : List Window) (offset radix : ℕ) (w : Window) → AreWindows image (reached image t) ws → find (is_at offset radix) ws ≡ Some w
+pub own-window : (image : Image) (t : Thread) (ws : List Window) (offset radix : ℕ) (w : Window) → AreWindows image (reached image t) ws →
+    find (is_at offset radix) ws ≡ Some w
     → IsOwnWindow image t w × (w.offset ≡ offset) × (w.radix ≡ radix)
 own-window image t ws offset radix w are found =
     let here = window-found image (reached image t) ws (is_at offset radix) w are found in
@@ -107,16 +112,19 @@ node-err image t (Err other) error names = ap (λ (e : KError). let r : Result N
 
 -- ---- slots of the CNode
 
-module _ (image : Image) (t : Thread) (stand : StandsApart image t) (slots : List NotedSlot) (are : AreOwn image t slots) (w : Window) (own : IsOwnWindow image t w) where
+module _ (image : Image) (t : Thread) (stand : StandsApart image t) (slots : List NotedSlot) (are : AreOwn image t slots) (w : Window)
+    (own : IsOwnWindow image t w) where
   abbrev all : Slots
   all = noted_slots image t slots
 
   key-own : (index : ℕ) → index < 2 ^ w.radix → is_own image (reached image t) (record { cnode = w.cnode; index = index }) ≡ true
   key-own index less =
       let small : nat_lt index (2 ^ w.radix) ≡ true = grind (arith, nat_tests, less) in
-      ap (λ b. b && has_slot image w.cnode index) own.mine ∙ ap (λ (o : Option ℕ). option_map_or (λ radix. nat_lt index (2 ^ radix)) o false) own.is.size ∙ small
+      ap (λ b. b && has_slot image w.cnode index) own.mine ∙ ap (λ (o : Option ℕ). option_map_or (λ radix. nat_lt index (2 ^ radix)) o false) own.is.size
+      ∙ small
 
-  full-same : (index slot : ℕ) → index < 2 ^ w.radix → slot ≡ w.offset / 16 + index → is_full all slot ≡ is_some (slot_at slots (record { cnode = w.cnode; index = index }))
+  full-same : (index slot : ℕ) → index < 2 ^ w.radix → slot ≡ w.offset / 16 + index →
+      is_full all slot ≡ is_some (slot_at slots (record { cnode = w.cnode; index = index }))
   full-same index slot less place =
       let k : SlotKey = record { cnode = w.cnode; index = index } in
       let mine = key-own index less in
@@ -130,11 +138,15 @@ module _ (image : Image) (t : Thread) (stand : StandsApart image t) (slots : Lis
 
   -- the kernel's test is that of the noted slots
   pub any-same : (index a n : ℕ) → index + (a + n) ≤ 2 ^ w.radix
-      → list_any (λ i. is_some (slot_at slots (record { cnode = w.cnode; index = index + i }))) (range_with_len a n) ≡ list_any (is_full all) (range_with_len (slot_of w.offset index + a) n)
+      → list_any (λ i. is_some (slot_at slots (record { cnode = w.cnode; index = index + i }))) (range_with_len a n) ≡ list_any (is_full all)
+      (range_with_len (slot_of w.offset index + a) n)
   any-same index a zero fits = refl
   any-same index a (suc n) fits =
-      ap (λ b. b || list_any (λ i. is_some (slot_at slots (record { cnode = w.cnode; index = index + i }))) (range_with_len (a + 1) n)) (sym (full-same (index + a) (slot_of w.offset index + a) (omega (arith, fits)) (omega arith)))
-      ∙ ap (λ b. is_full all (slot_of w.offset index + a) || b) (any-same index (a + 1) n (omega (arith, fits)) ∙ ap (λ x. list_any (is_full all) (range_with_len x n)) (let e : slot_of w.offset index + (a + 1) ≡ slot_of w.offset index + a + 1 = omega arith in e))
+      ap (λ b. b || list_any (λ i. is_some (slot_at slots (record { cnode = w.cnode; index = index + i }))) (range_with_len (a + 1) n))
+      (sym (full-same (index + a) (slot_of w.offset index + a) (omega (arith, fits)) (omega arith)))
+      ∙ ap (λ b. is_full all (slot_of w.offset index + a) || b) (any-same index (a + 1) n (omega (arith, fits))
+      ∙ ap (λ x. list_any (is_full all) (range_with_len x n))
+      (let e : slot_of w.offset index + (a + 1) ≡ slot_of w.offset index + a + 1 = omega arith in e))
 
 -- ---- the room
 
@@ -145,15 +157,20 @@ fits-node radix index count is =
     let a = inner.0 in let b = inner.1 in let c = outer.1 in
     (grind (arith, nat_tests, a), grind (arith, nat_tests, b), grind (arith, nat_tests, c))
 
-pub room-same : (image : Image) (t : Thread) (stand : StandsApart image t) (slots : List NotedSlot) (are : AreOwn image t slots) (held : NotedSlot) (memory : UntypedMemory) (call : RetypeCall)
+pub room-same : (image : Image) (t : Thread) (stand : StandsApart image t) (slots : List NotedSlot) (are : AreOwn image t slots) (held : NotedSlot)
+    (memory : UntypedMemory) (call : RetypeCall)
     (new : NewObject) (cnode : Node) (w : Window) → is_own image (reached image t) held.key ≡ true → w.offset ≡ cnode.offset → w.radix ≡ cnode.radix
     → room_of image t slots held memory call new cnode ≡ room_in image t slots held.key memory w (object_bits new) call.index call.count
 room-same image t stand slots are held memory call new cnode w own offset radix =
     let all = noted_slots image t slots in
-    let behind : ℕ → Result (ℕ × ℕ) KError = λ d. check (nat_lt d 255) IllegalOperation >>= λ _. wanted (placement memory.bits memory.watermark (object_bits new) call.count) NotEnoughMemory in
-    ap (λ r. check (fits_node r call.index call.count) RangeError >>= λ _. check (not (any_full all (slot_of cnode.offset call.index) call.count)) DeleteFirst >>= λ _. behind (depth_of all (slot_of_key image held.key))) (sym radix)
-    ∙ ap (λ o. check (fits_node w.radix call.index call.count) RangeError >>= λ _. check (not (any_full all (slot_of o call.index) call.count)) DeleteFirst >>= λ _. behind (depth_of all (slot_of_key image held.key))) (sym offset)
-    ∙ ap (λ d. check (fits_node w.radix call.index call.count) RangeError >>= λ _. check (not (any_full all (slot_of w.offset call.index) call.count)) DeleteFirst >>= λ _. behind d) (depth-is image t stand slots are 256 held.key own)
+    let behind : ℕ → Result (ℕ × ℕ) KError = λ d. check (nat_lt d 255) IllegalOperation >>= λ _.
+    wanted (placement memory.bits memory.watermark (object_bits new) call.count) NotEnoughMemory in
+    ap (λ r. check (fits_node r call.index call.count) RangeError >>= λ _. check (not (any_full all (slot_of cnode.offset call.index) call.count)) DeleteFirst
+    >>= λ _. behind (depth_of all (slot_of_key image held.key))) (sym radix)
+    ∙ ap (λ o. check (fits_node w.radix call.index call.count) RangeError >>= λ _. check (not (any_full all (slot_of o call.index) call.count)) DeleteFirst
+    >>= λ _. behind (depth_of all (slot_of_key image held.key))) (sym offset)
+    ∙ ap (λ d. check (fits_node w.radix call.index call.count) RangeError >>= λ _.
+    check (not (any_full all (slot_of w.offset call.index) call.count)) DeleteFirst >>= λ _. behind d) (depth-is image t stand slots are 256 held.key own)
 
 pub record IsRoom (memory : UntypedMemory) (w : Window) (bits index count : ℕ) (p : ℕ × ℕ) : Type 0 where
   pub fits : fits_node w.radix index count ≡ true
@@ -175,7 +192,8 @@ room-parts image t slots k memory w bits index count p is =
     (placement memory.bits memory.watermark bits count) refl refl is
   where
     by-tests : (a b d : Bool) (o : Option (ℕ × ℕ)) → fits_node w.radix index count ≡ a → placement memory.bits memory.watermark bits count ≡ o
-        → (check a RangeError >>= λ _. check b DeleteFirst >>= λ _. check d IllegalOperation >>= λ _. wanted o NotEnoughMemory) ≡ placed p → IsRoom memory w bits index count p
+        → (check a RangeError >>= λ _. check b DeleteFirst >>= λ _. check d IllegalOperation >>= λ _. wanted o NotEnoughMemory) ≡ placed p →
+        IsRoom memory w bits index count p
     by-tests false b d o fits place so = absurd (let no : failed RangeError ≡ placed p = so in cc)
     by-tests true false d o fits place so = absurd (let no : failed DeleteFirst ≡ placed p = so in cc)
     by-tests true true false o fits place so = absurd (let no : failed IllegalOperation ≡ placed p = so in cc)
@@ -229,7 +247,8 @@ multiple : (offset bits smaller : ℕ) → smaller ≤ bits → offset % 2 ^ bit
 multiple offset bits smaller less is =
     let all : bits - smaller + smaller ≡ bits = omega (arith, less) in
     let positive = pow_pos smaller in
-    sym (mod-mod-pow offset (bits - smaller) smaller) ∙ ap (λ (n : ℕ). offset % 2 ^ n % 2 ^ smaller) all ∙ ap (λ (n : ℕ). n % 2 ^ smaller) is ∙ omega (arith, positive)
+    sym (mod-mod-pow offset (bits - smaller) smaller) ∙ ap (λ (n : ℕ). offset % 2 ^ n % 2 ^ smaller) all ∙ ap (λ (n : ℕ). n % 2 ^ smaller) is
+    ∙ omega (arith, positive)
 
 -- a block of a power stands below a limit that is a greater power
 block-below : (offset bits limit : ℕ) → bits ≤ limit → offset % 2 ^ bits ≡ 0 → offset < 2 ^ limit → offset + 2 ^ bits ≤ 2 ^ limit
@@ -249,7 +268,8 @@ block-below offset bits limit less whole below =
           absurd (omega (arith, over, power, split, turned, whole, below))
     ]
 
-pub place-valid : (memory : UntypedMemory) (power count place mark i : ℕ) → IsCapability (Untyped memory.offset memory.bits memory.watermark) → Placing memory.bits memory.watermark power count place mark
+pub place-valid : (memory : UntypedMemory) (power count place mark i : ℕ) → IsCapability (Untyped memory.offset memory.bits memory.watermark) →
+    Placing memory.bits memory.watermark power count place mark
     → i < count → IsPlace (memory.offset + place + i * 2 ^ power) power
 place-valid memory power count place mark i valid so less =
     let size = 2 ^ power in
@@ -261,11 +281,13 @@ place-valid memory power count place mark i valid so less =
     let below = so.below in
     let smaller : power ≤ memory.bits = bits-less power memory.bits (omega (arith, upto, next, end, below)) in
     let block : memory.offset + 2 ^ memory.bits ≤ 2 ^ 24 = block-below memory.offset memory.bits 24 valid.2 valid.0.0 valid.0.1 in (
-      ap (λ n. (memory.offset + n + i * size) % size) (sym start) ∙ add-mul-mod_self_right (memory.offset + rounds * size) i size ∙ add-mul-mod_self_right memory.offset rounds size ∙ multiple memory.offset memory.bits power smaller valid.0.0,
+      ap (λ n. (memory.offset + n + i * size) % size) (sym start) ∙ add-mul-mod_self_right (memory.offset + rounds * size) i size
+          ∙ add-mul-mod_self_right memory.offset rounds size ∙ multiple memory.offset memory.bits power smaller valid.0.0,
       (let positive = pow_pos power in omega (arith, upto, next, end, below, block, positive)),
     )
 
-pub place-small : (memory : UntypedMemory) (power count place mark : ℕ) → IsCapability (Untyped memory.offset memory.bits memory.watermark) → Placing memory.bits memory.watermark power count place mark
+pub place-small : (memory : UntypedMemory) (power count place mark : ℕ) → IsCapability (Untyped memory.offset memory.bits memory.watermark) →
+    Placing memory.bits memory.watermark power count place mark
     → memory.offset + place ≤ 2 ^ 24
 place-small memory power count place mark valid so =
     let block : memory.offset + 2 ^ memory.bits ≤ 2 ^ 24 = block-below memory.offset memory.bits 24 valid.2 valid.0.0 valid.0.1 in
@@ -275,13 +297,16 @@ place-small memory power count place mark valid so =
 
 -- ---- all checks together
 
-module _ (image : Image) (t : Thread) (stand : StandsApart image t) (slots : List NotedSlot) (are : AreOwn image t slots) (held : NotedSlot) (memory : UntypedMemory) (call : RetypeCall) (p : NewPlace)
-    (is : slot_at slots held.key ≡ Some held) (pool : held.capability ≡ Untyped memory.offset memory.bits memory.watermark) (placed : PlacedNew image t slots held.key memory call p) where
+module _ (image : Image) (t : Thread) (stand : StandsApart image t) (slots : List NotedSlot) (are : AreOwn image t slots) (held : NotedSlot)
+    (memory : UntypedMemory) (call : RetypeCall) (p : NewPlace)
+    (is : slot_at slots held.key ≡ Some held) (pool : held.capability ≡ Untyped memory.offset memory.bits memory.watermark)
+    (placed : PlacedNew image t slots held.key memory call p) where
   abbrev found : ℕ × ℕ
   found = (placed.place, p.watermark)
 
   room-found : room_of image t slots held memory call placed.new placed.cnode ≡ Ok found
-  room-found = room-same image t stand slots are held memory call placed.new placed.cnode placed.w (found-own image t slots held.key held are is).key placed.offset placed.radix ∙ placed.room
+  room-found = room-same image t stand slots are held memory call placed.new placed.cnode placed.w (found-own image t slots held.key held are is).key
+      placed.offset placed.radix ∙ placed.room
 
   pub room-is : IsRoom memory placed.w (object_bits placed.new) call.index call.count found
   room-is = room-parts image t slots held.key memory placed.w (object_bits placed.new) call.index call.count found placed.room
@@ -289,33 +314,41 @@ module _ (image : Image) (t : Thread) (stand : StandsApart image t) (slots : Lis
   pub placing : Placing memory.bits memory.watermark (object_bits placed.new) call.count placed.place p.watermark
   placing = placed-so memory.bits memory.watermark (object_bits placed.new) call.count placed.place p.watermark room-is.place
 
-  pub never-made : (at : Point) → Makes (type_of call.kind call.size) None → held_after image t at slots held (OnUntyped memory call) ≡ Err (CallRefused at IllegalOperation)
-  never-made at none = pool-never image t slots held memory call at placed.new placed.cnode found placed.asked placed.named room-found (makes-none (type_of call.kind call.size) none)
+  pub never-made : (at : Point) → Makes (type_of call.kind call.size) None →
+      held_after image t at slots held (OnUntyped memory call) ≡ Err (CallRefused at IllegalOperation)
+  never-made at none = pool-never image t slots held memory call at placed.new placed.cnode found placed.asked placed.named room-found
+      (makes-none (type_of call.kind call.size) none)
 
   module _ (m : Makeable) (makes : Makes (type_of call.kind call.size) (Some m)) where
     pub new-is : placed.new ≡ new_of m
     new-is =
-        let one : Some placed.new ≡ Some (new_of m) = sym (asked-type call.kind call.size placed.new placed.asked) ∙ (makes-some (type_of call.kind call.size) m makes).1 in
+        let one : Some placed.new ≡ Some (new_of m) = sym (asked-type call.kind call.size placed.new placed.asked)
+        ∙ (makes-some (type_of call.kind call.size) m makes).1 in
         cc
 
-    pub places-valid : IsCapability (Untyped memory.offset memory.bits memory.watermark) → (i : ℕ) → i < call.count → IsPlace (p.offset + i * 2 ^ object_bits (new_of m)) (object_bits (new_of m))
+    pub places-valid : IsCapability (Untyped memory.offset memory.bits memory.watermark) → (i : ℕ) → i < call.count →
+        IsPlace (p.offset + i * 2 ^ object_bits (new_of m)) (object_bits (new_of m))
     places-valid valid i less =
         subst (λ (n : NewObject). IsPlace (p.offset + i * 2 ^ object_bits n) (object_bits n)) new-is
         (subst (λ o. IsPlace (o + i * 2 ^ object_bits placed.new) (object_bits placed.new)) (sym placed.first)
         (place-valid memory (object_bits placed.new) call.count placed.place p.watermark i valid placing less))
 
     pub made-all : (at : Point) → RiseFrom 0 slots
-        → held_after image t at slots held (OnUntyped memory call) ≡ Ok (changed slots (pool_used held memory p.watermark ∷ slots_made p.slot held.key (new_of m) p.offset call.count))
+        → held_after image t at slots held (OnUntyped memory call) ≡ Ok
+        (changed slots (pool_used held memory p.watermark ∷ slots_made p.slot held.key (new_of m) p.offset call.count))
     unfolding noted_kernel
     made-all at rises =
         let fits = fits-node placed.w.radix call.index call.count room-is.fits in
         let used = recapped (noted_slots image t slots) (slot_of_key image held.key) (Untyped memory.offset memory.bits p.watermark) in
         let behind : NewObject → ℕ → ℕ → List NotedSlot = λ new window first.
-        noted_after image t (with_first_capabilities (let o : NewObjects = record { kind = new; first = first; count = call.count } in o) window (slot_of_key image held.key) (with_new_slots (let o : NewObjects = record { kind = new; first = first; count = call.count } in o) used)) in
+        noted_after image t (with_first_capabilities (let o : NewObjects = record { kind = new; first = first; count = call.count } in o) window
+        (slot_of_key image held.key) (with_new_slots (let o : NewObjects = record { kind = new; first = first; count = call.count } in o) used)) in
         let done : List NotedSlot → Result (List NotedSlot) Refusal = λ l. Ok l in
-        pool-goes image t slots held memory call at placed.new placed.cnode found placed.asked placed.named room-found (makes-some (type_of call.kind call.size) m makes).0
+        pool-goes image t slots held memory call at placed.new placed.cnode found placed.asked placed.named room-found
+        (makes-some (type_of call.kind call.size) m makes).0
         ∙ ap (λ (n : NewObject). done (behind n (slot_of placed.cnode.offset call.index) (memory.offset + placed.place))) new-is
         ∙ ap (λ o. done (behind (new_of m) (slot_of o call.index) (memory.offset + placed.place))) (sym placed.offset)
         ∙ ap (λ f. done (behind (new_of m) (slot_of placed.w.offset call.index) f)) (sym placed.first)
         ∙ ap done (made-back image t stand slots are rises held is memory pool p.watermark m placed.w placed.own call.index call.count p.offset fits.2)
-        ∙ ap (λ (k : SlotKey). done (changed slots (pool_used held memory p.watermark ∷ slots_made k held.key (new_of m) p.offset call.count))) (sym placed.slot)
+        ∙ ap (λ (k : SlotKey). done (changed slots (pool_used held memory p.watermark ∷ slots_made k held.key (new_of m) p.offset call.count)))
+        (sym placed.slot)

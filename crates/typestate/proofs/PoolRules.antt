@@ -1,5 +1,6 @@
 -- Retype by what its checks answer.
-use Rattle.std.proofs.Common.{ℕ, ◌≡◌, ◌∙◌, ◌+◌, ◌*◌, ◌^◌, ◌≤◌, Bool, true, false, not, nat_le, nat_lt, if◌then◌else◌, Option, Some, None, Result, Ok, Err, List, refl, sym, ap, arith}
+use Rattle.std.proofs.Common.{ℕ, ◌≡◌, ◌∙◌, ◌+◌, ◌*◌, ◌^◌, ◌≤◌, Bool, true, false, not, nat_le, nat_lt, if◌then◌else◌, Option, Some, None, Result, Ok, Err, List}
+use Rattle.std.proofs.Common.{refl, sym, ap, arith}
 use Rattle.std.specs.Option.{option_map_or}
 use Rattle.std.proofs.lemmas.Bool.{leb-true}
 use Rattle.model.specs.declared.capabilities.Cap.TheVariants.{Untyped}
@@ -27,17 +28,19 @@ use Rattle.typestate.proofs.Allowed.{chain, kernel-refuses}
 -- ---- the type
 
 abbrev sized_type : Option NewObject → Result NewObject KError
-sized_type found = wanted found InvalidArgument >>= λ new. check (is_large_enough new) InvalidArgument >>= λ _. check (is_small_enough new) RangeError >>= λ _. Ok new
+sized_type found = wanted found InvalidArgument >>= λ new. check (is_large_enough new) InvalidArgument >>= λ _. check (is_small_enough new) RangeError >>= λ _.
+    Ok new
 
 asked-from : (found : Option NewObject) (new : NewObject) → sized_type found ≡ Ok new → found ≡ Some new
 asked-from None new is = absurd (let clash : Err InvalidArgument ≡ Ok new = is in cc)
-asked-from (Some other) new is = elim (is_large_enough other) as (λ b. (check b InvalidArgument >>= λ _. check (is_small_enough other) RangeError >>= λ _. Ok other) ≡ Ok new → Some other ≡ Some new) [
-  | false ↦ λ clash. absurd (let no : Err InvalidArgument ≡ Ok new = clash in cc)
-  | true ↦ elim (is_small_enough other) as (λ b. (check b RangeError >>= λ _. Ok other) ≡ Ok new → Some other ≡ Some new) [
-    | false ↦ λ clash. absurd (let no : Err RangeError ≡ Ok new = clash in cc)
-    | true ↦ λ same. let one : other ≡ new = (let both : Ok other ≡ Ok new = same in cc) in ap (λ (x : NewObject). Some x) one
-  ]
-] is
+asked-from (Some other) new is = elim (is_large_enough other)
+    as (λ b. (check b InvalidArgument >>= λ _. check (is_small_enough other) RangeError >>= λ _. Ok other) ≡ Ok new → Some other ≡ Some new) [
+      | false ↦ λ clash. absurd (let no : Err InvalidArgument ≡ Ok new = clash in cc)
+      | true ↦ elim (is_small_enough other) as (λ b. (check b RangeError >>= λ _. Ok other) ≡ Ok new → Some other ≡ Some new) [
+        | false ↦ λ clash. absurd (let no : Err RangeError ≡ Ok new = clash in cc)
+        | true ↦ λ same. let one : other ≡ new = (let both : Ok other ≡ Ok new = same in cc) in ap (λ (x : NewObject). Some x) one
+      ]
+    ] is
 
 pub asked-type : (kind size : ℕ) (new : NewObject) → type_asked kind size ≡ Ok new → type_of kind size ≡ Some new
 asked-type kind size new is = asked-from (type_of kind size) new is
@@ -45,7 +48,8 @@ asked-type kind size new is = asked-from (type_of kind size) new is
 pub bits-new : (kind size bits : ℕ) → Ok bits ≡ bits_asked kind size → (new : NewObject) × (type_asked kind size ≡ Ok new) × (object_bits new ≡ bits)
 bits-new kind size bits is = by-type (type_asked kind size) is
   where
-    by-type : (found : Result NewObject KError) → Ok bits ≡ (found >>= λ new. Ok (object_bits new)) → (new : NewObject) × (found ≡ Ok new) × (object_bits new ≡ bits)
+    by-type : (found : Result NewObject KError) → Ok bits ≡ (found >>= λ new. Ok (object_bits new)) → (new : NewObject) × (found ≡ Ok new)
+        × (object_bits new ≡ bits)
     by-type (Ok new) same = (new, refl, let both : Ok bits ≡ Ok (object_bits new) = same in let one : bits ≡ object_bits new = cc in sym one)
     by-type (Err error) clash = absurd (let no : Ok bits ≡ Err error = clash in cc)
 
@@ -54,7 +58,8 @@ bits-error kind size error is = by-type (type_asked kind size) is
   where
     by-type : (found : Result NewObject KError) → Err error ≡ (found >>= λ new. Ok (object_bits new)) → found ≡ Err error
     by-type (Ok new) clash = absurd (let no : Err error ≡ Ok (object_bits new) = clash in cc)
-    by-type (Err other) same = let one : error ≡ other = (let both : Err error ≡ Err other = same in cc) in ap (λ (e : KError). let r : Result NewObject KError = Err e in r) (sym one)
+    by-type (Err other) same = let one : error ≡ other = (let both : Err error ≡ Err other = same in cc) in
+        ap (λ (e : KError). let r : Result NewObject KError = Err e in r) (sym one)
 
 -- ---- the place
 
@@ -123,40 +128,54 @@ module _ (image : Image) (t : Thread) (slots : List NotedSlot) (held : NotedSlot
       bools true true true (Some place) k = refl
 
       steps : (o : Option NewObject) (r : Result Node KError)
-          → (wanted o InvalidArgument >>= λ new. check (is_large_enough new) InvalidArgument >>= λ _. check (is_small_enough new) RangeError >>= λ _. r >>= λ cnode.
-          check (fits_node cnode.radix call.index call.count) RangeError >>= λ _. check (not (any_full all (slot_of cnode.offset call.index) call.count)) DeleteFirst >>= λ _.
-          check (nat_lt (depth_of all slot) 255) IllegalOperation >>= λ _. wanted (placement memory.bits memory.watermark (object_bits new) call.count) NotEnoughMemory >>= λ place. Ok (effect new cnode place))
+          → (wanted o InvalidArgument >>= λ new. check (is_large_enough new) InvalidArgument >>= λ _. check (is_small_enough new) RangeError >>= λ _. r
+          >>= λ cnode.
+          check (fits_node cnode.radix call.index call.count) RangeError >>= λ _.
+          check (not (any_full all (slot_of cnode.offset call.index) call.count)) DeleteFirst >>= λ _.
+          check (nat_lt (depth_of all slot) 255) IllegalOperation >>= λ _.
+          wanted (placement memory.bits memory.watermark (object_bits new) call.count) NotEnoughMemory >>= λ place. Ok (effect new cnode place))
           ≡ (sized_type o >>= λ new. behind_node new r)
       steps None r = refl
       steps (Some new) r = elim (is_large_enough new) as (λ b. (check b InvalidArgument >>= λ _. check (is_small_enough new) RangeError >>= λ _. r >>= λ cnode.
-          check (fits_node cnode.radix call.index call.count) RangeError >>= λ _. check (not (any_full all (slot_of cnode.offset call.index) call.count)) DeleteFirst >>= λ _.
-          check (nat_lt (depth_of all slot) 255) IllegalOperation >>= λ _. wanted (placement memory.bits memory.watermark (object_bits new) call.count) NotEnoughMemory >>= λ place. Ok (effect new cnode place))
+          check (fits_node cnode.radix call.index call.count) RangeError >>= λ _.
+          check (not (any_full all (slot_of cnode.offset call.index) call.count)) DeleteFirst >>= λ _.
+          check (nat_lt (depth_of all slot) 255) IllegalOperation >>= λ _.
+          wanted (placement memory.bits memory.watermark (object_bits new) call.count) NotEnoughMemory >>= λ place. Ok (effect new cnode place))
           ≡ ((check b InvalidArgument >>= λ _. check (is_small_enough new) RangeError >>= λ _. Ok new) >>= λ new. behind_node new r)) [
             | false ↦ refl
             | true ↦ elim (is_small_enough new) as (λ b. (check b RangeError >>= λ _. r >>= λ cnode.
-                check (fits_node cnode.radix call.index call.count) RangeError >>= λ _. check (not (any_full all (slot_of cnode.offset call.index) call.count)) DeleteFirst >>= λ _.
-                check (nat_lt (depth_of all slot) 255) IllegalOperation >>= λ _. wanted (placement memory.bits memory.watermark (object_bits new) call.count) NotEnoughMemory >>= λ place. Ok (effect new cnode place))
+                check (fits_node cnode.radix call.index call.count) RangeError >>= λ _.
+                check (not (any_full all (slot_of cnode.offset call.index) call.count)) DeleteFirst >>= λ _.
+                check (nat_lt (depth_of all slot) 255) IllegalOperation >>= λ _.
+                wanted (placement memory.bits memory.watermark (object_bits new) call.count) NotEnoughMemory >>= λ place. Ok (effect new cnode place))
                 ≡ ((check b RangeError >>= λ _. Ok new) >>= λ new. behind_node new r)) [
                   | false ↦ refl
                   | true ↦ by-node new r
                 ]
           ]
         where
-          by-node : (new : NewObject) (r : Result Node KError) → (r >>= λ cnode. check (fits_node cnode.radix call.index call.count) RangeError >>= λ _. check (not (any_full all (slot_of cnode.offset call.index) call.count)) DeleteFirst >>= λ _.
-              check (nat_lt (depth_of all slot) 255) IllegalOperation >>= λ _. wanted (placement memory.bits memory.watermark (object_bits new) call.count) NotEnoughMemory >>= λ place. Ok (effect new cnode place)) ≡ behind_node new r
+          by-node : (new : NewObject) (r : Result Node KError) →
+              (r >>= λ cnode. check (fits_node cnode.radix call.index call.count) RangeError >>= λ _.
+              check (not (any_full all (slot_of cnode.offset call.index) call.count)) DeleteFirst >>= λ _.
+              check (nat_lt (depth_of all slot) 255) IllegalOperation >>= λ _.
+              wanted (placement memory.bits memory.watermark (object_bits new) call.count) NotEnoughMemory >>= λ place. Ok (effect new cnode place))
+              ≡ behind_node new r
           by-node new (Err error) = refl
           by-node new (Ok cnode) =
-              bools (fits_node cnode.radix call.index call.count) (not (any_full all (slot_of cnode.offset call.index) call.count)) (nat_lt (depth_of all slot) 255)
+              bools (fits_node cnode.radix call.index call.count) (not (any_full all (slot_of cnode.offset call.index) call.count))
+              (nat_lt (depth_of all slot) 255)
               (placement memory.bits memory.watermark (object_bits new) call.count) (λ place. Ok (effect new cnode place))
 
   module _ (at : Point) where
     abbrev travels : Bool
     travels = may_make (type_of call.kind call.size)
 
-    pub pool-refused : (error : KError) → behind_type (type_asked call.kind call.size) ≡ Err error → held_after image t at slots held (OnUntyped memory call) ≡ Err (CallRefused at error)
+    pub pool-refused : (error : KError) → behind_type (type_asked call.kind call.size) ≡ Err error →
+        held_after image t at slots held (OnUntyped memory call) ≡ Err (CallRefused at error)
     pool-refused error is = kernel-refuses image t at false travels (retype s (noted_root image t) slot memory call) error (retype-is ∙ is)
 
-    module _ (new : NewObject) (cnode : Node) (place : ℕ × ℕ) (asked : type_asked call.kind call.size ≡ Ok new) (named : node all (noted_root image t) call.node ≡ Ok cnode) (room : room_of new cnode ≡ Ok place) where
+    module _ (new : NewObject) (cnode : Node) (place : ℕ × ℕ) (asked : type_asked call.kind call.size ≡ Ok new)
+        (named : node all (noted_root image t) call.node ≡ Ok cnode) (room : room_of new cnode ≡ Ok place) where
       passes : retype s (noted_root image t) slot memory call ≡ Ok (effect new cnode place)
       passes =
           retype-is ∙ ap behind_type asked ∙ ap (behind_node new) named

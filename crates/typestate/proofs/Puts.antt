@@ -50,14 +50,17 @@ module _ (image : Image) (t : Thread) (stand : StandsApart image t) where
     | inl same ↦
         let place : s.key ≡ key = same-own-key image t stand s.key key mine.key own same.1 in
         let here : entry_put slots s (slot_of_key image s.key) ≡ Some (kernel_entry image t s) =
-        ap (λ b. if b then Some (kernel_entry image t s) else noted_slots image t slots (slot_of_key image s.key)) (eq-eqb (slot_of_key image s.key) (slot_of_key image s.key) refl) in
-        let there : noted_of image cnodes (entry_put slots s) s.key ≡ Some s = back-of image t stand (entry_put slots s) s.key (kernel_entry image t s) here ∙ entry-back image t stand s mine in
+        ap (λ b. if b then Some (kernel_entry image t s) else noted_slots image t slots (slot_of_key image s.key))
+        (eq-eqb (slot_of_key image s.key) (slot_of_key image s.key) refl) in
+        let there : noted_of image cnodes (entry_put slots s) s.key ≡ Some s = back-of image t stand (entry_put slots s) s.key (kernel_entry image t s) here
+        ∙ entry-back image t stand s mine in
         ap (noted_of image cnodes (entry_put slots s)) (sym place) ∙ there
         ∙ sym (noted-at slots s key ∙ ap (λ b. if b then left_by s else slot_at slots key) same.0 ∙ ap (λ b. if b then None else Some s) mine.full)
     | inr other ↦
         let apart = places-apart key s.key own mine.key (λ same. other.1 (sym same)) in
         let here : entry_put slots s (slot_of_key image key) ≡ Some (noted_entry image t slots key) =
-        ap (λ b. if b then Some (kernel_entry image t s) else noted_slots image t slots (slot_of_key image key)) apart ∙ noted-here image t stand slots key own in
+        ap (λ b. if b then Some (kernel_entry image t s) else noted_slots image t slots (slot_of_key image key)) apart
+        ∙ noted-here image t stand slots key own in
         back-of image t stand (entry_put slots s) key (noted_entry image t slots key) here
         ∙ sym (back-of image t stand (noted_slots image t slots) key (noted_entry image t slots key) (noted-here image t stand slots key own))
         ∙ noted-back image t stand slots key are own

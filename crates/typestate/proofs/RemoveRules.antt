@@ -1,5 +1,6 @@
 -- Delete and Revoke by the slot that they name.
-use Rattle.std.proofs.Common.{ℕ, zero, suc, ◌≡◌, ◌∙◌, ◌==◌, ◌+◌, ◌||◌, inl, inr, Bool, true, false, not, if◌then◌else◌, Option, Some, None, is_some, option_and_then, Result, Ok, Err, List, refl, sym, ap, subst, arith}
+use Rattle.std.proofs.Common.{ℕ, zero, suc, ◌≡◌, ◌∙◌, ◌==◌, ◌+◌, ◌||◌, inl, inr, Bool, true, false, not, if◌then◌else◌, Option, Some, None, is_some}
+use Rattle.std.proofs.Common.{option_and_then, Result, Ok, Err, List, refl, sym, ap, subst, arith}
 use Rattle.std.specs.Option.{option_map_or}
 use Rattle.std.proofs.lemmas.Bool.{eq-eqb, eqb-true, ne_eqb}
 use Rattle.std.proofs.lemmas.Bool.Decides.{eqb_tells}
@@ -14,7 +15,8 @@ use Rattle.model.specs.Kernel.Arguments.{◌>>=◌, argument_slot}
 use Rattle.model.specs.Kernel.Removal.{delete, remove, revoke}
 use Rattle.model.specs.Kernel.State.{State}
 use Rattle.model.specs.declared.capabilities.Cap.{Cap}
-use Rattle.model.specs.declared.capabilities.Cap.TheVariants.{Empty, Untyped, Endpoint, Notification, CNode, Frame, PageTable, Tcb, RootTable, InterruptControl, InterruptHandler}
+use Rattle.model.specs.declared.capabilities.Cap.TheVariants.{Empty, Untyped, Endpoint, Notification, CNode, Frame, PageTable, Tcb, RootTable, InterruptControl}
+use Rattle.model.specs.declared.capabilities.Cap.TheVariants.{InterruptHandler}
 use Rattle.model.specs.declared.errors.KError.{KError}
 use Rattle.model.specs.declared.invocations.CNodeCall.TheVariants.{Delete, Revoke}
 use Rattle.model.specs.declared.invocations.SlotName.{SlotName}
@@ -35,7 +37,8 @@ use Rattle.typestate.proofs.Rising.{RiseFrom}
 use Rattle.typestate.proofs.Standing.{IsOwnSlot, come-back-from, found-own}
 
 -- a call that loses a pool, whatever it leaves
-chain-lost : (image : Image) (t : Thread) (at : Point) (loses travels : Bool) (r : Result State KError) (after : Slots) → slots_allowed r ≡ Ok after → loses ≡ true
+chain-lost : (image : Image) (t : Thread) (at : Point) (loses travels : Bool) (r : Result State KError) (after : Slots) → slots_allowed r ≡ Ok after →
+    loses ≡ true
     → chain image t at loses travels r ≡ Err (PoolLost at)
 chain-lost image t at true travels (Ok s) after is lost = refl
 chain-lost image t at true travels (Err error) after is lost = absurd (let clash : Err error ≡ Ok after = is in cc)
@@ -60,7 +63,8 @@ empty-no-pool c is = elim (is_untyped c) as (λ b. is_untyped c ≡ b → b ≡ 
   | false ↦ λ _. refl
 ] refl
 
-module _ (image : Image) (t : Thread) (stand : StandsApart image t) (slots : List NotedSlot) (are : AreOwn image t slots) (k : SlotKey) (mine : is_own image (reached image t) k ≡ true) where
+module _ (image : Image) (t : Thread) (stand : StandsApart image t) (slots : List NotedSlot) (are : AreOwn image t slots) (k : SlotKey)
+    (mine : is_own image (reached image t) k ≡ true) where
   abbrev cnodes : List ℕ
   cnodes = reached image t
 
@@ -87,17 +91,19 @@ module _ (image : Image) (t : Thread) (stand : StandsApart image t) (slots : Lis
   -- ---- what descends
 
   outside-F : (slot : ℕ) → key_of image cnodes slot ≡ None → (slot == F) ≡ false
-  outside-F slot none = ne_eqb slot F (λ same. absurd (let clash : None ≡ Some k = sym none ∙ ap (key_of image cnodes) same ∙ own-named image t stand k mine in cc))
+  outside-F slot none =
+      ne_eqb slot F (λ same. absurd (let clash : None ≡ Some k = sym none ∙ ap (key_of image cnodes) same ∙ own-named image t stand k mine in cc))
 
   descends-there : (n slot : ℕ) → key_of image cnodes slot ≡ None → descends_within n parents F slot ≡ false
   unfolding descends_within
   descends-there zero slot none = refl
-  descends-there (suc n) slot none = elim (parents slot) as (λ o. parents slot ≡ o → option_map_or (λ parent. parent == F || descends_within n parents F parent) o false ≡ false) [
-    | None ↦ λ _. refl
-    | Some p ↦ λ is.
-        let further = stays-there image t stand slots are slot p none is in
-        ap (λ b. b || descends_within n parents F p) (outside-F p further) ∙ descends-there n p further
-  ] refl
+  descends-there (suc n) slot none = elim (parents slot) as (λ o. parents slot ≡ o →
+      option_map_or (λ parent. parent == F || descends_within n parents F parent) o false ≡ false) [
+        | None ↦ λ _. refl
+        | Some p ↦ λ is.
+            let further = stays-there image t stand slots are slot p none is in
+            ap (λ b. b || descends_within n parents F p) (outside-F p further) ∙ descends-there n p further
+      ] refl
 
   found-descends : (n : ℕ) (found : Option NotedSlot) → ((s : NotedSlot) → found ≡ Some s → IsOwnSlot image t s)
       → ((key : SlotKey) → is_own image cnodes key ≡ true → descends_within n parents F (slot_of_key image key) ≡ noted_descends n slots k key)
@@ -107,7 +113,8 @@ module _ (image : Image) (t : Thread) (stand : StandsApart image t) (slots : Lis
   found-descends n (Some s) own above = by-parent s.parent (own s refl).parent
     where
       by-parent : (parent : Option SlotKey) → option_map_or (is_own image cnodes) parent true ≡ true
-          → ((option_map_or (slot_of_key image) parent (boot_parent image t s.capability) == F) || descends_within n parents F (option_map_or (slot_of_key image) parent (boot_parent image t s.capability)))
+          → ((option_map_or (slot_of_key image) parent (boot_parent image t s.capability) == F)
+          || descends_within n parents F (option_map_or (slot_of_key image) parent (boot_parent image t s.capability)))
           ≡ option_map_or (λ p. is_same_key p k || noted_descends n slots k p) parent false
       by-parent None own-parent =
           let boot = boot_parent image t s.capability in
@@ -115,7 +122,8 @@ module _ (image : Image) (t : Thread) (stand : StandsApart image t) (slots : Lis
           ap (λ b. b || descends_within n parents F boot) (outside-F boot there) ∙ descends-there n boot there
       by-parent (Some p) own-parent = elim (eqb_tells (number_of p) (number_of k)) [
         | inl same ↦
-            ap (λ b. b || descends_within n parents F (slot_of_key image p)) (eq-eqb (slot_of_key image p) F (ap (slot_of_key image) (same-own-key image t stand p k own-parent mine same.1)))
+            ap (λ b. b || descends_within n parents F (slot_of_key image p))
+            (eq-eqb (slot_of_key image p) F (ap (slot_of_key image) (same-own-key image t stand p k own-parent mine same.1)))
             ∙ ap (λ b. b || noted_descends n slots k p) (sym same.0)
         | inr other ↦
             ap (λ b. b || descends_within n parents F (slot_of_key image p)) (places-apart image t stand p k own-parent mine other.1) ∙ above p own-parent
@@ -134,7 +142,8 @@ module _ (image : Image) (t : Thread) (stand : StandsApart image t) (slots : Lis
   unfolding descends_within depth_within
   descends-deep zero slot = refl
   descends-deep (suc n) slot = elim (parents slot) as (λ o. parents slot ≡ o
-      → descends_within (option_map_or (λ parent. depth_within n parents parent + 1) o 0) parents F slot ≡ option_map_or (λ parent. parent == F || descends_within n parents F parent) o false) [
+      → descends_within (option_map_or (λ parent. depth_within n parents parent + 1) o 0) parents F slot ≡ option_map_or
+      (λ parent. parent == F || descends_within n parents F parent) o false) [
         | None ↦ λ _. refl
         | Some p ↦ λ is.
             let one : depth_within n parents p + 1 ≡ suc (depth_within n parents p) = omega arith in
@@ -169,11 +178,13 @@ module _ (image : Image) (t : Thread) (at : Point) (slots : List NotedSlot) (cap
 
   pub delete-refused : (error : KError) → named ≡ Err error → cnode_after image t at slots capability (Delete name) ≡ Err (CallRefused at error)
   unfolding noted_kernel
-  delete-refused error is = kernel-refuses image t at loses true (named >>= λ slot. delete state slot) error (ap (λ (r : Result ℕ KError). r >>= λ slot. delete state slot) is)
+  delete-refused error is = kernel-refuses image t at loses true (named >>= λ slot. delete state slot) error
+      (ap (λ (r : Result ℕ KError). r >>= λ slot. delete state slot) is)
 
   pub revoke-refused : (error : KError) → named ≡ Err error → cnode_after image t at slots capability (Revoke name) ≡ Err (CallRefused at error)
   unfolding noted_kernel
-  revoke-refused error is = kernel-refuses image t at false true (named >>= λ slot. revoke state slot) error (ap (λ (r : Result ℕ KError). r >>= λ slot. revoke state slot) is)
+  revoke-refused error is = kernel-refuses image t at false true (named >>= λ slot. revoke state slot) error
+      (ap (λ (r : Result ℕ KError). r >>= λ slot. revoke state slot) is)
 
   module _ (stand : StandsApart image t) (are : AreOwn image t slots) (none : NothingLeadsOutside image t slots) (rises : RiseFrom 0 slots)
       (x : ℕ) (k : SlotKey) (held : Cap) (is : named ≡ Ok x) (keyed : key_of image (reached image t) x ≡ Some k) (holds : capability_at all x ≡ held) where
@@ -187,17 +198,23 @@ module _ (image : Image) (t : Thread) (at : Point) (slots : List NotedSlot) (cap
         ∙ ap (λ c. if not (is_empty c) then remove state (λ other. other == x) else Ok state) holds
         ∙ ap (λ c. if not c then remove state (λ other. other == x) else Ok state) empty
 
-    one-left : (after : Slots) × (slots_allowed (remove state (λ other. other == x)) ≡ Ok after) × (noted_after image t after ≡ without_gone (is_removed slots (One k)) slots)
+    one-left : (after : Slots) × (slots_allowed (remove state (λ other. other == x)) ≡ Ok after)
+        × (noted_after image t after ≡ without_gone (is_removed slots (One k)) slots)
     one-left =
         let here = key-named image (reached image t) x k keyed in
-        subst (λ y. (after : Slots) × (slots_allowed (remove state (λ other. other == y)) ≡ Ok after) × (noted_after image t after ≡ without_gone (is_removed slots (One k)) slots)) here.place
-        (removal-left image t stand slots are none (λ other. other == slot_of_key image k) (is_removed slots (One k)) (one-same image t stand slots are k here.own) (one-inside image t stand slots are k here.own) rises)
+        subst (λ y. (after : Slots) × (slots_allowed (remove state (λ other. other == y)) ≡ Ok after)
+        × (noted_after image t after ≡ without_gone (is_removed slots (One k)) slots)) here.place
+        (removal-left image t stand slots are none (λ other. other == slot_of_key image k) (is_removed slots (One k))
+        (one-same image t stand slots are k here.own) (one-inside image t stand slots are k here.own) rises)
 
-    below-left : (after : Slots) × (slots_allowed (remove state (is_descendant all x)) ≡ Ok after) × (noted_after image t after ≡ without_gone (is_removed slots (Below k)) slots)
+    below-left : (after : Slots) × (slots_allowed (remove state (is_descendant all x)) ≡ Ok after)
+        × (noted_after image t after ≡ without_gone (is_removed slots (Below k)) slots)
     below-left =
         let here = key-named image (reached image t) x k keyed in
-        subst (λ y. (after : Slots) × (slots_allowed (remove state (is_descendant all y)) ≡ Ok after) × (noted_after image t after ≡ without_gone (is_removed slots (Below k)) slots)) here.place
-        (removal-left image t stand slots are none (is_descendant all (slot_of_key image k)) (is_removed slots (Below k)) (below-same image t stand slots are k here.own) (below-inside image t stand slots are k here.own) rises)
+        subst (λ y. (after : Slots) × (slots_allowed (remove state (is_descendant all y)) ≡ Ok after)
+        × (noted_after image t after ≡ without_gone (is_removed slots (Below k)) slots)) here.place
+        (removal-left image t stand slots are none (is_descendant all (slot_of_key image k)) (is_removed slots (Below k))
+        (below-same image t stand slots are k here.own) (below-inside image t stand slots are k here.own) rises)
 
     pub delete-pool : is_untyped held ≡ true → cnode_after image t at slots capability (Delete name) ≡ Err (PoolLost at)
     unfolding noted_kernel
@@ -212,7 +229,8 @@ module _ (image : Image) (t : Thread) (at : Point) (slots : List NotedSlot) (cap
         ∙ ap (λ (r : Result State KError). allowed_slots image t at true (slots_allowed r)) (deletes true empty)
         ∙ ap (λ (l : List NotedSlot). let r : Result (List NotedSlot) Refusal = Ok l in r) (come-back-from image t stand slots rises are)
 
-    pub delete-goes : is_untyped held ≡ false → is_empty held ≡ false → cnode_after image t at slots capability (Delete name) ≡ Ok (without_gone (is_removed slots (One k)) slots)
+    pub delete-goes : is_untyped held ≡ false → is_empty held ≡ false →
+        cnode_after image t at slots capability (Delete name) ≡ Ok (without_gone (is_removed slots (One k)) slots)
     unfolding noted_kernel
     delete-goes other full =
         allowed-unless image t at loses true (named >>= λ slot. delete state slot) (loses-is ∙ other)

@@ -1,5 +1,6 @@
 -- What a removal of a thread's slots leaves is told by its noted slots.
-use Rattle.std.proofs.Common.{ℕ, zero, suc, ◌≡◌, ◌∙◌, ◌==◌, ◌+◌, ◌≤◌, ◌&&◌, inl, inr, Bool, true, false, not, if◌then◌else◌, Option, Some, None, is_some, option_and_then, List, [], ◌∷◌, refl, sym, ap, subst, arith}
+use Rattle.std.proofs.Common.{ℕ, zero, suc, ◌≡◌, ◌∙◌, ◌==◌, ◌+◌, ◌≤◌, ◌&&◌, inl, inr, Bool, true, false, not, if◌then◌else◌, Option, Some, None, is_some}
+use Rattle.std.proofs.Common.{option_and_then, List, [], ◌∷◌, refl, sym, ap, subst, arith}
 use Rattle.std.specs.Option.{option_map_or}
 use Rattle.std.specs.List.{cons_option, filter_map, list_any}
 use Rattle.std.proofs.lemmas.Bool.{eq-eqb, ne_eqb}
@@ -11,7 +12,8 @@ use Rattle.model.specs.Capabilities.Slots.{Slots, is_empty, parent_at}
 use Rattle.model.specs.Images.Image.{Image, Thread}
 use Rattle.model.specs.Kernel.Removal.{SlotSet, ancestor_outside, is_some_slot}
 use Rattle.model.specs.declared.capabilities.Cap.{Cap}
-use Rattle.model.specs.declared.capabilities.Cap.TheVariants.{Empty, Untyped, Endpoint, Notification, CNode, Frame, PageTable, Tcb, RootTable, InterruptControl, InterruptHandler}
+use Rattle.model.specs.declared.capabilities.Cap.TheVariants.{Empty, Untyped, Endpoint, Notification, CNode, Frame, PageTable, Tcb, RootTable, InterruptControl}
+use Rattle.model.specs.declared.capabilities.Cap.TheVariants.{InterruptHandler}
 use Rattle.removal_laws.proofs.Laws.{bool-iff, found, found-at, found-where, outside-in, outside-none, outside-out, outside-zero}
 use Rattle.typestate.specs.SlotChanges.{cap_left, heir, is_parent, loses_children, noted_outside, noted_parent, slot_left, what_stays}
 use Rattle.typestate.specs.Spaces.{AreOwn, StandsApart}
@@ -32,13 +34,17 @@ rise-lower : (slots : List NotedSlot) (low least : ℕ) → low ≤ least → Ri
 rise-lower [] low least less rises = tt
 rise-lower (s ∷ rest) low least less rises = (omega (arith, less, rises.0), rises.1)
 
-pub stay-rise : (g : NotedSlot → Option NotedSlot) → KeepsKeyOf g → (slots : List NotedSlot) (least : ℕ) → RiseFrom least slots → RiseFrom least (filter_map g slots)
+pub stay-rise : (g : NotedSlot → Option NotedSlot) → KeepsKeyOf g → (slots : List NotedSlot) (least : ℕ) → RiseFrom least slots →
+    RiseFrom least (filter_map g slots)
 stay-rise g keeps [] least rises = tt
 stay-rise g keeps (s ∷ rest) least rises = elim (g s) as (λ o. g s ≡ o → RiseFrom least (cons_option o (filter_map g rest))) [
   | None ↦ λ _. rise-lower (filter_map g rest) least (number_of s.key + 1) (omega (arith, rises.0)) (stay-rise g keeps rest (number_of s.key + 1) rises.1)
   | Some r ↦ λ is.
-      let same : number_of r.key ≡ number_of s.key = ap number_of (keeps s r is) in
-      (subst (λ n. least ≤ n) (sym same) rises.0, subst (λ n. RiseFrom (n + 1) (filter_map g rest)) (sym same) (stay-rise g keeps rest (number_of s.key + 1) rises.1))
+      let same : number_of r.key ≡ number_of s.key = ap number_of (keeps s r is) in (
+        subst (λ n. least ≤ n) (sym same) rises.0,
+        subst (λ n. RiseFrom (n + 1) (filter_map g rest)) (sym same)
+            (stay-rise g keeps rest (number_of s.key + 1) rises.1),
+      )
 ] refl
 
 pub stay-at : (g : NotedSlot → Option NotedSlot) → KeepsKeyOf g → (slots : List NotedSlot) (least : ℕ) (key : SlotKey) → RiseFrom least slots
@@ -66,7 +72,8 @@ stay-at g keeps (s ∷ rest) least key rises = elim (eqb_tells (number_of s.key)
 pub stays-keeps : (gone : SlotKey → Bool) (slots : List NotedSlot) → KeepsKeyOf (what_stays gone slots)
 stays-keeps gone slots s r is = elim (gone s.key) as (λ b. (if b then None else Some (slot_left gone slots s)) ≡ Some r → r.key ≡ s.key) [
   | true ↦ λ clash. absurd (let nothing : None ≡ Some r = clash in cc)
-  | false ↦ λ here. let one : slot_left gone slots s ≡ r = (let both : Some (slot_left gone slots s) ≡ Some r = here in cc) in ap (λ (x : NotedSlot). x.key) (sym one)
+  | false ↦ λ here. let one : slot_left gone slots s ≡ r = (let both : Some (slot_left gone slots s) ≡ Some r = here in cc) in
+      ap (λ (x : NotedSlot). x.key) (sym one)
 ] is
 
 pub reset-full : (b : Bool) (c : Cap) → is_empty (reset b c) ≡ is_empty c
@@ -82,7 +89,8 @@ reset-full b (RootTable _) = refl
 reset-full b InterruptControl = refl
 reset-full b (InterruptHandler _) = refl
 
-pub reset-left : (gone : SlotKey → Bool) (slots : List NotedSlot) (key : SlotKey) (c : Cap) → reset (loses_children gone slots key) c ≡ cap_left gone slots key c
+pub reset-left : (gone : SlotKey → Bool) (slots : List NotedSlot) (key : SlotKey) (c : Cap) →
+    reset (loses_children gone slots key) c ≡ cap_left gone slots key c
 reset-left gone slots key Empty = refl
 reset-left gone slots key (Untyped _ _ _) = refl
 reset-left gone slots key (Endpoint _ _ _) = refl
@@ -137,7 +145,8 @@ module _ (image : Image) (t : Thread) (stand : StandsApart image t) (slots : Lis
     unfolding noted_outside
     noted-zero p = refl
 
-    noted-step : (n : ℕ) (p : SlotKey) → noted_outside (suc n) gone slots (Some p) ≡ (if gone p then noted_outside n gone slots (noted_parent slots p) else Some p)
+    noted-step : (n : ℕ) (p : SlotKey) → noted_outside (suc n) gone slots (Some p)
+        ≡ (if gone p then noted_outside n gone slots (noted_parent slots p) else Some p)
     unfolding noted_outside
     noted-step n p = refl
 
@@ -145,11 +154,15 @@ module _ (image : Image) (t : Thread) (stand : StandsApart image t) (slots : Lis
         → key_in (ancestor_outside n every all_slots (below_of parent capability)) ≡ noted_outside n gone slots parent
     above-here zero parent capability own = ap key_in (outside-zero every all_slots (below_of parent capability)) ∙ sym (noted-zero parent)
     above-here (suc n) None capability own =
-        above-there (suc n) (below_of None capability) (λ q is. subst (λ m. key_at m ≡ None) (let both : boot_parent image t capability ≡ q = (let same : Some (boot_parent image t capability) ≡ Some q = is in cc) in both) (boot-there image t stand slots are capability))
+        above-there (suc n) (below_of None capability)
+        (λ q is. subst (λ m. key_at m ≡ None) (let both : boot_parent image t capability ≡ q =
+        (let same : Some (boot_parent image t capability) ≡ Some q = is in cc) in both)
+        (boot-there image t stand slots are capability))
         ∙ sym (noted-none (suc n))
     above-here (suc n) (Some p) capability own =
         let place = slot_of_key image p in
-        elim (gone p) as (λ b. gone p ≡ b → key_in (ancestor_outside (suc n) every all_slots (Some place)) ≡ (if b then noted_outside n gone slots (noted_parent slots p) else Some p)) [
+        elim (gone p) as (λ b. gone p ≡ b → key_in (ancestor_outside (suc n) every all_slots (Some place))
+        ≡ (if b then noted_outside n gone slots (noted_parent slots p) else Some p)) [
           | true ↦ λ is.
               ap key_in (outside-in n every all_slots place (same p own ∙ is))
               ∙ ap (λ o. key_in (ancestor_outside n every all_slots o)) (parent-here image t stand slots are p own)
@@ -159,8 +172,10 @@ module _ (image : Image) (t : Thread) (stand : StandsApart image t) (slots : Lis
         ∙ sym (noted-step n p)
       where
         further : (n : ℕ) (found : Option NotedSlot) → ((s : NotedSlot) → found ≡ Some s → IsOwnSlot image t s)
-            → ((parent : Option SlotKey) (capability : Cap) → option_map_or (is_own image cnodes) parent true ≡ true → key_in (ancestor_outside n every all_slots (below_of parent capability)) ≡ noted_outside n gone slots parent)
-            → key_in (ancestor_outside n every all_slots (parent_found image t stand slots are found)) ≡ noted_outside n gone slots (option_and_then (λ s. s.parent) found)
+            → ((parent : Option SlotKey) (capability : Cap) → option_map_or (is_own image cnodes) parent true ≡ true →
+            key_in (ancestor_outside n every all_slots (below_of parent capability)) ≡ noted_outside n gone slots parent)
+            → key_in (ancestor_outside n every all_slots (parent_found image t stand slots are found)) ≡ noted_outside n gone slots
+            (option_and_then (λ s. s.parent) found)
         further n None mine again = ap key_in (outside-none n every all_slots) ∙ sym (noted-none n)
         further n (Some s) mine again = again s.parent s.capability (mine s refl).parent
 
@@ -209,7 +224,8 @@ module _ (image : Image) (t : Thread) (stand : StandsApart image t) (slots : Lis
               | Some r ↦ λ at holding.
                   let mine = found-own image t slots held.key r are at in
                   let again : slot_at slots r.key ≡ Some r = same-place slots r.key held.key (found-key slots held.key r at) ∙ at in
-                  found-at image.header.memory_bits (slot_of_key image r.key) passes (stand.within (slot_of_key image r.key) r.key (own-named image t stand r.key mine.key)) (here r.key r mine.key again ∙ holding)
+                  found-at image.header.memory_bits (slot_of_key image r.key) passes
+                  (stand.within (slot_of_key image r.key) r.key (own-named image t stand r.key mine.key)) (here r.key r mine.key again ∙ holding)
             ] refl held.holding
 
     parent-out : (child : ℕ) → key_at child ≡ None → key_in (parent_at all_slots child) ≡ None
@@ -218,7 +234,8 @@ module _ (image : Image) (t : Thread) (stand : StandsApart image t) (slots : Lis
       | Some p ↦ λ is. stays-there image t stand slots are child p none is
     ] refl
 
-    pub parent-of : (k : SlotKey) (r : NotedSlot) → is_own image cnodes k ≡ true → slot_at slots k ≡ Some r → parent_at all_slots (slot_of_key image k) ≡ below_of r.parent r.capability
+    pub parent-of : (k : SlotKey) (r : NotedSlot) → is_own image cnodes k ≡ true → slot_at slots k ≡ Some r →
+        parent_at all_slots (slot_of_key image k) ≡ below_of r.parent r.capability
     parent-of k r own at = parent-here image t stand slots are k own ∙ ap (parent_found image t stand slots are) at
 
     parent-none : (k : SlotKey) → is_own image cnodes k ≡ true → slot_at slots k ≡ None → parent_at all_slots (slot_of_key image k) ≡ None
@@ -240,21 +257,27 @@ module _ (image : Image) (t : Thread) (stand : StandsApart image t) (slots : Lis
     went-noted : RiseFrom 0 slots → (key : SlotKey) → is_own image cnodes key ≡ true
         → found image.header.memory_bits (went key) ≡ list_any (λ s. gone s.key && is_parent key s.parent) slots
     went-noted rises key own = found-noted rises (went key) (λ s. gone s.key && is_parent key s.parent)
-        (λ child none. ap (λ b. every child && b) (child-of key (parent_at all_slots child) own ∙ ap (is_parent key) (parent-out child none)) ∙ and-nothing (every child))
-        (λ k mine none. ap (λ o. every (slot_of_key image k) && is_some_slot (slot_of_key image key) o) (parent-none k mine none) ∙ and-nothing (every (slot_of_key image k)))
+        (λ child none. ap (λ b. every child && b) (child-of key (parent_at all_slots child) own ∙ ap (is_parent key) (parent-out child none))
+        ∙ and-nothing (every child))
+        (λ k mine none. ap (λ o. every (slot_of_key image k) && is_some_slot (slot_of_key image key) o) (parent-none k mine none)
+        ∙ and-nothing (every (slot_of_key image k)))
         (λ k r mine at.
         let one = key-same k r mine at in
         ap (λ o. every (slot_of_key image k) && is_some_slot (slot_of_key image key) o) (parent-of k r mine at)
-        ∙ ap (λ b. every (slot_of_key image k) && b) (child-of key (below_of r.parent r.capability) own ∙ ap (is_parent key) (parent-key image t stand r (found-own image t slots k r are at).parent))
+        ∙ ap (λ b. every (slot_of_key image k) && b) (child-of key (below_of r.parent r.capability) own
+        ∙ ap (is_parent key) (parent-key image t stand r (found-own image t slots k r are at).parent))
         ∙ ap (λ b. b && is_parent key r.parent) (same k mine ∙ ap gone (sym one)))
 
     stayed-noted : RiseFrom 0 slots → (key : SlotKey) → is_own image cnodes key ≡ true
         → found image.header.memory_bits (stayed key) ≡ list_any (λ s. not (gone s.key) && is_parent key (heir gone slots s)) slots
     stayed-noted rises key own = found-noted rises (stayed key) (λ s. not (gone s.key) && is_parent key (heir gone slots s))
         (λ child none. ap (λ b. not (every child) && b) (child-of key (ancestor_outside 256 every all_slots (parent_at all_slots child)) own
-        ∙ ap (is_parent key) (above-there 256 (parent_at all_slots child) (λ q up. stays-there image t stand slots are child q none up))) ∙ and-nothing (not (every child)))
-        (λ k mine none. ap (λ o. not (every (slot_of_key image k)) && is_some_slot (slot_of_key image key) (ancestor_outside 256 every all_slots o)) (parent-none k mine none)
-        ∙ ap (λ o. not (every (slot_of_key image k)) && is_some_slot (slot_of_key image key) o) (outside-none 256 every all_slots) ∙ and-nothing (not (every (slot_of_key image k))))
+        ∙ ap (is_parent key) (above-there 256 (parent_at all_slots child) (λ q up. stays-there image t stand slots are child q none up)))
+        ∙ and-nothing (not (every child)))
+        (λ k mine none. ap (λ o. not (every (slot_of_key image k)) && is_some_slot (slot_of_key image key) (ancestor_outside 256 every all_slots o))
+        (parent-none k mine none)
+        ∙ ap (λ o. not (every (slot_of_key image k)) && is_some_slot (slot_of_key image key) o) (outside-none 256 every all_slots)
+        ∙ and-nothing (not (every (slot_of_key image k))))
         (λ k r mine at.
         let one = key-same k r mine at in
         ap (λ o. not (every (slot_of_key image k)) && is_some_slot (slot_of_key image key) (ancestor_outside 256 every all_slots o)) (parent-of k r mine at)

@@ -1,5 +1,6 @@
 -- What entries of a log make of slots.
-use Rattle.std.proofs.Common.{ℕ, ◌≡◌, ◌∙◌, ◌==◌, ◌||◌, Bool, true, false, if◌then◌else◌, Option, Some, None, is_some, option_and_then, option_map, List, [], ◌∷◌, ◌++◌, map, refl, sym, ap, subst}
+use Rattle.std.proofs.Common.{ℕ, ◌≡◌, ◌∙◌, ◌==◌, ◌||◌, Bool, true, false, if◌then◌else◌, Option, Some, None, is_some, option_and_then, option_map, List, []}
+use Rattle.std.proofs.Common.{◌∷◌, ◌++◌, map, refl, sym, ap, subst}
 use Rattle.std.specs.Option.{option_map_or}
 use Rattle.model.specs.Acceptance.NotedStates.{NotedSlot, SlotKey, number_of, slot_at, with_noted}
 use Rattle.model.specs.Capabilities.CapabilityKinds.{frame_mapping}
@@ -30,10 +31,12 @@ replayed-more (e ∷ first) second slots = replayed-more first second (with_entr
 -- ---- where two slots change places as parents
 
 pub exchanged-left : (one other : SlotKey) (c : NotedSlot) → left_by (exchanged one other c) ≡ option_map (exchanged one other) (left_by c)
-exchanged-left one other c = elim (is_empty c.capability) as (λ b. (if b then None else Some (exchanged one other c)) ≡ option_map (exchanged one other) (if b then None else Some c)) [ true ↦ refl | false ↦ refl ]
+exchanged-left one other c = elim (is_empty c.capability)
+    as (λ b. (if b then None else Some (exchanged one other c)) ≡ option_map (exchanged one other) (if b then None else Some c)) [ true ↦ refl | false ↦ refl ]
 
 exchanged-rise : (one other : SlotKey) (changes : List NotedSlot) → Rise changes → Rise (map (exchanged one other) changes)
-exchanged-rise one other changes rises = rise-of (map (exchanged one other) changes) 0 (map-rises (exchanged one other) (λ s. refl) changes 0 (from-first changes rises))
+exchanged-rise one other changes rises = rise-of (map (exchanged one other) changes) 0
+    (map-rises (exchanged one other) (λ s. refl) changes 0 (from-first changes rises))
 
 module _ (one other : SlotKey) where
   abbrev turns : NotedSlot → NotedSlot
@@ -43,7 +46,9 @@ module _ (one other : SlotKey) where
   alone : (s : NotedSlot) → is_some s.parent ≡ false → turns s ≡ s
   alone s none = by-parent s.parent none
     where
-      by-parent : (p : Option SlotKey) → is_some p ≡ false → (let r : NotedSlot = record { key = s.key; capability = s.capability; parent = option_map (turned one other) p } in r) ≡ (let r : NotedSlot = record { key = s.key; capability = s.capability; parent = p } in r)
+      by-parent : (p : Option SlotKey) → is_some p ≡ false →
+          (let r : NotedSlot = record { key = s.key; capability = s.capability; parent = option_map (turned one other) p } in r)
+          ≡ (let r : NotedSlot = record { key = s.key; capability = s.capability; parent = p } in r)
       by-parent None none = refl
       by-parent (Some p) none = absurd (let clash : true ≡ false = none in cc)
 
@@ -85,18 +90,22 @@ module _ (one other : SlotKey) where
   -- and what maps pages maps them still
   pub swapped-paged : (old new : List NotedSlot) (pages : List (ℕ × ℕ)) → new ≡ map turns old → ArePaged old pages → ArePaged new pages
   swapped-paged old new pages is paged page slot holds =
-      paged page slot (sym (by-held (found old slot)) ∙ ap (λ o. option_map_or (leaves_at page) o false) (sym (ap (λ (l : List NotedSlot). found l slot) is ∙ found-turned old)) ∙ holds)
+      paged page slot (sym (by-held (found old slot)) ∙ ap (λ o. option_map_or (leaves_at page) o false)
+      (sym (ap (λ (l : List NotedSlot). found l slot) is ∙ found-turned old)) ∙ holds)
     where
       found-turned : (cs : List NotedSlot) → found (map turns cs) slot ≡ option_map turns (found cs slot)
       found-turned [] = refl
-      found-turned (c ∷ rest) = elim (number_of c.key == slot) as (λ b. (if b then Some (turns c) else found (map turns rest) slot) ≡ option_map turns (if b then Some c else found rest slot)) [
-        | true ↦ refl
-        | false ↦ found-turned rest
-      ]
+      found-turned (c ∷ rest) = elim (number_of c.key == slot)
+          as (λ b. (if b then Some (turns c) else found (map turns rest) slot) ≡ option_map turns (if b then Some c else found rest slot)) [
+            | true ↦ refl
+            | false ↦ found-turned rest
+          ]
 
       by-held : (o : Option NotedSlot) → option_map_or (leaves_at page) (option_map turns o) false ≡ option_map_or (leaves_at page) o false
       by-held None = refl
-      by-held (Some c) = elim (is_empty c.capability) as (λ b. option_map_or (λ p. p == page) (option_and_then (λ s. option_map (λ m. m.page) (frame_mapping s.capability)) (if b then None else Some (turns c))) false
+      by-held (Some c) = elim (is_empty c.capability)
+          as (λ b. option_map_or (λ p. p == page)
+          (option_and_then (λ s. option_map (λ m. m.page) (frame_mapping s.capability)) (if b then None else Some (turns c))) false
           ≡ option_map_or (λ p. p == page) (option_and_then (λ s. option_map (λ m. m.page) (frame_mapping s.capability)) (if b then None else Some c)) false) [
             | true ↦ refl
             | false ↦ refl

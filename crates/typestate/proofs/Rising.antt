@@ -1,10 +1,12 @@
 -- Lists of slots whose keys rise: a change keeps them so, and they are the same where every look-up is.
-use Rattle.std.proofs.Common.{ℕ, suc, ◌≡◌, ◌∙◌, ◌==◌, ◌+◌, ◌<◌, ◌≤◌, inl, inr, ◌&&◌, Bool, true, false, not, nat_lt, if◌then◌else◌, Option, Some, None, List, [], ◌∷◌, map, refl, sym, ap, subst, arith}
+use Rattle.std.proofs.Common.{ℕ, suc, ◌≡◌, ◌∙◌, ◌==◌, ◌+◌, ◌<◌, ◌≤◌, inl, inr, ◌&&◌, Bool, true, false, not, nat_lt, if◌then◌else◌, Option, Some, None, List}
+use Rattle.std.proofs.Common.{[], ◌∷◌, map, refl, sym, ap, subst, arith}
 use Rattle.std.specs.Prelude.{nat_eq, slice_index}
 use Rattle.std.proofs.lemmas.Bool.{and_parts, cases_lt, eq-eqb, eqb-true}
 use Rattle.std.proofs.lemmas.Bool.Decides.{eqb_tells, nat_tests}
 use lib.Pointwise.{pointwise}
-use Rattle.model.specs.Acceptance.NotedStates.{NotedSlot, SlotKey, are_same_slots, is_same_key, is_same_parent, is_same_slot, number_of, put_in, slot_at, with_noted, without_key}
+use Rattle.model.specs.Acceptance.NotedStates.{NotedSlot, SlotKey, are_same_slots, is_same_key, is_same_parent, is_same_slot, number_of, put_in, slot_at}
+use Rattle.model.specs.Acceptance.NotedStates.{with_noted, without_key}
 use Rattle.model.specs.Capabilities.CapabilityFields.{same_words}
 use Rattle.model.specs.Capabilities.CapabilityWords.{words_of}
 use Rattle.model.specs.Capabilities.Slots.{is_empty}
@@ -53,7 +55,8 @@ same-keys a b same =
     let parts = and_parts (is_same_key a.key b.key && same_words (words_of a.capability) (words_of b.capability)) (is_same_parent a.parent b.parent) same in
     eqb-true (number_of a.key) (number_of b.key) (and_parts (is_same_key a.key b.key) (same_words (words_of a.capability) (words_of b.capability)) parts.0).0
 
-pub same-looks : (slots others : List NotedSlot) (key : SlotKey) → are_same_slots slots others ≡ true → is_same_held (slot_at slots key) (slot_at others key) ≡ true
+pub same-looks : (slots others : List NotedSlot) (key : SlotKey) → are_same_slots slots others ≡ true →
+    is_same_held (slot_at slots key) (slot_at others key) ≡ true
 same-looks [] [] key same = refl
 same-looks [] (b ∷ bs) key same = absurd (let clash : false ≡ true = same in cc)
 same-looks (a ∷ as_) [] key same = absurd (let clash : false ≡ true = same in cc)
@@ -70,26 +73,33 @@ same-looks (a ∷ as_) (b ∷ bs) key same =
 pub looks-same : (slots others : List NotedSlot) (least low : ℕ) → RiseFrom least slots → RiseFrom low others
     → ((key : SlotKey) → is_same_held (slot_at slots key) (slot_at others key) ≡ true) → are_same_slots slots others ≡ true
 looks-same [] [] least low rises rise held = refl
-looks-same [] (b ∷ bs) least low rises rise held = absurd (let clash : false ≡ true = sym (ap (is_same_held None) (first-found b bs b.key refl)) ∙ held b.key in cc)
-looks-same (a ∷ as_) [] least low rises rise held = absurd (let clash : false ≡ true = sym (ap (λ found. is_same_held found None) (first-found a as_ a.key refl)) ∙ held a.key in cc)
+looks-same [] (b ∷ bs) least low rises rise held =
+    absurd (let clash : false ≡ true = sym (ap (is_same_held None) (first-found b bs b.key refl)) ∙ held b.key in cc)
+looks-same (a ∷ as_) [] least low rises rise held =
+    absurd (let clash : false ≡ true = sym (ap (λ found. is_same_held found None) (first-found a as_ a.key refl)) ∙ held a.key in cc)
 looks-same (a ∷ as_) (b ∷ bs) least low rises rise held = elim (eqb_tells (number_of a.key) (number_of b.key)) [
   | inl same ↦
       let one : is_same_slot a b ≡ true =
-      ap (λ found. is_same_held found (Some b)) (sym (first-found a as_ a.key refl)) ∙ ap (is_same_held (slot_at (a ∷ as_) a.key)) (sym (first-found b bs a.key (sym same.1))) ∙ held a.key in
-      let rest : are_same_slots as_ bs ≡ true = looks-same as_ bs (number_of a.key + 1) (number_of b.key + 1) rises.1 rise.1 (λ key. behind a b as_ bs key same.1 rises.1 rise.1 (held key)) in
+      ap (λ found. is_same_held found (Some b)) (sym (first-found a as_ a.key refl))
+      ∙ ap (is_same_held (slot_at (a ∷ as_) a.key)) (sym (first-found b bs a.key (sym same.1))) ∙ held a.key in
+      let rest : are_same_slots as_ bs ≡ true = looks-same as_ bs (number_of a.key + 1) (number_of b.key + 1) rises.1 rise.1
+      (λ key. behind a b as_ bs key same.1 rises.1 rise.1 (held key)) in
       ap (λ c. c && are_same_slots as_ bs) one ∙ rest
   | inr other ↦ elim (cases_lt (number_of a.key) (number_of b.key)) [
     | inl less ↦
         let none : slot_at (b ∷ bs) a.key ≡ None = none-below (b ∷ bs) (number_of b.key) a.key (omega arith, rise.1) less in
-        absurd (let clash : false ≡ true = ap (λ found. is_same_held found None) (sym (first-found a as_ a.key refl)) ∙ ap (is_same_held (slot_at (a ∷ as_) a.key)) (sym none) ∙ held a.key in cc)
+        absurd (let clash : false ≡ true = ap (λ found. is_same_held found None) (sym (first-found a as_ a.key refl))
+        ∙ ap (is_same_held (slot_at (a ∷ as_) a.key)) (sym none) ∙ held a.key in cc)
     | inr most ↦
         let less : number_of b.key < number_of a.key = omega (arith, most, other.1) in
         let none : slot_at (a ∷ as_) b.key ≡ None = none-below (a ∷ as_) (number_of a.key) b.key (omega arith, rises.1) less in
-        absurd (let clash : false ≡ true = ap (is_same_held None) (sym (first-found b bs b.key refl)) ∙ ap (λ found. is_same_held found (slot_at (b ∷ bs) b.key)) (sym none) ∙ held b.key in cc)
+        absurd (let clash : false ≡ true = ap (is_same_held None) (sym (first-found b bs b.key refl))
+        ∙ ap (λ found. is_same_held found (slot_at (b ∷ bs) b.key)) (sym none) ∙ held b.key in cc)
   ]
 ]
   where
-    behind : (a b : NotedSlot) (as_ bs : List NotedSlot) (key : SlotKey) → number_of a.key ≡ number_of b.key → RiseFrom (number_of a.key + 1) as_ → RiseFrom (number_of b.key + 1) bs
+    behind : (a b : NotedSlot) (as_ bs : List NotedSlot) (key : SlotKey) → number_of a.key ≡ number_of b.key → RiseFrom (number_of a.key + 1) as_ →
+        RiseFrom (number_of b.key + 1) bs
         → is_same_held (slot_at (a ∷ as_) key) (slot_at (b ∷ bs) key) ≡ true → is_same_held (slot_at as_ key) (slot_at bs key) ≡ true
     behind a b as_ bs key same rises rise held = elim (eqb_tells (number_of a.key) (number_of key)) [
       | inl here ↦
@@ -98,7 +108,8 @@ looks-same (a ∷ as_) (b ∷ bs) least low rises rise held = elim (eqb_tells (n
           ap (λ found. is_same_held found (slot_at bs key)) none ∙ ap (is_same_held None) nothing
       | inr other ↦
           let first : slot_at (a ∷ as_) key ≡ slot_at as_ key = ap (λ c. if c then Some a else slot_at as_ key) other.0 in
-          let second : slot_at (b ∷ bs) key ≡ slot_at bs key = ap (λ n. if n == number_of key then Some b else slot_at bs key) (sym same) ∙ ap (λ c. if c then Some b else slot_at bs key) other.0 in
+          let second : slot_at (b ∷ bs) key ≡ slot_at bs key = ap (λ n. if n == number_of key then Some b else slot_at bs key) (sym same)
+          ∙ ap (λ c. if c then Some b else slot_at bs key) other.0 in
           ap (λ found. is_same_held found (slot_at bs key)) (sym first) ∙ ap (is_same_held (slot_at (a ∷ as_) key)) (sym second) ∙ held
     ]
 
@@ -115,7 +126,8 @@ same-parent (Some key) = eq-eqb (number_of key) (number_of key) refl
 pub same-itself : (found : Option NotedSlot) → is_same_held found found ≡ true
 same-itself None = refl
 same-itself (Some s) =
-    ap (λ b. b && same_words (words_of s.capability) (words_of s.capability) && is_same_parent s.parent s.parent) (eq-eqb (number_of s.key) (number_of s.key) refl)
+    ap (λ b. b && same_words (words_of s.capability) (words_of s.capability) && is_same_parent s.parent s.parent)
+    (eq-eqb (number_of s.key) (number_of s.key) refl)
     ∙ ap (λ b. b && is_same_parent s.parent s.parent) (same-words (words_of s.capability)) ∙ same-parent s.parent
 
 -- ---- changes keep keys rising
@@ -133,11 +145,13 @@ without-rises (s ∷ rest) least gone rises =
       | false ↦ (rises.0, behind)
     ]
 
-put-rises : (slot : NotedSlot) (others : List NotedSlot) (least : ℕ) → RiseFrom least others → least ≤ number_of slot.key → slot_at others slot.key ≡ None → RiseFrom least (put_in slot others)
+put-rises : (slot : NotedSlot) (others : List NotedSlot) (least : ℕ) → RiseFrom least others → least ≤ number_of slot.key → slot_at others slot.key ≡ None →
+    RiseFrom least (put_in slot others)
 unfolding put_in
 put-rises slot [] least rises more none = (more, tt)
 put-rises slot (o ∷ rest) least rises more none = elim (cases_lt (number_of slot.key) (number_of o.key)) [
-  | inl less ↦ put-first (nat_lt (number_of slot.key) (number_of o.key)) (below-test (number_of slot.key) (number_of o.key) less) (more, (omega (arith, less), rises.1))
+  | inl less ↦ put-first (nat_lt (number_of slot.key) (number_of o.key)) (below-test (number_of slot.key) (number_of o.key) less)
+      (more, (omega (arith, less), rises.1))
   | inr most ↦ elim (eqb_tells (number_of o.key) (number_of slot.key)) [
     | inl same ↦ absurd (let clash : Some o ≡ None = sym (first-found o rest slot.key same.1) ∙ none in cc)
     | inr other ↦
@@ -165,8 +179,10 @@ noted-rises : (slots : List NotedSlot) (change : NotedSlot) → RiseFrom 0 slots
 noted-rises slots change rises =
     let others = without_key change.key slots in
     let left = without-rises slots 0 change.key rises in
-    let none : slot_at others change.key ≡ None = without-at slots change.key change.key ∙ ap (λ b. if b then None else slot_at slots change.key) (eq-eqb (number_of change.key) (number_of change.key) refl) in
-    elim (is_empty change.capability) as (λ b. RiseFrom 0 (if b then others else put_in change others)) [ true ↦ left | false ↦ put-rises change others 0 left (omega arith) none ]
+    let none : slot_at others change.key ≡ None = without-at slots change.key change.key
+    ∙ ap (λ b. if b then None else slot_at slots change.key) (eq-eqb (number_of change.key) (number_of change.key) refl) in
+    elim (is_empty change.capability) as (λ b. RiseFrom 0 (if b then others else put_in change others))
+    [ true ↦ left | false ↦ put-rises change others 0 left (omega arith) none ]
 
 pub changes-rise : (slots changes : List NotedSlot) → RiseFrom 0 slots → RiseFrom 0 (changed slots changes)
 changes-rise slots [] rises = rises
@@ -174,7 +190,8 @@ changes-rise slots (change ∷ rest) rises = changes-rise (with_noted slots chan
 
 -- ---- and equal, where each look-up is equal
 
-pub looks-equal : (slots others : List NotedSlot) (least low : ℕ) → RiseFrom least slots → RiseFrom low others → ((key : SlotKey) → slot_at slots key ≡ slot_at others key) → slots ≡ others
+pub looks-equal : (slots others : List NotedSlot) (least low : ℕ) → RiseFrom least slots → RiseFrom low others →
+    ((key : SlotKey) → slot_at slots key ≡ slot_at others key) → slots ≡ others
 looks-equal [] [] least low rises rise held = refl
 looks-equal [] (b ∷ bs) least low rises rise held = absurd (let clash : None ≡ Some b = held b.key ∙ first-found b bs b.key refl in cc)
 looks-equal (a ∷ as_) [] least low rises rise held = absurd (let clash : Some a ≡ None = sym (first-found a as_ a.key refl) ∙ held a.key in cc)
@@ -198,7 +215,8 @@ looks-equal (a ∷ as_) (b ∷ bs) least low rises rise held = elim (eqb_tells (
     tails : (key : SlotKey) → number_of a.key ≡ number_of b.key → slot_at as_ key ≡ slot_at bs key
     tails key same = elim (eqb_tells (number_of a.key) (number_of key)) [
       | inl here ↦
-          none-below as_ (number_of a.key + 1) key rises.1 (omega (arith, here.1)) ∙ sym (none-below bs (number_of b.key + 1) key rise.1 (omega (arith, here.1, same)))
+          none-below as_ (number_of a.key + 1) key rises.1 (omega (arith, here.1))
+          ∙ sym (none-below bs (number_of b.key + 1) key rise.1 (omega (arith, here.1, same)))
       | inr other ↦
           sym (ap (λ c. if c then Some a else slot_at as_ key) other.0) ∙ held key
           ∙ ap (λ n. if n == number_of key then Some b else slot_at bs key) (sym same) ∙ ap (λ c. if c then Some b else slot_at bs key) other.0

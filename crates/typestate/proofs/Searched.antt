@@ -1,5 +1,6 @@
 -- What a search by key finds in slots whose keys rise.
-use Rattle.std.proofs.Common.{ℕ, zero, suc, ◌≡◌, ◌∙◌, ◌==◌, ◌+◌, ◌<◌, ◌≤◌, inl, inr, false, if◌then◌else◌, Some, None, Result, Ok, Err, List, [], ◌∷◌, length, get_or, refl, sym, ap, subst, arith}
+use Rattle.std.proofs.Common.{ℕ, zero, suc, ◌≡◌, ◌∙◌, ◌==◌, ◌+◌, ◌<◌, ◌≤◌, inl, inr, false, if◌then◌else◌, Some, None, Result, Ok, Err, List, [], ◌∷◌, length}
+use Rattle.std.proofs.Common.{get_or, refl, sym, ap, subst, arith}
 use Rattle.std.specs.Prelude.{MatchResult}
 use Rattle.std.specs.List.Sorted.{IsSearchInRange, IsBinarySearchResult, IsNonDecreasingBy}
 use Rattle.std.specs.Ordering.{nat_cmp, ordering_index}
@@ -32,7 +33,8 @@ below-apart a b less = grind (arith, nat_tests)
 above-apart : (a b : ℕ) → b < a → (a == b) ≡ false
 above-apart a b more = grind (arith, nat_tests)
 
-found : (slots : List NotedSlot) (least : ℕ) (key : SlotKey) (i : ℕ) (d : NotedSlot) → RiseFrom least slots → i < length slots → number_at slots i d ≡ number_of key
+found : (slots : List NotedSlot) (least : ℕ) (key : SlotKey) (i : ℕ) (d : NotedSlot) → RiseFrom least slots → i < length slots →
+    number_at slots i d ≡ number_of key
     → slot_at slots key ≡ Some (get_or slots i d)
 found [] least key i d rises below same = absurd (omega (arith, below))
 found (s ∷ rest) least key zero d rises below same = first-found s rest key same
@@ -41,12 +43,16 @@ found (s ∷ rest) least key (suc i) d rises below same =
     ap (λ b. if b then Some s else slot_at rest key) (below-apart (number_of s.key) (number_of key) (omega (arith, more, same)))
     ∙ found rest (number_of s.key + 1) key i d rises.1 (omega (arith, below)) same
 
-absent : (slots : List NotedSlot) (key : SlotKey) → ((i : ℕ) (d : NotedSlot) → i < length slots → (number_at slots i d == number_of key) ≡ false) → slot_at slots key ≡ None
+absent : (slots : List NotedSlot) (key : SlotKey) → ((i : ℕ) (d : NotedSlot) → i < length slots → (number_at slots i d == number_of key) ≡ false) →
+    slot_at slots key ≡ None
 absent [] key none = refl
-absent (s ∷ rest) key none = ap (λ b. if b then Some s else slot_at rest key) (none 0 s (omega arith)) ∙ absent rest key (λ i d below. none (suc i) d (omega (arith, below)))
+absent (s ∷ rest) key none = ap (λ b. if b then Some s else slot_at rest key) (none 0 s (omega arith))
+    ∙ absent rest key (λ i d below. none (suc i) d (omega (arith, below)))
 
-pub comparisons-rise : (slots : List NotedSlot) (key : SlotKey) → Rise slots → IsNonDecreasingBy (λ s. ordering_index (nat_cmp (number_of s.key) (number_of key))) slots
-comparisons-rise slots key rises i j d order below = later (number_at slots i d) (number_at slots j d) (number_of key) (ordered slots 0 i j d (from-first slots rises) order below)
+pub comparisons-rise : (slots : List NotedSlot) (key : SlotKey) → Rise slots →
+    IsNonDecreasingBy (λ s. ordering_index (nat_cmp (number_of s.key) (number_of key))) slots
+comparisons-rise slots key rises i j d order below = later (number_at slots i d) (number_at slots j d) (number_of key)
+    (ordered slots 0 i j d (from-first slots rises) order below)
   where
     later : (a b x : ℕ) → a ≤ b → ordering_index (nat_cmp a x) ≤ ordering_index (nat_cmp b x)
     later a b x order = grind (arith, nat_tests)
@@ -54,7 +60,8 @@ comparisons-rise slots key rises i j d order below = later (number_at slots i d)
 pub searched : (slots : List NotedSlot) (key : SlotKey) (r : Result ℕ ℕ) → Rise slots → IsSearchInRange r (length slots)
     → IsBinarySearchResult (λ s. nat_cmp (number_of s.key) (number_of key)) slots r
     → MatchResult r (λ place. (d : NotedSlot) → slot_at slots key ≡ Some (get_or slots place d)) (λ _. slot_at slots key ≡ None)
-searched slots key (Ok place) rises inside equal = λ d. found slots 0 key place d (from-first slots rises) inside (ranked (number_at slots place d) (number_of key) _ (sym (equal d)))
+searched slots key (Ok place) rises inside equal = λ d. found slots 0 key place d (from-first slots rises) inside
+    (ranked (number_at slots place d) (number_of key) _ (sym (equal d)))
 searched slots key (Err place) rises inside parts =
     let parted = parts (comparisons-rise slots key rises) in
     absent slots key (λ i d below. elim (cases_lt i place) [
@@ -63,7 +70,8 @@ searched slots key (Err place) rises inside parts =
     ])
 
 -- the same by a number
-pub searched-number : (slots : List NotedSlot) (n : ℕ) (r : Result ℕ ℕ) → Rise slots → IsSearchInRange r (length slots) → IsBinarySearchResult (λ s. nat_cmp (number_of s.key) n) slots r
+pub searched-number : (slots : List NotedSlot) (n : ℕ) (r : Result ℕ ℕ) → Rise slots → IsSearchInRange r (length slots) →
+    IsBinarySearchResult (λ s. nat_cmp (number_of s.key) n) slots r
     → MatchResult r (λ place. (d : NotedSlot) → numbered slots n ≡ Some (get_or slots place d)) (λ _. numbered slots n ≡ None)
 searched-number slots n r =
     let key : SlotKey = record { cnode = 0; index = n } in
@@ -72,5 +80,7 @@ searched-number slots n r =
     → MatchResult r (λ place. (d : NotedSlot) → numbered slots m ≡ Some (get_or slots place d)) (λ _. numbered slots m ≡ None)) same (searched slots key r)
 
 -- what stands at a place
-pub numbered-here : (slots : List NotedSlot) (n i : ℕ) (d : NotedSlot) → Rise slots → i < length slots → number_of (get_or slots i d).key ≡ n → numbered slots n ≡ Some (get_or slots i d)
-numbered-here slots n i d rises inside is = subst (λ m. numbered slots m ≡ Some (get_or slots i d)) is (found slots 0 (get_or slots i d).key i d (from-first slots rises) inside refl)
+pub numbered-here : (slots : List NotedSlot) (n i : ℕ) (d : NotedSlot) → Rise slots → i < length slots → number_of (get_or slots i d).key ≡ n →
+    numbered slots n ≡ Some (get_or slots i d)
+numbered-here slots n i d rises inside is = subst (λ m. numbered slots m ≡ Some (get_or slots i d)) is
+    (found slots 0 (get_or slots i d).key i d (from-first slots rises) inside refl)

@@ -19,10 +19,13 @@ depth-step : (n : ℕ) (slots : List NotedSlot) (key : SlotKey) → noted_depth 
 unfolding noted_depth
 depth-step n slots key = refl
 
-depth-found : (m i whole : ℕ) (slots : List NotedSlot) (place : SlotKey) → i < m → whole ≡ i + noted_depth (m - i) slots place → whole ≡ i + depth_found (m - (i + 1)) slots (slot_at slots place)
-depth-found m i whole slots place below is = is ∙ ap (λ k. i + noted_depth k slots place) (left-over m i below) ∙ ap (λ d. i + d) (depth-step (m - (i + 1)) slots place)
+depth-found : (m i whole : ℕ) (slots : List NotedSlot) (place : SlotKey) → i < m → whole ≡ i + noted_depth (m - i) slots place →
+    whole ≡ i + depth_found (m - (i + 1)) slots (slot_at slots place)
+depth-found m i whole slots place below is = is ∙ ap (λ k. i + noted_depth k slots place) (left-over m i below)
+    ∙ ap (λ d. i + d) (depth-step (m - (i + 1)) slots place)
 
-pub depth-more : (m i whole : ℕ) (slots : List NotedSlot) (place parent : SlotKey) (s : NotedSlot) → i < m → slot_at slots place ≡ Some s → s.parent ≡ Some parent
+pub depth-more : (m i whole : ℕ) (slots : List NotedSlot) (place parent : SlotKey) (s : NotedSlot) → i < m → slot_at slots place ≡ Some s →
+    s.parent ≡ Some parent
     → whole ≡ i + noted_depth (m - i) slots place → whole ≡ i + 1 + noted_depth (m - (i + 1)) slots parent
 depth-more m i whole slots place parent s below found above is =
     let n = m - (i + 1) in
@@ -32,14 +35,16 @@ depth-more m i whole slots place parent s below found above is =
     one-more : (a b : ℕ) → a + (b + 1) ≡ a + 1 + b
     one-more a b = omega arith
 
-pub depth-nothing : (m i whole : ℕ) (slots : List NotedSlot) (place : SlotKey) → i < m → slot_at slots place ≡ None → whole ≡ i + noted_depth (m - i) slots place → whole ≡ i
+pub depth-nothing : (m i whole : ℕ) (slots : List NotedSlot) (place : SlotKey) → i < m → slot_at slots place ≡ None →
+    whole ≡ i + noted_depth (m - i) slots place → whole ≡ i
 depth-nothing m i whole slots place below none is =
     depth-found m i whole slots place below is ∙ ap (λ (o : Option NotedSlot). i + depth_found (m - (i + 1)) slots o) none ∙ plus-zero i
   where
     plus-zero : (a : ℕ) → a + 0 ≡ a
     plus-zero a = omega arith
 
-top-test : (n i : ℕ) (capability : Cap) → n + i ≡ 255 → nat_lt (i + (boot_depth n capability + 1)) 255 ≡ nat_lt (i + (if is_untyped capability then 1 else 2)) 255
+top-test : (n i : ℕ) (capability : Cap) → n + i ≡ 255 → nat_lt (i + (boot_depth n capability + 1)) 255 ≡ nat_lt (i + (if is_untyped capability then 1 else 2))
+    255
 top-test zero i capability all = elim (is_untyped capability) as (λ b. nat_lt (i + 1) 255 ≡ nat_lt (i + (if b then 1 else 2)) 255) [
   | true ↦ refl
   | false ↦ both-false i all
@@ -64,7 +69,8 @@ depth-top i whole slots place s below found none is =
 -- a line that is longer
 pub depth-end : (m i whole : ℕ) (slots : List NotedSlot) (place : SlotKey) → i ≡ m → whole ≡ i + noted_depth (m - i) slots place → whole ≡ m
 unfolding noted_depth
-depth-end m i whole slots place all is = is ∙ ap (λ k. i + noted_depth k slots place) (let e : m - i ≡ 0 = omega (arith, all) in e) ∙ (let e : i + 0 ≡ m = omega (arith, all) in e)
+depth-end m i whole slots place all is = is ∙ ap (λ k. i + noted_depth k slots place) (let e : m - i ≡ 0 = omega (arith, all) in e)
+    ∙ (let e : i + 0 ≡ m = omega (arith, all) in e)
 
 -- ---- the nearest that stays
 
@@ -88,6 +94,7 @@ unfolding noted_outside
 outside-none zero gone slots = refl
 outside-none (suc n) gone slots = refl
 
-pub outside-end : (m i : ℕ) (whole : Option SlotKey) (gone : SlotKey → Bool) (slots : List NotedSlot) (parent : Option SlotKey) → i ≡ m → whole ≡ noted_outside (m - i) gone slots parent → whole ≡ None
+pub outside-end : (m i : ℕ) (whole : Option SlotKey) (gone : SlotKey → Bool) (slots : List NotedSlot) (parent : Option SlotKey) → i ≡ m →
+    whole ≡ noted_outside (m - i) gone slots parent → whole ≡ None
 unfolding noted_outside
 outside-end m i whole gone slots parent all is = is ∙ ap (λ n. noted_outside n gone slots parent) (let e : m - i ≡ 0 = omega (arith, all) in e)

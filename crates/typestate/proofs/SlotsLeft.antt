@@ -30,9 +30,11 @@ this-fails test slots i s whole less at off before =
     sym (ap (λ b. b && list_all test (drop (i + 1) slots)) off) ∙ sym (ap (list_all test) (left-from slots i s less at)) ∙ before
 
 -- with no slot left none passed
-pub none-passed : (test : NotedSlot → Bool) (slots : List NotedSlot) (i : ℕ) (whole : Bool) → length slots ≤ i → list_any test (drop i slots) ≡ whole → false ≡ whole
+pub none-passed : (test : NotedSlot → Bool) (slots : List NotedSlot) (i : ℕ) (whole : Bool) → length slots ≤ i → list_any test (drop i slots) ≡ whole →
+    false ≡ whole
 none-passed test slots i whole none before = sym (ap (list_any test) (drop_all i slots none)) ∙ before
 
 -- with no slot left all passed
-pub all-passed : (test : NotedSlot → Bool) (slots : List NotedSlot) (i : ℕ) (whole : Bool) → length slots ≤ i → list_all test (drop i slots) ≡ whole → true ≡ whole
+pub all-passed : (test : NotedSlot → Bool) (slots : List NotedSlot) (i : ℕ) (whole : Bool) → length slots ≤ i → list_all test (drop i slots) ≡ whole →
+    true ≡ whole
 all-passed test slots i whole none before = sym (ap (list_all test) (drop_all i slots none)) ∙ before

@@ -21,10 +21,11 @@ module _ (test : NotedSlot → Bool) where
 
   pub held-any : (slots : List NotedSlot) (key : SlotKey) → holds (slot_at slots key) ≡ true → list_any test slots ≡ true
   held-any [] key is = absurd (let clash : false ≡ true = is in cc)
-  held-any (s ∷ rest) key is = elim (is_same_key s.key key) as (λ b. holds (if b then Some s else slot_at rest key) ≡ true → (test s || list_any test rest) ≡ true) [
-    | true ↦ λ here. ap (λ b. b || list_any test rest) here
-    | false ↦ λ later. or-second (test s) (list_any test rest) (held-any rest key later)
-  ] is
+  held-any (s ∷ rest) key is = elim (is_same_key s.key key) as (λ b. holds (if b then Some s else slot_at rest key) ≡ true →
+      (test s || list_any test rest) ≡ true) [
+        | true ↦ λ here. ap (λ b. b || list_any test rest) here
+        | false ↦ λ later. or-second (test s) (list_any test rest) (held-any rest key later)
+      ] is
 
   pub record HeldFrom (least : ℕ) (slots : List NotedSlot) : Type 0 where
     pub key : SlotKey
@@ -40,14 +41,16 @@ module _ (test : NotedSlot → Bool) where
         record {
           key = found.key;
           from = omega (arith, rises.0, found.from);
-          holding = ap (λ b. holds (if b then Some s else slot_at rest found.key)) (ne_eqb (number_of s.key) (number_of found.key) (λ same. omega (arith, same, found.from))) ∙ found.holding;
+          holding = ap (λ b. holds (if b then Some s else slot_at rest found.key))
+              (ne_eqb (number_of s.key) (number_of found.key) (λ same. omega (arith, same, found.from))) ∙ found.holding;
         }
   ] refl some
 
   any-at : (slots keys : List NotedSlot) (key : SlotKey) → is_changed keys key ≡ true → holds (slot_at slots key) ≡ true → list_any (holds_at slots) keys ≡ true
   any-at slots [] key some is = absurd (let clash : false ≡ true = some in cc)
   any-at slots (k ∷ rest) key some is =
-      elim (is_same_key k.key key) as (λ b. (b || is_changed rest key) ≡ true → is_same_key k.key key ≡ b → (holds_at slots k || list_any (holds_at slots) rest) ≡ true) [
+      elim (is_same_key k.key key) as (λ b. (b || is_changed rest key) ≡ true → is_same_key k.key key ≡ b →
+      (holds_at slots k || list_any (holds_at slots) rest) ≡ true) [
         | true ↦ λ _ same.
             ap (λ b. b || list_any (holds_at slots) rest) (ap holds (same-place slots k.key key (eqb-true (number_of k.key) (number_of key) same)) ∙ is)
         | false ↦ λ later _. or-second (holds_at slots k) (list_any (holds_at slots) rest) (any-at slots rest key later is)
@@ -55,17 +58,19 @@ module _ (test : NotedSlot → Bool) where
 
   found-among : (slots : List NotedSlot) (key : SlotKey) → holds (slot_at slots key) ≡ true → is_changed slots key ≡ true
   found-among [] key is = absurd (let clash : false ≡ true = is in cc)
-  found-among (s ∷ rest) key is = elim (is_same_key s.key key) as (λ b. holds (if b then Some s else slot_at rest key) ≡ true → (b || is_changed rest key) ≡ true) [
-    | true ↦ λ here. refl
-    | false ↦ λ later. found-among rest key later
-  ] is
+  found-among (s ∷ rest) key is = elim (is_same_key s.key key) as (λ b. holds (if b then Some s else slot_at rest key) ≡ true →
+      (b || is_changed rest key) ≡ true) [
+        | true ↦ λ here. refl
+        | false ↦ λ later. found-among rest key later
+      ] is
 
   back : (slots keys : List NotedSlot) → list_any (holds_at slots) keys ≡ true → list_any test slots ≡ true
   back slots [] some = absurd (let clash : false ≡ true = some in cc)
-  back slots (k ∷ rest) some = elim (holds_at slots k) as (λ b. holds_at slots k ≡ b → (b || list_any (holds_at slots) rest) ≡ true → list_any test slots ≡ true) [
-    | true ↦ λ is _. held-any slots k.key is
-    | false ↦ λ _ later. back slots rest later
-  ] refl some
+  back slots (k ∷ rest) some = elim (holds_at slots k) as (λ b. holds_at slots k ≡ b → (b || list_any (holds_at slots) rest) ≡ true →
+      list_any test slots ≡ true) [
+        | true ↦ λ is _. held-any slots k.key is
+        | false ↦ λ _ later. back slots rest later
+      ] refl some
 
   either : (a b c : Bool) → (a ≡ true → c ≡ true) → (b ≡ true → c ≡ true) → (a || b) ≡ true → c ≡ true
   either true b c first second is = first refl

@@ -19,11 +19,14 @@ module _ (image : Image) (t : Thread) (slots : List NotedSlot) (noted : Option S
   told : (point : ℕ) (state : PointState) → state.slots ≡ slots → record_of t point ≡ noted → (stray || outside) ≡ has_stray_slots image t point state
   unfolding has_stray_slots
   told point state held record_is =
-      sym (ap (λ (all : List NotedSlot). list_any (is_stray image t (reached image t) all) all || option_map_or (notes_outside image (reached image t)) (record_of t point) false) held
+      sym (ap (λ (all : List NotedSlot). list_any (is_stray image t (reached image t) all) all
+      || option_map_or (notes_outside image (reached image t)) (record_of t point) false) held
       ∙ ap (λ (found : Option StateRecord). stray || option_map_or (notes_outside image (reached image t)) found false) record_is)
 
-  pub told-stray : (a : Bool) → a ≡ stray → a ≡ true → (point : ℕ) (state : PointState) → state.slots ≡ slots → record_of t point ≡ noted → true ≡ has_stray_slots image t point state
+  pub told-stray : (a : Bool) → a ≡ stray → a ≡ true → (point : ℕ) (state : PointState) → state.slots ≡ slots → record_of t point ≡ noted →
+      true ≡ has_stray_slots image t point state
   told-stray a is holds point state held record_is = ap (λ b. b || outside) (sym holds ∙ is) ∙ told point state held record_is
 
-  pub told-outside : (a b : Bool) → a ≡ stray → a ≡ false → b ≡ outside → (point : ℕ) (state : PointState) → state.slots ≡ slots → record_of t point ≡ noted → b ≡ has_stray_slots image t point state
+  pub told-outside : (a b : Bool) → a ≡ stray → a ≡ false → b ≡ outside → (point : ℕ) (state : PointState) → state.slots ≡ slots → record_of t point ≡ noted →
+      b ≡ has_stray_slots image t point state
   told-outside a b is fails rest point state held record_is = rest ∙ ap (λ x. x || outside) (sym fails ∙ is) ∙ told point state held record_is

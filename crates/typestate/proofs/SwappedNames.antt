@@ -16,7 +16,8 @@ abbrev at : List (ℕ × ℕ) → ℕ → Option ℕ
 at entries n = lookup (λ k. is_eq (nat_cmp n k)) entries
 
 -- what stands for itself may be noted
-pub held-same : (old new : List (ℕ × ℕ)) (number n : ℕ) → at old number ≡ None → at new n ≡ cond (is_eq (nat_cmp number n)) (Some number) (at old n) → renamed new n ≡ renamed old n
+pub held-same : (old new : List (ℕ × ℕ)) (number n : ℕ) → at old number ≡ None → at new n ≡ cond (is_eq (nat_cmp number n)) (Some number) (at old n) →
+    renamed new n ≡ renamed old n
 held-same old new number n none put = elim (eqb_tells n number) [
   | inl same ↦
       ap (λ o. option_map_or (λ (m : ℕ). m) o n) (put ∙ ap (λ b. cond b (Some number) (at old n)) (eq-test number n ∙ same.0)) ∙ sym same.1
@@ -24,10 +25,13 @@ held-same old new number n none put = elim (eqb_tells n number) [
   | inr other ↦ ap (λ o. option_map_or (λ (m : ℕ). m) o n) (put ∙ ap (λ b. cond b (Some number) (at old n)) (eq-test number n ∙ other.0))
 ]
 
-pub held-kept : (old new : List (ℕ × ℕ)) (number value n : ℕ) → at new n ≡ cond (is_eq (nat_cmp number n)) (Some value) (at old n) → is_some (at old n) ≡ true → is_some (at new n) ≡ true
-held-kept old new number value n put is = ap is_some put ∙ (elim (is_eq (nat_cmp number n)) as (λ b. is_some (cond b (Some value) (at old n)) ≡ true) [ true ↦ refl | false ↦ is ])
+pub held-kept : (old new : List (ℕ × ℕ)) (number value n : ℕ) → at new n ≡ cond (is_eq (nat_cmp number n)) (Some value) (at old n) → is_some (at old n) ≡ true →
+    is_some (at new n) ≡ true
+held-kept old new number value n put is = ap is_some put
+    ∙ (elim (is_eq (nat_cmp number n)) as (λ b. is_some (cond b (Some value) (at old n)) ≡ true) [ true ↦ refl | false ↦ is ])
 
-pub same-inverse : (there back there2 back2 : ℕ → ℕ) → ((n : ℕ) → there2 n ≡ there n) → ((n : ℕ) → back2 n ≡ back n) → ((n : ℕ) → (there (back n) ≡ n) × (back (there n) ≡ n))
+pub same-inverse : (there back there2 back2 : ℕ → ℕ) → ((n : ℕ) → there2 n ≡ there n) → ((n : ℕ) → back2 n ≡ back n) →
+    ((n : ℕ) → (there (back n) ≡ n) × (back (there n) ≡ n))
     → (n : ℕ) → (there2 (back2 n) ≡ n) × (back2 (there2 n) ≡ n)
 same-inverse there back there2 back2 one other inverse n =
     (one (back2 n) ∙ ap there (other n) ∙ (inverse n).0, other (there2 n) ∙ ap back (one n) ∙ (inverse n).1)
@@ -38,7 +42,8 @@ module _ (there back there2 back2 : ℕ → ℕ) (one other : ℕ) (first : (n :
     (set : (n : ℕ) → there2 n ≡ (if back other == n then one else if back one == n then other else there n))
     (put : (n : ℕ) → back2 n ≡ (if other == n then back one else if one == n then back other else back n)) where
   at-other : there2 (back other) ≡ one
-  at-other = set (back other) ∙ ap (λ b. if b then one else if back one == back other then other else there (back other)) (eq-eqb (back other) (back other) refl)
+  at-other = set (back other) ∙ ap (λ b. if b then one else if back one == back other then other else there (back other))
+      (eq-eqb (back other) (back other) refl)
 
   -- the name of the one goes to the other, where they are the same too
   at-one : there2 (back one) ≡ other
@@ -69,26 +74,31 @@ module _ (there back there2 back2 : ℕ → ℕ) (one other : ℕ) (first : (n :
     | inr off ↦ elim (eqb_tells (back one) n) [
       | inl here ↦
           let is : there n ≡ one = ap there (sym here.1) ∙ first one in
-          ap there2 (sym here.1) ∙ at-one ∙ sym (ap (turned_number one other) is ∙ ap (λ b. if b then other else if one == other then one else one) (eq-eqb one one refl))
+          ap there2 (sym here.1) ∙ at-one ∙ sym (ap (turned_number one other) is
+          ∙ ap (λ b. if b then other else if one == other then one else one) (eq-eqb one one refl))
       | inr away ↦
           elsewhere n off.0 away.0
-          ∙ sym (ap (λ b. if b then other else if there n == other then one else there n) (neither one n away.0) ∙ ap (λ b. if b then one else there n) (neither other n off.0))
+          ∙ sym (ap (λ b. if b then other else if there n == other then one else there n) (neither one n away.0)
+          ∙ ap (λ b. if b then one else there n) (neither other n off.0))
     ]
   ]
     where
       last : turned_number one other other ≡ one
       last = elim (eqb_tells other one) [
         | inl same ↦ ap (λ b. if b then other else if other == other then one else other) same.0 ∙ same.1
-        | inr apart ↦ ap (λ b. if b then other else if other == other then one else other) apart.0 ∙ ap (λ b. if b then one else other) (eq-eqb other other refl)
+        | inr apart ↦ ap (λ b. if b then other else if other == other then one else other) apart.0
+            ∙ ap (λ b. if b then one else other) (eq-eqb other other refl)
       ]
 
   back-first : (n : ℕ) → there2 (back2 n) ≡ n
   back-first n = elim (eqb_tells other n) [
     | inl here ↦ ap there2 (put n ∙ ap (λ b. if b then back one else if one == n then back other else back n) here.0) ∙ at-one ∙ here.1
     | inr off ↦ elim (eqb_tells one n) [
-      | inl here ↦ ap there2 (put n ∙ ap (λ b. if b then back one else if one == n then back other else back n) off.0 ∙ ap (λ b. if b then back other else back n) here.0) ∙ at-other ∙ here.1
+      | inl here ↦ ap there2 (put n ∙ ap (λ b. if b then back one else if one == n then back other else back n) off.0
+          ∙ ap (λ b. if b then back other else back n) here.0) ∙ at-other ∙ here.1
       | inr away ↦
-          ap there2 (put n ∙ ap (λ b. if b then back one else if one == n then back other else back n) off.0 ∙ ap (λ b. if b then back other else back n) away.0)
+          ap there2 (put n ∙ ap (λ b. if b then back one else if one == n then back other else back n) off.0
+          ∙ ap (λ b. if b then back other else back n) away.0)
           ∙ elsewhere (back n) (names-apart other n off.1) (names-apart one n away.1) ∙ first n
     ]
   ]
@@ -100,10 +110,12 @@ module _ (there back there2 back2 : ℕ → ℕ) (one other : ℕ) (first : (n :
   back-second n = elim (eqb_tells (back other) n) [
     | inl here ↦ ap back2 (ap there2 (sym here.1) ∙ at-other) ∙ put one ∙ (elim (eqb_tells other one) [
       | inl same ↦ ap (λ b. if b then back one else if one == one then back other else back one) same.0 ∙ ap back (sym same.1) ∙ here.1
-      | inr apart ↦ ap (λ b. if b then back one else if one == one then back other else back one) apart.0 ∙ ap (λ b. if b then back other else back one) (eq-eqb one one refl) ∙ here.1
+      | inr apart ↦ ap (λ b. if b then back one else if one == one then back other else back one) apart.0
+          ∙ ap (λ b. if b then back other else back one) (eq-eqb one one refl) ∙ here.1
     ])
     | inr off ↦ elim (eqb_tells (back one) n) [
-      | inl here ↦ ap back2 (ap there2 (sym here.1) ∙ at-one) ∙ put other ∙ ap (λ b. if b then back one else if one == other then back other else back other) (eq-eqb other other refl) ∙ here.1
+      | inl here ↦ ap back2 (ap there2 (sym here.1) ∙ at-one) ∙ put other
+          ∙ ap (λ b. if b then back one else if one == other then back other else back other) (eq-eqb other other refl) ∙ here.1
       | inr away ↦
           ap back2 (elsewhere n off.0 away.0) ∙ put (there n)
           ∙ ap (λ b. if b then back one else if one == there n then back other else back (there n)) (turned (there n) other (neither other n off.0))

@@ -1,16 +1,20 @@
 -- Tidy changes leave no stray slot: each line of parents behind them stands for one that led to the boot CNode before.
-use Rattle.std.proofs.Common.{ℕ, zero, suc, ◌≡◌, ◌∙◌, ◌==◌, ◌⊎◌, inl, inr, Bool, true, false, not, ◌&&◌, ◌||◌, nat_le, if◌then◌else◌, Option, Some, None, option_map, option_and_then, is_some, List, [], ◌∷◌, length, map, refl, sym, ap, subst, arith}
+use Rattle.std.proofs.Common.{ℕ, zero, suc, ◌≡◌, ◌∙◌, ◌==◌, ◌⊎◌, inl, inr, Bool, true, false, not, ◌&&◌, ◌||◌, nat_le, if◌then◌else◌, Option, Some, None}
+use Rattle.std.proofs.Common.{option_map, option_and_then, is_some, List, [], ◌∷◌, length, map, refl, sym, ap, subst, arith}
 use Rattle.std.specs.List.{list_all, list_any}
 use Rattle.std.specs.Option.{option_map_or}
 use Rattle.std.proofs.Math.Dec.{leb-zero}
 use Rattle.std.proofs.lemmas.Bool.{eq-eqb, eqb-true}
-use Rattle.model.specs.Acceptance.NotedStates.{NotedSlot, SlotKey, is_foreign, is_own, is_same_key, is_same_parent, leads_to_boot, number_of, slot_at, with_noted}
+use Rattle.model.specs.Acceptance.NotedStates.{NotedSlot, SlotKey, is_foreign, is_own, is_same_key, is_same_parent, leads_to_boot, number_of, slot_at}
+use Rattle.model.specs.Acceptance.NotedStates.{with_noted}
 use Rattle.model.specs.Capabilities.CapabilityFields.{is_capability}
 use Rattle.model.specs.Capabilities.Slots.{is_empty}
 use Rattle.model.specs.declared.capabilities.Cap.{Cap}
-use Rattle.model.specs.declared.capabilities.Cap.TheVariants.{Empty, Untyped, Endpoint, Notification, CNode, Frame, PageTable, Tcb, RootTable, InterruptControl, InterruptHandler}
+use Rattle.model.specs.declared.capabilities.Cap.TheVariants.{Empty, Untyped, Endpoint, Notification, CNode, Frame, PageTable, Tcb, RootTable, InterruptControl}
+use Rattle.model.specs.declared.capabilities.Cap.TheVariants.{InterruptHandler}
 use Rattle.typestate.specs.Differences.{changed, left_by}
-use Rattle.typestate.specs.SlotChanges.{emptied, followed, heir, is_parent, is_removed, loses_children, moved, noted_outside, noted_parent, slot_left, slots_left, what_stays, without_gone}
+use Rattle.typestate.specs.SlotChanges.{emptied, followed, heir, is_parent, is_removed, loses_children, moved, noted_outside, noted_parent, slot_left}
+use Rattle.typestate.specs.SlotChanges.{slots_left, what_stays, without_gone}
 use Rattle.typestate.specs.Strays.{NoneStray, cnodes_of, is_stray_in, is_tidy, is_tidy_put, is_unfit, keeps_line, keeps_parent}
 use Rattle.typestate.specs.declared.slot_changes.SlotChange.{SlotChange}
 use Rattle.typestate.specs.declared.slot_changes.SlotChange.TheVariants.{Nothing, Puts, Moves, Removes}
@@ -146,7 +150,9 @@ module _ (space : Space) where
   not-stray : (slots : List NotedSlot) (key : SlotKey) (s : NotedSlot) → None-in slots → slot_at slots key ≡ Some s → stray slots s ≡ false
   not-stray slots key s none at = elim (stray slots s) as (λ b. stray slots s ≡ b → b ≡ false) [
     | false ↦ λ _. refl
-    | true ↦ λ is. absurd (let clash : true ≡ false = sym (held-any (stray slots) slots key (ap (λ (o : Option NotedSlot). option_map_or (stray slots) o false) at ∙ is)) ∙ none in cc)
+    | true ↦ λ is. absurd (let clash : true ≡ false =
+        sym (held-any (stray slots) slots key (ap (λ (o : Option NotedSlot). option_map_or (stray slots) o false) at ∙ is)) ∙ none in
+        cc)
   ] refl
 
   all-fit : (slots : List NotedSlot) → None-in slots → AllFit space slots
@@ -202,7 +208,14 @@ module _ (space : Space) (slots : List NotedSlot) (all : AllFit space slots) whe
                 | None ↦ λ clash. absurd (let no : ◌≡◌ {A = Option ℕ} (Some (number_of k)) None = clash in cc)
                 | Some l ↦ λ is.
                     let kept = ext.keeps k o held in
-                    inr (inr (record { key = l; at = refl; held = kept.held; holds = same-place more l k (sym (number-same k l is)) ∙ kept.at; rest = sym kept.same }))
+                    inr (inr (record {
+                      key = l;
+                      at = refl;
+                      held = kept.held;
+                      holds = same-place more l k (sym (number-same k l is)) ∙ kept.at;
+                      rest =
+                          sym kept.same;
+                    }))
               ] same)
               s.parent s.parent refl was.leads;
         };
@@ -212,7 +225,8 @@ module _ (space : Space) (slots : List NotedSlot) (all : AllFit space slots) whe
   below : (c : NotedSlot) → keeps_line slots c ≡ true → Leads slots c.parent
   unfolding leads_to_boot
   below c line = elim (slot_at slots c.key) as (λ found. slot_at slots c.key ≡ found
-      → option_map_or (λ o. is_same_parent c.parent o.parent) found (option_map_or (λ p. is_some (slot_at slots p)) c.parent true) ≡ true → Leads slots c.parent) [
+      → option_map_or (λ o. is_same_parent c.parent o.parent) found (option_map_or (λ p. is_some (slot_at slots p)) c.parent true) ≡ true →
+      Leads slots c.parent) [
         | Some o ↦ λ at same.
             let was = (all.each c.key o at).leads in
             record { steps = was.steps; there = leads-same was.steps slots o.parent c.parent (sym (same-parents c.parent o.parent same)) was.there }
@@ -243,7 +257,8 @@ module _ (space : Space) (slots : List NotedSlot) (all : AllFit space slots) whe
                 held = c;
                 at = noted-at more c key ∙ ap (λ b. if b then left_by c else slot_at more key) is ∙ left;
                 same = same-parents c.parent o.parent
-                    (sym (ap (λ (found : Option NotedSlot). option_map_or (λ o. is_same_parent c.parent o.parent) found (option_map_or (λ p. is_some (slot_at slots p)) c.parent true)) there) ∙ line);
+                    (sym (ap (λ (found : Option NotedSlot). option_map_or (λ o. is_same_parent c.parent o.parent) found
+                    (option_map_or (λ p. is_some (slot_at slots p)) c.parent true)) there) ∙ line);
               }
           | false ↦ λ isnt.
               let kept = ext.keeps key o at in
@@ -251,7 +266,8 @@ module _ (space : Space) (slots : List NotedSlot) (all : AllFit space slots) whe
         ] refl;
         fits = λ key s at. elim (is_same_key c.key key) as (λ b. is_same_key c.key key ≡ b → Fits space slots s) [
           | true ↦ λ is.
-              let here : ◌≡◌ {A = Option NotedSlot} (Some c) (Some s) = sym left ∙ ap (λ b. if b then left_by c else slot_at more key) (sym is) ∙ sym (noted-at more c key) ∙ at in
+              let here : ◌≡◌ {A = Option NotedSlot} (Some c) (Some s) = sym left ∙ ap (λ b. if b then left_by c else slot_at more key) (sym is)
+              ∙ sym (noted-at more c key) ∙ at in
               subst (Fits space slots) (let same : c ≡ s = cc here in same) own
           | false ↦ λ isnt. ext.fits key s (ap (λ b. if b then left_by c else slot_at more key) (sym isnt) ∙ sym (noted-at more c key) ∙ at)
         ] refl;
@@ -263,13 +279,15 @@ module _ (space : Space) (slots : List NotedSlot) (all : AllFit space slots) whe
       put-all made (with_noted more c) (and-second (is_tidy_put space slots c) (list_all (is_tidy_put space slots) made) tidy)
       (put-one more c (and-first (is_tidy_put space slots c) (list_all (is_tidy_put space slots) made) tidy) ext)
 
-  puts-none : (made : List NotedSlot) → RiseFrom 0 slots → list_all (is_tidy_put space slots) made ≡ true → NoneStray space.image.now space.thread.now (changed slots made)
+  puts-none : (made : List NotedSlot) → RiseFrom 0 slots → list_all (is_tidy_put space slots) made ≡ true →
+      NoneStray space.image.now space.thread.now (changed slots made)
   puts-none made rises tidy = extended (changed slots made) (changes-rise slots made rises) (put-all made slots tidy itself)
 
   put-none : (c : NotedSlot) → RiseFrom 0 slots → is_tidy_put space slots c ≡ true → NoneStray space.image.now space.thread.now (with_noted slots c)
   put-none c rises tidy = extended (with_noted slots c) (changes-rise slots (c ∷ []) rises) (put-one slots c tidy itself)
 
-pub tidy-puts : (space : Space) (slots made : List NotedSlot) → RiseFrom 0 slots → NoneStray space.image.now space.thread.now slots → list_all (is_tidy_put space slots) made ≡ true
+pub tidy-puts : (space : Space) (slots made : List NotedSlot) → RiseFrom 0 slots → NoneStray space.image.now space.thread.now slots →
+    list_all (is_tidy_put space slots) made ≡ true
     → NoneStray space.image.now space.thread.now (changed slots made)
 tidy-puts space slots made rises none tidy = puts-none space slots (all-fit space slots none) made rises tidy
 
@@ -277,9 +295,11 @@ tidy-puts space slots made rises none tidy = puts-none space slots (all-fit spac
 
 -- whether a slot is fit, by its key and its capability
 abbrev unfit_with : Space → SlotKey → Cap → Bool
-unfit_with space key c = not (is_own space.image.now (cnodes_of space) key) || is_foreign space.image.now space.thread.now (cnodes_of space) c || not (is_capability c)
+unfit_with space key c = not (is_own space.image.now (cnodes_of space) key) || is_foreign space.image.now space.thread.now (cnodes_of space) c
+    || not (is_capability c)
 
-still-fit : (own a : Bool) (watermark whole : ℕ) → (own || false || not (a && nat_le watermark whole)) ≡ false → (own || false || not (a && nat_le 0 whole)) ≡ false
+still-fit : (own a : Bool) (watermark whole : ℕ) → (own || false || not (a && nat_le watermark whole)) ≡ false →
+    (own || false || not (a && nat_le 0 whole)) ≡ false
 still-fit true a watermark whole isnt = isnt
 still-fit false true watermark whole isnt = ap not (leb-zero whole)
 still-fit false false watermark whole isnt = isnt
@@ -299,7 +319,8 @@ fit-left space key loses (RootTable _) fit = fit
 fit-left space key loses InterruptControl fit = fit
 fit-left space key loses (InterruptHandler _) fit = fit
 
-module _ (space : Space) (gone : SlotKey → Bool) (by : (a b : SlotKey) → number_of a ≡ number_of b → gone a ≡ gone b) (slots : List NotedSlot) (rises : RiseFrom 0 slots) (all : AllFit space slots) where
+module _ (space : Space) (gone : SlotKey → Bool) (by : (a b : SlotKey) → number_of a ≡ number_of b → gone a ≡ gone b) (slots : List NotedSlot)
+    (rises : RiseFrom 0 slots) (all : AllFit space slots) where
   abbrev left : List NotedSlot
   left = without_gone gone slots
 
@@ -324,26 +345,38 @@ module _ (space : Space) (gone : SlotKey → Bool) (by : (a b : SlotKey) → num
   unfolding noted_outside
   one-step key o q at out = elim out.most as (λ n. q ≡ noted_outside n gone slots (Some key) → GoesOn left Outside o.parent q) [
     | zero ↦ λ is. inl is
-    | suc n ↦ λ is. elim (gone key) as (λ b. gone key ≡ b → q ≡ (if b then noted_outside n gone slots (noted_parent slots key) else Some key) → GoesOn left Outside o.parent q) [
-      | true ↦ λ _ goes. inr (inl (record { most = n; is = goes ∙ ap (noted_outside n gone slots) (ap (option_and_then (λ (s : NotedSlot). s.parent)) at) }))
-      | false ↦ λ stays here. inr (inr (record { key = key; at = here; held = slot_left gone slots o; holds = stays-so key o at stays; rest = record { most = 256; is = refl } }))
-    ] refl is
+    | suc n ↦ λ is. elim (gone key) as (λ b. gone key ≡ b → q ≡ (if b then noted_outside n gone slots (noted_parent slots key) else Some key) →
+        GoesOn left Outside o.parent q) [
+          | true ↦ λ _ goes. inr
+              (inl (record { most = n; is = goes ∙ ap (noted_outside n gone slots) (ap (option_and_then (λ (s : NotedSlot). s.parent)) at) }))
+          | false ↦ λ stays here.
+              inr (inr (record {
+                key = key;
+                at = here;
+                held = slot_left gone slots o;
+                holds = stays-so key o at stays;
+                rest =
+                    record { most = 256; is = refl };
+              }))
+        ] refl is
   ] out.is
 
   left-fits : (key : SlotKey) (s : NotedSlot) → slot_at left key ≡ Some s → Fits space left s
-  left-fits key s at = elim (slot_at slots key) as (λ found. slot_at slots key ≡ found → option_and_then (what_stays gone slots) found ≡ Some s → Fits space left s) [
-    | None ↦ λ _ clash. absurd (let no : ◌≡◌ {A = Option NotedSlot} None (Some s) = clash in cc)
-    | Some o ↦ λ was stays. elim (gone o.key) as (λ b. (if b then None else Some (slot_left gone slots o)) ≡ Some s → Fits space left s) [
-      | true ↦ λ clash. absurd (let no : ◌≡◌ {A = Option NotedSlot} None (Some s) = clash in cc)
-      | false ↦ λ is.
-          let fits = all.each key o was in
-          let own : Fits space left (slot_left gone slots o) = record {
-            fit = ap (unfit_with space o.key) (sym (reset-left gone slots o.key o.capability)) ∙ fit-left space o.key (loses_children gone slots o.key) o.capability fits.fit;
-            leads = stands-for slots left Outside no-line one-step o.parent (heir gone slots o) (record { most = 256; is = refl }) fits.leads;
-          } in
-          subst (Fits space left) (let same : slot_left gone slots o ≡ s = cc is in same) own
-    ] stays
-  ] refl (sym (left-is key) ∙ at)
+  left-fits key s at = elim (slot_at slots key) as (λ found. slot_at slots key ≡ found → option_and_then (what_stays gone slots) found ≡ Some s →
+      Fits space left s) [
+        | None ↦ λ _ clash. absurd (let no : ◌≡◌ {A = Option NotedSlot} None (Some s) = clash in cc)
+        | Some o ↦ λ was stays. elim (gone o.key) as (λ b. (if b then None else Some (slot_left gone slots o)) ≡ Some s → Fits space left s) [
+          | true ↦ λ clash. absurd (let no : ◌≡◌ {A = Option NotedSlot} None (Some s) = clash in cc)
+          | false ↦ λ is.
+              let fits = all.each key o was in
+              let own : Fits space left (slot_left gone slots o) = record {
+                fit = ap (unfit_with space o.key) (sym (reset-left gone slots o.key o.capability))
+                    ∙ fit-left space o.key (loses_children gone slots o.key) o.capability fits.fit;
+                leads = stands-for slots left Outside no-line one-step o.parent (heir gone slots o) (record { most = 256; is = refl }) fits.leads;
+              } in
+              subst (Fits space left) (let same : slot_left gone slots o ≡ s = cc is in same) own
+        ] stays
+      ] refl (sym (left-is key) ∙ at)
 
   none-left : NoneStray space.image.now space.thread.now left
   none-left = none-stray space left (stay-rise (what_stays gone slots) (stays-keeps gone slots) slots 0 rises) (record { each = left-fits })
@@ -353,7 +386,8 @@ module _ (space : Space) (gone : SlotKey → Bool) (by : (a b : SlotKey) → num
 no-key : (a b : SlotKey) (slots : List NotedSlot) (o : NotedSlot) → slot_at slots a ≡ Some o → slot_at slots b ≡ None → is_same_key a b ≡ false
 no-key a b slots o at vacant = elim (is_same_key a b) as (λ b'. is_same_key a b ≡ b' → b' ≡ false) [
   | false ↦ λ _. refl
-  | true ↦ λ is. absurd (let clash : ◌≡◌ {A = Option NotedSlot} (Some o) None = sym at ∙ same-place slots a b (eqb-true (number_of a) (number_of b) is) ∙ vacant in cc)
+  | true ↦ λ is. absurd (let clash : ◌≡◌ {A = Option NotedSlot} (Some o) None = sym at ∙ same-place slots a b (eqb-true (number_of a) (number_of b) is)
+      ∙ vacant in cc)
 ] refl
 
 module _ (space : Space) (slots : List NotedSlot) (from : SlotKey) (s : NotedSlot) (source : NotedSlot) (rises : RiseFrom 0 slots) (all : AllFit space slots)
@@ -388,7 +422,8 @@ module _ (space : Space) (slots : List NotedSlot) (from : SlotKey) (s : NotedSlo
   no-parent q moved = only-none q moved
 
   follows-place : (o : NotedSlot) → Moved o.parent (follow o).parent
-  follows-place o = elim (is_parent from o.parent) as (λ b. SamePlace (if b then Some s.key else o.parent) (if b then record o { parent = Some s.key } else o).parent) [ true ↦ refl | false ↦ refl ]
+  follows-place o = elim (is_parent from o.parent)
+      as (λ b. SamePlace (if b then Some s.key else o.parent) (if b then record o { parent = Some s.key } else o).parent) [ true ↦ refl | false ↦ refl ]
 
   off-same : (p : Option SlotKey) → SamePlace s.parent p → is_parent from p ≡ false
   off-same p is = elim p as (λ p. SamePlace s.parent p → is_parent from p ≡ false) [
@@ -405,47 +440,53 @@ module _ (space : Space) (slots : List NotedSlot) (from : SlotKey) (s : NotedSlo
   one-moves : (key : SlotKey) (o : NotedSlot) (q : Option SlotKey) → slot_at slots key ≡ Some o → Moved (Some key) q → GoesOn after Moved o.parent q
   one-moves key o q at moved = elim q as (λ q. Moved (Some key) q → GoesOn after Moved o.parent q) [
     | None ↦ λ _. inl refl
-    | Some k ↦ λ is. elim (is_same_key key from) as (λ b. is_same_key key from ≡ b → SamePlace (if b then Some s.key else Some key) (Some k) → GoesOn after Moved o.parent (Some k)) [
-      | true ↦ λ here there.
-          let number : number_of s.key ≡ number_of k = number-same s.key k there in
-          let other : is_same_key from k ≡ false = ap (λ (n : ℕ). number_of from == n) (sym number) ∙ no-key from s.key slots source held vacant in
-          let one : ◌≡◌ {A = Option NotedSlot} (Some source) (Some o) = sym held ∙ sym (same-place slots key from (eqb-true (number_of key) (number_of from) here)) ∙ at in
-          let both : source ≡ o = cc one in
-          inr (inr (record {
-            key = k;
-            at = refl;
-            held = s;
-            holds = after-is k ∙ ap (λ b. if b then None else if is_same_key s.key k then Some s else slot_at children k) other
-                ∙ ap (λ b. if b then Some s else slot_at children k) (eq-eqb (number_of s.key) (number_of k) number);
-            rest = subst (λ (x : NotedSlot). Moved x.parent s.parent) both source-place;
-          }))
-      | false ↦ λ apart there.
-          let number : number_of key ≡ number_of k = number-same key k there in
-          let found : slot_at slots k ≡ Some o = sym (same-place slots key k number) ∙ at in
-          let other : is_same_key from k ≡ false = elim (is_same_key from k) as (λ b. is_same_key from k ≡ b → b ≡ false) [
-            | false ↦ λ _. refl
-            | true ↦ λ is. absurd (let clash : true ≡ false = sym (eq-eqb (number_of key) (number_of from) (number ∙ sym (eqb-true (number_of from) (number_of k) is))) ∙ apart in cc)
-          ] refl in
-          let beside : is_same_key s.key k ≡ false = elim (is_same_key s.key k) as (λ b. is_same_key s.key k ≡ b → b ≡ false) [
-            | false ↦ λ _. refl
-            | true ↦ λ is. absurd (let clash : ◌≡◌ {A = Option NotedSlot} None (Some o) = sym vacant ∙ same-place slots s.key k (eqb-true (number_of s.key) (number_of k) is) ∙ found in cc)
-          ] refl in
-          inr (inr (record {
-            key = k;
-            at = refl;
-            held = follow o;
-            holds = after-is k ∙ ap (λ b. if b then None else if is_same_key s.key k then Some s else slot_at children k) other
-                ∙ ap (λ b. if b then Some s else slot_at children k) beside ∙ children-is k ∙ ap (option_map follow) found;
-            rest = follows-place o;
-          }))
-    ] refl is
+    | Some k ↦ λ is. elim (is_same_key key from) as (λ b. is_same_key key from ≡ b → SamePlace (if b then Some s.key else Some key) (Some k) →
+        GoesOn after Moved o.parent (Some k)) [
+          | true ↦ λ here there.
+              let number : number_of s.key ≡ number_of k = number-same s.key k there in
+              let other : is_same_key from k ≡ false = ap (λ (n : ℕ). number_of from == n) (sym number) ∙ no-key from s.key slots source held vacant in
+              let one : ◌≡◌ {A = Option NotedSlot} (Some source) (Some o) = sym held
+              ∙ sym (same-place slots key from (eqb-true (number_of key) (number_of from) here)) ∙ at in
+              let both : source ≡ o = cc one in
+              inr (inr (record {
+                key = k;
+                at = refl;
+                held = s;
+                holds = after-is k ∙ ap (λ b. if b then None else if is_same_key s.key k then Some s else slot_at children k) other
+                    ∙ ap (λ b. if b then Some s else slot_at children k) (eq-eqb (number_of s.key) (number_of k) number);
+                rest = subst (λ (x : NotedSlot). Moved x.parent s.parent) both source-place;
+              }))
+          | false ↦ λ apart there.
+              let number : number_of key ≡ number_of k = number-same key k there in
+              let found : slot_at slots k ≡ Some o = sym (same-place slots key k number) ∙ at in
+              let other : is_same_key from k ≡ false = elim (is_same_key from k) as (λ b. is_same_key from k ≡ b → b ≡ false) [
+                | false ↦ λ _. refl
+                | true ↦ λ is. absurd (let clash : true ≡ false =
+                    sym (eq-eqb (number_of key) (number_of from) (number ∙ sym (eqb-true (number_of from) (number_of k) is))) ∙ apart in
+                    cc)
+              ] refl in
+              let beside : is_same_key s.key k ≡ false = elim (is_same_key s.key k) as (λ b. is_same_key s.key k ≡ b → b ≡ false) [
+                | false ↦ λ _. refl
+                | true ↦ λ is. absurd (let clash : ◌≡◌ {A = Option NotedSlot} None (Some o) = sym vacant
+                    ∙ same-place slots s.key k (eqb-true (number_of s.key) (number_of k) is) ∙ found in cc)
+              ] refl in
+              inr (inr (record {
+                key = k;
+                at = refl;
+                held = follow o;
+                holds = after-is k ∙ ap (λ b. if b then None else if is_same_key s.key k then Some s else slot_at children k) other
+                    ∙ ap (λ b. if b then Some s else slot_at children k) beside ∙ children-is k ∙ ap (option_map follow) found;
+                rest = follows-place o;
+              }))
+        ] refl is
   ] moved
 
   leads-after : (p q : Option SlotKey) → Moved p q → Leads slots p → Leads after q
   leads-after = stands-for slots after Moved no-parent one-moves
 
   fit-follows : (o : NotedSlot) → is_unfit space o ≡ false → is_unfit space (follow o) ≡ false
-  fit-follows o fits = elim (is_parent from o.parent) as (λ b. is_unfit space (if b then record o { parent = Some s.key } else o) ≡ false) [ true ↦ fits | false ↦ fits ]
+  fit-follows o fits = elim (is_parent from o.parent) as (λ b. is_unfit space (if b then record o { parent = Some s.key } else o) ≡ false)
+      [ true ↦ fits | false ↦ fits ]
 
   after-fits : (key : SlotKey) (x : NotedSlot) → slot_at after key ≡ Some x → Fits space after x
   after-fits key x at =
@@ -459,14 +500,16 @@ module _ (space : Space) (slots : List NotedSlot) (from : SlotKey) (s : NotedSlo
             | None ↦ λ _ clash. absurd (let no : ◌≡◌ {A = Option NotedSlot} None (Some x) = clash in cc)
             | Some o ↦ λ was is.
                 let fits = all.each key o was in
-                let own : Fits space after (follow o) = record { fit = fit-follows o fits.fit; leads = leads-after o.parent (follow o).parent (follows-place o) fits.leads } in
+                let own : Fits space after (follow o) =
+                record { fit = fit-follows o fits.fit; leads = leads-after o.parent (follow o).parent (follows-place o) fits.leads } in
                 subst (Fits space after) (let one : follow o ≡ x = cc is in one) own
           ] refl (sym (children-is key) ∙ child)
         ] more
       ] (sym (after-is key) ∙ at)
 
   none-after : NoneStray space.image.now space.thread.now after
-  none-after = none-stray space after (changes-rise children (s ∷ emptied from ∷ []) (map-rises follow (follows-keeps from s.key) slots 0 rises)) (record { each = after-fits })
+  none-after = none-stray space after (changes-rise children (s ∷ emptied from ∷ []) (map-rises follow (follows-keeps from s.key) slots 0 rises))
+      (record { each = after-fits })
 
 -- ---- each change
 
@@ -474,11 +517,13 @@ is-vacant : (found : Option NotedSlot) → is_some found ≡ false → found ≡
 is-vacant None is = refl
 is-vacant (Some s) is = absurd (let no : true ≡ false = is in cc)
 
-pub tidy-changes : (space : Space) (slots : List NotedSlot) (change : SlotChange) → RiseFrom 0 slots → NoneStray space.image.now space.thread.now slots → is_tidy space slots change ≡ true
+pub tidy-changes : (space : Space) (slots : List NotedSlot) (change : SlotChange) → RiseFrom 0 slots → NoneStray space.image.now space.thread.now slots →
+    is_tidy space slots change ≡ true
     → NoneStray space.image.now space.thread.now (slots_left slots change)
 tidy-changes space slots Nothing rises none tidy = none
 tidy-changes space slots (Puts s) rises none tidy = put-none space slots (all-fit space slots none) s rises tidy
-tidy-changes space slots (Removes which) rises none tidy = none-left space (is_removed slots which) (removed-same slots which) slots rises (all-fit space slots none)
+tidy-changes space slots (Removes which) rises none tidy = none-left space (is_removed slots which) (removed-same slots which) slots rises
+    (all-fit space slots none)
 tidy-changes space slots (Moves from s) rises none tidy =
     let a = not (is_unfit space s) in
     let b = not (is_empty s.capability) in
@@ -488,10 +533,12 @@ tidy-changes space slots (Moves from s) rises none tidy =
     let four = and-first (a && b && c && d) (keeps_parent slots from s) tidy in
     let three = and-first (a && b && c) d four in
     let two = and-first (a && b) c three in
-    elim (slot_at slots from) as (λ found. slot_at slots from ≡ found → option_map_or (λ o. is_same_parent s.parent o.parent) found false ≡ true → NoneStray space.image.now space.thread.now (moved slots from s)) [
+    elim (slot_at slots from) as (λ found. slot_at slots from ≡ found → option_map_or (λ o. is_same_parent s.parent o.parent) found false ≡ true →
+    NoneStray space.image.now space.thread.now (moved slots from s)) [
       | None ↦ λ _ clash. absurd (let no : false ≡ true = clash in cc)
       | Some source ↦ λ held is.
-          none-after space slots from s source rises (all-fit space slots none) (not-false (is_unfit space s) (and-first a b two)) (not-false (is_empty s.capability) (and-second a b two))
+          none-after space slots from s source rises (all-fit space slots none) (not-false (is_unfit space s) (and-first a b two))
+          (not-false (is_empty s.capability) (and-second a b two))
           (is-vacant (slot_at slots s.key) (not-false (is_some (slot_at slots s.key)) (and-second (a && b) c three)))
           (not-false (is_parent from s.parent) (and-second (a && b && c) d four)) held (same-parents s.parent source.parent is)
     ] refl line

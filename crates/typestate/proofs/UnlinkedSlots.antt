@@ -5,7 +5,8 @@ use Rattle.std.specs.Option.{option_map_or}
 use Rattle.std.specs.Prelude.{◌/◌, cond, filter, is_some, map, slice_get}
 use Rattle.model.specs.declared.instructions.Access.{Access}
 use Rattle.model.specs.declared.capabilities.Cap.{Cap}
-use Rattle.model.specs.declared.capabilities.Cap.TheVariants.{Empty, Untyped, Endpoint, Notification, Tcb, CNode, Frame, PageTable, RootTable, InterruptControl, InterruptHandler}
+use Rattle.model.specs.declared.capabilities.Cap.TheVariants.{Empty, Untyped, Endpoint, Notification, Tcb, CNode, Frame, PageTable, RootTable, InterruptControl}
+use Rattle.model.specs.declared.capabilities.Cap.TheVariants.{InterruptHandler}
 use Rattle.model.specs.declared.capabilities.FrameMapping.{FrameMapping}
 use Rattle.model.specs.declared.capabilities.TableMapping.{TableMapping}
 use Rattle.model.specs.declared.entries.CapabilityEntry.{CapabilityEntry}
@@ -19,7 +20,8 @@ use Rattle.model.specs.Images.Described.{limited, original, source_capability}
 use Rattle.model.specs.Images.Image.{Image, Thread}
 use Rattle.model.specs.Images.Places.{interrupt_of, is_handler, offset_of, type_at}
 use Rattle.model.specs.Kernel.AddressSpaces.{MappedFrame, allows, is_page, maps_page, page_of, page_size, region_pages}
-use Rattle.model.specs.Kernel.Retype.{NewObject, NewUntyped, NewThread, NewEndpoint, NewNotification, NewCNode, NewFrame, NewPageTable, NewRootTable, first_capability}
+use Rattle.model.specs.Kernel.Retype.{NewObject, NewUntyped, NewThread, NewEndpoint, NewNotification, NewCNode, NewFrame, NewPageTable, NewRootTable}
+use Rattle.model.specs.Kernel.Retype.{first_capability}
 use Rattle.typestate.specs.declared.slot_changes.Removed.{Removed}
 use Rattle.typestate.specs.ChangeLists.{kept_child}
 use Rattle.typestate.specs.SlotChanges.{is_parent, is_removed, noted_outside}
@@ -49,7 +51,8 @@ some-mapped : (test : FrameMapping → Bool) (found : Option FrameMapping) → o
 some-mapped test None is = is
 some-mapped test (Some _) is = refl
 
-some-paged : (root page : ℕ) (test : MappedFrame → Bool) (capability : Cap) → option_map_or test (page_of root page capability) false ≡ true → is_some (frame_mapping capability) ≡ true
+some-paged : (root page : ℕ) (test : MappedFrame → Bool) (capability : Cap) → option_map_or test (page_of root page capability) false ≡ true →
+    is_some (frame_mapping capability) ≡ true
 some-paged root page test Empty is = is
 some-paged root page test (Untyped _ _ _) is = is
 some-paged root page test (Endpoint _ _ _) is = is
@@ -64,7 +67,8 @@ some-paged root page test InterruptControl is = is
 some-paged root page test (InterruptHandler _) is = is
 
 pub none-takes : (root page : ℕ) (slots : List NotedSlot) → AreUnlinked slots → list_any (λ s. maps_page root page s.capability) slots ≡ false
-none-takes root page = none-of (λ s. maps_page root page s.capability) (λ s is. second-too (is_some s.parent) (is_some (frame_mapping s.capability)) (some-mapped (is_page root page) (frame_mapping s.capability) is))
+none-takes root page = none-of (λ s. maps_page root page s.capability)
+    (λ s is. second-too (is_some s.parent) (is_some (frame_mapping s.capability)) (some-mapped (is_page root page) (frame_mapping s.capability) is))
 
 pub none-maps : (access : Access) (root page : ℕ) (slots : List NotedSlot) → AreUnlinked slots → list_any (holds_for access root page) slots ≡ false
 none-maps access root page = none-of (holds_for access root page)
@@ -85,16 +89,19 @@ some-heir true (suc n) gone slots key None is = is
 some-heir false n gone slots key None is = is
 some-heir a n gone slots key (Some _) is = refl
 
-pub none-goes : (all : List NotedSlot) (which : Removed) (key : SlotKey) (slots : List NotedSlot) → AreUnlinked slots → list_any (λ s. is_removed all which s.key && is_parent key s.parent) slots ≡ false
+pub none-goes : (all : List NotedSlot) (which : Removed) (key : SlotKey) (slots : List NotedSlot) → AreUnlinked slots →
+    list_any (λ s. is_removed all which s.key && is_parent key s.parent) slots ≡ false
 none-goes all which key = none-of (λ s. is_removed all which s.key && is_parent key s.parent)
     (λ s is. first-too (is_some s.parent) (is_some (frame_mapping s.capability)) (some-parent (is_removed all which s.key) key s.parent is))
 
 kept-linked : (all : List NotedSlot) (which : Removed) (key : SlotKey) (s : NotedSlot) → kept_child all which key s ≡ true → is_linked s ≡ true
 unfolding kept_child
 kept-linked all which key s is =
-    first-too (is_some s.parent) (is_some (frame_mapping s.capability)) (some-heir (not (is_removed all which s.key)) 256 (is_removed all which) all key s.parent is)
+    first-too (is_some s.parent) (is_some (frame_mapping s.capability))
+    (some-heir (not (is_removed all which s.key)) 256 (is_removed all which) all key s.parent is)
 
-pub none-stays : (all : List NotedSlot) (which : Removed) (key : SlotKey) (slots : List NotedSlot) → AreUnlinked slots → list_any (kept_child all which key) slots ≡ false
+pub none-stays : (all : List NotedSlot) (which : Removed) (key : SlotKey) (slots : List NotedSlot) → AreUnlinked slots →
+    list_any (kept_child all which key) slots ≡ false
 none-stays all which key = none-of (kept_child all which key) (kept-linked all which key)
 
 -- ---- what an image lists
@@ -150,12 +157,16 @@ bound-free (Some _) = refl
 
 original-free : (image : Image) (number : ℕ) → IsFree (original image number)
 original-free image number =
-    mapped-free (λ (t : TableEntry). Some (record { root = offset_of image t.root; region = t.address / page_size / region_pages })) (find (λ (t : TableEntry). t.table == number) image.tables)
-    (option_map_or (λ (kind : NewObject). first_capability kind (offset_of image number)) (type_at image number) Empty) (first-free (type_at image number) (offset_of image number))
+    mapped-free (λ (t : TableEntry). Some (record { root = offset_of image t.root; region = t.address / page_size / region_pages }))
+    (find (λ (t : TableEntry). t.table == number) image.tables)
+    (option_map_or (λ (kind : NewObject). first_capability kind (offset_of image number)) (type_at image number) Empty)
+    (first-free (type_at image number) (offset_of image number))
 
 source-free : (image : Image) (source : ℕ) → IsFree (source_capability image source)
 source-free image source =
-    elim (is_handler image source) as (λ b. IsFree (if b then option_map_or (λ (i : InterruptEntry). InterruptHandler i.line) (slice_get image.interrupts (interrupt_of image source)) Empty else original image source)) [
+    elim (is_handler image source)
+    as (λ b. IsFree (if b then option_map_or (λ (i : InterruptEntry). InterruptHandler i.line) (slice_get image.interrupts (interrupt_of image source))
+    Empty else original image source)) [
       | true ↦ bound-free (slice_get image.interrupts (interrupt_of image source))
       | false ↦ original-free image source
     ]
@@ -164,7 +175,8 @@ module _ (image : Image) (test : CapabilityEntry → Bool) where
   listed-unlinked : (entries : List CapabilityEntry) → AreUnlinked (map (listed_slot image) (filter test entries))
   listed-unlinked [] = refl
   listed-unlinked (c ∷ rest) = elim (test c) as (λ b. AreUnlinked (map (listed_slot image) (cond b (c ∷ filter test rest) (filter test rest)))) [
-    | true ↦ ap (λ b. b || list_any is_linked (map (listed_slot image) (filter test rest))) (limited-free (source_capability image c.source) c.rights c.payload (source-free image c.source)) ∙ listed-unlinked rest
+    | true ↦ ap (λ b. b || list_any is_linked (map (listed_slot image) (filter test rest)))
+        (limited-free (source_capability image c.source) c.rights c.payload (source-free image c.source)) ∙ listed-unlinked rest
     | false ↦ listed-unlinked rest
   ]
 

@@ -1,5 +1,6 @@
 -- The words of a message, one after another.
-use Rattle.std.proofs.Common.{ℕ, ◌≡◌, ◌∙◌, ◌+◌, ◌<◌, ◌≤◌, Result, Ok, Err, List, [], ◌∷◌, ◌++◌, length, take, drop, set, get_or, refl, sym, ap, append_assoc, add-one}
+use Rattle.std.proofs.Common.{ℕ, ◌≡◌, ◌∙◌, ◌+◌, ◌<◌, ◌≤◌, Result, Ok, Err, List, [], ◌∷◌, ◌++◌, length, take, drop, set, get_or, refl, sym, ap, append_assoc}
+use Rattle.std.proofs.Common.{add-one}
 use Rattle.std.proofs.Math.Seq.{drop-cons, take-suc-set}
 use Rattle.std.proofs.lemmas.List.{append-nil, length-take-le}
 use Rattle.model.specs.declared.instructions.Register.{Register}
@@ -22,11 +23,13 @@ one-before : (front : List ℕ) (value : ℕ) (rest : Result (List ℕ) Refusal)
 one-before front value (Ok rest) = ap (λ (words : List ℕ). Ok words) (sym (append_assoc front (value ∷ []) rest))
 one-before front value (Err refusal) = refl
 
-next-word : (at : Point) (state : PointState) (regs : List Register) (i : ℕ) → i < length regs → all_known at state (drop i regs) ≡ joined (known at state (get_or regs i a0)) (all_known at state (drop (i + 1) regs))
+next-word : (at : Point) (state : PointState) (regs : List Register) (i : ℕ) → i < length regs →
+    all_known at state (drop i regs) ≡ joined (known at state (get_or regs i a0)) (all_known at state (drop (i + 1) regs))
 unfolding all_known
 next-word at state regs i less = rw (add-one, drop-cons regs i a0) refl
 
-pub one-word : (at : Point) (state : PointState) (regs : List Register) (i : ℕ) (words : List ℕ) (value : ℕ) → i < length regs → i < length words → Ok value ≡ known at state (get_or regs i a0)
+pub one-word : (at : Point) (state : PointState) (regs : List Register) (i : ℕ) (words : List ℕ) (value : ℕ) → i < length regs → i < length words →
+    Ok value ≡ known at state (get_or regs i a0)
     → all_known at state regs ≡ prefixed (take i words) (all_known at state (drop i regs))
     → all_known at state regs ≡ prefixed (take (i + 1) (set words i value)) (all_known at state (drop (i + 1) regs))
 one-word at state regs i words value less room is before =
@@ -36,10 +39,12 @@ one-word at state regs i words value less room is before =
     ∙ one-before (take i words) value rest
     ∙ ap (λ (front : List ℕ). prefixed front rest) (sym (rw add-one (take-suc-set words i value room)))
 
-pub no-word : (at : Point) (state : PointState) (regs : List Register) (i : ℕ) (words : List ℕ) (refusal : Refusal) → i < length regs → Err refusal ≡ known at state (get_or regs i a0)
+pub no-word : (at : Point) (state : PointState) (regs : List Register) (i : ℕ) (words : List ℕ) (refusal : Refusal) → i < length regs →
+    Err refusal ≡ known at state (get_or regs i a0)
     → all_known at state regs ≡ prefixed (take i words) (all_known at state (drop i regs)) → all_known at state regs ≡ Err refusal
 no-word at state regs i words refusal less is before =
-    before ∙ ap (prefixed (take i words)) (next-word at state regs i less ∙ ap (λ (r : Result ℕ Refusal). joined r (all_known at state (drop (i + 1) regs))) (sym is))
+    before ∙ ap (prefixed (take i words)) (next-word at state regs i less
+    ∙ ap (λ (r : Result ℕ Refusal). joined r (all_known at state (drop (i + 1) regs))) (sym is))
 
 pub count-words : (count : ℕ) → count ≤ 8 → length (take count word_registers) ≡ count
 unfolding word_registers

@@ -66,13 +66,15 @@ pub record StandsApart (image : Image) (t : Thread) : Type 0 where
   pub listed : (cnode : ℕ) → is_member cnode (reached image t) ≡ true → cnode < image.header.objects
   pub small : (cnode : ℕ) → is_member cnode (reached image t) ≡ true → slots_of_cnode image cnode ≤ 2 ^ 14
   -- no two of the CNodes share a slot
-  pub apart : (a b slot : ℕ) → is_member a (reached image t) ≡ true → is_member b (reached image t) ≡ true → stands_in image slot a ≡ true → stands_in image slot b ≡ true → a ≡ b
+  pub apart : (a b slot : ℕ) → is_member a (reached image t) ≡ true → is_member b (reached image t) ≡ true → stands_in image slot a ≡ true →
+      stands_in image slot b ≡ true → a ≡ b
   -- they stand in memory, behind the boot CNode and the interrupt table
   pub within : (slot : ℕ) (key : SlotKey) → key_of image (reached image t) slot ≡ Some key → slot < 2 ^ image.header.memory_bits / 16
   pub behind : (slot : ℕ) → slot < boot_area_slots image.header.boot_radix → key_of image (reached image t) slot ≡ None
   pub room : boot_area_slots image.header.boot_radix ≤ 2 ^ image.header.memory_bits / 16
   -- what stands elsewhere was derived from what stands elsewhere
-  pub outside : (slot parent : ℕ) → key_of image (reached image t) slot ≡ None → parent_at (described image).slots slot ≡ Some parent → key_of image (reached image t) parent ≡ None
+  pub outside : (slot parent : ℕ) → key_of image (reached image t) slot ≡ None → parent_at (described image).slots slot ≡ Some parent →
+      key_of image (reached image t) parent ≡ None
   -- the boot slots that noted capabilities hang below: of untyped memory that was derived from nothing, and else of what
   -- was derived from such a slot
   pub parent_boot : (capability : Cap) → boot_parent image t capability < 2 ^ image.header.boot_radix
@@ -81,7 +83,8 @@ pub record StandsApart (image : Image) (t : Thread) : Type 0 where
       → (above : ℕ) × (parent_at (described image).slots (boot_parent image t capability) ≡ Some above) × (parent_at (described image).slots above ≡ None)
   -- capabilities in the boot CNode
   pub objects : (offset : ℕ) → (slot_count ((described image).objects offset) ≡ 0) ⊎ HeldInBoot image (names_object offset)
-  pub lines : (line : ℕ) → line < 64 → (capability_at (described image).slots (line_slot image.header.boot_radix line) ≡ Empty) ⊎ HeldInBoot image (is_handler_of line)
+  pub lines : (line : ℕ) → line < 64 → (capability_at (described image).slots (line_slot image.header.boot_radix line) ≡ Empty) ⊎ HeldInBoot image
+      (is_handler_of line)
   pub root : HeldInBoot image (is_root_at (offset_of image t.header.root))
 
 -- ---- the whole

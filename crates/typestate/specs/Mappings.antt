@@ -28,7 +28,8 @@ abbrev pub maps_page_outside : Image → Thread → ℕ → ℕ → Bool
 maps_page_outside image t page slot = is_outside image t slot && maps_page (offset_of image t.header.root) page (capability_at (described image).slots slot)
 
 abbrev pub maps_region_outside : Image → Thread → ℕ → ℕ → Bool
-maps_region_outside image t region slot = is_outside image t slot && maps_region (offset_of image t.header.root) region (capability_at (described image).slots slot)
+maps_region_outside image t region slot = is_outside image t slot
+    && maps_region (offset_of image t.header.root) region (capability_at (described image).slots slot)
 
 -- Under the thread's root table, outside of the thread's CNodes, those pages and regions are mapped that the image lists.
 -- Well-formed images have it so.

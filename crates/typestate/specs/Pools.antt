@@ -16,7 +16,8 @@ use Rattle.model.specs.Capabilities.CapabilityKinds.{Node}
 use Rattle.model.specs.Capabilities.Placement.{placement}
 use Rattle.model.specs.Images.Image.{Image, Thread}
 use Rattle.model.specs.Kernel.Arguments.{◌>>=◌, check, wanted}
-use Rattle.model.specs.Kernel.Retype.{NewObject, NewEndpoint, NewNotification, NewFrame, any_full, first_capability, is_large_enough, is_small_enough, node, object_bits, type_of}
+use Rattle.model.specs.Kernel.Retype.{NewObject, NewEndpoint, NewNotification, NewFrame, any_full, first_capability, is_large_enough, is_small_enough, node}
+use Rattle.model.specs.Kernel.Retype.{object_bits, type_of}
 use Rattle.model.specs.Kernel.State.{slot_of}
 use Rattle.typestate.specs.declared.pool_calls.Makeable.{Makeable}
 use Rattle.typestate.specs.declared.pool_calls.Makeable.TheVariants.{Endpoint, Notification, Frame}
@@ -104,7 +105,8 @@ pool_used held memory watermark = record { key = held.key; capability = Untyped 
 -- ---- the checks together
 
 -- what the checks of a call that passes have found
-pub record PlacedNew (image : Image) (t : Thread) (slots : List NotedSlot) (key : SlotKey) (memory : UntypedMemory) (call : RetypeCall) (p : NewPlace) : Type 0 where
+pub record PlacedNew (image : Image) (t : Thread) (slots : List NotedSlot) (key : SlotKey) (memory : UntypedMemory) (call : RetypeCall) (p : NewPlace) : Type
+    0 where
   pub new : NewObject
   pub asked : type_asked call.kind call.size ≡ Ok new
   pub cnode : Node
@@ -121,4 +123,5 @@ pub record PlacedNew (image : Image) (t : Thread) (slots : List NotedSlot) (key 
 -- a pool in the slot of a key, and a call on it that is refused, or places new objects
 abbrev pub PlaceAnswer : Image → Thread → List NotedSlot → SlotKey → UntypedMemory → RetypeCall → Result NewPlace KError → Type 0
 PlaceAnswer image t slots key memory call (Ok p) = PlacedNew image t slots key memory call p
-PlaceAnswer image t slots key memory call (Err error) = (at : Point) (held : NotedSlot) → held.key ≡ key → held_after image t at slots held (OnUntyped memory call) ≡ Err (CallRefused at error)
+PlaceAnswer image t slots key memory call (Err error) = (at : Point) (held : NotedSlot) → held.key ≡ key →
+    held_after image t at slots held (OnUntyped memory call) ≡ Err (CallRefused at error)

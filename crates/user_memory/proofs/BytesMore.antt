@@ -17,7 +17,8 @@ within-before offset i place before = elim (cases_lt place offset) [ inl under �
 within-behind : (offset i place : ℕ) → offset + i < place → is_within offset i place ≡ is_within offset (i + 1) place
 within-behind offset i place behind = grind (arith, nat_tests)
 
-pub byte-more : (old now new : List ℕ) (offset i byte : ℕ) (piece : List ℕ) → offset + i < length now → new ≡ written now (offset + i) (byte ∷ []) → slice_index piece i ≡ byte
+pub byte-more : (old now new : List ℕ) (offset i byte : ℕ) (piece : List ℕ) → offset + i < length now → new ≡ written now (offset + i) (byte ∷ []) →
+    slice_index piece i ≡ byte
     → AreWritten old now offset i piece → AreWritten old new offset (i + 1) piece
 byte-more old now new offset i byte piece inside puts here known = record {
   size = ap (λ (m : List ℕ). length m) puts ∙ length-written now (offset + i) (byte ∷ []) (omega (arith, inside)) ∙ known.size;
@@ -29,7 +30,8 @@ byte-more old now new offset i byte piece inside puts here known = record {
       | inl same ↦
           let at : place - offset ≡ i = omega (arith, same.1) in
           let first : place ≡ offset + i + 0 = omega (arith, same.1) in
-          ap (slice_index (written now (offset + i) (byte ∷ []))) first ∙ slice_index-written_inside now (offset + i) (byte ∷ []) 0 (omega (arith, inside)) (omega arith)
+          ap (slice_index (written now (offset + i) (byte ∷ []))) first
+          ∙ slice_index-written_inside now (offset + i) (byte ∷ []) 0 (omega (arith, inside)) (omega arith)
           ∙ sym (ap (λ b. if b then slice_index piece (place - offset) else slice_index old place) (ap (is_within offset (i + 1)) same.1 ∙ within-last offset i)
           ∙ ap (slice_index piece) at ∙ here)
       | inr apart ↦

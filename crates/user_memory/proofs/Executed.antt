@@ -46,4 +46,5 @@ module _ (s : State) (thread : ℕ) (i : Instr) where
       let left =
       effect-sound (registers_of s thread) (content_of s thread) (registers-of (thread_at s thread) (fine-of s sound thread there))
       (λ place. byte-less s sound place (s.bytes place) refl) i (instruction-fits i is) in
-      content-whole (with_registers s thread effect-on.registers) effect-on.content (registers-whole s sound thread there effect-on.registers left.registers) left.bytes
+      content-whole (with_registers s thread effect-on.registers) effect-on.content (registers-whole s sound thread there effect-on.registers left.registers)
+      left.bytes

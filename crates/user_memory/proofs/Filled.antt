@@ -14,7 +14,8 @@ pub all-small : (bytes : List ℕ) → ((i : ℕ) → slice_index bytes i < 2 ^ 
 all-small [] each = All-nil (λ (n : ℕ). n < 2 ^ 8)
 all-small (byte ∷ others) each = All-cons (λ (n : ℕ). n < 2 ^ 8) byte others (each 0) (all-small others (λ i. each (suc i)))
 
-pub filled-whole : (o : Tables) (slots : Slots) (old new : List ℕ) (offset : ℕ) (bytes : List ℕ) → AreWritten old new offset (length bytes) bytes → IsWhole o slots old
+pub filled-whole : (o : Tables) (slots : Slots) (old new : List ℕ) (offset : ℕ) (bytes : List ℕ) → AreWritten old new offset (length bytes) bytes →
+    IsWhole o slots old
     → All (λ byte. byte < 2 ^ 8) bytes → may_fill (state_of o slots old) offset (length bytes) ≡ true → IsWhole o slots new
 filled-whole o slots old new offset bytes written whole small may = record {
   sound = fill-whole (state_of o slots old) (state_of o slots new) offset bytes whole.sound small

@@ -1,5 +1,6 @@
 -- Bytes that are written into a frame are those that filling it gives.
-use Rattle.std.proofs.Common.{ℕ, ◌≡◌, ◌∙◌, ◌+◌, ◌-◌, ◌%◌, ◌^◌, ◌<◌, ◌≤◌, ◌&&◌, Bool, true, false, if◌then◌else◌, Option, Some, None, IsSome, option_map, List, length, refl, sym, ap, subst, arith}
+use Rattle.std.proofs.Common.{ℕ, ◌≡◌, ◌∙◌, ◌+◌, ◌-◌, ◌%◌, ◌^◌, ◌<◌, ◌≤◌, ◌&&◌, Bool, true, false, if◌then◌else◌, Option, Some, None, IsSome, option_map, List}
+use Rattle.std.proofs.Common.{length, refl, sym, ap, subst, arith}
 use Rattle.std.specs.Prelude.{nat_le, slice_index}
 use Rattle.std.proofs.lemmas.Bool.{and_parts, leb-true}
 use Rattle.std.proofs.Math.Pow.{pow_mono}
@@ -12,9 +13,11 @@ use Rattle.model.specs.Kernel.Kinds.{Names, frame_around, kind_at, kind_of}
 use Rattle.model.specs.Kernel.Retype.{NewObject, NewThread, NewEndpoint, NewNotification, NewCNode, NewFrame, NewPageTable, NewRootTable}
 use Rattle.model.specs.Kernel.Setup.{fill, is_frame_object, with_first_bytes}
 use Rattle.model.specs.Kernel.Soundness.{IsSound}
-use Rattle.model.specs.Kernel.State.{Object, State, ThreadObject, EndpointObject, NotificationObject, CNodeObject, FrameObject, PageTableObject, RootTableObject}
+use Rattle.model.specs.Kernel.State.{Object, State, ThreadObject, EndpointObject, NotificationObject, CNodeObject, FrameObject, PageTableObject}
+use Rattle.model.specs.Kernel.State.{RootTableObject}
 use Rattle.model.specs.declared.capabilities.Cap.{Cap}
-use Rattle.model.specs.declared.capabilities.Cap.TheVariants.{Empty, Untyped, Endpoint, Notification, CNode, Frame, PageTable, Tcb, RootTable, InterruptControl, InterruptHandler}
+use Rattle.model.specs.declared.capabilities.Cap.TheVariants.{Empty, Untyped, Endpoint, Notification, CNode, Frame, PageTable, Tcb, RootTable, InterruptControl}
+use Rattle.model.specs.declared.capabilities.Cap.TheVariants.{InterruptHandler}
 use Rattle.objects.specs.Frames.{SameBesideFrames}
 use Rattle.objects.specs.Standing.{Standing}
 use Rattle.objects.specs.Tables.{Tables, state_of}
@@ -125,7 +128,8 @@ module _ (o : Tables) (slots : Slots) (old new : List ℕ) (offset : ℕ) (bytes
   pub filled-state : state_of o slots new ≡ with_first_bytes before offset bytes
   filled-state = stored-state o slots old new stood same-frames ∙ (λ i. record before {
     bytes = λ place. (ap (λ (byte : ℕ). option_map (λ _. byte) (before.bytes place)) (written.bytes place)
-        ∙ filled-byte (is_within offset (length bytes) place) (before.bytes place) (slice_index bytes (place - offset)) (slice_index old place) (own-bytes o slots old place)) i;
+        ∙ filled-byte (is_within offset (length bytes) place) (before.bytes place) (slice_index bytes (place - offset)) (slice_index old place)
+        (own-bytes o slots old place)) i;
   })
 
   pub fill-done : fill before offset bytes ≡ Some (state_of o slots new)

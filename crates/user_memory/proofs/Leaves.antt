@@ -1,5 +1,6 @@
 -- Page tables that agree with capabilities have the leaves of the frames that capabilities map, and no others.
-use Rattle.std.proofs.Common.{ℕ, ◌≡◌, ◌∙◌, ◌+◌, ◌-◌, ◌*◌, ◌/◌, ◌%◌, ◌^◌, ◌<◌, ◌≤◌, ◌==◌, ◌&&◌, ◌||◌, inl, inr, true, false, not, nat_le, if◌then◌else◌, Option, Some, None, List, length, refl, sym, ap, subst, arith}
+use Rattle.std.proofs.Common.{ℕ, ◌≡◌, ◌∙◌, ◌+◌, ◌-◌, ◌*◌, ◌/◌, ◌%◌, ◌^◌, ◌<◌, ◌≤◌, ◌==◌, ◌&&◌, ◌||◌, inl, inr, true, false, not, nat_le, if◌then◌else◌, Option}
+use Rattle.std.proofs.Common.{Some, None, List, length, refl, sym, ap, subst, arith}
 use Rattle.std.proofs.Math.Logic.{∥∥₁_elim, ∥∥₁_map}
 use Rattle.std.specs.Coded.{coded_option, coded_ℕ}
 use base.Stored.{Coded-set}
@@ -57,7 +58,8 @@ leaf-leaf frame rights known =
 
 -- ---- the entries that memory has
 
-entry-there : (memory : List ℕ) (table number entry : ℕ) → table + 4 * number + 4 ≤ length memory → word_at memory (table + 4 * number) ≡ entry → is_valid entry ≡ true
+entry-there : (memory : List ℕ) (table number entry : ℕ) → table + 4 * number + 4 ≤ length memory → word_at memory (table + 4 * number) ≡ entry →
+    is_valid entry ≡ true
     → entry_at memory table number ≡ Some entry
 unfolding entry_at
 entry-there memory table number entry fits is valid =
@@ -67,7 +69,8 @@ entry-there memory table number entry fits is valid =
 entry-none : (memory : List ℕ) (table number : ℕ) → word_at memory (table + 4 * number) ≡ 0 → entry_at memory table number ≡ None
 unfolding entry_at
 entry-none memory table number is =
-    elim (nat_le (table + 4 * number + 4) (length memory)) as (λ b. (if b && is_valid (word_at memory (table + 4 * number)) then Some (word_at memory (table + 4 * number)) else None) ≡ None) [
+    elim (nat_le (table + 4 * number + 4) (length memory))
+    as (λ b. (if b && is_valid (word_at memory (table + 4 * number)) then Some (word_at memory (table + 4 * number)) else None) ≡ None) [
       | true ↦ rw is refl
       | false ↦ refl
     ]
@@ -94,7 +97,8 @@ module _ (slots : Slots) (memory : List ℕ) (agree : TablesAgree slots memory) 
       let top = agree.mapped_roots maps.slot table _ maps.held in
       let stands = agree.tables maps.slot table _ maps.held in
       in-region memory root page table
-      (entry-there memory root (page / 2 ^ 10) (table_word table) (omega (arith, top.within, near)) (agree.pointers maps.slot table _ maps.held) (pointer-valid table))
+      (entry-there memory root (page / 2 ^ 10) (table_word table) (omega (arith, top.within, near)) (agree.pointers maps.slot table _ maps.held)
+      (pointer-valid table))
       stands.aligned
 
   leaf-mapped : (root page leaf : ℕ) → IsMapped slots root page leaf → leaf_of memory root page ≡ Some leaf
@@ -102,7 +106,8 @@ module _ (slots : Slots) (memory : List ℕ) (agree : TablesAgree slots memory) 
       let slot = m.maps.slot in
       let rights = m.maps.frame_rights in
       let held = m.maps.capability in
-      let fine : IsCapability (Frame m.frame rights (Some (record { root = root; page = page; rights = m.allowed }))) = subst (λ (c : Cap). IsCapability c) held (agree.valid slot) in
+      let fine : IsCapability (Frame m.frame rights (Some (record { root = root; page = page; rights = m.allowed }))) =
+      subst (λ (c : Cap). IsCapability c) held (agree.valid slot) in
       let near : page < 2 ^ 20 = omega (arith, fine.2.1) in
       let known = fine.2.2 in
       let there = agree.leaves slot m.frame rights _ held in
@@ -133,12 +138,14 @@ module _ (slots : Slots) (memory : List ℕ) (agree : TablesAgree slots memory) 
   no-leaf : (leaf : ℕ) {A : Type 0} (o : Option ℕ) → o ≡ None → o ≡ Some leaf → A
   no-leaf leaf o none some = absurd (let clash : None ≡ Some leaf = sym none ∙ some in cc)
 
-  in-table : (root page leaf table : ℕ) → page < 2 ^ 20 → MapsTable slots root (page / 2 ^ 10) table → leaf_of memory root page ≡ Some leaf → IsMapped slots root page leaf
+  in-table : (root page leaf table : ℕ) → page < 2 ^ 20 → MapsTable slots root (page / 2 ^ 10) table → leaf_of memory root page ≡ Some leaf →
+      IsMapped slots root page leaf
   in-table root page leaf table near maps is = elim (agree.only_leaves maps.slot table _ (page % 2 ^ 10) maps.held (omega arith)) [
     | inl blank ↦
         no-leaf leaf (leaf_of memory root page)
         (through-table root page table near maps ∙ ap (λ o. o >>= if_leaf) (entry-none memory table (page % 2 ^ 10) blank)) is
-    | inr frame ↦ its-frame root page leaf is (subst (λ p. MapsFrame slots root p) (let e : 2 ^ 10 * (page / 2 ^ 10) + page % 2 ^ 10 ≡ page = omega arith in e) frame)
+    | inr frame ↦ its-frame root page leaf is
+        (subst (λ p. MapsFrame slots root p) (let e : 2 ^ 10 * (page / 2 ^ 10) + page % 2 ^ 10 ≡ page = omega arith in e) frame)
   ]
 
   mapped-leaf : (root page leaf : ℕ) → Holds slots (RootTable root) → page < 2 ^ 20 → leaf_of memory root page ≡ Some leaf → IsMapped slots root page leaf
@@ -148,7 +155,8 @@ module _ (slots : Slots) (memory : List ℕ) (agree : TablesAgree slots memory) 
   ]
 
 -- memory under a root table has the leaves that are mapped, and no others
-pub usable-leaves : (s : State) (memory : List ℕ) (root : Option ℕ) (table : ℕ) → ∥ IsUsable s memory root ∥₁ → root ≡ Some table → LeavesAgree s.slots memory table
+pub usable-leaves : (s : State) (memory : List ℕ) (root : Option ℕ) (table : ℕ) → ∥ IsUsable s memory root ∥₁ → root ≡ Some table →
+    LeavesAgree s.slots memory table
 usable-leaves s memory root table usable is = record {
   leaves = λ top page leaf m. ∥∥₁_elim usable (Coded-set (coded_option coded_ℕ) _ _) (λ u. leaf-mapped s.slots memory u.agrees.tables top page leaf m);
   only = λ page leaf near found. ∥∥₁_map usable (λ u. mapped-leaf s.slots memory u.agrees.tables table page leaf (u.rooted table is) near found);
@@ -159,4 +167,5 @@ pub kernel-leaves : {S : Type 0} (slots : S → Slots) (memory : S → List ℕ)
     → ∥ IsUsable (state_in slots memory kernel) (memory kernel.store) root ∥₁ → root ≡ Some table → LeavesAgree (slots parts.store) (memory parts.store) table
 unfolding state_of
 kernel-leaves slots memory root table {parts} {kernel} same usable is =
-    subst (λ k. LeavesAgree (slots k.store) (memory k.store) table) (sym same) (usable-leaves (state_in slots memory kernel) (memory kernel.store) root table usable is)
+    subst (λ k. LeavesAgree (slots k.store) (memory k.store) table) (sym same)
+    (usable-leaves (state_in slots memory kernel) (memory kernel.store) root table usable is)

@@ -55,7 +55,8 @@ named-at o access address place is = rw is refl
 module _ (s : State) (memory : List ℕ) (root : Option ℕ) (table address : ℕ) (access : Access) (usable : ∥ IsUsable s memory root ∥₁) (is : root ≡ Some table)
     (small : address < 2 ^ 32) where
   place-of : (found : Option ℕ) → walk memory table address access ≡ found → (content_under s root).place access address ≡ found
-  place-of found finds = (let at : (content_under s root).place access address ≡ place_under s table access address = rw is refl in at) ∙ sym (walked s memory root usable table address access is small) ∙ finds
+  place-of found finds = (let at : (content_under s root).place access address ≡ place_under s table access address = rw is refl in at)
+      ∙ sym (walked s memory root usable table address access is small) ∙ finds
 
   pub walk-ok : (result : Result ℕ PageFault) (place : ℕ) → result ≡ ok_or (walk memory table address access) page_fault → result ≡ Ok place
       → Ok place ≡ place_at (content_under s root) access address

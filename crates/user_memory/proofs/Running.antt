@@ -14,7 +14,8 @@ use Rattle.model.specs.Kernel.Retype.{NewFrame}
 use Rattle.model.specs.Kernel.State.{State, vspace_slot}
 use Rattle.model.specs.Machine.ProgramMemory.{Content, RegisterFile}
 use Rattle.model.specs.declared.capabilities.Cap.{Cap}
-use Rattle.model.specs.declared.capabilities.Cap.TheVariants.{Empty, Untyped, Endpoint, Notification, CNode, Frame, PageTable, Tcb, RootTable, InterruptControl, InterruptHandler}
+use Rattle.model.specs.declared.capabilities.Cap.TheVariants.{Empty, Untyped, Endpoint, Notification, CNode, Frame, PageTable, Tcb, RootTable, InterruptControl}
+use Rattle.model.specs.declared.capabilities.Cap.TheVariants.{InterruptHandler}
 use Rattle.objects.specs.Lives.{Parts, state_in}
 use Rattle.objects.specs.Frames.{SameBesideFrames, SameObjects}
 use Rattle.objects.specs.Standing.{Standing}
@@ -102,10 +103,12 @@ module _ (o now : Tables) (slots after : Slots) (old new : List ℕ) (root left 
     same-frames = record {
       size = ap (λ (b : Beside). b.size) kept;
       bytes = hidden-same o slots old new
-          (λ place. sym (ap (λ (x : State). option_map_or (λ _. None) (x.bytes place) (Some (slice_index new place))) same-state) ∙ ap (λ (b : Beside). b.bytes place) kept);
+          (λ place. sym (ap (λ (x : State). option_map_or (λ _. None) (x.bytes place) (Some (slice_index new place))) same-state)
+          ∙ ap (λ (b : Beside). b.bytes place) kept);
     }
 
-    pub state-left : (content : Content) → content_under (state_of now after new) left ≡ content → state_of now after new ≡ with_content (state_of o slots old) content
+    pub state-left : (content : Content) → content_under (state_of now after new) left ≡ content →
+        state_of now after new ≡ with_content (state_of o slots old) content
     state-left content sees = same-state ∙ content-left o slots old new stood same-frames content
         (λ place. sym (ap (λ (c : Content). c.byte place) sees) ∙ ap (λ (x : State). option_map_or (λ byte. byte) (x.bytes place) 0) same-state)
 

@@ -22,7 +22,8 @@ some-byte None now some is = absurd (let clash : false ≡ true = some in cc)
 
 pub own-byte : (o : Tables) (slots : Slots) (memory : List ℕ) (place : ℕ) → IsSome ((state_of o slots memory).bytes place)
     → (state_of o slots memory).bytes place ≡ Some (slice_index memory place)
-own-byte o slots memory place some = some-byte ((state_of o slots memory).bytes place) (slice_index memory place) some (λ byte is. byte-there o slots memory place byte is)
+own-byte o slots memory place some = some-byte ((state_of o slots memory).bytes place) (slice_index memory place) some
+    (λ byte is. byte-there o slots memory place byte is)
 
 -- and it is so for every byte that is there
 pub own-bytes : (o : Tables) (slots : Slots) (memory : List ℕ) (place : ℕ)
@@ -56,8 +57,10 @@ module _ (o : Tables) (slots : Slots) (old new : List ℕ) where
   filled = record before { bytes = λ place. option_map (λ _. slice_index new place) (before.bytes place) }
 
   pub hidden-same : ((place : ℕ) → option_map_or (λ _. None) ((state_of o slots new).bytes place) (Some (slice_index new place))
-      ≡ option_map_or (λ _. None) (before.bytes place) (Some (slice_index old place))) → (place : ℕ) → before.bytes place ≡ None → slice_index new place ≡ slice_index old place
-  hidden-same same place none = same-hidden ((state_of o slots new).bytes place) (before.bytes place) (slice_index new place) (slice_index old place) (same place) none
+      ≡ option_map_or (λ _. None) (before.bytes place) (Some (slice_index old place))) → (place : ℕ) → before.bytes place ≡ None →
+      slice_index new place ≡ slice_index old place
+  hidden-same same place none = same-hidden ((state_of o slots new).bytes place) (before.bytes place) (slice_index new place) (slice_index old place)
+      (same place) none
 
   module _ (stood : Standing o slots old) (same : SameBesideFrames before old new) where
     pub stored-state : state_of o slots new ≡ filled

@@ -1,12 +1,14 @@
 -- An instruction that does not go on changes nothing.
-use Rattle.std.proofs.Common.{ℕ, inl, inr, ◌≡◌, ◌≢◌, ◌∙◌, ◌==◌, ◌%◌, ◌-◌, Bool, true, false, if◌then◌else◌, Option, Some, None, option_map, Result, Ok, Err, refl, sym, ap}
+use Rattle.std.proofs.Common.{ℕ, inl, inr, ◌≡◌, ◌≢◌, ◌∙◌, ◌==◌, ◌%◌, ◌-◌, Bool, true, false, if◌then◌else◌, Option, Some, None, option_map, Result, Ok, Err}
+use Rattle.std.proofs.Common.{refl, sym, ap}
 use Rattle.std.specs.Option.{option_map_or}
 use Rattle.std.proofs.lemmas.Bool.Decides.{eqb_tells}
 use Rattle.model.specs.Kernel.AddressSpaces.{content_of, with_content}
 use Rattle.model.specs.Kernel.Kinds.{kind_at, kind_of}
 use Rattle.model.specs.Kernel.Messages.{with_registers}
 use Rattle.model.specs.Kernel.Retype.{NewThread, NewEndpoint, NewNotification, NewCNode, NewFrame, NewPageTable, NewRootTable}
-use Rattle.model.specs.Kernel.State.{State, Object, ThreadObject, EndpointObject, NotificationObject, CNodeObject, FrameObject, PageTableObject, RootTableObject, as_thread, new_thread, put, thread_at}
+use Rattle.model.specs.Kernel.State.{State, Object, ThreadObject, EndpointObject, NotificationObject, CNodeObject, FrameObject, PageTableObject}
+use Rattle.model.specs.Kernel.State.{RootTableObject, as_thread, new_thread, put, thread_at}
 use Rattle.model.specs.Machine.Effects.{Effect, advanced, effect, goes_on, is_taken, jumps, load_size, loads, next_pc, plus, store_size, stores}
 use Rattle.model.specs.Machine.ProgramMemory.{Content, RegisterFile, loaded, read, stored, write}
 use Rattle.model.specs.declared.instructions.Access.TheVariants as accesses
@@ -88,7 +90,8 @@ same-registers s thread there = λ i. record s {
   objects = λ other. put-same s.objects thread (Some (ThreadObject (thread_at s thread))) other (thread-there (s.objects thread) there) i;
 }
 
-pub unchanged : (s now after : State) (thread : ℕ) (first left : RegisterFile) (i : Instr) → kind_at s thread ≡ Some NewThread → first ≡ (thread_at s thread).registers
+pub unchanged : (s now after : State) (thread : ℕ) (first left : RegisterFile) (i : Instr) → kind_at s thread ≡ Some NewThread →
+    first ≡ (thread_at s thread).registers
     → now ≡ with_content s (effect first (content_of s thread) i).content → left ≡ (effect first (content_of s thread) i).registers
     → after ≡ with_registers now thread left → (effect first (content_of s thread) i).exec ≢ Next → after ≡ s
 unchanged s now after thread first left i there own ran leaves set differs =

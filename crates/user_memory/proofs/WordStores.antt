@@ -18,10 +18,15 @@ module _ (s : State) (memory : List ℕ) (root : Option ℕ) (usable : ∥ IsUsa
     (small : address < 2 ^ 32) (found : place_at (content_under s root) Store address ≡ Ok place) where
   pub word-stored : (bytes : List ℕ) → bytes ≡ to_le_bytes w32 value
       → stored (content_under s root) Word address value
-      ≡ Ok (put_byte (put_byte (put_byte (put_byte (content_under s root) place (slice_index bytes 0)) (place + 1) (slice_index bytes 1)) (place + 2) (slice_index bytes 2)) (place + 3) (slice_index bytes 3))
+      ≡ Ok (put_byte (put_byte (put_byte (put_byte (content_under s root) place (slice_index bytes 0)) (place + 1) (slice_index bytes 1)) (place + 2)
+      (slice_index bytes 2)) (place + 3) (slice_index bytes 3))
   word-stored bytes is =
       four-stored (content_under s root) address place (place + 1) (place + 2) (place + 3) value found
       (behind s memory root usable Store address place aligned small found 1 (next_address address) (omega arith) (omega (arith, aligned, small)))
-      (behind s memory root usable Store address place aligned small found 2 (next_address (next_address address)) (omega arith) (omega (arith, aligned, small)))
-      (behind s memory root usable Store address place aligned small found 3 (next_address (next_address (next_address address))) (omega arith) (omega (arith, aligned, small)))
-      ∙ sym (ap (λ (b : List ℕ). Ok (put_byte (put_byte (put_byte (put_byte (content_under s root) place (slice_index b 0)) (place + 1) (slice_index b 1)) (place + 2) (slice_index b 2)) (place + 3) (slice_index b 3))) is)
+      (behind s memory root usable Store address place aligned small found 2 (next_address (next_address address)) (omega arith)
+      (omega (arith, aligned, small)))
+      (behind s memory root usable Store address place aligned small found 3 (next_address (next_address (next_address address))) (omega arith)
+      (omega (arith, aligned, small)))
+      ∙ sym (ap (λ (b : List ℕ).
+      Ok (put_byte (put_byte (put_byte (put_byte (content_under s root) place (slice_index b 0)) (place + 1) (slice_index b 1)) (place + 2)
+      (slice_index b 2)) (place + 3) (slice_index b 3))) is)

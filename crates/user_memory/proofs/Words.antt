@@ -1,5 +1,6 @@
 -- The four bytes of a word at a multiple of 4 lie in one page.
-use Rattle.std.proofs.Common.{ℕ, ◌≡◌, ◌∙◌, ◌+◌, ◌*◌, ◌/◌, ◌%◌, ◌^◌, ◌<◌, ◌≤◌, Bool, true, false, if◌then◌else◌, Option, Some, None, Ok, List, [], ◌∷◌, length, refl, sym, ap, arith}
+use Rattle.std.proofs.Common.{ℕ, ◌≡◌, ◌∙◌, ◌+◌, ◌*◌, ◌/◌, ◌%◌, ◌^◌, ◌<◌, ◌≤◌, Bool, true, false, if◌then◌else◌, Option, Some, None, Ok, List, [], ◌∷◌, length}
+use Rattle.std.proofs.Common.{refl, sym, ap, arith}
 use Rattle.std.specs.Int.{from_le_bytes, w32}
 use Rattle.std.specs.Prelude.{option_and_then, slice_index}
 use Rattle.model.specs.Kernel.AddressSpaces.{allows, mapped, page_size, place_in, place_under}
@@ -16,11 +17,13 @@ use Rattle.user_memory.specs.Views.{IsUsable, content_under}
 
 -- ---- places
 
-next-in_page : (b : Bool) (at place k next : ℕ) → (if b then Some at else None) ≡ Some place → next ≡ at + k → (if b then Some next else None) ≡ Some (place + k)
+next-in_page : (b : Bool) (at place k next : ℕ) → (if b then Some at else None) ≡ Some place → next ≡ at + k →
+    (if b then Some next else None) ≡ Some (place + k)
 next-in_page true at place k next is behind = let same : Some at ≡ Some place = is in let e : at ≡ place = cc in ap Some (behind ∙ ap (λ (n : ℕ). n + k) e)
 next-in_page false at place k next is behind = absurd (let clash : None ≡ Some place = is in cc)
 
-place-behind : (s : State) (root : Option ℕ) (access : Access) (address place k : ℕ) → address % 4 ≡ 0 → k < 4 → (content_under s root).place access address ≡ Some place
+place-behind : (s : State) (root : Option ℕ) (access : Access) (address place k : ℕ) → address % 4 ≡ 0 → k < 4 →
+    (content_under s root).place access address ≡ Some place
     → (content_under s root).place access (address + k) ≡ Some (place + k)
 place-behind s root access address place k aligned few is =
     let table = and-then (λ (table : ℕ). place_under s table access address) root place is in
@@ -29,7 +32,8 @@ place-behind s root access address place k aligned few is =
     ap (option_and_then (λ (table : ℕ). place_under s table access (address + k))) table.1
     ∙ ap (λ (n : ℕ). option_and_then (place_in access (address + k)) (mapped s table.0 n)) page
     ∙ ap (option_and_then (place_in access (address + k))) at.1
-    ∙ next-in_page (allows access at.0.allowed) (at.0.frame + address % page_size) place k (at.0.frame + (address + k) % page_size) at.2 (omega (arith, aligned, few))
+    ∙ next-in_page (allows access at.0.allowed) (at.0.frame + address % page_size) place k (at.0.frame + (address + k) % page_size) at.2
+    (omega (arith, aligned, few))
 
 -- ---- numbers
 
@@ -43,7 +47,8 @@ four-places content access a p q r s first second third fourth = rw (first, seco
 
 -- ---- a word
 
-module _ (s : State) (memory : List ℕ) (root : Option ℕ) (usable : ∥ IsUsable s memory root ∥₁) (access : Access) (address place : ℕ) (aligned : address % 4 ≡ 0)
+module _ (s : State) (memory : List ℕ) (root : Option ℕ) (usable : ∥ IsUsable s memory root ∥₁) (access : Access) (address place : ℕ)
+    (aligned : address % 4 ≡ 0)
     (small : address < 2 ^ 32) (found : place_at (content_under s root) access address ≡ Ok place) where
   pub behind : (k next : ℕ) → k < 4 → next ≡ address + k → place_at (content_under s root) access next ≡ Ok (place + k)
   behind k next few is =
@@ -65,7 +70,8 @@ module _ (s : State) (memory : List ℕ) (root : Option ℕ) (usable : ∥ IsUsa
       (behind 2 (next_address (next_address address)) (omega arith) (omega (arith, aligned, small)))
       (behind 3 (next_address (next_address (next_address address))) (omega arith) (omega (arith, aligned, small)))
 
-pub word-loaded : (o : Tables) (slots : Slots) (memory : List ℕ) (root : Option ℕ) (access : Access) (address place : ℕ) → ∥ IsUsable (state_of o slots memory) memory root ∥₁
+pub word-loaded : (o : Tables) (slots : Slots) (memory : List ℕ) (root : Option ℕ) (access : Access) (address place : ℕ) →
+    ∥ IsUsable (state_of o slots memory) memory root ∥₁
     → address % 4 ≡ 0 → address < 2 ^ 32 → place_at (content_under (state_of o slots memory) root) access address ≡ Ok place
     → Ok (word_at memory place) ≡ loaded (content_under (state_of o slots memory) root) access Word address
 word-loaded o slots memory root access address place usable aligned small found =
@@ -78,7 +84,8 @@ word-loaded o slots memory root access address place usable aligned small found 
     let third = byte 2 (omega arith) in
     let fourth = byte 3 (omega arith) in
     sym (word-is s memory root usable access address place aligned small found
-    ∙ ap Ok (word-of ((content_under s root).byte place) ((content_under s root).byte (place + 1)) ((content_under s root).byte (place + 2)) ((content_under s root).byte (place + 3))
+    ∙ ap Ok (word-of ((content_under s root).byte place) ((content_under s root).byte (place + 1)) ((content_under s root).byte (place + 2))
+    ((content_under s root).byte (place + 3))
     ∙ same-sum first second third fourth))
   where
     same-sum : {a b c d e f g h : ℕ} → a ≡ e → b ≡ f → c ≡ g → d ≡ h → a + 2 ^ 8 * b + 2 ^ 16 * c + 2 ^ 24 * d ≡ e + 2 ^ 8 * f + 2 ^ 16 * g + 2 ^ 24 * h

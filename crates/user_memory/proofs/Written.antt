@@ -1,5 +1,6 @@
 -- A byte that is written into a frame: what the program sees, and what stays.
-use Rattle.std.proofs.Common.{ℕ, ◌≡◌, ◌∙◌, ◌==◌, ◌+◌, ◌^◌, ◌<◌, inl, inr, Bool, true, false, if◌then◌else◌, Option, Some, None, IsSome, option_map, List, [], ◌∷◌, length, refl, sym, ap, subst, arith}
+use Rattle.std.proofs.Common.{ℕ, ◌≡◌, ◌∙◌, ◌==◌, ◌+◌, ◌^◌, ◌<◌, inl, inr, Bool, true, false, if◌then◌else◌, Option, Some, None, IsSome, option_map, List, []}
+use Rattle.std.proofs.Common.{◌∷◌, length, refl, sym, ap, subst, arith}
 use Rattle.std.specs.Prelude.{slice_index}
 use Rattle.std.specs.Option.{option_map_or}
 use Rattle.std.proofs.lemmas.Bool.{cases_lt}
@@ -25,13 +26,16 @@ one-byte : (memory : List ℕ) (place value other : ℕ) → place < length memo
     → slice_index (written memory place (value ∷ [])) other ≡ (if other == place then value else slice_index memory other)
 one-byte memory place value other inside = elim (eqb_tells other place) [
   | inl here ↦
-      let at : slice_index (written memory place (value ∷ [])) (place + 0) ≡ value = slice_index-written_inside memory place (value ∷ []) 0 (omega (arith, inside)) (omega arith) in
+      let at : slice_index (written memory place (value ∷ [])) (place + 0) ≡ value =
+      slice_index-written_inside memory place (value ∷ []) 0 (omega (arith, inside)) (omega arith) in
       ap (slice_index (written memory place (value ∷ []))) (here.1 ∙ omega arith) ∙ at ∙ sym (ap (λ b. if b then value else slice_index memory other) here.0)
   | inr apart ↦ elim (cases_lt other place) [
-    | inl before ↦ slice_index-written_before memory place (value ∷ []) other (omega (arith, inside)) before ∙ sym (ap (λ b. if b then value else slice_index memory other) apart.0)
+    | inl before ↦ slice_index-written_before memory place (value ∷ []) other (omega (arith, inside)) before
+        ∙ sym (ap (λ b. if b then value else slice_index memory other) apart.0)
     | inr from ↦
         let differs = apart.1 in
-        slice_index-written_behind memory place (value ∷ []) other (omega (arith, inside)) (omega (arith, from, differs)) ∙ sym (ap (λ b. if b then value else slice_index memory other) apart.0)
+        slice_index-written_behind memory place (value ∷ []) other (omega (arith, inside)) (omega (arith, from, differs))
+        ∙ sym (ap (λ b. if b then value else slice_index memory other) apart.0)
   ]
 ]
 
@@ -42,7 +46,8 @@ put-if true (Some byte) value old some own = refl
 put-if true None value old some own = absurd (let clash : false ≡ true = some refl in cc)
 put-if false b value old some own = own
 
-module _ (o : Tables) (slots : Slots) (memory : List ℕ) (place value : ℕ) (some : IsSome ((state_of o slots memory).bytes place)) (inside : place < length memory)
+module _ (o : Tables) (slots : Slots) (memory : List ℕ) (place value : ℕ) (some : IsSome ((state_of o slots memory).bytes place))
+    (inside : place < length memory)
     (stood : Standing o slots memory) where
   abbrev before : State
   before = state_of o slots memory
@@ -85,10 +90,12 @@ module _ (o : Tables) (slots : Slots) (memory : List ℕ) (place value : ℕ) (s
       ∙ put-if (other == place) (before.bytes other) value (slice_index memory other) (here-some other) (own-bytes o slots memory other)
 
   -- the program sees it
-  byte-seen : (other : ℕ) → option_map_or (λ byte. byte) (filled.bytes other) 0 ≡ (if other == place then value else option_map_or (λ byte. byte) (before.bytes other) 0)
+  byte-seen : (other : ℕ) → option_map_or (λ byte. byte) (filled.bytes other) 0
+      ≡ (if other == place then value else option_map_or (λ byte. byte) (before.bytes other) 0)
   byte-seen other = ap (λ b. option_map_or (λ byte. byte) b 0) (byte-put other) ∙ seen-if (other == place) (before.bytes other)
     where
-      seen-if : (c : Bool) (b : Option ℕ) → option_map_or (λ byte. byte) (if c then Some value else b) 0 ≡ (if c then value else option_map_or (λ byte. byte) b 0)
+      seen-if : (c : Bool) (b : Option ℕ) → option_map_or (λ byte. byte) (if c then Some value else b) 0
+          ≡ (if c then value else option_map_or (λ byte. byte) b 0)
       seen-if true b = refl
       seen-if false b = refl
 

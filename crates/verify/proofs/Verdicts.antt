@@ -21,13 +21,20 @@ last-or : (o : Option Refusal) (refusal : Refusal) → o ≡ Some refusal → op
 last-or None refusal is = is
 last-or (Some other) refusal is = is
 
-breach-of-programs : (image : Image) (refusal : Refusal) → IsWellFormed image → first_broken (program_rules image) ≡ Some refusal → first_in (phases image) ≡ Some refusal
+breach-of-programs : (image : Image) (refusal : Refusal) → IsWellFormed image → first_broken (program_rules image) ≡ Some refusal →
+    first_in (phases image) ≡ Some refusal
 unfolding first_in
 breach-of-programs image refusal formed is =
-    rw (kept-none (object_rules image) formed.objects, kept-none (capability_rules image) formed.capabilities, kept-none (mapping_rules image) formed.mappings, kept-none (thread_rules image) formed.threads)
+    rw (
+      kept-none (object_rules image) formed.objects,
+      kept-none (capability_rules image) formed.capabilities,
+      kept-none (mapping_rules image) formed.mappings,
+      kept-none (thread_rules image) formed.threads,
+    )
     (last-or (first_broken (program_rules image)) refusal is)
 
-pub programs-kept : (image : Image) (result : Result (Unit {0}) Refusal) → Answers (first_broken (program_rules image)) result → OnOk result (AreKept (program_rules image))
+pub programs-kept : (image : Image) (result : Result (Unit {0}) Refusal) → Answers (first_broken (program_rules image)) result →
+    OnOk result (AreKept (program_rules image))
 programs-kept image (Ok x) kept = none-broken (program_rules image) kept
 programs-kept image (Err refusal) answers = tt
 
@@ -43,22 +50,27 @@ pub unread-first : (bytes : List ℕ) (refusal : Refusal) → Err refusal ≡ re
 unfolding first_breach
 unread-first bytes refusal read = ap breach_of (sym read)
 
-pub read-first : (bytes : List ℕ) (image : Image) (refusal : Refusal) → Ok image ≡ reading whole_image bytes → first_in (phases image) ≡ Some refusal → first_breach bytes ≡ Some refusal
+pub read-first : (bytes : List ℕ) (image : Image) (refusal : Refusal) → Ok image ≡ reading whole_image bytes → first_in (phases image) ≡ Some refusal →
+    first_breach bytes ≡ Some refusal
 unfolding first_breach
 read-first bytes image refusal read is = ap breach_of (sym read) ∙ is
 
-pub accepted : (bytes : List ℕ) (image : Image) → IsBytes bytes → reading whole_image bytes ≡ Ok image → IsWellFormed image → AreKept (program_rules image) → IsAccepted bytes image
+pub accepted : (bytes : List ℕ) (image : Image) → IsBytes bytes → reading whole_image bytes ≡ Ok image → IsWellFormed image → AreKept (program_rules image) →
+    IsAccepted bytes image
 accepted bytes image fits read formed programs = record { spelled = reading-spelled bytes image fits read; formed = formed; programs = programs }
 
 -- what has a breach is accepted by no image
-pub only-memory : (bytes : List ℕ) (image : Image) (refusal : Refusal) → (refusal ≡ OutOfMemory) ⊎ (first_breach bytes ≡ Some refusal) → IsAccepted bytes image → refusal ≡ OutOfMemory
+pub only-memory : (bytes : List ℕ) (image : Image) (refusal : Refusal) → (refusal ≡ OutOfMemory) ⊎ (first_breach bytes ≡ Some refusal) →
+    IsAccepted bytes image → refusal ≡ OutOfMemory
 only-memory bytes image refusal (inl memory) is = memory
-only-memory bytes image refusal (inr breach) is = absurd (let clash : ◌≡◌ {A = Option Refusal} None (Some refusal) = sym (accepted-no_breach bytes image is) ∙ breach in cc)
+only-memory bytes image refusal (inr breach) is =
+    absurd (let clash : ◌≡◌ {A = Option Refusal} None (Some refusal) = sym (accepted-no_breach bytes image is) ∙ breach in cc)
 
 -- ---- answers
 
 -- the first breach of an image that was read is that of its bytes
-pub breach-told : (bytes : List ℕ) (image : Image) (refusal : Refusal) → Ok image ≡ reading whole_image bytes → (refusal ≡ OutOfMemory) ⊎ (first_in (phases image) ≡ Some refusal)
+pub breach-told : (bytes : List ℕ) (image : Image) (refusal : Refusal) → Ok image ≡ reading whole_image bytes →
+    (refusal ≡ OutOfMemory) ⊎ (first_in (phases image) ≡ Some refusal)
     → (refusal ≡ OutOfMemory) ⊎ (first_breach bytes ≡ Some refusal)
 breach-told bytes image refusal read (inl memory) = inl memory
 breach-told bytes image refusal read (inr breach) = inr (read-first bytes image refusal read breach)

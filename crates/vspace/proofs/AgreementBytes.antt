@@ -2,7 +2,8 @@
 use Rattle.std.proofs.Common.{◌≡◌, ◌∙◌, ℕ, inl, inr, Some, None, List, refl, sym, subst, arith}
 use Rattle.model.specs.Capabilities.Slots.{SameOutside, Slots, capability_at}
 use Rattle.model.specs.declared.capabilities.Cap.{Cap}
-use Rattle.model.specs.declared.capabilities.Cap.TheVariants.{Empty, Untyped, Endpoint, Notification, CNode, Frame, PageTable, Tcb, RootTable, InterruptControl, InterruptHandler}
+use Rattle.model.specs.declared.capabilities.Cap.TheVariants.{Empty, Untyped, Endpoint, Notification, CNode, Frame, PageTable, Tcb, RootTable, InterruptControl}
+use Rattle.model.specs.declared.capabilities.Cap.TheVariants.{InterruptHandler}
 use Rattle.vspace.specs.Agreement.{IsBlank, IsNewPageTable, IsNewRoot, MayBePut, SameInTables}
 use Rattle.vspace.specs.Kept.{IsNamedTable, NamesTable}
 use Rattle.vspace.specs.Tables.{IsTable, TablesAgree}
@@ -13,7 +14,8 @@ use Rattle.vspace.proofs.Steps.{word-outside}
 stands-as : (slots : Slots) (memory : List ℕ) (t table : ℕ) → table ≡ t → IsTable slots memory t → IsTable slots memory table
 stands-as slots memory t table same stands = subst (λ (u : ℕ). IsTable slots memory u) (sym same) stands
 
-stands-held : (slots : Slots) (memory : List ℕ) (y table : ℕ) (c : Cap) → TablesAgree slots memory → capability_at slots y ≡ c → NamesTable c table → IsTable slots memory table
+stands-held : (slots : Slots) (memory : List ℕ) (y table : ℕ) (c : Cap) → TablesAgree slots memory → capability_at slots y ≡ c → NamesTable c table →
+    IsTable slots memory table
 stands-held slots memory y table (RootTable root) agree held named = stands-as slots memory root table named (agree.roots y root held)
 stands-held slots memory y table (PageTable t None) agree held named = stands-as slots memory t table named (agree.tables y t None held)
 stands-held slots memory y table (PageTable t (Some m)) agree held named = elim named [
@@ -60,7 +62,8 @@ root-outside slots before after root same new = record {
   no_page_table = new.no_page_table;
 }
 
-page_table-outside : (slots : Slots) (before after : List ℕ) (table : ℕ) → SameOutside slots before after → IsNewPageTable slots before table → IsNewPageTable slots after table
+page_table-outside : (slots : Slots) (before after : List ℕ) (table : ℕ) → SameOutside slots before after → IsNewPageTable slots before table →
+    IsNewPageTable slots after table
 page_table-outside slots before after table same new = record {
   blank = blank-outside slots before after table same new.blank;
   no_page_table = new.no_page_table;

@@ -26,7 +26,8 @@ pub record Carries (old new : Slots) : Type 0 where
   pub valid : (y : ℕ) → IsCapability (capability_at new y)
   pub roots : (y root : ℕ) → capability_at new y ≡ RootTable root → capability_at old (origin y) ≡ RootTable root
   pub tables : (y table : ℕ) (m : Option TableMapping) → capability_at new y ≡ PageTable table m → capability_at old (origin y) ≡ PageTable table m
-  pub frames : (y frame : ℕ) (r : Rights) (m : FrameMapping) → capability_at new y ≡ Frame frame r (Some m) → capability_at old (origin y) ≡ Frame frame r (Some m)
+  pub frames : (y frame : ℕ) (r : Rights) (m : FrameMapping) → capability_at new y ≡ Frame frame r (Some m) →
+      capability_at old (origin y) ≡ Frame frame r (Some m)
   pub kept_tables : (y table : ℕ) (m : TableMapping) → capability_at old y ≡ PageTable table (Some m) → Holds new (PageTable table (Some m))
   pub kept_frames : (y frame : ℕ) (r : Rights) (m : FrameMapping) → capability_at old y ≡ Frame frame r (Some m) → Holds new (Frame frame r (Some m))
 
@@ -50,14 +51,16 @@ carried-maps_frame old new carry root page maps =
 
 -- ---- field by field
 
-carried-pointers : (old new : Slots) (before after : List ℕ) → TablesAgree old before → Carries old new → Stays old new before after → (y table : ℕ) (m : TableMapping) → capability_at new y ≡ PageTable table (Some m) → word_at after (m.root + 4 * m.region) ≡ table_word table
+carried-pointers : (old new : Slots) (before after : List ℕ) → TablesAgree old before → Carries old new → Stays old new before after →
+    (y table : ℕ) (m : TableMapping) → capability_at new y ≡ PageTable table (Some m) → word_at after (m.root + 4 * m.region) ≡ table_word table
 carried-pointers old new before after agree carry stay y table m held =
     let was = carry.tables y table (Some m) held in
     let few : m.region < 2 ^ 10 = region_small old before agree (carry.origin y) table m was in
     stay.words m.root m.region (names-mapped_root old (carry.origin y) table m was) (agree.mapped_roots (carry.origin y) table m was) few
     ∙ agree.pointers (carry.origin y) table m was
 
-carried-leaves : (old new : Slots) (before after : List ℕ) → TablesAgree old before → Carries old new → Stays old new before after → (y frame : ℕ) (r : Rights) (m : FrameMapping) → capability_at new y ≡ Frame frame r (Some m)
+carried-leaves : (old new : Slots) (before after : List ℕ) → TablesAgree old before → Carries old new → Stays old new before after →
+    (y frame : ℕ) (r : Rights) (m : FrameMapping) → capability_at new y ≡ Frame frame r (Some m)
     → (table : ℕ) × MapsTable new m.root (m.page / 2 ^ 10) table × (word_at after (table + 4 * (m.page % 2 ^ 10)) ≡ leaf_word frame m.rights.0)
 carried-leaves old new before after agree carry stay y frame r m held =
     let leaf = agree.leaves (carry.origin y) frame r m (carry.frames y frame r m held) in
@@ -65,7 +68,8 @@ carried-leaves old new before after agree carry stay y frame r m held =
     let kept = stay.words leaf.0 (m.page % 2 ^ 10) (names-table old leaf.1.slot leaf.0 _ leaf.1.held) at (index_small m.page) in
     (leaf.0, carried-maps_table old new carry m.root (m.page / 2 ^ 10) leaf.0 leaf.1, kept ∙ leaf.2)
 
-carried-only_pointers : (old new : Slots) (before after : List ℕ) → TablesAgree old before → Carries old new → Stays old new before after → (y root region : ℕ) → capability_at new y ≡ RootTable root → region < 2 ^ 10
+carried-only_pointers : (old new : Slots) (before after : List ℕ) → TablesAgree old before → Carries old new → Stays old new before after →
+    (y root region : ℕ) → capability_at new y ≡ RootTable root → region < 2 ^ 10
     → (word_at after (root + 4 * region) ≡ 0) ⊎ ((table : ℕ) × MapsTable new root region table)
 carried-only_pointers old new before after agree carry stay y root region held few =
     let was = carry.roots y root held in
@@ -75,12 +79,15 @@ carried-only_pointers old new before after agree carry stay y root region held f
       | inr maps ↦ inr (maps.0, carried-maps_table old new carry root region maps.0 maps.1)
     ]
 
-table-word : (old new : Slots) (before after : List ℕ) → TablesAgree old before → Carries old new → Stays old new before after → (y table : ℕ) (m : Option TableMapping) (i : ℕ) → capability_at new y ≡ PageTable table m → i < 2 ^ 10 → word_at after (table + 4 * i) ≡ word_at before (table + 4 * i)
+table-word : (old new : Slots) (before after : List ℕ) → TablesAgree old before → Carries old new → Stays old new before after →
+    (y table : ℕ) (m : Option TableMapping) (i : ℕ) → capability_at new y ≡ PageTable table m → i < 2 ^ 10 →
+    word_at after (table + 4 * i) ≡ word_at before (table + 4 * i)
 table-word old new before after agree carry stay y table m i held few =
     let was = carry.tables y table m held in
     stay.words table i (names-table old (carry.origin y) table m was) (agree.tables (carry.origin y) table m was) few
 
-carried-only_leaves : (old new : Slots) (before after : List ℕ) → TablesAgree old before → Carries old new → Stays old new before after → (y table : ℕ) (m : TableMapping) (i : ℕ) → capability_at new y ≡ PageTable table (Some m) → i < 2 ^ 10
+carried-only_leaves : (old new : Slots) (before after : List ℕ) → TablesAgree old before → Carries old new → Stays old new before after →
+    (y table : ℕ) (m : TableMapping) (i : ℕ) → capability_at new y ≡ PageTable table (Some m) → i < 2 ^ 10
     → (word_at after (table + 4 * i) ≡ 0) ⊎ MapsFrame new m.root (2 ^ 10 * m.region + i)
 carried-only_leaves old new before after agree carry stay y table m i held few =
     let kept = table-word old new before after agree carry stay y table (Some m) i held few in
@@ -89,15 +96,19 @@ carried-only_leaves old new before after agree carry stay y table m i held few =
       | inr maps ↦ inr (carried-maps_frame old new carry m.root (2 ^ 10 * m.region + i) maps)
     ]
 
-carried-one_table : (old new : Slots) (before : List ℕ) → TablesAgree old before → Carries old new → (a b table : ℕ) (m n : Option TableMapping) → capability_at new a ≡ PageTable table m → capability_at new b ≡ PageTable table n → a ≡ b
+carried-one_table : (old new : Slots) (before : List ℕ) → TablesAgree old before → Carries old new → (a b table : ℕ) (m n : Option TableMapping) →
+    capability_at new a ≡ PageTable table m → capability_at new b ≡ PageTable table n → a ≡ b
 carried-one_table old new before agree carry a b table m n ha hb =
     let same = agree.one_table (carry.origin a) (carry.origin b) table m n (carry.tables a table m ha) (carry.tables b table n hb) in
-    carry.one a b (λ e. let clash : PageTable table m ≡ Empty = sym ha ∙ e in cc clash) (λ e. let clash : PageTable table n ≡ Empty = sym hb ∙ e in cc clash) same
+    carry.one a b (λ e. let clash : PageTable table m ≡ Empty = sym ha ∙ e in cc clash) (λ e. let clash : PageTable table n ≡ Empty = sym hb ∙ e in cc clash)
+    same
 
-carried-one_frame : (old new : Slots) (before : List ℕ) → TablesAgree old before → Carries old new → (a b f g : ℕ) (r q : Rights) (m n : FrameMapping) → capability_at new a ≡ Frame f r (Some m) → capability_at new b ≡ Frame g q (Some n) → m.root ≡ n.root → m.page ≡ n.page → a ≡ b
+carried-one_frame : (old new : Slots) (before : List ℕ) → TablesAgree old before → Carries old new → (a b f g : ℕ) (r q : Rights) (m n : FrameMapping) →
+    capability_at new a ≡ Frame f r (Some m) → capability_at new b ≡ Frame g q (Some n) → m.root ≡ n.root → m.page ≡ n.page → a ≡ b
 carried-one_frame old new before agree carry a b f g r q m n ha hb root page =
     let same = agree.one_frame (carry.origin a) (carry.origin b) f g r q m n (carry.frames a f r m ha) (carry.frames b g q n hb) root page in
-    carry.one a b (λ e. let clash : Frame f r (Some m) ≡ Empty = sym ha ∙ e in cc clash) (λ e. let clash : Frame g q (Some n) ≡ Empty = sym hb ∙ e in cc clash) same
+    carry.one a b (λ e. let clash : Frame f r (Some m) ≡ Empty = sym ha ∙ e in cc clash) (λ e. let clash : Frame g q (Some n) ≡ Empty = sym hb ∙ e in cc clash)
+    same
 
 pub agree-carried : (old new : Slots) (before after : List ℕ) → TablesAgree old before → Carries old new → Stays old new before after → TablesAgree new after
 agree-carried old new before after agree carry stay =
@@ -114,7 +125,8 @@ agree-carried old new before after agree carry stay =
       leaves = carried-leaves old new before after agree carry stay;
       only_pointers = carried-only_pointers old new before after agree carry stay;
       only_leaves = carried-only_leaves old new before after agree carry stay;
-      blank = λ y t i held few. table-word old new before after agree carry stay y t None i held few ∙ agree.blank (origin y) t i (carry.tables y t None held) few;
+      blank = λ y t i held few. table-word old new before after agree carry stay y t None i held few
+          ∙ agree.blank (origin y) t i (carry.tables y t None held) few;
       one_table = carried-one_table old new before agree carry;
       one_frame = carried-one_frame old new before agree carry;
       apart = λ a b t u m ha hb. agree.apart (origin a) (origin b) t u m (carry.roots a t ha) (carry.tables b u m hb);

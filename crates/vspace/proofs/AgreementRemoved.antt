@@ -33,7 +33,8 @@ pub agree-unused : (slots : Slots) (memory : List ℕ) (slot : ℕ) → TablesAg
 agree-unused slots memory slot agree full =
     unused-of slots memory slot agree (full-open slots slot full) (capability_at slots slot) refl
 
-pub agree-one_closed : (slots : Slots) (memory : List ℕ) (slot : ℕ) → TablesAgree slots memory → slots slot ≡ Some empty_entry → TablesAgree (closed slots slot 1) memory
+pub agree-one_closed : (slots : Slots) (memory : List ℕ) (slot : ℕ) → TablesAgree slots memory → slots slot ≡ Some empty_entry →
+    TablesAgree (closed slots slot 1) memory
 agree-one_closed slots memory slot agree empty =
     agree-closed slots memory slot 1 agree (λ other low high.
     let same : other ≡ slot = omega (arith, low, high) in

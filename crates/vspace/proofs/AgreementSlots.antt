@@ -1,12 +1,14 @@
 -- A capability without mapping is removed, one is moved, one without tables changes; slots are opened and closed, and
 -- bytes beside the tables change: each carries the tables and the mappings along.
-use Rattle.std.proofs.Common.{◌≡◌, ◌≢◌, ◌∙◌, ℕ, ◌+◌, ◌*◌, ◌/◌, ◌^◌, ◌<◌, ◌≤◌, ◌==◌, inl, inr, true, false, if◌then◌else◌, Option, Some, None, List, refl, sym, ap, subst, arith}
+use Rattle.std.proofs.Common.{◌≡◌, ◌≢◌, ◌∙◌, ℕ, ◌+◌, ◌*◌, ◌/◌, ◌^◌, ◌<◌, ◌≤◌, ◌==◌, inl, inr, true, false, if◌then◌else◌, Option, Some, None, List, refl, sym}
+use Rattle.std.proofs.Common.{ap, subst, arith}
 use Rattle.std.specs.Option.{option_map}
 use Rattle.std.proofs.lemmas.Bool.{eq-eqb, ne_eqb}
 use Rattle.std.proofs.lemmas.Bool.Decides.{eqb_tells}
 use Rattle.model.specs.Capabilities.CapabilityKinds.{unmapped}
 use Rattle.model.specs.Capabilities.CapabilityWords.{IsCapability}
-use Rattle.model.specs.Capabilities.Slots.{IsOpen, Slots, adopted, capability_at, closed, empty_entry, is_within, opened, parent_at, recapped, relocated, spliced, with_entry, with_parent}
+use Rattle.model.specs.Capabilities.Slots.{IsOpen, Slots, adopted, capability_at, closed, empty_entry, is_within, opened, parent_at, recapped, relocated}
+use Rattle.model.specs.Capabilities.Slots.{spliced, with_entry, with_parent}
 use Rattle.model.specs.declared.capabilities.Cap.{Cap}
 use Rattle.model.specs.declared.capabilities.Cap.TheVariants.{Empty, Frame, PageTable, RootTable}
 use Rattle.model.specs.declared.slot_entries.Entry.{Entry}
@@ -40,7 +42,8 @@ before-spliced slots x y v some held = elim (eqb_tells y x) [
 ]
 
 -- what has a mapping is held afterwards
-after-spliced : (slots : Slots) (x y : ℕ) (v : Cap) → unmapped (capability_at slots x) ≡ capability_at slots x → unmapped v ≢ v → capability_at slots y ≡ v → Holds (spliced slots x) v
+after-spliced : (slots : Slots) (x y : ℕ) (v : Cap) → unmapped (capability_at slots x) ≡ capability_at slots x → unmapped v ≢ v → capability_at slots y ≡ v →
+    Holds (spliced slots x) v
 after-spliced slots x y v none mapped held =
     let differ : y ≢ x = λ same.
     let here : capability_at slots x ≡ v = sym (ap (capability_at slots) same) ∙ held in
@@ -58,7 +61,8 @@ closed-spliced slots x y some none =
     entry-other (with_parent slots x (parent_at slots x)) x (Some empty_entry) y (λ same. some (sym (ap slots same) ∙ none))
     ∙ closed-adopted x (parent_at slots x) (slots y) none
 
-pub agree-removed : (slots : Slots) (memory : List ℕ) (x : ℕ) → TablesAgree slots memory → IsOpen slots x → unmapped (capability_at slots x) ≡ capability_at slots x → TablesAgree (spliced slots x) memory
+pub agree-removed : (slots : Slots) (memory : List ℕ) (x : ℕ) → TablesAgree slots memory → IsOpen slots x →
+    unmapped (capability_at slots x) ≡ capability_at slots x → TablesAgree (spliced slots x) memory
 agree-removed slots memory x agree is_open none =
     let carry : Carries slots (spliced slots x) = record {
       origin = λ y. y;
@@ -67,10 +71,12 @@ agree-removed slots memory x agree is_open none =
       roots = λ y root held. before-spliced slots x y _ (λ e. cc e) held;
       tables = λ y table m held. before-spliced slots x y _ (λ e. cc e) held;
       frames = λ y frame r m held. before-spliced slots x y _ (λ e. cc e) held;
-      kept_tables = λ y table m held. after-spliced slots x y (PageTable table (Some m)) none (λ (e : PageTable table None ≡ PageTable table (Some m)). cc e) held;
+      kept_tables = λ y table m held. after-spliced slots x y (PageTable table (Some m)) none (λ (e : PageTable table None ≡ PageTable table (Some m)). cc e)
+          held;
       kept_frames = λ y frame r m held. after-spliced slots x y (Frame frame r (Some m)) none (λ (e : Frame frame r None ≡ Frame frame r (Some m)). cc e) held;
     } in
-    agree-carried slots (spliced slots x) memory memory agree carry (stays-closed slots (spliced slots x) memory (λ y. closed-spliced slots x y (open-some slots x is_open)))
+    agree-carried slots (spliced slots x) memory memory agree carry
+    (stays-closed slots (spliced slots x) memory (λ y. closed-spliced slots x y (open-some slots x is_open)))
 
 -- ---- a capability is moved
 
@@ -102,7 +108,8 @@ other-moved slots from to y not_to not_from =
     ap capability_of (other-slot slots from to y not_to not_from) ∙ capability-adopted from (Some to) (slots y)
 
 -- what is held afterwards was held before, where it came from
-before-moved : (slots : Slots) (from to : ℕ) → from ≢ to → (y : ℕ) (v : Cap) → v ≢ Empty → capability_at (relocated slots from to) y ≡ v → capability_at slots (origin-moved from to y) ≡ v
+before-moved : (slots : Slots) (from to : ℕ) → from ≢ to → (y : ℕ) (v : Cap) → v ≢ Empty → capability_at (relocated slots from to) y ≡ v →
+    capability_at slots (origin-moved from to y) ≡ v
 before-moved slots from to apart y v some held = elim (eqb_tells y to) [
   | inl here ↦
       ap (capability_at slots) (origin-to from to y here.1)
@@ -116,7 +123,8 @@ before-moved slots from to apart y v some held = elim (eqb_tells y to) [
 ]
 
 -- what was held before is held afterwards
-after-moved : (slots : Slots) (from to : ℕ) → from ≢ to → capability_at slots to ≡ Empty → (y : ℕ) (v : Cap) → v ≢ Empty → capability_at slots y ≡ v → Holds (relocated slots from to) v
+after-moved : (slots : Slots) (from to : ℕ) → from ≢ to → capability_at slots to ≡ Empty → (y : ℕ) (v : Cap) → v ≢ Empty → capability_at slots y ≡ v →
+    Holds (relocated slots from to) v
 after-moved slots from to apart empty y v some held = elim (eqb_tells y from) [
   | inl here ↦ (to, there-moved slots from to apart ∙ sym (ap (capability_at slots) here.1) ∙ held)
   | inr not_from ↦
@@ -125,7 +133,8 @@ after-moved slots from to apart empty y v some held = elim (eqb_tells y from) [
 ]
 
 -- two slots do not have their capabilities from one
-one-moved : (slots : Slots) (from to a b : ℕ) → capability_at (relocated slots from to) a ≢ Empty → capability_at (relocated slots from to) b ≢ Empty → origin-moved from to a ≡ origin-moved from to b → a ≡ b
+one-moved : (slots : Slots) (from to a b : ℕ) → capability_at (relocated slots from to) a ≢ Empty → capability_at (relocated slots from to) b ≢ Empty →
+    origin-moved from to a ≡ origin-moved from to b → a ≡ b
 one-moved slots from to a b full_a full_b same =
     let a_stays : a ≢ from = λ here. full_a (ap (capability_at (relocated slots from to)) here ∙ gone-moved slots from to) in
     let b_stays : b ≢ from = λ here. full_b (ap (capability_at (relocated slots from to)) here ∙ gone-moved slots from to) in
@@ -140,7 +149,8 @@ one-moved slots from to a b full_a full_b same =
       ]
     ]
 
-valid-moved : (slots : Slots) (memory : List ℕ) (from to : ℕ) → TablesAgree slots memory → from ≢ to → (y : ℕ) → IsCapability (capability_at (relocated slots from to) y)
+valid-moved : (slots : Slots) (memory : List ℕ) (from to : ℕ) → TablesAgree slots memory → from ≢ to → (y : ℕ) →
+    IsCapability (capability_at (relocated slots from to) y)
 valid-moved slots memory from to agree apart y =
     let new : Slots = relocated slots from to in
     elim (eqb_tells y to) [
@@ -156,7 +166,8 @@ closed-moved slots from to y from_open to_open none =
     other-slot slots from to y (λ same. to_open (sym (ap slots same) ∙ none)) (λ same. from_open (sym (ap slots same) ∙ none))
     ∙ closed-adopted from (Some to) (slots y) none
 
-pub agree-moved : (slots : Slots) (memory : List ℕ) (from to : ℕ) → TablesAgree slots memory → from ≢ to → IsOpen slots from → IsOpen slots to → capability_at slots to ≡ Empty → TablesAgree (relocated slots from to) memory
+pub agree-moved : (slots : Slots) (memory : List ℕ) (from to : ℕ) → TablesAgree slots memory → from ≢ to → IsOpen slots from → IsOpen slots to →
+    capability_at slots to ≡ Empty → TablesAgree (relocated slots from to) memory
 agree-moved slots memory from to agree apart from_open to_open empty =
     let carry : Carries slots (relocated slots from to) = record {
       origin = origin-moved from to;
@@ -174,24 +185,28 @@ agree-moved slots memory from to agree apart from_open to_open empty =
 -- ---- a capability without tables changes
 
 -- a capability that is none of these is held where it was
-before-changed : (slots : Slots) (x : ℕ) (c : Cap) (y : ℕ) (v : Cap) → IsWithoutTables c → (IsWithoutTables v → ⊥) → capability_at (recapped slots x c) y ≡ v → capability_at slots y ≡ v
+before-changed : (slots : Slots) (x : ℕ) (c : Cap) (y : ℕ) (v : Cap) → IsWithoutTables c → (IsWithoutTables v → ⊥) → capability_at (recapped slots x c) y ≡ v →
+    capability_at slots y ≡ v
 before-changed slots x c y v new_plain tables held = elim (held-before slots x c y v held) [
   | inl new ↦ absurd (tables (subst (λ (k : Cap). IsWithoutTables k) new.1 new_plain))
   | inr old ↦ old.1
 ]
 
-after-changed : (slots : Slots) (x : ℕ) (c : Cap) (y : ℕ) (v : Cap) → IsWithoutTables (capability_at slots x) → (IsWithoutTables v → ⊥) → capability_at slots y ≡ v → Holds (recapped slots x c) v
+after-changed : (slots : Slots) (x : ℕ) (c : Cap) (y : ℕ) (v : Cap) → IsWithoutTables (capability_at slots x) → (IsWithoutTables v → ⊥) →
+    capability_at slots y ≡ v → Holds (recapped slots x c) v
 after-changed slots x c y v old_plain tables held =
     let differ : y ≢ x = λ same. tables (subst (λ (k : Cap). IsWithoutTables k) (sym (ap (capability_at slots) same) ∙ held) old_plain) in
     (y, capability-recapped_other slots x c y differ ∙ held)
 
-valid-changed : (slots : Slots) (memory : List ℕ) (x : ℕ) (c : Cap) → TablesAgree slots memory → IsCapability c → (y : ℕ) → IsCapability (capability_at (recapped slots x c) y)
+valid-changed : (slots : Slots) (memory : List ℕ) (x : ℕ) (c : Cap) → TablesAgree slots memory → IsCapability c → (y : ℕ) →
+    IsCapability (capability_at (recapped slots x c) y)
 valid-changed slots memory x c agree fine y = elim (held-before slots x c y (capability_at (recapped slots x c) y) refl) [
   | inl new ↦ subst (λ (v : Cap). IsCapability v) new.1 fine
   | inr old ↦ subst (λ (v : Cap). IsCapability v) old.1 (agree.valid y)
 ]
 
-pub agree-changed : (slots : Slots) (memory : List ℕ) (x : ℕ) (c : Cap) → TablesAgree slots memory → IsOpen slots x → IsWithoutTables (capability_at slots x) → IsWithoutTables c → IsCapability c → TablesAgree (recapped slots x c) memory
+pub agree-changed : (slots : Slots) (memory : List ℕ) (x : ℕ) (c : Cap) → TablesAgree slots memory → IsOpen slots x → IsWithoutTables (capability_at slots x) →
+    IsWithoutTables c → IsCapability c → TablesAgree (recapped slots x c) memory
 agree-changed slots memory x c agree is_open old_plain new_plain fine =
     let carry : Carries slots (recapped slots x c) = record {
       origin = λ y. y;
@@ -203,7 +218,8 @@ agree-changed slots memory x c agree is_open old_plain new_plain fine =
       kept_tables = λ y table m held. after-changed slots x c y (PageTable table (Some m)) old_plain (λ none. none) held;
       kept_frames = λ y frame r m held. after-changed slots x c y (Frame frame r (Some m)) old_plain (λ none. none) held;
     } in
-    agree-carried slots (recapped slots x c) memory memory agree carry (stays-closed slots (recapped slots x c) memory (λ y. closed-after slots x c y (open-some slots x is_open)))
+    agree-carried slots (recapped slots x c) memory memory agree carry
+    (stays-closed slots (recapped slots x c) memory (λ y. closed-after slots x c y (open-some slots x is_open)))
 
 -- ---- slots are opened and closed
 
@@ -220,13 +236,15 @@ carries-same old new memory agree same = record {
   kept_frames = λ y frame r m held. (y, same y ∙ held);
 }
 
-none-opened : (slots : Slots) (first count table place : ℕ) → IsOutsideTables slots first count → IsNamedTable slots table → table ≤ place → place < table + 2 ^ 12 → slots (place / 16) ≡ None → opened slots first count (place / 16) ≡ None
+none-opened : (slots : Slots) (first count table place : ℕ) → IsOutsideTables slots first count → IsNamedTable slots table → table ≤ place →
+    place < table + 2 ^ 12 → slots (place / 16) ≡ None → opened slots first count (place / 16) ≡ None
 none-opened slots first count table place beside named low high none =
     elim (is_within first count (place / 16)) as (λ b. is_within first count (place / 16) ≡ b → (if b then Some empty_entry else slots (place / 16)) ≡ None) [
-      | true ↦ λ inside. absurd (elim (beside table place named (within-bounds first count (place / 16) inside).0 (within-bounds first count (place / 16) inside).1) [
-        | inl before ↦ omega (arith, before, low)
-        | inr behind ↦ omega (arith, behind, high)
-      ])
+      | true ↦ λ inside. absurd
+          (elim (beside table place named (within-bounds first count (place / 16) inside).0 (within-bounds first count (place / 16) inside).1) [
+            | inl before ↦ omega (arith, before, low)
+            | inr behind ↦ omega (arith, behind, high)
+          ])
       | false ↦ λ outside. none
     ] refl
 
@@ -241,14 +259,16 @@ stays-opened slots memory first count beside = record {
   words = λ table i named is few. refl;
 }
 
-pub agree-opened : (slots : Slots) (memory : List ℕ) (first count : ℕ) → TablesAgree slots memory → ((slot : ℕ) → first ≤ slot → slot < first + count → slots slot ≡ None) → IsOutsideTables slots first count → TablesAgree (opened slots first count) memory
+pub agree-opened : (slots : Slots) (memory : List ℕ) (first count : ℕ) → TablesAgree slots memory →
+    ((slot : ℕ) → first ≤ slot → slot < first + count → slots slot ≡ None) → IsOutsideTables slots first count → TablesAgree (opened slots first count) memory
 agree-opened slots memory first count agree none beside =
     let within = λ (y : ℕ) (inside : is_within first count y ≡ true). let at = within-bounds first count y inside in none y at.0 at.1 in
     agree-carried slots (opened slots first count) memory memory agree
     (carries-same slots (opened slots first count) memory agree (λ y. (capability-opened slots first count y within).0))
     (stays-opened slots memory first count beside)
 
-empty-closed : (slots : Slots) (first count y : ℕ) → ((slot : ℕ) → first ≤ slot → slot < first + count → capability_at slots slot ≡ Empty) → capability_at (closed slots first count) y ≡ capability_at slots y
+empty-closed : (slots : Slots) (first count y : ℕ) → ((slot : ℕ) → first ≤ slot → slot < first + count → capability_at slots slot ≡ Empty) →
+    capability_at (closed slots first count) y ≡ capability_at slots y
 empty-closed slots first count y empty =
     elim (is_within first count y) as (λ b. is_within first count y ≡ b → capability_of (if b then None else slots y) ≡ capability_at slots y) [
       | true ↦ λ inside. sym (empty y (within-bounds first count y inside).0 (within-bounds first count y inside).1)
@@ -259,7 +279,8 @@ none-closed : (slots : Slots) (first count y : ℕ) → slots y ≡ None → clo
 none-closed slots first count y none =
     elim (is_within first count y) as (λ b. (if b then None else slots y) ≡ None) [ true ↦ refl | false ↦ none ]
 
-pub agree-closed : (slots : Slots) (memory : List ℕ) (first count : ℕ) → TablesAgree slots memory → ((slot : ℕ) → first ≤ slot → slot < first + count → capability_at slots slot ≡ Empty) → TablesAgree (closed slots first count) memory
+pub agree-closed : (slots : Slots) (memory : List ℕ) (first count : ℕ) → TablesAgree slots memory →
+    ((slot : ℕ) → first ≤ slot → slot < first + count → capability_at slots slot ≡ Empty) → TablesAgree (closed slots first count) memory
 agree-closed slots memory first count agree empty =
     agree-carried slots (closed slots first count) memory memory agree
     (carries-same slots (closed slots first count) memory agree (λ y. empty-closed slots first count y empty))
@@ -275,7 +296,8 @@ stays-beside slots before after same = record {
     within = omega (arith, is.within, same.size);
     outside = is.outside;
   };
-  words = λ table i named is few. word_at-same before after (table + 4 * i) (λ k low high. same.bytes table k named (omega (arith, low)) (omega (arith, high, few)));
+  words = λ table i named is few. word_at-same before after (table + 4 * i)
+      (λ k low high. same.bytes table k named (omega (arith, low)) (omega (arith, high, few)));
 }
 
 pub agree-beside : (slots : Slots) (before after : List ℕ) → TablesAgree slots before → SameInTables slots before after → TablesAgree slots after

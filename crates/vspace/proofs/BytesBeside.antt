@@ -32,10 +32,12 @@ beside-same slots memory = record { size = refl; bytes = λ place closed apart. 
 
 -- ---- changes of the slots
 
-names-less : (m : TableMapping) (held : Option Entry) (table : ℕ) → NamesTable (capability_of (option_map (without_table m) held)) table → NamesTable (capability_of held) table
+names-less : (m : TableMapping) (held : Option Entry) (table : ℕ) → NamesTable (capability_of (option_map (without_table m) held)) table →
+    NamesTable (capability_of held) table
 names-less m None table named = named
 names-less m (Some held) table named =
-    elim (lies_in_region m held.capability) as (λ b. NamesTable (if b then unmapped held.capability else held.capability) table → NamesTable held.capability table) [
+    elim (lies_in_region m held.capability) as (λ b. NamesTable (if b then unmapped held.capability else held.capability) table →
+    NamesTable held.capability table) [
       | true ↦ λ is. names-unmapped held.capability table is
       | false ↦ λ is. is
     ] named
@@ -43,7 +45,8 @@ names-less m (Some held) table named =
 pub fewer-region : (old now : Slots) (m : TableMapping) → ((y : ℕ) → now y ≡ without_region old m y) → Fewer old now
 fewer-region old now m cleared = record {
   closed = λ y none. cleared y ∙ ap (option_map (without_table m)) none;
-  named = λ table names. (names.0, names-less m (old names.0) table (subst (λ (held : Option Entry). NamesTable (capability_of held) table) (cleared names.0) names.1));
+  named = λ table names.
+      (names.0, names-less m (old names.0) table (subst (λ (held : Option Entry). NamesTable (capability_of held) table) (cleared names.0) names.1));
 }
 
 pub fewer-partly : (old now : Slots) (m : TableMapping) → IsPartlyCleared old now m → Fewer old now

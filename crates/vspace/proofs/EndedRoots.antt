@@ -12,7 +12,8 @@ use Rattle.model.proofs.SlotChanges.{capability_of}
 use Rattle.removal_laws.specs.Steps.{is_under, uprooted, without_root}
 use Rattle.vspace.specs.Endings.{Ended, GoesWith, IsMappedIn, unmapped_entry}
 
-uprooted-gone : (offset : ℕ) (held : Option Entry) → is_under offset (capability_of held) ≡ true → option_map (uprooted offset) held ≡ option_map unmapped_entry held
+uprooted-gone : (offset : ℕ) (held : Option Entry) → is_under offset (capability_of held) ≡ true →
+    option_map (uprooted offset) held ≡ option_map unmapped_entry held
 uprooted-gone offset None under = refl
 uprooted-gone offset (Some held) under =
     ap (λ (b : Bool). Some (record held { capability = if b then unmapped held.capability else held.capability })) under

@@ -8,7 +8,8 @@ use Rattle.model.specs.Capabilities.CapabilityKinds.{frame_mapping, table_mappin
 use Rattle.model.specs.Kernel.MappingCalls.{lies_in_region, without_region, without_table}
 use Rattle.model.specs.Capabilities.Slots.{IsFull, Slots, capability_at, is_empty, parent_at, recapped}
 use Rattle.model.specs.declared.capabilities.Cap.{Cap}
-use Rattle.model.specs.declared.capabilities.Cap.TheVariants.{Empty, Untyped, Endpoint, Notification, CNode, Frame, PageTable, Tcb, RootTable, InterruptControl, InterruptHandler}
+use Rattle.model.specs.declared.capabilities.Cap.TheVariants.{Empty, Untyped, Endpoint, Notification, CNode, Frame, PageTable, Tcb, RootTable, InterruptControl}
+use Rattle.model.specs.declared.capabilities.Cap.TheVariants.{InterruptHandler}
 use Rattle.model.specs.declared.capabilities.FrameMapping.{FrameMapping}
 use Rattle.model.specs.declared.capabilities.TableMapping.{TableMapping}
 use Rattle.model.specs.declared.rights.Rights.{Rights}
@@ -118,7 +119,8 @@ not_table now old t m is held =
     cc
 
 -- a page table's capability without its mapping
-pub table-entry : (held : Option Entry) (t : ℕ) (o : Option TableMapping) → capability_of held ≡ PageTable t o → option_map unmapped_entry held ≡ Some (record { capability = PageTable t None; parent = parent_of held })
+pub table-entry : (held : Option Entry) (t : ℕ) (o : Option TableMapping) → capability_of held ≡ PageTable t o →
+    option_map unmapped_entry held ≡ Some (record { capability = PageTable t None; parent = parent_of held })
 table-entry None t o is = absurd (cc)
 table-entry (Some held) t o is = ap (λ (c : Cap). Some (record { capability = unmapped c; parent = held.parent })) is
 
@@ -128,7 +130,8 @@ mapped-more g h more (Frame f r (Some m)) is = more m.root (m.page / 2 ^ 10) is
 mapped-more g h more (PageTable t (Some m)) is = more m.root m.region is
 mapped-more g h more _ is = absurd is
 
-loses-same : (g h : ℕ → ℕ → Type 0) → ((root region : ℕ) → g root region → h root region) → ((root region : ℕ) → h root region → g root region) → (slots : Slots) (y : ℕ) (after : Option Entry) → Loses g slots y after → Loses h slots y after
+loses-same : (g h : ℕ → ℕ → Type 0) → ((root region : ℕ) → g root region → h root region) → ((root region : ℕ) → h root region → g root region) →
+    (slots : Slots) (y : ℕ) (after : Option Entry) → Loses g slots y after → Loses h slots y after
 loses-same g h more back slots y after was = elim was [
   | inl lost ↦ inl (mapped-more g h more (capability_at slots y) lost.0, lost.1)
   | inr kept ↦ inr (λ is. kept.0 (mapped-more h g back (capability_at slots y) is), kept.1)
@@ -157,11 +160,13 @@ stands-mapped goes m (RootTable _) inside is = absurd (cc)
 stands-mapped goes m InterruptControl inside is = absurd (cc)
 stands-mapped goes m (InterruptHandler _) inside is = absurd (cc)
 
-pub stands-here : (m : TableMapping) (f : ℕ) (r : Rights) (k : FrameMapping) → k.root ≡ m.root → k.page / 2 ^ 10 ≡ m.region → lies_in_region m (Frame f r (Some k)) ≡ true
+pub stands-here : (m : TableMapping) (f : ℕ) (r : Rights) (k : FrameMapping) → k.root ≡ m.root → k.page / 2 ^ 10 ≡ m.region →
+    lies_in_region m (Frame f r (Some k)) ≡ true
 stands-here m f r k root region = rw (eq-eqb k.root m.root root, eq-eqb (k.page / 2 ^ 10) m.region region) refl
 
 -- what becomes of an entry
-pub without-inside : (m : TableMapping) (held : Option Entry) → lies_in_region m (capability_of held) ≡ true → option_map (without_table m) held ≡ option_map unmapped_entry held
+pub without-inside : (m : TableMapping) (held : Option Entry) → lies_in_region m (capability_of held) ≡ true →
+    option_map (without_table m) held ≡ option_map unmapped_entry held
 without-inside m None inside = refl
 without-inside m (Some held) inside =
     ap (λ (b : Bool). Some (record { capability = if b then unmapped held.capability else held.capability; parent = held.parent })) inside
@@ -194,7 +199,8 @@ without-unmapped m held =
 
 module _ (old : Slots) (memory : List ℕ) (agree : TablesAgree old memory) (offset : ℕ) where
   -- one page table for a region
-  one-slot : (a b t u : ℕ) (m n : TableMapping) → capability_at old a ≡ PageTable t (Some m) → capability_at old b ≡ PageTable u (Some n) → m.root ≡ n.root → m.region ≡ n.region → a ≡ b
+  one-slot : (a b t u : ℕ) (m n : TableMapping) → capability_at old a ≡ PageTable t (Some m) → capability_at old b ≡ PageTable u (Some n) → m.root ≡ n.root →
+      m.region ≡ n.region → a ≡ b
   one-slot a b t u m n ha hb root region =
       let same = table-one old memory agree a b t u m n ha hb root region in
       agree.one_table a b u (Some m) (Some n) (ha ∙ ap (λ (v : ℕ). PageTable v (Some m)) same) hb
@@ -222,7 +228,8 @@ module _ (old : Slots) (memory : List ℕ) (agree : TablesAgree old memory) (off
 
     -- the one more
     before-split : (root region : ℕ) → GoesBefore old offset more root region
-        → GoesBefore old offset done root region ⊎ ((table : ℕ) × (capability_at old n ≡ PageTable table (Some (record { root = root; region = region }))) × ((root ≡ offset) ⊎ (table ≡ offset)))
+        → GoesBefore old offset done root region ⊎ ((table : ℕ) × (capability_at old n ≡ PageTable table (Some (record { root = root; region = region })))
+        × ((root ≡ offset) ⊎ (table ≡ offset)))
     before-split root region before = elim (eqb_tells before.slot n) [
       | inl same ↦ inr (before.table, sym (ap (capability_at old) same.1) ∙ before.held, before.goes)
       | inr other ↦ inl (record {
@@ -283,7 +290,8 @@ module _ (old : Slots) (memory : List ℕ) (agree : TablesAgree old memory) (off
         )
 
         -- what is not in the region is lost only if it was before
-        lost-before : (y : ℕ) (c : Cap) → y ≢ n → capability_at old y ≡ c → lies_in_region m c ≡ false → IsMappedIn (GoesBefore old offset more) c → IsMappedIn (GoesBefore old offset done) c
+        lost-before : (y : ℕ) (c : Cap) → y ≢ n → capability_at old y ≡ c → lies_in_region m c ≡ false → IsMappedIn (GoesBefore old offset more) c →
+            IsMappedIn (GoesBefore old offset done) c
         lost-before y (Frame f r (Some k)) other at outside is = elim (before-split k.root (k.page / 2 ^ 10) is) [
           | inl earlier ↦ earlier
           | inr here ↦
@@ -307,7 +315,8 @@ module _ (old : Slots) (memory : List ℕ) (agree : TablesAgree old memory) (off
           )
           | inr kept ↦
               let after = ap (option_map (without_table m)) kept.1 in
-              elim (lies_in_region m (capability_at old y)) as (λ b. lies_in_region m (capability_at old y) ≡ b → Loses (GoesBefore old offset more) old y (option_map (without_table m) (now y))) [
+              elim (lies_in_region m (capability_at old y)) as (λ b. lies_in_region m (capability_at old y) ≡ b →
+              Loses (GoesBefore old offset more) old y (option_map (without_table m) (now y))) [
                 | true ↦ λ inside. inl (
                   stands-mapped (GoesBefore old offset more) m (capability_at old y) inside goes-now,
                   after ∙ without-inside m (old y) inside,
@@ -321,9 +330,11 @@ module _ (old : Slots) (memory : List ℕ) (agree : TablesAgree old memory) (off
 
         taken : (y : ℕ) → Loses (GoesBefore old offset more) old y (without_region (recapped now n (PageTable t None)) m y)
         taken y = elim (eqb_tells y n) [
-          | inl same ↦ subst (λ (k : ℕ). Loses (GoesBefore old offset more) old k (without_region (recapped now n (PageTable t None)) m k)) (sym same.1) here-lost
+          | inl same ↦ subst (λ (k : ℕ). Loses (GoesBefore old offset more) old k (without_region (recapped now n (PageTable t None)) m k)) (sym same.1)
+              here-lost
           | inr other ↦
-              let apart = ap (option_map (without_table m)) (entry-other now n (Some (record { capability = PageTable t None; parent = parent_at now n })) y other.1) in
+              let apart = ap (option_map (without_table m))
+              (entry-other now n (Some (record { capability = PageTable t None; parent = parent_at now n })) y other.1) in
               subst (λ (e : Option Entry). Loses (GoesBefore old offset more) old y e) (sym apart) (other-lost y other.1)
         ]
 
@@ -334,7 +345,8 @@ module _ (old : Slots) (memory : List ℕ) (agree : TablesAgree old memory) (off
             let t = going.1.0 in
             let m = going.1.1 in
             let held = table-before t m going.1.2 in
-            let opened : next y ≡ slots_unmapped now n (capability_at now n) y = step y ∙ ap (λ (b : Bool). (if b then slots_unmapped now n (capability_at now n) else now) y) going.0 in
+            let opened : next y ≡ slots_unmapped now n (capability_at now n) y = step y
+            ∙ ap (λ (b : Bool). (if b then slots_unmapped now n (capability_at now n) else now) y) going.0 in
             let is : next y ≡ without_region (recapped now n (PageTable t None)) m y = opened ∙ ap (λ (c : Cap). slots_unmapped now n c y) going.1.2 in
             subst (λ (e : Option Entry). Loses (GoesBefore old offset more) old y e) (sym is) (taken t m held going.1.3 y)
         | inr none ↦

@@ -1,5 +1,6 @@
 -- Page tables that go with a table are unmapped one after another: what each step leaves, and that all of them go.
-use Rattle.std.proofs.Common.{◌≡◌, ◌≢◌, ◌∙◌, ℕ, ◌==◌, ◌||◌, ◌+◌, ◌<◌, ◌^◌, ◌⊎◌, inl, inr, Bool, true, false, not, Option, Some, None, List, refl, sym, ap, subst, arith}
+use Rattle.std.proofs.Common.{◌≡◌, ◌≢◌, ◌∙◌, ℕ, ◌==◌, ◌||◌, ◌+◌, ◌<◌, ◌^◌, ◌⊎◌, inl, inr, Bool, true, false, not, Option, Some, None, List, refl, sym, ap}
+use Rattle.std.proofs.Common.{subst, arith}
 use Rattle.std.specs.Prelude.{if◌then◌else◌}
 use Rattle.std.specs.Option.{option_map, option_map_or}
 use Rattle.std.proofs.lemmas.Bool.{eq-eqb}
@@ -9,7 +10,8 @@ use Rattle.model.specs.Capabilities.CapabilityWords.{IsCapability, IsPlace}
 use Rattle.model.specs.Capabilities.Slots.{Slots, capability_at, parent_at, recapped}
 use Rattle.model.specs.Kernel.MappingCalls.{lies_in_region, without_table}
 use Rattle.model.specs.declared.capabilities.Cap.{Cap}
-use Rattle.model.specs.declared.capabilities.Cap.TheVariants.{Empty, Untyped, Endpoint, Notification, CNode, Frame, PageTable, Tcb, RootTable, InterruptControl, InterruptHandler}
+use Rattle.model.specs.declared.capabilities.Cap.TheVariants.{Empty, Untyped, Endpoint, Notification, CNode, Frame, PageTable, Tcb, RootTable, InterruptControl}
+use Rattle.model.specs.declared.capabilities.Cap.TheVariants.{InterruptHandler}
 use Rattle.model.specs.declared.capabilities.TableMapping.{TableMapping}
 use Rattle.model.specs.declared.slot_entries.Entry.{Entry}
 use Rattle.model.proofs.SlotChanges.{capability_of, entry-other, entry-same}
@@ -17,7 +19,8 @@ use Rattle.removal_laws.specs.Steps.{slots_unmapped}
 use Rattle.slots.specs.Listed.{is_naming}
 use Rattle.vspace.specs.Endings.{Ended, Ending, HasEnded, IsMappedIn, begins, ended_at, goes_on, is_ending, unmapped_entry}
 use Rattle.vspace.specs.Tables.{MapsTable, TablesAgree, table_in}
-use Rattle.vspace.proofs.EndedTables.{EndedBefore, GoesBefore, OneMore, ended-all, ended-next, ending-cases, entry-unmapped, not_table, table-entry, without-inside, without-outside}
+use Rattle.vspace.proofs.EndedTables.{EndedBefore, GoesBefore, OneMore, ended-all, ended-next, ending-cases, entry-unmapped, not_table, table-entry}
+use Rattle.vspace.proofs.EndedTables.{without-inside, without-outside}
 use Rattle.vspace.proofs.Entries.{table_in-some}
 use Rattle.vspace.proofs.Sweeps.{object-unmapped}
 
@@ -75,10 +78,12 @@ inside-stays offset m (RootTable _) inside = refl
 inside-stays offset m InterruptControl inside = refl
 inside-stays offset m (InterruptHandler _) inside = refl
 
-ending-without : (offset : ℕ) (m : TableMapping) (held : Option Entry) → is_ending offset (capability_of (option_map (without_table m) held)) ≡ is_ending offset (capability_of held)
+ending-without : (offset : ℕ) (m : TableMapping) (held : Option Entry) →
+    is_ending offset (capability_of (option_map (without_table m) held)) ≡ is_ending offset (capability_of held)
 ending-without offset m None = refl
 ending-without offset m (Some held) =
-    elim (lies_in_region m held.capability) as (λ b. lies_in_region m held.capability ≡ b → is_ending offset (if b then unmapped held.capability else held.capability) ≡ is_ending offset held.capability) [
+    elim (lies_in_region m held.capability) as (λ b. lies_in_region m held.capability ≡ b →
+    is_ending offset (if b then unmapped held.capability else held.capability) ≡ is_ending offset held.capability) [
       | true ↦ λ inside. ending-unmapped offset held.capability ∙ sym (inside-stays offset m held.capability inside)
       | false ↦ λ _. refl
     ] refl
@@ -113,13 +118,15 @@ less-then old now next before after y = elim (after y) [
 module _ (old now : Slots) (less : IsLess old now) where
   pub less-ending : (offset y : ℕ) → is_ending offset (capability_at old y) ≡ false → is_ending offset (capability_at now y) ≡ false
   less-ending offset y stays = elim (less y) [
-    | inl gone ↦ ap (λ (held : Option Entry). is_ending offset (capability_of held)) gone ∙ ap (is_ending offset) (entry-unmapped (old y)) ∙ ending-unmapped offset (capability_at old y)
+    | inl gone ↦ ap (λ (held : Option Entry). is_ending offset (capability_of held)) gone ∙ ap (is_ending offset) (entry-unmapped (old y))
+        ∙ ending-unmapped offset (capability_at old y)
     | inr same ↦ ap (λ (held : Option Entry). is_ending offset (capability_of held)) same ∙ stays
   ]
 
   pub less-names : (object y : ℕ) → is_naming now object y ≡ is_naming old object y
   less-names object y = ap (λ (o : Option ℕ). option_map_or (λ (named : ℕ). named == object) o false) (elim (less y) [
-    | inl gone ↦ ap (λ (held : Option Entry). object_of (capability_of held)) gone ∙ ap object_of (entry-unmapped (old y)) ∙ object-unmapped (capability_at old y)
+    | inl gone ↦ ap (λ (held : Option Entry). object_of (capability_of held)) gone ∙ ap object_of (entry-unmapped (old y))
+        ∙ object-unmapped (capability_at old y)
     | inr same ↦ ap (λ (held : Option Entry). object_of (capability_of held)) same
   ])
 
@@ -136,7 +143,8 @@ module _ (old now : Slots) (less : IsLess old now) where
   pub less-ended : (t offset : ℕ) → HasEnded old t offset → HasEnded now t offset
   less-ended t offset ended = λ y m held. ended y m (less-table y t m held)
 
-  pub less-regions : (root number : ℕ) → ((region : ℕ) → region < number → (t : ℕ) → MapsTable old root region t → ⊥) → ((t : ℕ) → MapsTable now root number t → ⊥)
+  pub less-regions : (root number : ℕ) → ((region : ℕ) → region < number → (t : ℕ) → MapsTable old root region t → ⊥) →
+      ((t : ℕ) → MapsTable now root number t → ⊥)
       → (region : ℕ) → region < number + 1 → (t : ℕ) → MapsTable now root region t → ⊥
   less-regions root number before here region few t maps = elim (eqb_tells region number) [
     | inl same ↦ here t (subst (λ (n : ℕ). MapsTable now root n t) same.1 maps)
@@ -163,15 +171,17 @@ module _ (now next : Slots) (slot offset : ℕ) (step : next ≡ ended_at now sl
         ∙ sym (table-entry (now slot) t (Some m) held)
 
     other-gone : (y : ℕ) → y ≢ slot → next y ≡ option_map (without_table m) (now y)
-    other-gone y other = step-going y ∙ ap (option_map (without_table m)) (entry-other now slot (Some (record { capability = PageTable t None; parent = parent_at now slot })) y other)
+    other-gone y other = step-going y ∙ ap (option_map (without_table m))
+        (entry-other now slot (Some (record { capability = PageTable t None; parent = parent_at now slot })) y other)
 
     less-gone : IsLess now next
     less-gone y = elim (eqb_tells y slot) [
       | inl same ↦ inl (subst (λ (n : ℕ). next n ≡ option_map unmapped_entry (now n)) (sym same.1) own-gone)
-      | inr other ↦ elim (lies_in_region m (capability_at now y)) as (λ b. lies_in_region m (capability_at now y) ≡ b → (next y ≡ option_map unmapped_entry (now y)) ⊎ (next y ≡ now y)) [
-        | true ↦ λ inside. inl (other-gone y other.1 ∙ without-inside m (now y) inside)
-        | false ↦ λ outside. inr (other-gone y other.1 ∙ without-outside m (now y) outside)
-      ] refl
+      | inr other ↦ elim (lies_in_region m (capability_at now y))
+          as (λ b. lies_in_region m (capability_at now y) ≡ b → (next y ≡ option_map unmapped_entry (now y)) ⊎ (next y ≡ now y)) [
+            | true ↦ λ inside. inl (other-gone y other.1 ∙ without-inside m (now y) inside)
+            | false ↦ λ outside. inr (other-gone y other.1 ∙ without-outside m (now y) outside)
+          ] refl
     ]
 
   pub step-less : IsLess now next
@@ -234,8 +244,10 @@ module _ (old : Slots) (memory : List ℕ) (agree : TablesAgree old memory) (off
   ending-before now (begins _ same) = subst (λ (s : Slots). EndedBefore old s offset (is_done offset s)) (sym same) ended-first
   ending-before now (goes_on before _ slot ends step) =
       let earlier = ending-before before ends in
-      elim (is_ending offset (capability_at before slot)) as (λ b. is_ending offset (capability_at before slot) ≡ b → EndedBefore old now offset (is_done offset now)) [
-        | true ↦ λ goes. ended-next old memory agree offset (is_done offset before) (is_done offset now) slot (step-more before now slot offset step goes) before earlier now (λ y. ap (λ (s : Slots). s y) step)
+      elim (is_ending offset (capability_at before slot)) as (λ b. is_ending offset (capability_at before slot) ≡ b →
+      EndedBefore old now offset (is_done offset now)) [
+        | true ↦ λ goes. ended-next old memory agree offset (is_done offset before) (is_done offset now) slot (step-more before now slot offset step goes)
+            before earlier now (λ y. ap (λ (s : Slots). s y) step)
         | false ↦ λ none.
             let same : now ≡ before = λ i y. step-none before now slot offset step none y i in
             subst (λ (s : Slots). EndedBefore old s offset (is_done offset s)) (sym same) earlier
@@ -246,7 +258,8 @@ module _ (old : Slots) (memory : List ℕ) (agree : TablesAgree old memory) (off
   ending-all now ends none = ended-all old memory agree offset (is_done offset now) (λ slot full. ap not (none slot)) now (ending-before now ends)
 
 -- nothing goes if the table itself has no mapping, and none is mapped for any region under it
-module _ (now : Slots) (memory : List ℕ) (agree : TablesAgree now memory) (offset : ℕ) (itself : HasEnded now offset offset) (passed : (region : ℕ) → region < 2 ^ 9 → (t : ℕ) → MapsTable now offset region t → ⊥) where
+module _ (now : Slots) (memory : List ℕ) (agree : TablesAgree now memory) (offset : ℕ) (itself : HasEnded now offset offset)
+    (passed : (region : ℕ) → region < 2 ^ 9 → (t : ℕ) → MapsTable now offset region t → ⊥) where
   pub none-ending : (y : ℕ) → is_ending offset (capability_at now y) ≡ false
   none-ending y = elim (ending-cases offset (capability_at now y)) [
     | inr none ↦ none.0
@@ -256,7 +269,8 @@ module _ (now : Slots) (memory : List ℕ) (agree : TablesAgree now memory) (off
         let held = going.1.2 in
         let fine : IsCapability (PageTable t (Some m)) = subst (λ (c : Cap). IsCapability c) held (agree.valid y) in
         elim (going.1.3) [
-          | inl root ↦ absurd (passed m.region fine.1.1 t (record { slot = y; held = held ∙ ap (λ (n : ℕ). PageTable t (Some (record { root = n; region = m.region }))) root }))
+          | inl root ↦ absurd (passed m.region fine.1.1 t
+              (record { slot = y; held = held ∙ ap (λ (n : ℕ). PageTable t (Some (record { root = n; region = m.region }))) root }))
           | inr here ↦
               let stays = itself y m (held ∙ ap (λ (n : ℕ). PageTable n (Some m)) here) in
               let clash : false ≡ true = sym stays ∙ goes-ending offset offset m (inr refl) in
@@ -272,16 +286,19 @@ region-gone now root region t ended maps =
     absurd cc
 
 -- the entry of a region names the page table that is mapped for it
-pub pointer-found : (slots : Slots) (memory read : List ℕ) (root region t : ℕ) → TablesAgree slots memory → read ≡ memory → MapsTable slots root region t → table_in read root region ≡ Some t
+pub pointer-found : (slots : Slots) (memory read : List ℕ) (root region t : ℕ) → TablesAgree slots memory → read ≡ memory → MapsTable slots root region t →
+    table_in read root region ≡ Some t
 pointer-found slots memory read root region t agree same maps =
-    let fine : IsCapability (PageTable t (Some (record { root = root; region = region }))) = subst (λ (c : Cap). IsCapability c) maps.held (agree.valid maps.slot) in
+    let fine : IsCapability (PageTable t (Some (record { root = root; region = region }))) =
+    subst (λ (c : Cap). IsCapability c) maps.held (agree.valid maps.slot) in
     let stands = agree.mapped_roots maps.slot t _ maps.held in
     let table = agree.tables maps.slot t _ maps.held in
     ap (λ (m : List ℕ). table_in m root region) same
     ∙ table_in-some memory root region t (omega (arith, stands.within, fine.1.1)) table.aligned (agree.pointers maps.slot t _ maps.held)
 
 -- a page table is on a page
-pub table-place : (slots : Slots) (memory : List ℕ) (y t : ℕ) (m : Option TableMapping) → TablesAgree slots memory → capability_at slots y ≡ PageTable t m → IsPlace t 12
+pub table-place : (slots : Slots) (memory : List ℕ) (y t : ℕ) (m : Option TableMapping) → TablesAgree slots memory → capability_at slots y ≡ PageTable t m →
+    IsPlace t 12
 table-place slots memory y t m agree held =
     let fine : IsCapability (PageTable t m) = subst (λ (c : Cap). IsCapability c) held (agree.valid y) in
     fine.0

@@ -27,7 +27,8 @@ pub zero-invalid : is_valid 0 ≡ false
 zero-invalid = refl
 
 -- the entry at a place that memory has
-pub entry_at-valid : (memory : List ℕ) (table number entry : ℕ) → table + 4 * number + 4 ≤ length memory → word_at memory (table + 4 * number) ≡ entry → is_valid entry ≡ true → entry_at memory table number ≡ Some entry
+pub entry_at-valid : (memory : List ℕ) (table number entry : ℕ) → table + 4 * number + 4 ≤ length memory → word_at memory (table + 4 * number) ≡ entry →
+    is_valid entry ≡ true → entry_at memory table number ≡ Some entry
 unfolding entry_at
 entry_at-valid memory table number entry fits is valid =
     let inside : nat_le (table + 4 * number + 4) (length memory) ≡ true = grind (arith, nat_tests) in
@@ -36,7 +37,8 @@ entry_at-valid memory table number entry fits is valid =
 pub entry_at-zero : (memory : List ℕ) (table number : ℕ) → word_at memory (table + 4 * number) ≡ 0 → entry_at memory table number ≡ None
 unfolding entry_at
 entry_at-zero memory table number is =
-    elim (nat_le (table + 4 * number + 4) (length memory)) as (λ b. (if b && is_valid (word_at memory (table + 4 * number)) then Some (word_at memory (table + 4 * number)) else None) ≡ None) [
+    elim (nat_le (table + 4 * number + 4) (length memory))
+    as (λ b. (if b && is_valid (word_at memory (table + 4 * number)) then Some (word_at memory (table + 4 * number)) else None) ≡ None) [
       | true ↦ rw is refl
       | false ↦ refl
     ]
@@ -51,7 +53,8 @@ leaf_word-valid place rights known =
     rw (v, r, w) known_r
 
 -- the page table that a root table names for a region
-pub table_in-some : (memory : List ℕ) (root region table : ℕ) → root + 4 * region + 4 ≤ length memory → table % 2 ^ 12 ≡ 0 → word_at memory (root + 4 * region) ≡ table_word table → table_in memory root region ≡ Some table
+pub table_in-some : (memory : List ℕ) (root region table : ℕ) → root + 4 * region + 4 ≤ length memory → table % 2 ^ 12 ≡ 0 →
+    word_at memory (root + 4 * region) ≡ table_word table → table_in memory root region ≡ Some table
 unfolding table_in
 table_in-some memory root region table fits aligned is =
     let entry = entry_at-valid memory root region (table_word table) fits is (table_word-valid table) in

@@ -12,7 +12,8 @@ use Rattle.model.specs.declared.rights.Rights.{Rights}
 use Rattle.vspace.specs.Tables.{IsTable, MapsFrame, MapsTable, TablesAgree}
 use Rattle.vspace.proofs.Steps.{held-before, held-after, table-after, entry-differs, word-kept, size-kept}
 
-pub record FrameStep (slots : Slots) (memory after : List ℕ) (x f : ℕ) (r : Rights) (o c : Option FrameMapping) (table j word : ℕ) (tm : TableMapping) : Type 0 where
+pub record FrameStep (slots : Slots) (memory after : List ℕ) (x f : ℕ) (r : Rights) (o c : Option FrameMapping) (table j word : ℕ) (tm : TableMapping) : Type
+    0 where
   pub agree : TablesAgree slots memory
   pub was : capability_at slots x ≡ Frame f r o
   pub is_open : slots x ≢ None
@@ -29,20 +30,26 @@ pub index_small : (n : ℕ) → n % 2 ^ 10 < 2 ^ 10
 index_small n = omega arith
 
 -- the page table that the entry is in
-pub table_stands : (slots : Slots) (memory after : List ℕ) (x f : ℕ) (r : Rights) (o c : Option FrameMapping) (table j word : ℕ) (tm : TableMapping) → FrameStep slots memory after x f r o c table j word tm → IsTable slots memory table
+pub table_stands : (slots : Slots) (memory after : List ℕ) (x f : ℕ) (r : Rights) (o c : Option FrameMapping) (table j word : ℕ) (tm : TableMapping) →
+    FrameStep slots memory after x f r o c table j word tm → IsTable slots memory table
 table_stands slots memory after x f r o c table j word tm step = step.agree.tables step.at_slot _ _ step.at_held
 
-pub size_stays : (slots : Slots) (memory after : List ℕ) (x f : ℕ) (r : Rights) (o c : Option FrameMapping) (table j word : ℕ) (tm : TableMapping) → FrameStep slots memory after x f r o c table j word tm → length after ≡ length memory
-size_stays slots memory after x f r o c table j word tm step = size-kept slots memory after table j word (table_stands slots memory after x f r o c table j word tm step) step.few step.same
+pub size_stays : (slots : Slots) (memory after : List ℕ) (x f : ℕ) (r : Rights) (o c : Option FrameMapping) (table j word : ℕ) (tm : TableMapping) →
+    FrameStep slots memory after x f r o c table j word tm → length after ≡ length memory
+size_stays slots memory after x f r o c table j word tm step =
+    size-kept slots memory after table j word (table_stands slots memory after x f r o c table j word tm step) step.few step.same
 
 -- a table that is another one keeps its words
-pub other_word : (slots : Slots) (memory after : List ℕ) (x f : ℕ) (r : Rights) (o c : Option FrameMapping) (table j word : ℕ) (tm : TableMapping) → FrameStep slots memory after x f r o c table j word tm → (t i : ℕ) → IsTable slots memory t → i < 2 ^ 10 → t ≢ table → word_at after (t + 4 * i) ≡ word_at memory (t + 4 * i)
+pub other_word : (slots : Slots) (memory after : List ℕ) (x f : ℕ) (r : Rights) (o c : Option FrameMapping) (table j word : ℕ) (tm : TableMapping) →
+    FrameStep slots memory after x f r o c table j word tm → (t i : ℕ) → IsTable slots memory t → i < 2 ^ 10 → t ≢ table →
+    word_at after (t + 4 * i) ≡ word_at memory (t + 4 * i)
 other_word slots memory after x f r o c table j word tm step t i stands few differ =
     let at = table_stands slots memory after x f r o c table j word tm step in
     word-kept slots memory after t i table j word stands few at step.few (entry-differs t table i j stands.aligned at.aligned few step.few differ) step.same
 
 -- a page table is mapped once
-pub one_mapping : (slots : Slots) (memory : List ℕ) → TablesAgree slots memory → (a b table : ℕ) (m n : Option TableMapping) → capability_at slots a ≡ PageTable table m → capability_at slots b ≡ PageTable table n → m ≡ n
+pub one_mapping : (slots : Slots) (memory : List ℕ) → TablesAgree slots memory → (a b table : ℕ) (m n : Option TableMapping) →
+    capability_at slots a ≡ PageTable table m → capability_at slots b ≡ PageTable table n → m ≡ n
 one_mapping slots memory agree a b table m n ha hb =
     let same = agree.one_table a b table m n ha hb in
     let e : PageTable table m ≡ PageTable table n = sym ha ∙ ap (capability_at slots) same ∙ hb in
@@ -57,20 +64,23 @@ region_or_zero None = 0
 region_or_zero (Some m) = m.region
 
 -- the mapping of a page table stays
-pub table_stays : (slots : Slots) (x f : ℕ) (r : Rights) (o : Option FrameMapping) (c : Cap) (root region table : ℕ) → capability_at slots x ≡ Frame f r o → MapsTable slots root region table → MapsTable (recapped slots x c) root region table
+pub table_stays : (slots : Slots) (x f : ℕ) (r : Rights) (o : Option FrameMapping) (c : Cap) (root region table : ℕ) → capability_at slots x ≡ Frame f r o →
+    MapsTable slots root region table → MapsTable (recapped slots x c) root region table
 table_stays slots x f r o c root region table was maps = record {
   slot = maps.slot;
   held = held-after slots x _ c maps.slot _ was maps.held (λ e. cc);
 }
 
-pub region_small : (slots : Slots) (memory : List ℕ) → TablesAgree slots memory → (y t : ℕ) (n : TableMapping) → capability_at slots y ≡ PageTable t (Some n) → n.region < 2 ^ 10
+pub region_small : (slots : Slots) (memory : List ℕ) → TablesAgree slots memory → (y t : ℕ) (n : TableMapping) → capability_at slots y ≡ PageTable t (Some n) →
+    n.region < 2 ^ 10
 region_small slots memory agree y t n held =
     let fine : IsCapability (PageTable t (Some n)) = subst (λ (c : Cap). IsCapability c) held (agree.valid y) in
     omega (arith, fine.1.1)
 
 -- ---- what stays of the agreement
 
-valid-kept : (slots : Slots) (memory after : List ℕ) (x f : ℕ) (r : Rights) (o c : Option FrameMapping) (table j word : ℕ) (tm : TableMapping) → FrameStep slots memory after x f r o c table j word tm → (y : ℕ) → IsCapability (capability_at (slots_after slots x f r c) y)
+valid-kept : (slots : Slots) (memory after : List ℕ) (x f : ℕ) (r : Rights) (o c : Option FrameMapping) (table j word : ℕ) (tm : TableMapping) →
+    FrameStep slots memory after x f r o c table j word tm → (y : ℕ) → IsCapability (capability_at (slots_after slots x f r c) y)
 valid-kept slots memory after x f r o c table j word tm step y =
     elim (held-before slots x (Frame f r c) y (capability_at (slots_after slots x f r c) y) refl) [
       | inl new ↦ subst (λ (v : Cap). IsCapability v) new.1 step.fine
@@ -78,21 +88,27 @@ valid-kept slots memory after x f r o c table j word tm step y =
     ]
 
 -- a capability that is no frame is an old one
-not_new : (slots : Slots) (x f : ℕ) (r : Rights) (o : Option FrameMapping) (y : ℕ) (v : Cap) → v ≢ Frame f r o → capability_at (recapped slots x (Frame f r o)) y ≡ v → capability_at slots y ≡ v
+not_new : (slots : Slots) (x f : ℕ) (r : Rights) (o : Option FrameMapping) (y : ℕ) (v : Cap) → v ≢ Frame f r o →
+    capability_at (recapped slots x (Frame f r o)) y ≡ v → capability_at slots y ≡ v
 not_new slots x f r o y v differ held = elim (held-before slots x (Frame f r o) y v held) [
   | inl new ↦ absurd (differ (sym new.1))
   | inr old ↦ old.1
 ]
 
-pub root_was : (slots : Slots) (x f : ℕ) (r : Rights) (c : Option FrameMapping) (y t : ℕ) → capability_at (slots_after slots x f r c) y ≡ RootTable t → capability_at slots y ≡ RootTable t
+pub root_was : (slots : Slots) (x f : ℕ) (r : Rights) (c : Option FrameMapping) (y t : ℕ) → capability_at (slots_after slots x f r c) y ≡ RootTable t →
+    capability_at slots y ≡ RootTable t
 root_was slots x f r c y t held = not_new slots x f r c y (RootTable t) (λ e. cc) held
 
-pub table_was : (slots : Slots) (x f : ℕ) (r : Rights) (c : Option FrameMapping) (y t : ℕ) (m : Option TableMapping) → capability_at (slots_after slots x f r c) y ≡ PageTable t m → capability_at slots y ≡ PageTable t m
+pub table_was : (slots : Slots) (x f : ℕ) (r : Rights) (c : Option FrameMapping) (y t : ℕ) (m : Option TableMapping) →
+    capability_at (slots_after slots x f r c) y ≡ PageTable t m → capability_at slots y ≡ PageTable t m
 table_was slots x f r c y t m held = not_new slots x f r c y (PageTable t m) (λ e. cc) held
 
-only_pointers-kept : (slots : Slots) (memory after : List ℕ) (x f : ℕ) (r : Rights) (o c : Option FrameMapping) (table j word : ℕ) (tm : TableMapping) → FrameStep slots memory after x f r o c table j word tm → (y root region : ℕ) → capability_at slots y ≡ RootTable root → region < 2 ^ 10 → (word_at after (root + 4 * region) ≡ 0) ⊎ ((t : ℕ) × MapsTable (slots_after slots x f r c) root region t)
+only_pointers-kept : (slots : Slots) (memory after : List ℕ) (x f : ℕ) (r : Rights) (o c : Option FrameMapping) (table j word : ℕ) (tm : TableMapping) →
+    FrameStep slots memory after x f r o c table j word tm → (y root region : ℕ) → capability_at slots y ≡ RootTable root → region < 2 ^ 10 →
+    (word_at after (root + 4 * region) ≡ 0) ⊎ ((t : ℕ) × MapsTable (slots_after slots x f r c) root region t)
 only_pointers-kept slots memory after x f r o c table j word tm step y root region held few =
-    let kept = other_word slots memory after x f r o c table j word tm step root region (step.agree.roots y root held) few (step.agree.apart y step.at_slot root table _ held step.at_held) in
+    let kept = other_word slots memory after x f r o c table j word tm step root region (step.agree.roots y root held) few
+    (step.agree.apart y step.at_slot root table _ held step.at_held) in
     elim (step.agree.only_pointers y root region held few) [
       | inl zero ↦ inl (kept ∙ zero)
       | inr maps ↦ inr (maps.0, table_stays slots x f r o (Frame f r c) root region maps.0 step.was maps.1)
@@ -108,11 +124,13 @@ pub record LeavesAgree (slots : Slots) (memory : List ℕ) : Type 0 where
   pub one_frame : (a b f g : ℕ) (r q : Rights) (m n : FrameMapping) → capability_at slots a ≡ Frame f r (Some m) → capability_at slots b ≡ Frame g q (Some n)
       → m.root ≡ n.root → m.page ≡ n.page → a ≡ b
 
-pub agree-after : (slots : Slots) (memory after : List ℕ) (x f : ℕ) (r : Rights) (o c : Option FrameMapping) (table j word : ℕ) (tm : TableMapping) → FrameStep slots memory after x f r o c table j word tm → LeavesAgree (slots_after slots x f r c) after → TablesAgree (slots_after slots x f r c) after
+pub agree-after : (slots : Slots) (memory after : List ℕ) (x f : ℕ) (r : Rights) (o c : Option FrameMapping) (table j word : ℕ) (tm : TableMapping) →
+    FrameStep slots memory after x f r o c table j word tm → LeavesAgree (slots_after slots x f r c) after → TablesAgree (slots_after slots x f r c) after
 agree-after slots memory after x f r o c table j word tm step shown =
     let size = size_stays slots memory after x f r o c table j word tm step in
     let stay = λ (t : ℕ) (stands : IsTable slots memory t). table-after slots memory after x (Frame f r c) t step.is_open size stands in
-    let tables = λ (y t : ℕ) (m : Option TableMapping) (held : capability_at (slots_after slots x f r c) y ≡ PageTable t m). table_was slots x f r c y t m held in
+    let tables = λ (y t : ℕ) (m : Option TableMapping) (held : capability_at (slots_after slots x f r c) y ≡ PageTable t m).
+    table_was slots x f r c y t m held in
     let roots = λ (y t : ℕ) (held : capability_at (slots_after slots x f r c) y ≡ RootTable t). root_was slots x f r c y t held in
     record {
       valid = valid-kept slots memory after x f r o c table j word tm step;
@@ -122,7 +140,8 @@ agree-after slots memory after x f r o c table j word tm step shown =
       pointers = λ y t n held.
           let was = tables y t (Some n) held in
           let region : n.region < 2 ^ 10 = region_small slots memory step.agree y t n was in
-          other_word slots memory after x f r o c table j word tm step n.root n.region (step.agree.mapped_roots y t n was) region (step.agree.mapped_apart y step.at_slot t table n _ was step.at_held)
+          other_word slots memory after x f r o c table j word tm step n.root n.region (step.agree.mapped_roots y t n was) region
+          (step.agree.mapped_apart y step.at_slot t table n _ was step.at_held)
           ∙ step.agree.pointers y t n was;
       frames = shown.frames;
       leaves = shown.leaves;

@@ -1,5 +1,6 @@
 -- The walk through the tables finds what the mappings that capabilities hold say.
-use Rattle.std.proofs.Common.{◌≡◌, ◌∙◌, ℕ, zero, suc, ◌+◌, ◌-◌, ◌*◌, ◌/◌, ◌%◌, ◌^◌, ◌<◌, ◌≤◌, ◌==◌, ◌&&◌, ◌||◌, ◌⊎◌, inl, inr, Bool, true, false, not, Option, Some, None, List, [], ◌∷◌, length, get_or, refl, sym, ap, subst, arith}
+use Rattle.std.proofs.Common.{◌≡◌, ◌∙◌, ℕ, zero, suc, ◌+◌, ◌-◌, ◌*◌, ◌/◌, ◌%◌, ◌^◌, ◌<◌, ◌≤◌, ◌==◌, ◌&&◌, ◌||◌, ◌⊎◌, inl, inr, Bool, true, false, not, Option}
+use Rattle.std.proofs.Common.{Some, None, List, [], ◌∷◌, length, get_or, refl, sym, ap, subst, arith}
 use Rattle.std.specs.Prelude.{filter_map, nat_le, nat_lt, if◌then◌else◌, option_and_then}
 use Rattle.std.proofs.lemmas.Bool.{eq-eqb}
 use Rattle.std.proofs.lemmas.Bool.Decides.{nat_tests}
@@ -13,7 +14,8 @@ use Rattle.model.specs.Capabilities.Slots.{IsFull, Slots, capability_at, is_empt
 use Rattle.model.specs.Kernel.State.{State, slot_numbers}
 use Rattle.model.specs.Machine.Sv32.{entry_at, has_bit, has_right, is_leaf, leaf_place, leaf_word, page_address, permits, table_word, walk}
 use Rattle.model.specs.declared.capabilities.Cap.{Cap}
-use Rattle.model.specs.declared.capabilities.Cap.TheVariants.{Empty, Untyped, Endpoint, Notification, CNode, Frame, PageTable, Tcb, RootTable, InterruptControl, InterruptHandler}
+use Rattle.model.specs.declared.capabilities.Cap.TheVariants.{Empty, Untyped, Endpoint, Notification, CNode, Frame, PageTable, Tcb, RootTable, InterruptControl}
+use Rattle.model.specs.declared.capabilities.Cap.TheVariants.{InterruptHandler}
 use Rattle.model.specs.declared.instructions.Access.{Access}
 use Rattle.model.specs.declared.instructions.Access.TheVariants.{Load, Store, Fetch}
 use Rattle.model.specs.declared.rights.Rights.{Rights}
@@ -53,7 +55,8 @@ and_true false = refl
 
 leaf-right : (access : Access) (f a : ℕ) → has_right (leaf_word f a) access ≡ right_of access a
 leaf-right Load f a = ap (λ (n : ℕ). n == 1) (r_bit f a)
-leaf-right Store f a = ap (λ (n : ℕ). (n == 1) && (leaf_word f a / 2 ^ 7 % 2 == 1)) (w_bit f a) ∙ ap (λ (n : ℕ). (a % 2 == 1) && (n == 1)) (d_bit f a) ∙ and_true (a % 2 == 1)
+leaf-right Store f a = ap (λ (n : ℕ). (n == 1) && (leaf_word f a / 2 ^ 7 % 2 == 1)) (w_bit f a) ∙ ap (λ (n : ℕ). (a % 2 == 1) && (n == 1)) (d_bit f a)
+    ∙ and_true (a % 2 == 1)
 leaf-right Fetch f a = ap (λ (n : ℕ). n == 1) (x_bit f a)
 
 abbrev SameRight : Access → ℕ → Type 0
@@ -109,7 +112,8 @@ leaf-permits access f r known =
     ∙ leaf-right access f r.0 ∙ right-allowed access r.0 known
 
 leaf-is : (f a : ℕ) → AreMappingRights a → is_leaf (leaf_word f a) ≡ true
-leaf-is f a known = ap (λ (n : ℕ). (n == 1) || has_bit (leaf_word f a) 3) (r_bit f a) ∙ ap (λ (n : ℕ). (a / 2 % 2 == 1) || (n == 1)) (x_bit f a) ∙ reads_or_runs a known
+leaf-is f a known = ap (λ (n : ℕ). (n == 1) || has_bit (leaf_word f a) 3) (r_bit f a) ∙ ap (λ (n : ℕ). (a / 2 % 2 == 1) || (n == 1)) (x_bit f a)
+    ∙ reads_or_runs a known
 
 leaf-address : (f a : ℕ) → f % 2 ^ 12 ≡ 0 → a < 8 → page_address (leaf_word f a) ≡ 2 ^ 31 + f
 leaf-address f a aligned few = omega (arith, aligned, few)
@@ -122,7 +126,8 @@ abbrev standing : ℕ → Rights → MappedFrame
 standing f allowed = record { frame = f; allowed = allowed }
 
 -- the byte in the page of a leaf
-leaf-byte : (memory : List ℕ) (f : ℕ) (r : Rights) (address : ℕ) (access : Access) → f % 2 ^ 12 ≡ 0 → f + 2 ^ 12 ≤ length memory → AreMappingRights r.0 → leaf_place memory (leaf_word f r.0) 12 address access ≡ place_in access address (standing f r)
+leaf-byte : (memory : List ℕ) (f : ℕ) (r : Rights) (address : ℕ) (access : Access) → f % 2 ^ 12 ≡ 0 → f + 2 ^ 12 ≤ length memory → AreMappingRights r.0 →
+    leaf_place memory (leaf_word f r.0) 12 address access ≡ place_in access address (standing f r)
 unfolding leaf_place
 leaf-byte memory f r address access aligned within known =
     let at = leaf-address f r.0 aligned (few_rights r.0 known) in
@@ -149,7 +154,8 @@ table-not_leaf table =
     let x : (table_word table / 2 ^ 3 % 2 == 1) ≡ false = grind (arith, nat_tests) in
     rw (r, x) refl
 
-walk-table : (memory : List ℕ) (root table address : ℕ) (access : Access) → entry_at memory root (address / 2 ^ 22) ≡ Some (table_word table) → table % 2 ^ 12 ≡ 0 → walk memory root address access ≡ option_and_then (last_step memory address access) (entry_at memory table (address / 2 ^ 12 % 2 ^ 10))
+walk-table : (memory : List ℕ) (root table address : ℕ) (access : Access) → entry_at memory root (address / 2 ^ 22) ≡ Some (table_word table) →
+    table % 2 ^ 12 ≡ 0 → walk memory root address access ≡ option_and_then (last_step memory address access) (entry_at memory table (address / 2 ^ 12 % 2 ^ 10))
 unfolding walk
 walk-table memory root table address access there aligned =
     let place = table_word-place table aligned in
@@ -159,11 +165,13 @@ walk-table memory root table address access there aligned =
 region_of_page : (address : ℕ) → address / 2 ^ 12 / 2 ^ 10 ≡ address / 2 ^ 22
 region_of_page address = omega arith
 
-unmapped-region : (slots : Slots) (memory : List ℕ) (root address : ℕ) → TablesAgree slots memory → word_at memory (root + 4 * (address / 2 ^ 22)) ≡ 0 → (y f : ℕ) (r a : Rights) → capability_at slots y ≡ Frame f r (Some (record { root = root; page = address / 2 ^ 12; rights = a })) → ⊥
+unmapped-region : (slots : Slots) (memory : List ℕ) (root address : ℕ) → TablesAgree slots memory → word_at memory (root + 4 * (address / 2 ^ 22)) ≡ 0 →
+    (y f : ℕ) (r a : Rights) → capability_at slots y ≡ Frame f r (Some (record { root = root; page = address / 2 ^ 12; rights = a })) → ⊥
 unmapped-region slots memory root address agree zero_there y f r a held =
     let leaf = agree.leaves y f r _ held in
     let pointer = agree.pointers leaf.1.slot leaf.0 _ leaf.1.held in
-    let here : word_at memory (root + 4 * (address / 2 ^ 22)) ≡ table_word leaf.0 = ap (λ (n : ℕ). word_at memory (root + 4 * n)) (sym (region_of_page address)) ∙ pointer in
+    let here : word_at memory (root + 4 * (address / 2 ^ 22)) ≡ table_word leaf.0 = ap (λ (n : ℕ). word_at memory (root + 4 * n)) (sym (region_of_page address))
+    ∙ pointer in
     absurd (omega (arith, zero_there, here))
 
 -- what the walk finds: the byte in the one frame that is mapped at the page, or nothing where none is
@@ -175,23 +183,31 @@ pub record FindsNone (slots : Slots) (memory : List ℕ) (root address : ℕ) (a
   pub none : (y : ℕ) → maps_page root (address / 2 ^ 12) (capability_at slots y) ≡ false
   pub finds : walk memory root address access ≡ None
 
-walk-page : (slots : Slots) (memory : List ℕ) (root table address : ℕ) (access : Access) → TablesAgree slots memory → MapsTable slots root (address / 2 ^ 12 / 2 ^ 10) table → walk memory root address access ≡ option_and_then (last_step memory address access) (entry_at memory table (address / 2 ^ 12 % 2 ^ 10)) → Finds slots memory root address access ⊎ FindsNone slots memory root address access
+walk-page : (slots : Slots) (memory : List ℕ) (root table address : ℕ) (access : Access) → TablesAgree slots memory →
+    MapsTable slots root (address / 2 ^ 12 / 2 ^ 10) table →
+    walk memory root address access ≡ option_and_then (last_step memory address access) (entry_at memory table (address / 2 ^ 12 % 2 ^ 10)) →
+    Finds slots memory root address access ⊎ FindsNone slots memory root address access
 walk-page slots memory root table address access agree maps step =
     elim (page-answer slots memory root (address / 2 ^ 12) table agree maps) [
       | inl free ↦ inr (record { none = free.1; finds = step ∙ ap (option_and_then (last_step memory address access)) free.0 })
       | inr there ↦
           let frame = there.2 in
-          let fine : IsCapability (Frame frame.frame frame.frame_rights (Some (record { root = root; page = address / 2 ^ 12; rights = frame.allowed }))) = subst (λ (c : Cap). IsCapability c) frame.held (agree.valid frame.slot) in
+          let fine : IsCapability (Frame frame.frame frame.frame_rights (Some (record { root = root; page = address / 2 ^ 12; rights = frame.allowed }))) =
+          subst (λ (c : Cap). IsCapability c) frame.held (agree.valid frame.slot) in
           let stands = agree.tables maps.slot table _ maps.held in
           let word = page-leaf slots memory root (address / 2 ^ 12) table agree maps frame.slot frame.frame frame.frame_rights frame.allowed frame.held in
-          let entry = entry_at-valid memory table (address / 2 ^ 12 % 2 ^ 10) (leaf_word frame.frame frame.allowed.0) (omega (arith, stands.within)) word (leaf_word-valid frame.frame frame.allowed.0 fine.2.2) in
-          let byte = leaf-byte memory frame.frame frame.allowed address access fine.0.0 (agree.frames frame.slot frame.frame frame.frame_rights _ frame.held) fine.2.2 in
+          let entry = entry_at-valid memory table (address / 2 ^ 12 % 2 ^ 10) (leaf_word frame.frame frame.allowed.0) (omega (arith, stands.within)) word
+          (leaf_word-valid frame.frame frame.allowed.0 fine.2.2) in
+          let byte = leaf-byte memory frame.frame frame.allowed address access fine.0.0 (agree.frames frame.slot frame.frame frame.frame_rights _ frame.held)
+          fine.2.2 in
           let chosen : last_step memory address access (leaf_word frame.frame frame.allowed.0) ≡ place_in access address (standing frame.frame frame.allowed) =
-          ap (λ (b : Bool). if b then leaf_place memory (leaf_word frame.frame frame.allowed.0) 12 address access else None) (leaf-is frame.frame frame.allowed.0 fine.2.2) ∙ byte in
+          ap (λ (b : Bool). if b then leaf_place memory (leaf_word frame.frame frame.allowed.0) 12 address access else None)
+          (leaf-is frame.frame frame.allowed.0 fine.2.2) ∙ byte in
           inl (record { maps = frame; finds = step ∙ ap (option_and_then (last_step memory address access)) entry ∙ chosen })
     ]
 
-pub walk-answer : (slots : Slots) (memory : List ℕ) (root address : ℕ) (access : Access) → TablesAgree slots memory → Holds slots (RootTable root) → address < 2 ^ 32 → Finds slots memory root address access ⊎ FindsNone slots memory root address access
+pub walk-answer : (slots : Slots) (memory : List ℕ) (root address : ℕ) (access : Access) → TablesAgree slots memory → Holds slots (RootTable root) →
+    address < 2 ^ 32 → Finds slots memory root address access ⊎ FindsNone slots memory root address access
 walk-answer slots memory root address access agree rooted near =
     let stands = agree.roots rooted.0 root rooted.1 in
     let few : address / 2 ^ 22 < 2 ^ 10 = omega (arith, near) in
@@ -205,8 +221,10 @@ walk-answer slots memory root address access agree rooted near =
       })
       | inr maps ↦
           let table = agree.tables maps.1.slot maps.0 _ maps.1.held in
-          let entry = entry_at-valid memory root (address / 2 ^ 22) (table_word maps.0) (omega (arith, stands.within, few)) (agree.pointers maps.1.slot maps.0 _ maps.1.held) (table_word-valid maps.0) in
-          let same : MapsTable slots root (address / 2 ^ 12 / 2 ^ 10) maps.0 = subst (λ (n : ℕ). MapsTable slots root n maps.0) (sym (region_of_page address)) maps.1 in
+          let entry = entry_at-valid memory root (address / 2 ^ 22) (table_word maps.0) (omega (arith, stands.within, few))
+          (agree.pointers maps.1.slot maps.0 _ maps.1.held) (table_word-valid maps.0) in
+          let same : MapsTable slots root (address / 2 ^ 12 / 2 ^ 10) maps.0 =
+          subst (λ (n : ℕ). MapsTable slots root n maps.0) (sym (region_of_page address)) maps.1 in
           walk-page slots memory root maps.0 address access agree same (walk-table memory root maps.0 address access entry table.aligned)
     ]
 
@@ -219,7 +237,8 @@ head-none f (x ∷ xs) none = rw (none x) (head-none f xs none)
 abbrev OneValue : (ℕ → Option MappedFrame) → MappedFrame → Type 0
 OneValue f v = (y : ℕ) → (f y ≡ None) ⊎ (f y ≡ Some v)
 
-pub head-one : (f : ℕ → Option MappedFrame) (v : MappedFrame) (xs : List ℕ) (k : ℕ) → OneValue f v → k < length xs → f (get_or xs k 0) ≡ Some v → head_of (filter_map f xs) ≡ Some v
+pub head-one : (f : ℕ → Option MappedFrame) (v : MappedFrame) (xs : List ℕ) (k : ℕ) → OneValue f v → k < length xs → f (get_or xs k 0) ≡ Some v →
+    head_of (filter_map f xs) ≡ Some v
 head-one f v [] k one less there = absurd (omega arith)
 head-one f v (x ∷ xs) zero one less there = rw there refl
 head-one f v (x ∷ xs) (suc k) one less there = elim (one x) [
@@ -250,7 +269,8 @@ found_at slots root page y = page_of root page (capability_at slots y)
 own-value : (slots : Slots) (root page : ℕ) (maps : MapsFrame slots root page) → found_at slots root page maps.slot ≡ Some (standing maps.frame maps.allowed)
 own-value slots root page maps = ap (page_of root page) maps.held ∙ page_of-own root page maps.frame maps.frame_rights maps.allowed
 
-one-value : (slots : Slots) (memory : List ℕ) (root page : ℕ) → TablesAgree slots memory → (maps : MapsFrame slots root page) → OneValue (found_at slots root page) (standing maps.frame maps.allowed)
+one-value : (slots : Slots) (memory : List ℕ) (root page : ℕ) → TablesAgree slots memory → (maps : MapsFrame slots root page) →
+    OneValue (found_at slots root page) (standing maps.frame maps.allowed)
 one-value slots memory root page agree maps y = elim (maps_page-cases root page (capability_at slots y)) [
   | inl none ↦ inl (page_of-none root page (capability_at slots y) none)
   | inr there ↦
@@ -258,7 +278,8 @@ one-value slots memory root page agree maps y = elim (maps_page-cases root page 
       inr (ap (found_at slots root page) same ∙ own-value slots root page maps)
 ]
 
-pub mapped-found : (s : State) (slots : Slots) (memory : List ℕ) (root page : ℕ) → AreNear s slots → TablesAgree slots memory → (maps : MapsFrame slots root page) → mapped (with_slots s slots) root page ≡ Some (standing maps.frame maps.allowed)
+pub mapped-found : (s : State) (slots : Slots) (memory : List ℕ) (root page : ℕ) → AreNear s slots → TablesAgree slots memory →
+    (maps : MapsFrame slots root page) → mapped (with_slots s slots) root page ≡ Some (standing maps.frame maps.allowed)
 unfolding slot_numbers
 mapped-found s slots memory root page near agree maps =
     let full : IsFull slots maps.slot = ap (λ (c : Cap). not (is_empty c)) maps.held in
@@ -268,12 +289,14 @@ mapped-found s slots memory root page near agree maps =
     head-one (found_at slots root page) (standing maps.frame maps.allowed) _ maps.slot (one-value slots memory root page agree maps) (omega (arith, size, less))
     (ap (found_at slots root page) (at ∙ omega arith) ∙ own-value slots root page maps)
 
-pub mapped-none : (s : State) (slots : Slots) (root page : ℕ) → ((y : ℕ) → maps_page root page (capability_at slots y) ≡ false) → mapped (with_slots s slots) root page ≡ None
+pub mapped-none : (s : State) (slots : Slots) (root page : ℕ) → ((y : ℕ) → maps_page root page (capability_at slots y) ≡ false) →
+    mapped (with_slots s slots) root page ≡ None
 unfolding slot_numbers
 mapped-none s slots root page none = head-none (found_at slots root page) _ (λ y. page_of-none root page (capability_at slots y) (none y))
 
 -- the walk through the tables in memory gives the place that the mappings say
-pub walk-place : (s : State) (slots : Slots) (memory : List ℕ) (root address : ℕ) (access : Access) → AreNear s slots → TablesAgree slots memory → Holds slots (RootTable root) → address < 2 ^ 32 → walk memory root address access ≡ place_under (with_slots s slots) root access address
+pub walk-place : (s : State) (slots : Slots) (memory : List ℕ) (root address : ℕ) (access : Access) → AreNear s slots → TablesAgree slots memory →
+    Holds slots (RootTable root) → address < 2 ^ 32 → walk memory root address access ≡ place_under (with_slots s slots) root access address
 walk-place s slots memory root address access near agree rooted small = elim (walk-answer slots memory root address access agree rooted small) [
   | inl found ↦ found.finds ∙ sym (ap (option_and_then (place_in access address)) (mapped-found s slots memory root (address / 2 ^ 12) near agree found.maps))
   | inr free ↦ free.finds ∙ sym (ap (option_and_then (place_in access address)) (mapped-none s slots root (address / 2 ^ 12) free.none))

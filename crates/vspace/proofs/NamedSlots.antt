@@ -1,5 +1,6 @@
 -- Going over the slots that name an object, each of them once, while what they hold changes.
-use Rattle.std.proofs.Common.{ℕ, ◌≡◌, ◌≢◌, ◌∙◌, ◌+◌, ◌<◌, ◌≤◌, inl, inr, Bool, true, false, not, if◌then◌else◌, Option, Some, None, List, [], ◌∷◌, filter, length, refl, sym, ap, subst, arith}
+use Rattle.std.proofs.Common.{ℕ, ◌≡◌, ◌≢◌, ◌∙◌, ◌+◌, ◌<◌, ◌≤◌, inl, inr, Bool, true, false, not, if◌then◌else◌, Option, Some, None, List, [], ◌∷◌, filter}
+use Rattle.std.proofs.Common.{length, refl, sym, ap, subst, arith}
 use Rattle.std.proofs.lemmas.Bool.{ne_eqb}
 use Rattle.std.proofs.lemmas.Bool.Decides.{eqb_tells}
 use Rattle.model.specs.Capabilities.CapabilityKinds.{names_object}
@@ -7,7 +8,8 @@ use Rattle.model.specs.Capabilities.Orders.{IsOrderOf, next_in}
 use Rattle.model.specs.Capabilities.Slots.{Slots, capability_at, is_empty, is_full}
 use Rattle.model.specs.Shared.Lists.{times_in}
 use Rattle.model.specs.declared.capabilities.Cap.{Cap}
-use Rattle.model.specs.declared.capabilities.Cap.TheVariants.{Empty, Untyped, Endpoint, Notification, CNode, Frame, PageTable, Tcb, RootTable, InterruptControl, InterruptHandler}
+use Rattle.model.specs.declared.capabilities.Cap.TheVariants.{Empty, Untyped, Endpoint, Notification, CNode, Frame, PageTable, Tcb, RootTable, InterruptControl}
+use Rattle.model.specs.declared.capabilities.Cap.TheVariants.{InterruptHandler}
 use Rattle.model.proofs.Orders.{after-behind, behind, behind-step, behind_slot, first-none, first-some, times-filter}
 use Rattle.slots.specs.Listed.{is_naming, naming}
 
@@ -93,7 +95,8 @@ module _ (order : List ℕ) (now : Slots) (object : ℕ) (lists : IsOrderOf orde
     pub named-last : None ≡ next_in (naming order now object) at → (y : ℕ) → is_naming now object y ≡ true → test (capability_at now y) ≡ false
     named-last is y names = so_far.passed y (named-listed y names) (none-left (naming order now object) at is y)
 
-    module _ (slot : ℕ) (is : Some slot ≡ next_in (naming order now object) at) (next : Slots) (same : (y : ℕ) → is_naming next object y ≡ is_naming now object y) where
+    module _ (slot : ℕ) (is : Some slot ≡ next_in (naming order now object) at) (next : Slots)
+        (same : (y : ℕ) → is_naming next object y ≡ is_naming now object y) where
       list-same : naming order next object ≡ naming order now object
       list-same = ap (λ (part : ℕ → Bool). filter part order) (λ i y. same y i)
 
@@ -101,7 +104,8 @@ module _ (order : List ℕ) (now : Slots) (object : ℕ) (lists : IsOrderOf orde
       named-fewer = omega (arith, ap (λ (l : List ℕ). length (behind l (Some slot))) list-same, fewer-left (naming order now object) named-once at slot is)
 
       -- one slot more has been passed
-      pub named-next : is_naming now object slot ≡ true → ((y : ℕ) → test (capability_at now y) ≡ false → test (capability_at next y) ≡ false) → test (capability_at next slot) ≡ false
+      pub named-next : is_naming now object slot ≡ true → ((y : ℕ) → test (capability_at now y) ≡ false → test (capability_at next y) ≡ false) →
+          test (capability_at next slot) ≡ false
           → NamedSoFar test order next object (Some slot)
       named-next names kept here = record {
         known = λ other same_slot. let there : slot ≡ other = cc in subst (λ (n : ℕ). is_naming next object n ≡ true) there (same slot ∙ names);
@@ -109,6 +113,7 @@ module _ (order : List ℕ) (now : Slots) (object : ℕ) (lists : IsOrderOf orde
           | inl own ↦ subst (λ (n : ℕ). test (capability_at next n) ≡ false) own.1 here
           | inr other ↦ kept y (so_far.passed y
               (omega (arith, there, ap (λ (l : List ℕ). times_in l y) list-same))
-              (sym (others-left (naming order now object) named-once at slot is y other.1) ∙ sym (ap (λ (l : List ℕ). times_in (behind l (Some slot)) y) list-same) ∙ none))
+              (sym (others-left (naming order now object) named-once at slot is y other.1)
+              ∙ sym (ap (λ (l : List ℕ). times_in (behind l (Some slot)) y) list-same) ∙ none))
         ];
       }

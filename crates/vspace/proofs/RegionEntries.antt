@@ -10,7 +10,8 @@ use Rattle.model.specs.Capabilities.Slots.{Slots, capability_at}
 use Rattle.model.specs.Kernel.MappingCalls.{lies_in_region}
 use Rattle.model.specs.Machine.Sv32.{leaf_word, page_address, place_of}
 use Rattle.model.specs.declared.capabilities.Cap.{Cap}
-use Rattle.model.specs.declared.capabilities.Cap.TheVariants.{Empty, Untyped, Endpoint, Notification, CNode, Frame, PageTable, Tcb, RootTable, InterruptControl, InterruptHandler}
+use Rattle.model.specs.declared.capabilities.Cap.TheVariants.{Empty, Untyped, Endpoint, Notification, CNode, Frame, PageTable, Tcb, RootTable, InterruptControl}
+use Rattle.model.specs.declared.capabilities.Cap.TheVariants.{InterruptHandler}
 use Rattle.model.specs.declared.capabilities.FrameMapping.{FrameMapping}
 use Rattle.model.specs.declared.capabilities.TableMapping.{TableMapping}
 use Rattle.model.specs.declared.rights.Rights.{Rights}
@@ -37,24 +38,30 @@ MapsEntry slots m i = MapsFrame slots m.root (2 ^ 10 * m.region + i)
 abbrev mapped_at : TableMapping → ℕ → Rights → FrameMapping
 mapped_at m i allowed = record { root = m.root; page = 2 ^ 10 * m.region + i; rights = allowed }
 
-entry-inside : (slots : Slots) (m : TableMapping) (i : ℕ) → i < 2 ^ 10 → (maps : MapsEntry slots m i) → lies_in_region m (Frame maps.frame maps.frame_rights (Some (mapped_at m i maps.allowed))) ≡ true
+entry-inside : (slots : Slots) (m : TableMapping) (i : ℕ) → i < 2 ^ 10 → (maps : MapsEntry slots m i) →
+    lies_in_region m (Frame maps.frame maps.frame_rights (Some (mapped_at m i maps.allowed))) ≡ true
 entry-inside slots m i few maps = stands-here m maps.frame maps.frame_rights (mapped_at m i maps.allowed) refl (omega (arith, few))
 
-module _ (slots : Slots) (memory : List ℕ) (agree : TablesAgree slots memory) (x table : ℕ) (m : TableMapping) (held : capability_at slots x ≡ PageTable table (Some m)) (i : ℕ) (few : i < 2 ^ 10) where
+module _ (slots : Slots) (memory : List ℕ) (agree : TablesAgree slots memory) (x table : ℕ) (m : TableMapping)
+    (held : capability_at slots x ≡ PageTable table (Some m)) (i : ℕ) (few : i < 2 ^ 10) where
   pub entry-leaf : (maps : MapsEntry slots m i) → word_at memory (table + 4 * i) ≡ leaf_word maps.frame maps.allowed.0
   entry-leaf maps =
       let page : ℕ = 2 ^ 10 * m.region + i in
       let region : m.region ≡ page / 2 ^ 10 = omega (arith, few) in
       let here : page % 2 ^ 10 ≡ i = omega (arith, few) in
-      let over : MapsTable slots m.root (page / 2 ^ 10) table = record { slot = x; held = held ∙ ap (λ (n : ℕ). PageTable table (Some (record { root = m.root; region = n }))) region } in
-      sym (ap (λ (n : ℕ). word_at memory (table + 4 * n)) here) ∙ page-leaf slots memory m.root page table agree over maps.slot maps.frame maps.frame_rights maps.allowed maps.held
+      let over : MapsTable slots m.root (page / 2 ^ 10) table =
+      record { slot = x; held = held ∙ ap (λ (n : ℕ). PageTable table (Some (record { root = m.root; region = n }))) region } in
+      sym (ap (λ (n : ℕ). word_at memory (table + 4 * n)) here)
+      ∙ page-leaf slots memory m.root page table agree over maps.slot maps.frame maps.frame_rights maps.allowed maps.held
 
   -- the frame that is read is the one that is mapped
-  pub entry-names : (word : ℕ) → word ≡ word_at memory (table + 4 * i) → (maps : MapsEntry slots m i) → (word ≢ 0) × (place_of (page_address word) ≡ Some maps.frame)
+  pub entry-names : (word : ℕ) → word ≡ word_at memory (table + 4 * i) → (maps : MapsEntry slots m i) → (word ≢ 0)
+      × (place_of (page_address word) ≡ Some maps.frame)
   entry-names word is maps =
       let leaf : word ≡ leaf_word maps.frame maps.allowed.0 = is ∙ entry-leaf maps in (
         λ zero. omega (arith, zero, leaf),
-        ap (λ (w : ℕ). place_of (page_address w)) leaf ∙ leaf-place maps.frame maps.allowed.0 (frame-place slots memory maps.slot maps.frame maps.frame_rights _ agree maps.held).0.0,
+        ap (λ (w : ℕ). place_of (page_address w)) leaf ∙ leaf-place maps.frame maps.allowed.0
+            (frame-place slots memory maps.slot maps.frame maps.frame_rights _ agree maps.held).0.0,
       )
 
   pub entry-place : (word found : ℕ) → word ≡ word_at memory (table + 4 * i) → word ≢ 0 → place_of (page_address word) ≡ Some found → IsPlace found 12
@@ -79,11 +86,13 @@ module _ (old now : Slots) (m : TableMapping) (partly : IsPartlyCleared old now 
     held = partly-before old now m partly maps.slot _ maps.held (entry-inside now m i few maps);
   }
 
-  pub entry-found : (i : ℕ) → i < 2 ^ 10 → (result : Option ℕ) → ((maps : MapsEntry old m i) → result ≡ Some maps.frame) → (maps : MapsEntry now m i) → result ≡ Some maps.frame
+  pub entry-found : (i : ℕ) → i < 2 ^ 10 → (result : Option ℕ) → ((maps : MapsEntry old m i) → result ≡ Some maps.frame) → (maps : MapsEntry now m i) →
+      result ≡ Some maps.frame
   unfolding entry-before
   entry-found i few result found maps = found (entry-before i few maps)
 
-  pub entries-next : (number : ℕ) → number < 2 ^ 10 → ((i : ℕ) → i < number → MapsEntry old m i → ⊥) → (MapsEntry now m number → ⊥) → (i : ℕ) → i < number + 1 → MapsEntry now m i → ⊥
+  pub entries-next : (number : ℕ) → number < 2 ^ 10 → ((i : ℕ) → i < number → MapsEntry old m i → ⊥) → (MapsEntry now m number → ⊥) → (i : ℕ) → i < number + 1 →
+      MapsEntry now m i → ⊥
   entries-next number few before here i less maps = elim (eqb_tells i number) [
     | inl same ↦ here (subst (λ (n : ℕ). MapsEntry now m n) same.1 maps)
     | inr other ↦ before i (omega (arith, less, other.1)) (entry-before i (omega (arith, few, less)) maps)
@@ -93,7 +102,8 @@ module _ (old now : Slots) (m : TableMapping) (partly : IsPartlyCleared old now 
 pub entry-naming : (slots : Slots) (m : TableMapping) (i frame : ℕ) (maps : MapsEntry slots m i) → frame ≡ maps.frame → is_naming slots frame maps.slot ≡ true
 entry-naming slots m i frame maps same = ap (names_object frame) maps.held ∙ eq-eqb maps.frame frame (sym same)
 
-pub entry-free : (slots : Slots) (m : TableMapping) (i : ℕ) → i < 2 ^ 10 → (maps : MapsEntry slots m i) → lies_in_region m (capability_at slots maps.slot) ≡ false → ⊥
+pub entry-free : (slots : Slots) (m : TableMapping) (i : ℕ) → i < 2 ^ 10 → (maps : MapsEntry slots m i) →
+    lies_in_region m (capability_at slots maps.slot) ≡ false → ⊥
 entry-free slots m i few maps outside =
     let clash : true ≡ false = sym (entry-inside slots m i few maps) ∙ sym (ap (lies_in_region m) maps.held) ∙ outside in
     absurd cc

@@ -67,7 +67,8 @@ unreadable : (n : ℕ) → (bit_and n 2 == 2) ≡ false → n / 2 % 2 ≡ 0
 unreadable n is = grind (arith, nat_tests, two n)
 
 -- where the word does not ask for read, write is not there either
-pub execute_allowed : (frame word : ℕ) → (bit_and frame 2 == 2) ≡ true → (bit_and (bit_and 7 word) 2 == 2) ≡ false → bit_and (bit_and 7 word) 4 ≡ allowed frame word
+pub execute_allowed : (frame word : ℕ) → (bit_and frame 2 == 2) ≡ true → (bit_and (bit_and 7 word) 2 == 2) ≡ false →
+    bit_and (bit_and 7 word) 4 ≡ allowed frame word
 execute_allowed frame word may refused =
     let b : word / 2 % 2 ≡ 0 = omega (arith, asked word, unreadable (bit_and 7 word) refused) in
     let c : bit_and (bit_and 7 word) 4 ≡ 4 * (word / 4 % 2) = omega (arith, asked word, four (bit_and 7 word)) in
@@ -77,7 +78,8 @@ execute_allowed frame word may refused =
     ∙ ap (λ (r : ℕ). weights (bit_and frame 1) 2 (word % 2) r (word / 4 % 2)) b)
 
 -- a frame that may not be written
-pub all_but_write_allowed : (frame word : ℕ) → (bit_and frame 2 == 2) ≡ true → (bit_and (bit_and 7 word) 2 == 2) ≡ true → (bit_and frame 1 == 1) ≡ false → bit_and (bit_and 7 word) 6 ≡ allowed frame word
+pub all_but_write_allowed : (frame word : ℕ) → (bit_and frame 2 == 2) ≡ true → (bit_and (bit_and 7 word) 2 == 2) ≡ true → (bit_and frame 1 == 1) ≡ false →
+    bit_and (bit_and 7 word) 6 ≡ allowed frame word
 all_but_write_allowed frame word may reads refused =
     let b : word / 2 % 2 ≡ 1 = omega (arith, asked word, (readable (bit_and 7 word) reads).1) in
     let w : bit_and frame 1 ≡ 0 = grind (arith, nat_tests, one frame) in
@@ -89,7 +91,8 @@ all_but_write_allowed frame word may reads refused =
     ∙ ap (λ (r : ℕ). weights r 2 (word % 2) 1 (word / 4 % 2)) w)
 
 -- one that may be read and written
-pub all_allowed : (frame word : ℕ) → (bit_and frame 2 == 2) ≡ true → (bit_and (bit_and 7 word) 2 == 2) ≡ true → (bit_and frame 1 == 1) ≡ true → bit_and 7 word ≡ allowed frame word
+pub all_allowed : (frame word : ℕ) → (bit_and frame 2 == 2) ≡ true → (bit_and (bit_and 7 word) 2 == 2) ≡ true → (bit_and frame 1 == 1) ≡ true →
+    bit_and 7 word ≡ allowed frame word
 all_allowed frame word may reads writes =
     let b : word / 2 % 2 ≡ 1 = omega (arith, asked word, (readable (bit_and 7 word) reads).1) in
     let w : bit_and frame 1 ≡ 1 = grind (arith, nat_tests) in

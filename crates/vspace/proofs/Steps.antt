@@ -21,14 +21,16 @@ pub capability-recapped_other : (slots : Slots) (x : ℕ) (c : Cap) (y : ℕ) �
 capability-recapped_other slots x c y other = ap capability_of (entry-other slots x (new_entry slots x c) y other)
 
 -- what is held afterwards is the new capability, or was held before
-pub held-before : (slots : Slots) (x : ℕ) (c : Cap) (y : ℕ) (v : Cap) → capability_at (recapped slots x c) y ≡ v → ((y ≡ x) × (c ≡ v)) ⊎ ((y ≢ x) × (capability_at slots y ≡ v))
+pub held-before : (slots : Slots) (x : ℕ) (c : Cap) (y : ℕ) (v : Cap) → capability_at (recapped slots x c) y ≡ v →
+    ((y ≡ x) × (c ≡ v)) ⊎ ((y ≢ x) × (capability_at slots y ≡ v))
 held-before slots x c y v held = elim (eqb_tells y x) [
   | inl same ↦ inl (same.1, sym (capability-recapped_same slots x c) ∙ sym (ap (capability_at (recapped slots x c)) same.1) ∙ held)
   | inr other ↦ inr (other.1, sym (capability-recapped_other slots x c y other.1) ∙ held)
 ]
 
 -- what was held before is held afterwards, if it was not the old capability
-pub held-after : (slots : Slots) (x : ℕ) (old c : Cap) (y : ℕ) (v : Cap) → capability_at slots x ≡ old → capability_at slots y ≡ v → v ≢ old → capability_at (recapped slots x c) y ≡ v
+pub held-after : (slots : Slots) (x : ℕ) (old c : Cap) (y : ℕ) (v : Cap) → capability_at slots x ≡ old → capability_at slots y ≡ v → v ≢ old →
+    capability_at (recapped slots x c) y ≡ v
 held-after slots x old c y v was held differ =
     capability-recapped_other slots x c y (λ same. differ (sym held ∙ ap (capability_at slots) same ∙ was)) ∙ held
 
@@ -37,7 +39,8 @@ pub closed-after : (slots : Slots) (x : ℕ) (c : Cap) (y : ℕ) → slots x ≢
 closed-after slots x c y some closed =
     entry-other slots x (new_entry slots x c) y (λ same. some (sym (ap slots same) ∙ closed)) ∙ closed
 
-pub table-after : (slots : Slots) (memory after : List ℕ) (x : ℕ) (c : Cap) (table : ℕ) → slots x ≢ None → length after ≡ length memory → IsTable slots memory table → IsTable (recapped slots x c) after table
+pub table-after : (slots : Slots) (memory after : List ℕ) (x : ℕ) (c : Cap) (table : ℕ) → slots x ≢ None → length after ≡ length memory →
+    IsTable slots memory table → IsTable (recapped slots x c) after table
 table-after slots memory after x c table some size stands = record {
   aligned = stands.aligned;
   within = omega (arith, stands.within);
@@ -62,12 +65,14 @@ beside p q a b differ = elim (leb_tells p q) [
 ]
 
 -- the bytes of a table are the same where only slots have changed
-pub word-outside : (slots : Slots) (old new : List ℕ) (t i : ℕ) → SameOutside slots old new → OutsideSlots slots t (2 ^ 12) → i < 2 ^ 10 → word_at new (t + 4 * i) ≡ word_at old (t + 4 * i)
+pub word-outside : (slots : Slots) (old new : List ℕ) (t i : ℕ) → SameOutside slots old new → OutsideSlots slots t (2 ^ 12) → i < 2 ^ 10 →
+    word_at new (t + 4 * i) ≡ word_at old (t + 4 * i)
 word-outside slots old new t i same outside small =
     word_at-same old new (t + 4 * i) (λ k low high. same.bytes k (outside k (omega arith) (omega arith)))
 
 -- a word in another entry stays, and the entry has its new word
-pub word-kept : (slots : Slots) (memory after : List ℕ) (t i u j word : ℕ) → IsTable slots memory t → i < 2 ^ 10 → IsTable slots memory u → j < 2 ^ 10 → t + 4 * i ≢ u + 4 * j → SameOutside slots (written memory (u + 4 * j) (word_bytes word)) after → word_at after (t + 4 * i) ≡ word_at memory (t + 4 * i)
+pub word-kept : (slots : Slots) (memory after : List ℕ) (t i u j word : ℕ) → IsTable slots memory t → i < 2 ^ 10 → IsTable slots memory u → j < 2 ^ 10 →
+    t + 4 * i ≢ u + 4 * j → SameOutside slots (written memory (u + 4 * j) (word_bytes word)) after → word_at after (t + 4 * i) ≡ word_at memory (t + 4 * i)
 word-kept slots memory after t i u j word stands small at few differ same =
     let p = u + 4 * j in
     let q = t + 4 * i in
@@ -78,12 +83,14 @@ word-kept slots memory after t i u j word stands small at few differ same =
       | inr before ↦ word_at-written_before memory (u + 4 * j) (word_bytes word) (t + 4 * i) fits before
     ]
 
-pub word-new : (slots : Slots) (memory after : List ℕ) (u j word : ℕ) → word < 2 ^ 32 → IsTable slots memory u → j < 2 ^ 10 → SameOutside slots (written memory (u + 4 * j) (word_bytes word)) after → word_at after (u + 4 * j) ≡ word
+pub word-new : (slots : Slots) (memory after : List ℕ) (u j word : ℕ) → word < 2 ^ 32 → IsTable slots memory u → j < 2 ^ 10 →
+    SameOutside slots (written memory (u + 4 * j) (word_bytes word)) after → word_at after (u + 4 * j) ≡ word
 word-new slots memory after u j word small at few same =
     word-outside slots (written memory (u + 4 * j) (word_bytes word)) after u j same at.outside few
     ∙ word_at-written memory (u + 4 * j) word (omega (arith, at.within)) small
 
 -- the memory has as many bytes as before
-pub size-kept : (slots : Slots) (memory after : List ℕ) (u j word : ℕ) → IsTable slots memory u → j < 2 ^ 10 → SameOutside slots (written memory (u + 4 * j) (word_bytes word)) after → length after ≡ length memory
+pub size-kept : (slots : Slots) (memory after : List ℕ) (u j word : ℕ) → IsTable slots memory u → j < 2 ^ 10 →
+    SameOutside slots (written memory (u + 4 * j) (word_bytes word)) after → length after ≡ length memory
 size-kept slots memory after u j word at few same =
     same.size ∙ length-written memory (u + 4 * j) (word_bytes word) (omega (arith, at.within))

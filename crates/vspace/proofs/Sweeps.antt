@@ -7,7 +7,8 @@ use Rattle.model.specs.Capabilities.CapabilityKinds.{object_of, unmapped}
 use Rattle.model.specs.Capabilities.Slots.{Slots, capability_at}
 use Rattle.model.specs.Kernel.MappingCalls.{lies_in_region, without_region, without_table}
 use Rattle.model.specs.declared.capabilities.Cap.{Cap}
-use Rattle.model.specs.declared.capabilities.Cap.TheVariants.{Empty, Untyped, Endpoint, Notification, CNode, Frame, PageTable, Tcb, RootTable, InterruptControl, InterruptHandler}
+use Rattle.model.specs.declared.capabilities.Cap.TheVariants.{Empty, Untyped, Endpoint, Notification, CNode, Frame, PageTable, Tcb, RootTable, InterruptControl}
+use Rattle.model.specs.declared.capabilities.Cap.TheVariants.{InterruptHandler}
 use Rattle.model.specs.declared.capabilities.TableMapping.{TableMapping}
 use Rattle.model.specs.declared.slot_entries.Entry.{Entry}
 use Rattle.model.proofs.SlotChanges.{capability_of}
@@ -34,10 +35,11 @@ object-unmapped (InterruptHandler _) = refl
 
 pub object-without : (m : TableMapping) (held : Option Entry) → object_of (capability_of (option_map (without_table m) held)) ≡ object_of (capability_of held)
 object-without m None = refl
-object-without m (Some held) = elim (lies_in_region m held.capability) as (λ b. object_of (if b then unmapped held.capability else held.capability) ≡ object_of held.capability) [
-  | true ↦ object-unmapped held.capability
-  | false ↦ refl
-]
+object-without m (Some held) = elim (lies_in_region m held.capability)
+    as (λ b. object_of (if b then unmapped held.capability else held.capability) ≡ object_of held.capability) [
+      | true ↦ object-unmapped held.capability
+      | false ↦ refl
+    ]
 
 without-twice : (m : TableMapping) (held : Option Entry) → option_map (without_table m) (option_map (without_table m) held) ≡ option_map (without_table m) held
 without-twice m held = without-outside m (option_map (without_table m) held) (cleared-stands m held)
@@ -53,7 +55,8 @@ module _ (old now : Slots) (slot : ℕ) (m : TableMapping) (cleared : (y : ℕ) 
 
   pub slot-cleared : lies_in_region m (capability_at now slot) ≡ false
   slot-cleared =
-      ap (λ (held : Option Entry). lies_in_region m (capability_of held)) (cleared slot ∙ ap (λ (b : Bool). if b then without_region old m slot else old slot) (eq-eqb slot slot refl))
+      ap (λ (held : Option Entry). lies_in_region m (capability_of held))
+      (cleared slot ∙ ap (λ (b : Bool). if b then without_region old m slot else old slot) (eq-eqb slot slot refl))
       ∙ cleared-stands m (old slot)
 
 -- ---- several slots
@@ -96,7 +99,8 @@ module _ (old now : Slots) (m : TableMapping) (partly : IsPartlyCleared old now 
   pub partly-before : (y : ℕ) (c : Cap) → capability_at now y ≡ c → lies_in_region m c ≡ true → capability_at old y ≡ c
   partly-before y c held inside = elim (partly y) [
     | inl less ↦
-        let outside : lies_in_region m c ≡ false = sym (ap (lies_in_region m) held) ∙ ap (λ (e : Option Entry). lies_in_region m (capability_of e)) less ∙ cleared-stands m (old y) in
+        let outside : lies_in_region m c ≡ false = sym (ap (lies_in_region m) held) ∙ ap (λ (e : Option Entry). lies_in_region m (capability_of e)) less
+        ∙ cleared-stands m (old y) in
         absurd (let clash : true ≡ false = sym inside ∙ outside in cc)
     | inr same ↦ sym (ap capability_of same) ∙ held
   ]

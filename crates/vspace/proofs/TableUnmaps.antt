@@ -8,7 +8,8 @@ use Rattle.model.specs.Capabilities.CapabilityWords.{IsCapability}
 use Rattle.model.specs.Kernel.MappingCalls.{lies_in_region, without_region, without_table}
 use Rattle.model.specs.Capabilities.Slots.{Slots, capability_at, recapped}
 use Rattle.model.specs.declared.capabilities.Cap.{Cap}
-use Rattle.model.specs.declared.capabilities.Cap.TheVariants.{Empty, Untyped, Endpoint, Notification, CNode, Frame, PageTable, Tcb, RootTable, InterruptControl, InterruptHandler}
+use Rattle.model.specs.declared.capabilities.Cap.TheVariants.{Empty, Untyped, Endpoint, Notification, CNode, Frame, PageTable, Tcb, RootTable, InterruptControl}
+use Rattle.model.specs.declared.capabilities.Cap.TheVariants.{InterruptHandler}
 use Rattle.model.specs.declared.capabilities.FrameMapping.{FrameMapping}
 use Rattle.model.specs.declared.capabilities.TableMapping.{TableMapping}
 use Rattle.model.specs.declared.rights.Rights.{Rights}
@@ -35,13 +36,15 @@ unmapped-stands m (InterruptHandler _) = refl
 pub cleared-stands : (m : TableMapping) (held : Option Entry) → lies_in_region m (capability_of (option_map (without_table m) held)) ≡ false
 cleared-stands m None = refl
 cleared-stands m (Some held) =
-    elim (lies_in_region m held.capability) as (λ b. lies_in_region m held.capability ≡ b → lies_in_region m (if b then unmapped held.capability else held.capability) ≡ false) [
+    elim (lies_in_region m held.capability) as (λ b. lies_in_region m held.capability ≡ b →
+    lies_in_region m (if b then unmapped held.capability else held.capability) ≡ false) [
       | true ↦ λ inside. unmapped-stands m held.capability
       | false ↦ λ outside. outside
     ] refl
 
 -- a page table's capability stays
-pub cleared-table : (m : TableMapping) (held : Option Entry) (t : ℕ) (o : Option TableMapping) → capability_of held ≡ PageTable t o → capability_of (option_map (without_table m) held) ≡ PageTable t o
+pub cleared-table : (m : TableMapping) (held : Option Entry) (t : ℕ) (o : Option TableMapping) → capability_of held ≡ PageTable t o →
+    capability_of (option_map (without_table m) held) ≡ PageTable t o
 cleared-table m None t o is = is
 cleared-table m (Some held) t o is =
     ap (λ (c : Cap). if lies_in_region m c then unmapped c else c) is
@@ -53,12 +56,15 @@ cleared-parent m (Some held) = refl
 abbrev Cleared : Slots → Slots → TableMapping → Type 0
 Cleared old now m = (y : ℕ) → now y ≡ without_region old m y
 
-pub table-held : (old now : Slots) (m : TableMapping) (x t : ℕ) (o : Option TableMapping) → Cleared old now m → capability_at old x ≡ PageTable t o → capability_at now x ≡ PageTable t o
+pub table-held : (old now : Slots) (m : TableMapping) (x t : ℕ) (o : Option TableMapping) → Cleared old now m → capability_at old x ≡ PageTable t o →
+    capability_at now x ≡ PageTable t o
 table-held old now m x t o cleared held = ap capability_of (cleared x) ∙ cleared-table m (old x) t o held
 
-pub region-empty : (old now : Slots) (m : TableMapping) → Cleared old now m → (y f : ℕ) (r : Rights) (n : FrameMapping) → capability_at now y ≡ Frame f r (Some n) → n.root ≡ m.root → n.page / 2 ^ 10 ≡ m.region → ⊥
+pub region-empty : (old now : Slots) (m : TableMapping) → Cleared old now m → (y f : ℕ) (r : Rights) (n : FrameMapping) →
+    capability_at now y ≡ Frame f r (Some n) → n.root ≡ m.root → n.page / 2 ^ 10 ≡ m.region → ⊥
 region-empty old now m cleared y f r n held root region =
-    let outside : lies_in_region m (capability_at now y) ≡ false = ap (λ (e : Option Entry). lies_in_region m (capability_of e)) (cleared y) ∙ cleared-stands m (old y) in
+    let outside : lies_in_region m (capability_at now y) ≡ false = ap (λ (e : Option Entry). lies_in_region m (capability_of e)) (cleared y)
+    ∙ cleared-stands m (old y) in
     let inside : lies_in_region m (Frame f r (Some n)) ≡ true = rw (eq-eqb n.root m.root root, eq-eqb (n.page / 2 ^ 10) m.region region) refl in
     let there : lies_in_region m (capability_at now y) ≡ true = ap (lies_in_region m) held ∙ inside in
     cc
@@ -68,7 +74,9 @@ region-empty old now m cleared y f r n held root region =
 table-open : (slots : Slots) (x t : ℕ) (o : Option TableMapping) → capability_at slots x ≡ PageTable t o → slots x ≢ None
 table-open slots x t o held = λ none. let e : PageTable t o ≡ Empty = sym held ∙ ap capability_of none in absurd (cc e)
 
-pub unmap_table-done : (old slots0 slots1 slots2 : Slots) (memory0 memory1 memory2 : List ℕ) (x t : ℕ) (m : TableMapping) → TablesAgree slots0 memory0 → Cleared old slots0 m → capability_at slots0 x ≡ PageTable t (Some m) → Written slots0 slots1 slots2 memory0 memory1 memory2 x (m.root + 4 * m.region) 0 (PageTable t None) → TablesAgree slots2 memory2
+pub unmap_table-done : (old slots0 slots1 slots2 : Slots) (memory0 memory1 memory2 : List ℕ) (x t : ℕ) (m : TableMapping) → TablesAgree slots0 memory0 →
+    Cleared old slots0 m → capability_at slots0 x ≡ PageTable t (Some m) →
+    Written slots0 slots1 slots2 memory0 memory1 memory2 x (m.root + 4 * m.region) 0 (PageTable t None) → TablesAgree slots2 memory2
 unmap_table-done old slots0 slots1 slots2 memory0 memory1 memory2 x t m agree cleared held done =
     let fine : IsCapability (PageTable t (Some m)) = subst (λ (c : Cap). IsCapability c) held (agree.valid x) in
     let step : TableRemoval slots0 memory0 memory2 x t m = record {

@@ -21,10 +21,12 @@ use Rattle.std.specs.Option.{option_map_or}
 use Rattle.model.specs.declared.slot_entries.Entry.{Entry}
 
 -- an entry lies where no slot is
-pub entry-outside : (slots : Slots) (memory : List ℕ) (table i place : ℕ) → IsTable slots memory table → i < 2 ^ 10 → place ≡ table + 4 * i → OutsideSlots slots place 4
+pub entry-outside : (slots : Slots) (memory : List ℕ) (table i place : ℕ) → IsTable slots memory table → i < 2 ^ 10 → place ≡ table + 4 * i →
+    OutsideSlots slots place 4
 entry-outside slots memory table i place stands few here = λ k low high. stands.outside k (omega (arith, here, low)) (omega (arith, here, few, high))
 
-pub table-of_page : (slots : Slots) (memory : List ℕ) (root page place : ℕ) (agree : TablesAgree slots memory) (entry : FreeEntry slots root page place) → IsTable slots memory entry.table
+pub table-of_page : (slots : Slots) (memory : List ℕ) (root page place : ℕ) (agree : TablesAgree slots memory) (entry : FreeEntry slots root page place) →
+    IsTable slots memory entry.table
 table-of_page slots memory root page place agree entry = agree.tables entry.maps.slot entry.table _ entry.maps.held
 
 -- a slot that holds a frame's capability is open, and full
@@ -34,12 +36,14 @@ frame-open slots x f r o held = λ none. let e : Frame f r o ≡ Empty = sym hel
 pub frame-full : (slots old : Slots) (x f : ℕ) (r : Rights) (o : Option FrameMapping) → slots ≡ old → capability_at old x ≡ Frame f r o → IsFull slots x
 frame-full slots old x f r o same held = ap (λ (s : Slots). not (is_empty (capability_at s x))) same ∙ ap (λ (c : Cap). not (is_empty c)) held
 
-pub frame-place : (slots : Slots) (memory : List ℕ) (x f : ℕ) (r : Rights) (o : Option FrameMapping) → TablesAgree slots memory → capability_at slots x ≡ Frame f r o → IsPlace f 12 × (r.0 < 4)
+pub frame-place : (slots : Slots) (memory : List ℕ) (x f : ℕ) (r : Rights) (o : Option FrameMapping) → TablesAgree slots memory →
+    capability_at slots x ≡ Frame f r o → IsPlace f 12 × (r.0 < 4)
 frame-place slots memory x f r o agree held =
     let fine : IsCapability (Frame f r o) = subst (λ (c : Cap). IsCapability c) held (agree.valid x) in
     (fine.0, fine.1)
 
-pub frame-fine : (slots : Slots) (memory : List ℕ) (x f : ℕ) (r : Rights) (o n : Option FrameMapping) → TablesAgree slots memory → capability_at slots x ≡ Frame f r o → IsFrameMapping n → IsCapability (Frame f r n)
+pub frame-fine : (slots : Slots) (memory : List ℕ) (x f : ℕ) (r : Rights) (o n : Option FrameMapping) → TablesAgree slots memory →
+    capability_at slots x ≡ Frame f r o → IsFrameMapping n → IsCapability (Frame f r n)
 frame-fine slots memory x f r o n agree held fine =
     let place = frame-place slots memory x f r o agree held in
     (place.0, place.1, fine)
@@ -54,14 +58,19 @@ pub record Written (slots0 slots1 slots2 : Slots) (memory0 memory1 memory2 : Lis
   pub changed : slots2 ≡ recapped slots1 x c
   pub same : SameOutside slots1 memory1 memory2
 
-pub same-outside : (slots0 slots1 slots2 : Slots) (memory0 memory1 memory2 : List ℕ) (x place word : ℕ) (c : Cap) (other value : ℕ) → Written slots0 slots1 slots2 memory0 memory1 memory2 x place word c → place ≡ other → word ≡ value → SameOutside slots0 (written memory0 other (word_bytes value)) memory2
+pub same-outside : (slots0 slots1 slots2 : Slots) (memory0 memory1 memory2 : List ℕ) (x place word : ℕ) (c : Cap) (other value : ℕ) →
+    Written slots0 slots1 slots2 memory0 memory1 memory2 x place word c → place ≡ other → word ≡ value →
+    SameOutside slots0 (written memory0 other (word_bytes value)) memory2
 same-outside slots0 slots1 slots2 memory0 memory1 memory2 x place word c other value done here is =
     let first : SameOutside slots0 memory1 memory2 = subst (λ (s : Slots). SameOutside s memory1 memory2) done.kept done.same in
-    let wrote : memory1 ≡ written memory0 other (word_bytes value) = done.wrote ∙ ap (λ (p : ℕ). written memory0 p (word_bytes word)) here ∙ ap (λ (w : ℕ). written memory0 other (word_bytes w)) is in
+    let wrote : memory1 ≡ written memory0 other (word_bytes value) = done.wrote ∙ ap (λ (p : ℕ). written memory0 p (word_bytes word)) here
+    ∙ ap (λ (w : ℕ). written memory0 other (word_bytes w)) is in
     subst (λ (m : List ℕ). SameOutside slots0 m memory2) wrote first
 
 -- one word of a table that a capability names is written: the bytes beside it stay
-pub word-beside : (slots0 slots1 slots2 : Slots) (memory0 memory1 memory2 : List ℕ) (x place word : ℕ) (c : Cap) (table i : ℕ) → Written slots0 slots1 slots2 memory0 memory1 memory2 x place word c → IsNamedTable slots0 table → IsTable slots0 memory0 table → i < 2 ^ 10 → place ≡ table + 4 * i → SameBesideTables slots0 memory0 memory2
+pub word-beside : (slots0 slots1 slots2 : Slots) (memory0 memory1 memory2 : List ℕ) (x place word : ℕ) (c : Cap) (table i : ℕ) →
+    Written slots0 slots1 slots2 memory0 memory1 memory2 x place word c → IsNamedTable slots0 table → IsTable slots0 memory0 table → i < 2 ^ 10 →
+    place ≡ table + 4 * i → SameBesideTables slots0 memory0 memory2
 word-beside slots0 slots1 slots2 memory0 memory1 memory2 x place word c table i done named stands few here =
     let same = same-outside slots0 slots1 slots2 memory0 memory1 memory2 x place word c place word done refl refl in
     let fits : place + 4 ≤ length memory0 = omega (arith, stands.within, few, here) in
@@ -75,7 +84,10 @@ word-beside slots0 slots1 slots2 memory0 memory1 memory2 x place word c table i 
           ];
     }
 
-pub map-done : (slots0 slots1 slots2 : Slots) (memory0 memory1 memory2 : List ℕ) (x f place word : ℕ) (r : Rights) (o : Option FrameMapping) (m : FrameMapping) → TablesAgree slots0 memory0 → o ≡ None → capability_at slots0 x ≡ Frame f r o → IsFrameMapping (Some m) → f + 2 ^ 12 ≤ length memory0 → FreeEntry slots0 m.root m.page place → word ≡ leaf_word f m.rights.0 → Written slots0 slots1 slots2 memory0 memory1 memory2 x place word (Frame f r (Some m)) → TablesAgree slots2 memory2
+pub map-done : (slots0 slots1 slots2 : Slots) (memory0 memory1 memory2 : List ℕ) (x f place word : ℕ) (r : Rights) (o : Option FrameMapping)
+    (m : FrameMapping) → TablesAgree slots0 memory0 → o ≡ None → capability_at slots0 x ≡ Frame f r o → IsFrameMapping (Some m) → f + 2 ^ 12 ≤ length memory0 →
+    FreeEntry slots0 m.root m.page place → word ≡ leaf_word f m.rights.0 →
+    Written slots0 slots1 slots2 memory0 memory1 memory2 x place word (Frame f r (Some m)) → TablesAgree slots2 memory2
 map-done slots0 slots1 slots2 memory0 memory1 memory2 x f place word r o m agree absent held fine fits entry is done =
     let was : capability_at slots0 x ≡ Frame f r None = held ∙ ap (λ (k : Option FrameMapping). Frame f r k) absent in
     let at = frame-place slots0 memory0 x f r o agree held in
@@ -88,7 +100,8 @@ map-done slots0 slots1 slots2 memory0 memory1 memory2 x f place word r o m agree
         at_slot = entry.maps.slot;
         at_held = entry.maps.held;
         few = index_small m.page;
-        same = same-outside slots0 slots1 slots2 memory0 memory1 memory2 x place word _ (entry.table + 4 * (m.page % 2 ^ 10)) (leaf_word f m.rights.0) done entry.here is;
+        same = same-outside slots0 slots1 slots2 memory0 memory1 memory2 x place word _ (entry.table + 4 * (m.page % 2 ^ 10)) (leaf_word f m.rights.0) done
+            entry.here is;
       };
       fits = fits;
       free = entry.free;
@@ -97,7 +110,9 @@ map-done slots0 slots1 slots2 memory0 memory1 memory2 x f place word r o m agree
     let new : slots2 ≡ recapped slots0 x (Frame f r (Some m)) = done.changed ∙ ap (λ (s : Slots). recapped s x (Frame f r (Some m))) done.kept in
     subst (λ (s : Slots). TablesAgree s memory2) (sym new) (agree-mapped slots0 memory0 memory2 x f r m entry.table step)
 
-pub unmap-done : (slots0 slots1 slots2 : Slots) (memory0 memory1 memory2 : List ℕ) (x f place table : ℕ) (r : Rights) (m : FrameMapping) → TablesAgree slots0 memory0 → capability_at slots0 x ≡ Frame f r (Some m) → MapsTable slots0 m.root (m.page / 2 ^ 10) table → place ≡ table + 4 * (m.page % 2 ^ 10) → Written slots0 slots1 slots2 memory0 memory1 memory2 x place 0 (Frame f r None) → TablesAgree slots2 memory2
+pub unmap-done : (slots0 slots1 slots2 : Slots) (memory0 memory1 memory2 : List ℕ) (x f place table : ℕ) (r : Rights) (m : FrameMapping) →
+    TablesAgree slots0 memory0 → capability_at slots0 x ≡ Frame f r (Some m) → MapsTable slots0 m.root (m.page / 2 ^ 10) table →
+    place ≡ table + 4 * (m.page % 2 ^ 10) → Written slots0 slots1 slots2 memory0 memory1 memory2 x place 0 (Frame f r None) → TablesAgree slots2 memory2
 unmap-done slots0 slots1 slots2 memory0 memory1 memory2 x f place table r m agree held maps here done =
     let step : UnmapStep slots0 memory0 memory2 x f r m table = record {
       step = record {
@@ -115,7 +130,8 @@ unmap-done slots0 slots1 slots2 memory0 memory1 memory2 x f place table r m agre
     subst (λ (s : Slots). TablesAgree s memory2) (sym new) (agree-unmapped slots0 memory0 memory2 x f r m table step)
 
 -- a capability put where it was changes nothing
-own_entry : (c : Cap) (held : Option Entry) → held ≢ None → capability_of held ≡ c → Some (record { capability = c; parent = option_map_or (λ h. h.parent) held None }) ≡ held
+own_entry : (c : Cap) (held : Option Entry) → held ≢ None → capability_of held ≡ c →
+    Some (record { capability = c; parent = option_map_or (λ h. h.parent) held None }) ≡ held
 own_entry c None some is = absurd (some refl)
 own_entry c (Some held) some is = ap (λ (k : Cap). Some (record { capability = k; parent = held.parent })) (sym is)
 
@@ -128,7 +144,8 @@ own_at slots x c some is y = elim (eqb_tells y x) [
 pub recapped-same : (slots : Slots) (x : ℕ) (c : Cap) → slots x ≢ None → capability_at slots x ≡ c → recapped slots x c ≡ slots
 recapped-same slots x c some is = λ i y. own_at slots x c some is y i
 
-pub recapped-own : (slots : Slots) (x f : ℕ) (r : Rights) (o : Option FrameMapping) → capability_at slots x ≡ Frame f r o → o ≡ None → recapped slots x (Frame f r None) ≡ slots
+pub recapped-own : (slots : Slots) (x f : ℕ) (r : Rights) (o : Option FrameMapping) → capability_at slots x ≡ Frame f r o → o ≡ None →
+    recapped slots x (Frame f r None) ≡ slots
 recapped-own slots x f r o held absent =
     recapped-same slots x (Frame f r None) (frame-open slots x f r o held) (held ∙ ap (λ (k : Option FrameMapping). Frame f r k) absent)
 
@@ -137,6 +154,7 @@ pub leaf-absent : (slots : Slots) (o : Option FrameMapping) → LeafAnswer slots
 leaf-absent slots None answer = refl
 leaf-absent slots (Some m) answer = absurd answer
 
-pub leaf-present : (slots : Slots) (o : Option FrameMapping) (place : ℕ) → LeafAnswer slots o (Some place) → (m : FrameMapping) × (o ≡ Some m) × ((table : ℕ) × MapsTable slots m.root (m.page / 2 ^ 10) table × (place ≡ table + 4 * (m.page % 2 ^ 10)))
+pub leaf-present : (slots : Slots) (o : Option FrameMapping) (place : ℕ) → LeafAnswer slots o (Some place) → (m : FrameMapping) × (o ≡ Some m)
+    × ((table : ℕ) × MapsTable slots m.root (m.page / 2 ^ 10) table × (place ≡ table + 4 * (m.page % 2 ^ 10)))
 leaf-present slots None place answer = absurd (let e : Some place ≡ None = answer in cc)
 leaf-present slots (Some m) place answer = (m, refl, answer)

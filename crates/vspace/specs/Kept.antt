@@ -23,4 +23,5 @@ IsBeside place table = (place < table) ⊎ (table + page_size ≤ place)
 -- the bytes that are in no open slot and in no table that a capability names are the same
 pub record SameBesideTables (slots : Slots) (old new : List ℕ) : Type 0 where
   pub size : length new ≡ length old
-  pub bytes : (place : ℕ) → slots (place / 16) ≡ None → ((table : ℕ) → IsNamedTable slots table → IsBeside place table) → slice_index new place ≡ slice_index old place
+  pub bytes : (place : ℕ) → slots (place / 16) ≡ None → ((table : ℕ) → IsNamedTable slots table → IsBeside place table) →
+      slice_index new place ≡ slice_index old place

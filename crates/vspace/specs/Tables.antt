@@ -47,7 +47,8 @@ pub record TablesAgree (slots : Slots) (memory : List ℕ) : Type 0 where
   pub tables : (slot table : ℕ) (m : Option TableMapping) → capability_at slots slot ≡ PageTable table m → IsTable slots memory table
   -- a page table that is mapped has a pointer in its root table
   pub mapped_roots : (slot table : ℕ) (m : TableMapping) → capability_at slots slot ≡ PageTable table (Some m) → IsTable slots memory m.root
-  pub pointers : (slot table : ℕ) (m : TableMapping) → capability_at slots slot ≡ PageTable table (Some m) → word_at memory (m.root + 4 * m.region) ≡ table_word table
+  pub pointers : (slot table : ℕ) (m : TableMapping) → capability_at slots slot ≡ PageTable table (Some m) →
+      word_at memory (m.root + 4 * m.region) ≡ table_word table
   -- a frame that is mapped lies in memory, and has a leaf in the page table of its region
   pub frames : (slot frame : ℕ) (r : Rights) (m : FrameMapping) → capability_at slots slot ≡ Frame frame r (Some m) → frame + 2 ^ 12 ≤ length memory
   pub leaves : (slot frame : ℕ) (r : Rights) (m : FrameMapping) → capability_at slots slot ≡ Frame frame r (Some m)

@@ -89,7 +89,8 @@ first-is_breach bytes refusal h =
     ] refl h
 
 phases-kept : (image : Image) → first_in (phases image) ≡ None
-    → (AreKept (object_rules image)) × (AreKept (capability_rules image)) × (AreKept (mapping_rules image)) × (AreKept (thread_rules image)) × (AreKept (program_rules image))
+    → (AreKept (object_rules image)) × (AreKept (capability_rules image)) × (AreKept (mapping_rules image)) × (AreKept (thread_rules image))
+    × (AreKept (program_rules image))
 unfolding first_in
 phases-kept image h =
     let objects = none-in (object_rules image) (capability_rules image ∷ mapping_rules image ∷ thread_rules image ∷ program_rules image ∷ []) h in

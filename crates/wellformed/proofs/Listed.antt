@@ -1,5 +1,6 @@
 -- The capabilities of one CNode, and what is found among them.
-use Rattle.std.proofs.Common.{◌≡◌, ◌∙◌, inl, inr, ℕ, zero, suc, ◌+◌, ◌<◌, ◌≤◌, ◌==◌, ◌||◌, ◌&&◌, Bool, true, false, List, [], ◌∷◌, Some, take, drop, get_or, refl, sym, ap, arith}
+use Rattle.std.proofs.Common.{◌≡◌, ◌∙◌, inl, inr, ℕ, zero, suc, ◌+◌, ◌<◌, ◌≤◌, ◌==◌, ◌||◌, ◌&&◌, Bool, true, false, List, [], ◌∷◌, Some, take, drop, get_or}
+use Rattle.std.proofs.Common.{refl, sym, ap, arith}
 use Rattle.std.specs.Prelude.{nat_eq, slice_get}
 use Rattle.std.specs.List.{list_any}
 use Rattle.std.proofs.lemmas.Bool.{and_left, and_parts, eq-eqb, eqb-true, or_cases, or_from, or_left, or_parts, or_right}
@@ -21,7 +22,8 @@ any-skip test (x ∷ xs) (suc n) none =
     any-skip test xs n (λ k y less at. none (suc k) y (omega (arith, less)) at)
     ∙ sym (ap (λ (b : Bool). b || list_any test xs) (none 0 x (omega arith) refl))
 
-pub any-none-left : {A : Type 0} (test : A → Bool) (xs : List A) (n : ℕ) → ((k : ℕ) (x : A) → n ≤ k → slice_get xs k ≡ Some x → test x ≡ false) → list_any test (drop n xs) ≡ false
+pub any-none-left : {A : Type 0} (test : A → Bool) (xs : List A) (n : ℕ) → ((k : ℕ) (x : A) → n ≤ k → slice_get xs k ≡ Some x → test x ≡ false) →
+    list_any test (drop n xs) ≡ false
 any-none-left test xs zero none = any-no test xs (λ k x at. none k x (omega arith) at)
 any-none-left test [] (suc n) none = refl
 any-none-left test (x ∷ xs) (suc n) none = any-none-left test xs n (λ k y most at. none (suc k) y (omega (arith, most)) at)
@@ -36,7 +38,8 @@ module _ (cnode : ℕ) (passes : CapabilityEntry → Bool) (xs : List Capability
   pub any-first : AreListedIn cnode xs first end → list_any test (drop first xs) ≡ list_any test xs
   any-first listed = any-skip test xs first (λ k c less at. fails c (listed.before k c less at))
 
-  one-left : (n : ℕ) (c : CapabilityEntry) → AreListedIn cnode xs first end → first ≤ n → n < end → slice_get xs n ≡ Some c → list_any test (drop n xs) ≡ (passes c || list_any test (drop (n + 1) xs))
+  one-left : (n : ℕ) (c : CapabilityEntry) → AreListedIn cnode xs first end → first ≤ n → n < end → slice_get xs n ≡ Some c →
+      list_any test (drop n xs) ≡ (passes c || list_any test (drop (n + 1) xs))
   one-left n c listed most less at =
       ap (λ (l : List CapabilityEntry). list_any test l) (rest-next xs n c at)
       ∙ ap (λ (b : Bool). (b && passes c) || list_any test (drop (n + 1) xs)) (eq-eqb c.cnode cnode (listed.there n c most less at))
@@ -98,7 +101,8 @@ module _ (passes : CapabilityEntry → Bool) (xs : List CapabilityEntry) (number
   pub set-later : list_any (λ c. c.cnode == n && passes c) xs ≡ false → list_any (λ c. is_member c.cnode (take place numbers) && passes c) xs ≡ false
       → list_any (λ c. is_member c.cnode (take (place + 1) numbers) && passes c) xs ≡ false
   set-later none so_far =
-      any-same (λ c. is_member c.cnode (take (place + 1) numbers) && passes c) (λ c. (is_member c.cnode (take place numbers) && passes c) || (c.cnode == n && passes c)) xs
+      any-same (λ c. is_member c.cnode (take (place + 1) numbers) && passes c)
+      (λ c. (is_member c.cnode (take place numbers) && passes c) || (c.cnode == n && passes c)) xs
       (λ c.
       let more = list_any_more (nat_eq c.cnode) numbers place n (slice_get_within numbers place n at) in
       let here : get_or numbers place n ≡ n = get_or_from_slice_get numbers place n n at in
@@ -113,4 +117,5 @@ and-three false b c = refl
 pub two-tests : (p q : CapabilityEntry → Bool) (numbers : List ℕ) (xs : List CapabilityEntry)
     → list_any (λ c. is_member c.cnode numbers && p c && q c) xs ≡ list_any (λ c. is_member c.cnode numbers && (p c && q c)) xs
 two-tests p q numbers xs =
-    any-same (λ c. is_member c.cnode numbers && p c && q c) (λ c. is_member c.cnode numbers && (p c && q c)) xs (λ c. and-three (is_member c.cnode numbers) (p c) (q c))
+    any-same (λ c. is_member c.cnode numbers && p c && q c) (λ c. is_member c.cnode numbers && (p c && q c)) xs
+    (λ c. and-three (is_member c.cnode numbers) (p c) (q c))

@@ -1,5 +1,6 @@
 -- Sets of the numbers that entries name.
-use Rattle.std.proofs.Common.{◌≡◌, ◌∙◌, inl, inr, ℕ, zero, suc, ◌&&◌, not, ◌==◌, ◌+◌, ◌<◌, ◌≤◌, ◌||◌, Bool, true, false, List, [], ◌∷◌, ◌++◌, Some, length, take, get_or, refl, sym, ap, arith}
+use Rattle.std.proofs.Common.{◌≡◌, ◌∙◌, inl, inr, ℕ, zero, suc, ◌&&◌, not, ◌==◌, ◌+◌, ◌<◌, ◌≤◌, ◌||◌, Bool, true, false, List, [], ◌∷◌, ◌++◌, Some, length}
+use Rattle.std.proofs.Common.{take, get_or, refl, sym, ap, arith}
 use Rattle.std.specs.Prelude.{if◌then◌else◌, slice_get, nat_eq, nat_lt, count_by}
 use Rattle.std.specs.List.{enumerate_from, list_any}
 use Rattle.std.proofs.lemmas.Bool.{cases_lt, eq-eqb, eqb-true, le-ltb, lt-ltb, ltb-false, ltb-true, ne_eqb, or_right}
@@ -106,11 +107,13 @@ module _ {A : Type 0} (key : A → ℕ) where
   counted-next xs i x n true at test =
       count_by_more_yes (λ z. key z == n) xs i x (slice_get_within xs i x at) (ap (λ (y : A). key y == n) (get_or_from_slice_get xs i x x at) ∙ test)
   counted-next xs i x n false at test =
-      let same = count_by_more_no (λ z. key z == n) xs i x (slice_get_within xs i x at) (ap (λ (y : A). key y == n) (get_or_from_slice_get xs i x x at) ∙ test) in
+      let same = count_by_more_no (λ z. key z == n) xs i x (slice_get_within xs i x at)
+      (ap (λ (y : A). key y == n) (get_or_from_slice_get xs i x x at) ∙ test) in
       omega (arith, same)
 
   -- by whether the set of all so far has the number, and whether that is the one at hand
-  twice-step : (n : ℕ) (once old : List ℕ) (x : A) (b c : Bool) (count : ℕ) → (key x == n) ≡ b → is_member (key x) once ≡ c → is_member n once ≡ nat_lt 0 count → is_member n old ≡ nat_lt 1 count
+  twice-step : (n : ℕ) (once old : List ℕ) (x : A) (b c : Bool) (count : ℕ) → (key x == n) ≡ b → is_member (key x) once ≡ c →
+      is_member n once ≡ nat_lt 0 count → is_member n old ≡ nat_lt 1 count
       → is_member n (if c then with_number (key x) old else old) ≡ nat_lt 1 (count + (if b then 1 else 0))
   twice-step n once old x true true count test is in_once in_old =
       let same : key x ≡ n = eqb-true (key x) n test in
@@ -156,7 +159,8 @@ another p start (suc i) (y ∷ ys) x at holds =
     let shift : start + suc i ≡ start + 1 + i = omega arith in
     let some : 0 < count_by p ys = counted p ys i x at holds in
     ap (λ (b : Bool). (not b && p y) || list_any (λ g. not (g.0 == start + suc i) && p g.1) (enumerate_from (start + 1) ys)) other
-    ∙ ap (λ (k : ℕ). p y || list_any (λ g. not (g.0 == k) && p g.1) (enumerate_from (start + 1) ys)) shift ∙ ap (λ (b : Bool). p y || b) rest ∙ or-count (p y) (count_by p ys) some ∙ ap (λ (n : ℕ). nat_lt 1 n) (sym (count-cons p y ys))
+    ∙ ap (λ (k : ℕ). p y || list_any (λ g. not (g.0 == k) && p g.1) (enumerate_from (start + 1) ys)) shift ∙ ap (λ (b : Bool). p y || b) rest
+    ∙ or-count (p y) (count_by p ys) some ∙ ap (λ (n : ℕ). nat_lt 1 n) (sym (count-cons p y ys))
 
 -- ---- entries that come one by one
 

@@ -12,7 +12,8 @@ use Rattle.model.specs.Acceptance.WellFormed.{capability_rules, mapping_rules, o
 use Rattle.model.specs.Images.Image.{Image}
 use Rattle.wellformed.specs.Answering.{form_rules}
 
-either : (first : Option Refusal) (rest more : Option Refusal) (refusal : Refusal) → (rest ≡ Some refusal → more ≡ Some refusal) → option_or first rest ≡ Some refusal → option_or first more ≡ Some refusal
+either : (first : Option Refusal) (rest more : Option Refusal) (refusal : Refusal) → (rest ≡ Some refusal → more ≡ Some refusal) →
+    option_or first rest ≡ Some refusal → option_or first more ≡ Some refusal
 either None rest more refusal later is = later is
 either (Some r) rest more refusal later is = is
 
@@ -27,13 +28,16 @@ nothing more refusal is = absurd (let clash : ◌≡◌ {A = Option Refusal} Non
 
 pub first-of-all : (image : Image) (refusal : Refusal) → first_in (form_rules image) ≡ Some refusal → first_in (phases image) ≡ Some refusal
 first-of-all image refusal is =
-    longer (object_rules image) (capability_rules image ∷ mapping_rules image ∷ thread_rules image ∷ []) (capability_rules image ∷ mapping_rules image ∷ thread_rules image ∷ program_rules image ∷ []) refusal
-    (longer (capability_rules image) (mapping_rules image ∷ thread_rules image ∷ []) (mapping_rules image ∷ thread_rules image ∷ program_rules image ∷ []) refusal
+    longer (object_rules image) (capability_rules image ∷ mapping_rules image ∷ thread_rules image ∷ [])
+    (capability_rules image ∷ mapping_rules image ∷ thread_rules image ∷ program_rules image ∷ []) refusal
+    (longer (capability_rules image) (mapping_rules image ∷ thread_rules image ∷ []) (mapping_rules image ∷ thread_rules image ∷ program_rules image ∷ [])
+    refusal
     (longer (mapping_rules image) (thread_rules image ∷ []) (thread_rules image ∷ program_rules image ∷ []) refusal
     (longer (thread_rules image) [] (program_rules image ∷ []) refusal (nothing (program_rules image ∷ []) refusal)))) is
 
 -- so a refusal is the first breach, or out of memory
-pub told_first : (image : Image) (result : Result (Unit {0}) Refusal) → IfErr result (λ refusal. (refusal ≡ OutOfMemory) ⊎ (first_in (form_rules image) ≡ Some refusal))
+pub told_first : (image : Image) (result : Result (Unit {0}) Refusal) →
+    IfErr result (λ refusal. (refusal ≡ OutOfMemory) ⊎ (first_in (form_rules image) ≡ Some refusal))
     → IfErr result (λ refusal. (refusal ≡ OutOfMemory) ⊎ (first_in (phases image) ≡ Some refusal))
 told_first image (Ok x) told = tt
 told_first image (Err refusal) (inl memory) = inl memory

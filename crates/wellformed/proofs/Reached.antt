@@ -1,5 +1,6 @@
 -- What CNodes are reached: those that are found by following the capabilities of each CNode once.
-use Rattle.std.proofs.Common.{◌≡◌, ◌∙◌, inl, inr, ◌⊎◌, ℕ, zero, suc, ◌+◌, ◌-◌, ◌<◌, ◌≤◌, ◌==◌, ◌&&◌, not, Bool, true, false, List, [], ◌∷◌, ◌++◌, Some, length, drop, map, refl, sym, ap, subst, arith, length-append}
+use Rattle.std.proofs.Common.{◌≡◌, ◌∙◌, inl, inr, ◌⊎◌, ℕ, zero, suc, ◌+◌, ◌-◌, ◌<◌, ◌≤◌, ◌==◌, ◌&&◌, not, Bool, true, false, List, [], ◌∷◌, ◌++◌, Some, length}
+use Rattle.std.proofs.Common.{drop, map, refl, sym, ap, subst, arith, length-append}
 use Rattle.std.specs.Prelude.{fold, if◌then◌else◌, nat_eq, slice_get}
 use Rattle.std.specs.Cmp.{IsEquivalence}
 use Rattle.std.specs.List.{IsDistinct, list_any}
@@ -72,12 +73,14 @@ numbers = record {
 
 -- ---- folds
 
-fold-keeps : {S A : Type 0} (P : S → Type 0) (step : S → A → S) (xs : List A) → ((k : ℕ) (x : A) (s : S) → slice_get xs k ≡ Some x → P s → P (step s x)) → (s : S) → P s → P (fold step s xs)
+fold-keeps : {S A : Type 0} (P : S → Type 0) (step : S → A → S) (xs : List A) → ((k : ℕ) (x : A) (s : S) → slice_get xs k ≡ Some x → P s → P (step s x)) →
+    (s : S) → P s → P (fold step s xs)
 fold-keeps P step [] keeps s holds = holds
 fold-keeps P step (x ∷ xs) keeps s holds = fold-keeps P step xs (λ k y t at. keeps (suc k) y t at) (step s x) (keeps 0 x s refl holds)
 
 -- what a step makes true, and all keep
-fold-makes : {S A : Type 0} (Q P : S → Type 0) (step : S → A → S) (xs : List A) (k : ℕ) (x : A) → slice_get xs k ≡ Some x → ((s : S) (y : A) → Q s → Q (step s y)) → ((s : S) (y : A) → P s → P (step s y))
+fold-makes : {S A : Type 0} (Q P : S → Type 0) (step : S → A → S) (xs : List A) (k : ℕ) (x : A) → slice_get xs k ≡ Some x →
+    ((s : S) (y : A) → Q s → Q (step s y)) → ((s : S) (y : A) → P s → P (step s y))
     → ((s : S) → Q s → P (step s x)) → (s : S) → Q s → P (fold step s xs)
 fold-makes Q P step [] k x at keeps_q keeps_p makes s holds = absurd (none-some x at)
 fold-makes Q P step (y ∷ ys) zero x at keeps_q keeps_p makes s holds =
@@ -94,7 +97,8 @@ put-with n set = member-with n n set ∙ or_right (is_member n set) (n == n) (eq
 
 -- adding a CNode only where it is not there is adding it
 module _ (image : Image) where
-  as-with : (found : List ℕ) (c : CapabilityEntry) → with_named image found c ≡ (if is_member c.cnode found && is_cnode_source image c.source then with_number c.source found else found)
+  as-with : (found : List ℕ) (c : CapabilityEntry) → with_named image found c
+      ≡ (if is_member c.cnode found && is_cnode_source image c.source then with_number c.source found else found)
   as-with found c = by_tests (is_member c.cnode found && is_cnode_source image c.source) (is_member c.source found)
     where
       by_tests : (b m : Bool) → (if b && not m then found ++ c.source ∷ [] else found) ≡ (if b then (if m then found else found ++ c.source ∷ []) else found)
@@ -109,7 +113,8 @@ module _ (image : Image) where
       by_test true = more-with n c.source found there
       by_test false = there
 
-  named-puts : (found : List ℕ) (c : CapabilityEntry) → is_cnode_source image c.source ≡ true → is_member c.cnode found ≡ true → is_member c.source (with_named image found c) ≡ true
+  named-puts : (found : List ℕ) (c : CapabilityEntry) → is_cnode_source image c.source ≡ true → is_member c.cnode found ≡ true →
+      is_member c.source (with_named image found c) ≡ true
   named-puts found c leads there =
       ap (λ (l : List ℕ). is_member c.source l) (as-with found c)
       ∙ ap (λ (b : Bool). is_member c.source (if b && is_cnode_source image c.source then with_number c.source found else found)) there
@@ -120,42 +125,50 @@ module _ (image : Image) where
   round-keeps : (n : ℕ) (found : List ℕ) → is_member n found ≡ true → is_member n (fold (with_named image) found image.capabilities) ≡ true
   round-keeps n found there = fold-keeps (λ s. is_member n s ≡ true) (with_named image) image.capabilities (λ k c s at. named-keeps n s c) found there
 
-  round-puts : (found : List ℕ) (k : ℕ) (c : CapabilityEntry) → slice_get image.capabilities k ≡ Some c → is_cnode_source image c.source ≡ true → is_member c.cnode found ≡ true
+  round-puts : (found : List ℕ) (k : ℕ) (c : CapabilityEntry) → slice_get image.capabilities k ≡ Some c → is_cnode_source image c.source ≡ true →
+      is_member c.cnode found ≡ true
       → is_member c.source (fold (with_named image) found image.capabilities) ≡ true
   round-puts found k c at leads there =
       fold-makes (λ s. is_member c.cnode s ≡ true) (λ s. is_member c.source s ≡ true) (with_named image) image.capabilities k c at
       (λ s y. named-keeps c.cnode s y) (λ s y. named-keeps c.source s y) (λ s. named-puts s c leads) found there
 
-  last-outside : (rounds : ℕ) (found : List ℕ) → reached_within (suc rounds) image found ≡ fold (with_named image) (reached_within rounds image found) image.capabilities
+  last-outside : (rounds : ℕ) (found : List ℕ) → reached_within (suc rounds) image found ≡ fold (with_named image) (reached_within rounds image found)
+      image.capabilities
   unfolding reached_within
   last-outside zero found = refl
   last-outside (suc rounds) found = last-outside rounds (fold (with_named image) found image.capabilities)
 
-  more-rounds : (n rounds more : ℕ) (found : List ℕ) → is_member n (reached_within rounds image found) ≡ true → is_member n (reached_within (more + rounds) image found) ≡ true
-  more-rounds n rounds zero found there = let none : 0 + rounds ≡ rounds = omega arith in ap (λ (k : ℕ). is_member n (reached_within k image found)) none ∙ there
+  more-rounds : (n rounds more : ℕ) (found : List ℕ) → is_member n (reached_within rounds image found) ≡ true →
+      is_member n (reached_within (more + rounds) image found) ≡ true
+  more-rounds n rounds zero found there = let none : 0 + rounds ≡ rounds = omega arith in ap (λ (k : ℕ). is_member n (reached_within k image found)) none
+      ∙ there
   more-rounds n rounds (suc more) found there =
       let one : suc more + rounds ≡ suc (more + rounds) = omega arith in
       ap (λ (k : ℕ). is_member n (reached_within k image found)) one
       ∙ ap (λ (l : List ℕ). is_member n l) (last-outside (more + rounds) found)
       ∙ round-keeps n (reached_within (more + rounds) image found) (more-rounds n rounds more found there)
 
-  within-more : (n few many : ℕ) (found : List ℕ) → few ≤ many → is_member n (reached_within few image found) ≡ true → is_member n (reached_within many image found) ≡ true
+  within-more : (n few many : ℕ) (found : List ℕ) → few ≤ many → is_member n (reached_within few image found) ≡ true →
+      is_member n (reached_within many image found) ≡ true
   within-more n few many found le there =
       let all : many - few + few ≡ many = omega (arith, le) in
       sym (ap (λ (k : ℕ). is_member n (reached_within k image found)) all) ∙ more-rounds n few (many - few) found there
 
   -- what is closed under the capabilities has all that is reached from its numbers
   abbrev IsClosed : List ℕ → Type 0
-  IsClosed set = (k : ℕ) (c : CapabilityEntry) → slice_get image.capabilities k ≡ Some c → is_member c.cnode set ≡ true → is_cnode_source image c.source ≡ true → is_member c.source set ≡ true
+  IsClosed set = (k : ℕ) (c : CapabilityEntry) → slice_get image.capabilities k ≡ Some c → is_member c.cnode set ≡ true →
+      is_cnode_source image c.source ≡ true → is_member c.source set ≡ true
 
   abbrev IsPartOf : List ℕ → List ℕ → Type 0
   IsPartOf set found = (n : ℕ) → is_member n found ≡ true → is_member n set ≡ true
 
-  named-inside : (set : List ℕ) → IsClosed set → (k : ℕ) (c : CapabilityEntry) (found : List ℕ) → slice_get image.capabilities k ≡ Some c → IsPartOf set found → IsPartOf set (with_named image found c)
+  named-inside : (set : List ℕ) → IsClosed set → (k : ℕ) (c : CapabilityEntry) (found : List ℕ) → slice_get image.capabilities k ≡ Some c → IsPartOf set found →
+      IsPartOf set (with_named image found c)
   named-inside set closed k c found at inside n there =
       by_test (is_member c.cnode found && is_cnode_source image c.source) refl (ap (λ (l : List ℕ). is_member n l) (sym (as-with found c)) ∙ there)
     where
-      by_test : (b : Bool) → (is_member c.cnode found && is_cnode_source image c.source) ≡ b → is_member n (if b then with_number c.source found else found) ≡ true → is_member n set ≡ true
+      by_test : (b : Bool) → (is_member c.cnode found && is_cnode_source image c.source) ≡ b →
+          is_member n (if b then with_number c.source found else found) ≡ true → is_member n set ≡ true
       by_test true is there = elim (or_cases (is_member n found) (c.source == n) (sym (member-with n c.source found) ∙ there)) [
         | inl old ↦ inside n old
         | inr new ↦
@@ -190,10 +203,12 @@ module _ (image : Image) where
     apart : IsDistinct nat_eq new
 
   module _ (cnode : ℕ) where
-    grows : (old : List ℕ) (k : ℕ) (c : CapabilityEntry) (s : List ℕ) → slice_get image.capabilities k ≡ Some c → IsGrown cnode old s → IsGrown cnode old (with_listed image cnode s c)
+    grows : (old : List ℕ) (k : ℕ) (c : CapabilityEntry) (s : List ℕ) → slice_get image.capabilities k ≡ Some c → IsGrown cnode old s →
+        IsGrown cnode old (with_listed image cnode s c)
     grows old k c s at grown = by_test (c.cnode == cnode && is_cnode_source image c.source) refl
       where
-        put : (c.cnode == cnode && is_cnode_source image c.source) ≡ true → (m : Bool) → is_member c.source s ≡ m → IsGrown cnode old (if m then s else s ++ c.source ∷ [])
+        put : (c.cnode == cnode && is_cnode_source image c.source) ≡ true → (m : Bool) → is_member c.source s ≡ m →
+            IsGrown cnode old (if m then s else s ++ c.source ∷ [])
         put is true there = grown
         put is false not_there = record {
           longer = (let one = length-append s (c.source ∷ []) in let before = grown.longer in omega (arith, one, before));
@@ -243,7 +258,8 @@ module _ (image : Image) where
     listed-other : (found : List ℕ) (c : CapabilityEntry) → (c.cnode == cnode) ≡ false → with_listed image cnode found c ≡ found
     listed-other found c other = ap (λ (b : Bool). if b && is_cnode_source image c.source then with_number c.source found else found) other
 
-    skips : (xs : List CapabilityEntry) (n : ℕ) (found : List ℕ) → ((k : ℕ) (c : CapabilityEntry) → k < n → slice_get xs k ≡ Some c → (c.cnode == cnode) ≡ false)
+    skips : (xs : List CapabilityEntry) (n : ℕ) (found : List ℕ) →
+        ((k : ℕ) (c : CapabilityEntry) → k < n → slice_get xs k ≡ Some c → (c.cnode == cnode) ≡ false)
         → fold (with_listed image cnode) found (drop n xs) ≡ fold (with_listed image cnode) found xs
     skips xs zero found others = refl
     skips [] (suc n) found others = refl
@@ -251,7 +267,8 @@ module _ (image : Image) where
         skips xs n found (λ k c less at. others (suc k) c (omega (arith, less)) at)
         ∙ sym (ap (λ (f : List ℕ). fold (with_listed image cnode) f xs) (listed-other found x (others 0 x (omega arith) refl)))
 
-    rest-idle : (xs : List CapabilityEntry) (n : ℕ) (found : List ℕ) → ((k : ℕ) (c : CapabilityEntry) → n ≤ k → slice_get xs k ≡ Some c → (c.cnode == cnode) ≡ false)
+    rest-idle : (xs : List CapabilityEntry) (n : ℕ) (found : List ℕ) →
+        ((k : ℕ) (c : CapabilityEntry) → n ≤ k → slice_get xs k ≡ Some c → (c.cnode == cnode) ≡ false)
         → fold (with_listed image cnode) found (drop n xs) ≡ found
     rest-idle [] zero found others = refl
     rest-idle (x ∷ xs) zero found others =
@@ -261,15 +278,18 @@ module _ (image : Image) where
     rest-idle (x ∷ xs) (suc n) found others = rest-idle xs n found (λ k c most at. others (suc k) c (omega (arith, most)) at)
 
     module _ (first end : ℕ) (listed : AreListedIn cnode image.capabilities first end) where
-      pub follow-first : (found : List ℕ) → fold (with_listed image cnode) found (drop first image.capabilities) ≡ fold (with_listed image cnode) found image.capabilities
+      pub follow-first : (found : List ℕ) → fold (with_listed image cnode) found (drop first image.capabilities) ≡ fold (with_listed image cnode) found
+          image.capabilities
       follow-first found = skips image.capabilities first found (λ k c less at. listed.before k c less at)
 
       pub follow-next : (n : ℕ) (c : CapabilityEntry) (found new total : List ℕ) → first ≤ n → n < end → slice_get image.capabilities n ≡ Some c
-          → new ≡ (if is_cnode_source image c.source then with_number c.source found else found) → fold (with_listed image cnode) found (drop n image.capabilities) ≡ total
+          → new ≡ (if is_cnode_source image c.source then with_number c.source found else found) →
+          fold (with_listed image cnode) found (drop n image.capabilities) ≡ total
           → fold (with_listed image cnode) new (drop (n + 1) image.capabilities) ≡ total
       follow-next n c found new total most less at put so_far =
           ap (λ (f : List ℕ). fold (with_listed image cnode) f (drop (n + 1) image.capabilities)) put
-          ∙ sym (ap (λ (b : Bool). fold (with_listed image cnode) (if b && is_cnode_source image c.source then with_number c.source found else found) (drop (n + 1) image.capabilities))
+          ∙ sym (ap (λ (b : Bool). fold (with_listed image cnode) (if b && is_cnode_source image c.source then with_number c.source found else found)
+          (drop (n + 1) image.capabilities))
           (eq-eqb c.cnode cnode (listed.there n c most less at)))
           ∙ sym (ap (λ (l : List CapabilityEntry). fold (with_listed image cnode) found l) (rest-next image.capabilities n c at)) ∙ so_far
 
@@ -333,7 +353,8 @@ module _ (image : Image) where
               | inl before ↦ found.named n (member-at n here.0 old before)
               | inr new ↦
                   let by = new.1 in
-                  or_right (n == root) (is_member n sources) (member-at n by.place sources (key-at (λ c. c.source) image.capabilities by.place by.entry by.there ∙ ap (λ (m : ℕ). Some m) (sym by.is)))
+                  or_right (n == root) (is_member n sources)
+                  (member-at n by.place sources (key-at (λ c. c.source) image.capabilities by.place by.entry by.there ∙ ap (λ (m : ℕ). Some m) (sym by.is)))
             ];
         within = λ k n here. elim (grown.fresh k n here) [
           | inl before ↦ found.within k n before
@@ -341,7 +362,8 @@ module _ (image : Image) where
               let by = new.1 in
               let past = new.0 in
               let inside = slice_get_within old place cnode at in
-              let reached_cnode : is_member by.entry.cnode (reached_within place image (root ∷ [])) ≡ true = ap (λ (m : ℕ). is_member m (reached_within place image (root ∷ []))) by.listed ∙ found.within place cnode at in
+              let reached_cnode : is_member by.entry.cnode (reached_within place image (root ∷ [])) ≡ true =
+              ap (λ (m : ℕ). is_member m (reached_within place image (root ∷ []))) by.listed ∙ found.within place cnode at in
               let reached_source : is_member n (reached_within (suc place) image (root ∷ [])) ≡ true =
               ap (λ (m : ℕ). is_member m (reached_within (suc place) image (root ∷ []))) by.is
               ∙ ap (λ (l : List ℕ). is_member by.entry.source l) (last-outside place (root ∷ []))
@@ -357,7 +379,8 @@ module _ (image : Image) where
               ]
           | inr last ↦
               let same : k ≡ place = omega (arith, less, last) in
-              let one : n ≡ cnode = same_Some n cnode (sym here ∙ ap (slice_get (fold (with_listed image cnode) old image.capabilities)) same ∙ grown.stays place cnode at) in
+              let one : n ≡ cnode = same_Some n cnode (sym here ∙ ap (slice_get (fold (with_listed image cnode) old image.capabilities)) same
+              ∙ grown.stays place cnode at) in
               all-put cnode old j c there (listed ∙ one) leads
         ];
       }
@@ -369,7 +392,8 @@ module _ (image : Image) where
       let many = length-map image.capabilities (λ c. c.source) in
       omega (arith, few, many)
 
-  pub all-reached : (t : Thread) (root done : ℕ) (found : List ℕ) → root ≡ t.header.cnode → length found ≤ done → AreFound root done found → (n : ℕ) → is_member n found ≡ is_member n (reached image t)
+  pub all-reached : (t : Thread) (root done : ℕ) (found : List ℕ) → root ≡ t.header.cnode → length found ≤ done → AreFound root done found → (n : ℕ) →
+      is_member n found ≡ is_member n (reached image t)
   unfolding reached
   all-reached t root done found same most is n =
       same-bool (is_member n found) (is_member n (reached_within (length image.capabilities) image (root ∷ [])))

@@ -1,5 +1,6 @@
 -- The first broken one of rules, by those that are left.
-use Rattle.std.proofs.Common.{◌≡◌, ◌∙◌, ◌⊎◌, inl, inr, ℕ, suc, ◌+◌, ◌-◌, ◌<◌, ◌≤◌, Bool, true, false, List, [], ◌∷◌, ◌++◌, Option, Some, None, Result, Ok, Err, length, drop, get_or, map, refl, sym, ap, subst, arith, add-one, drop-cons}
+use Rattle.std.proofs.Common.{◌≡◌, ◌∙◌, ◌⊎◌, inl, inr, ℕ, suc, ◌+◌, ◌-◌, ◌<◌, ◌≤◌, Bool, true, false, List, [], ◌∷◌, ◌++◌, Option, Some, None, Result, Ok, Err}
+use Rattle.std.proofs.Common.{length, drop, get_or, map, refl, sym, ap, subst, arith, add-one, drop-cons}
 use Rattle.std.specs.Prelude.{IfErr, OnOk, flat_map, slice_get}
 use Rattle.std.specs.Option.{option_or}
 use Rattle.std.specs.List.{enumerate_from, range_with_len}
@@ -29,7 +30,8 @@ pub first_broken_in : (a b : List Rule) (refusal : Refusal) → first_broken a �
 first_broken_in a b refusal broken = first_of_both a b ∙ ap (λ (o : Option Refusal). option_or o (first_broken b)) broken
 
 -- the first rules are kept, and this is answered of the rest
-pub answers_rest : (a b : List Rule) (result : Result (Unit {0}) Refusal) → first_broken a ≡ None → Answers (first_broken b) result → Answers (first_broken (a ++ b)) result
+pub answers_rest : (a b : List Rule) (result : Result (Unit {0}) Refusal) → first_broken a ≡ None → Answers (first_broken b) result →
+    Answers (first_broken (a ++ b)) result
 answers_rest a b result kept answers = subst (λ (o : Option Refusal). Answers o result) (sym (first_kept a b kept)) answers
 
 -- the first rules are not kept, and the rest does not matter
@@ -38,16 +40,19 @@ refused_before a b refusal (inl memory) = inl memory
 refused_before a b refusal (inr broken) = inr (first_broken_in a b refusal broken)
 
 -- what is passed on is reported
-pub passed_on : (breach : Option Refusal) (result : Result (Unit {0}) Refusal) (refusal : Refusal) → result ≡ Err refusal → Answers breach (Err refusal) → Answers breach result
+pub passed_on : (breach : Option Refusal) (result : Result (Unit {0}) Refusal) (refusal : Refusal) → result ≡ Err refusal → Answers breach (Err refusal) →
+    Answers breach result
 passed_on breach result refusal is answers = subst (λ (r : Result (Unit {0}) Refusal). Answers breach r) (sym is) answers
 
 -- ---- phases
 
-pub phase_kept : (rules : List Rule) (later : List (List Rule)) (result : Result (Unit {0}) Refusal) → first_broken rules ≡ None → Answers (first_in later) result → Answers (first_in (rules ∷ later)) result
+pub phase_kept : (rules : List Rule) (later : List (List Rule)) (result : Result (Unit {0}) Refusal) → first_broken rules ≡ None →
+    Answers (first_in later) result → Answers (first_in (rules ∷ later)) result
 unfolding first_in
 phase_kept rules later result kept answers = subst (λ (o : Option Refusal). Answers (option_or o (first_in later)) result) (sym kept) answers
 
-pub phase_broken : (rules : List Rule) (later : List (List Rule)) (refusal : Refusal) → Answers (first_broken rules) (Err refusal) → Answers (first_in (rules ∷ later)) (Err refusal)
+pub phase_broken : (rules : List Rule) (later : List (List Rule)) (refusal : Refusal) → Answers (first_broken rules) (Err refusal) →
+    Answers (first_in (rules ∷ later)) (Err refusal)
 unfolding first_in
 phase_broken rules later refusal (inl memory) = inl memory
 phase_broken rules later refusal (inr broken) = inr (ap (λ (o : Option Refusal). option_or o (first_in later)) broken)
@@ -112,13 +117,15 @@ module _ {A : Type 0} (rules : ℕ × A → List Rule) where
       let parts = ap (λ (l : List A). first_broken (flat_map rules (enumerate_from i l))) (rest-next xs i x at) in
       sym (first_kept (rules (i, x)) (flat_map rules (enumerate_from (i + 1) (drop (i + 1) xs))) kept) ∙ sym parts ∙ so_far
 
-  pub one_broken : (xs : List A) (i : ℕ) (x : A) (total : Option Refusal) (refusal : Refusal) → slice_get xs i ≡ Some x → first_broken (rules (i, x)) ≡ Some refusal
+  pub one_broken : (xs : List A) (i : ℕ) (x : A) (total : Option Refusal) (refusal : Refusal) → slice_get xs i ≡ Some x →
+      first_broken (rules (i, x)) ≡ Some refusal
       → first_broken (flat_map rules (enumerate_from i (drop i xs))) ≡ total → total ≡ Some refusal
   one_broken xs i x total refusal at broken so_far =
       let parts = ap (λ (l : List A). first_broken (flat_map rules (enumerate_from i l))) (rest-next xs i x at) in
       sym so_far ∙ parts ∙ first_broken_in (rules (i, x)) (flat_map rules (enumerate_from (i + 1) (drop (i + 1) xs))) refusal broken
 
-  pub nothing_left : (xs : List A) (i : ℕ) (total : Option Refusal) → length xs ≤ i → first_broken (flat_map rules (enumerate_from i (drop i xs))) ≡ total → total ≡ None
+  pub nothing_left : (xs : List A) (i : ℕ) (total : Option Refusal) → length xs ≤ i → first_broken (flat_map rules (enumerate_from i (drop i xs))) ≡ total →
+      total ≡ None
   nothing_left xs i total le so_far = sym so_far ∙ ap (λ (l : List A). first_broken (flat_map rules (enumerate_from i l))) (drop_all i xs le)
 
 -- ---- one rule for each number
@@ -131,7 +138,8 @@ module _ (test : ℕ → Bool) (refusal : ℕ → Refusal) where
   numbers-next n count lt = let k : count - n ≡ suc (count - (n + 1)) = omega arith in ap (range_with_len n) k
 
   pub number_kept : (n count : ℕ) (total : Option Refusal) → n < count → test n ≡ false
-      → first_broken (map numbered_rule (range_with_len n (count - n))) ≡ total → first_broken (map numbered_rule (range_with_len (n + 1) (count - (n + 1)))) ≡ total
+      → first_broken (map numbered_rule (range_with_len n (count - n))) ≡ total →
+      first_broken (map numbered_rule (range_with_len (n + 1) (count - (n + 1)))) ≡ total
   number_kept n count total lt kept so_far =
       let parts = ap (λ (l : List ℕ). first_broken (map numbered_rule l)) (numbers-next n count lt) in
       let one = ap (λ (b : Bool). first_broken (refuse_if b (refusal n) ∷ map numbered_rule (range_with_len (n + 1) (count - (n + 1))))) kept in
@@ -144,13 +152,15 @@ module _ (test : ℕ → Bool) (refusal : ℕ → Refusal) where
       let one = ap (λ (b : Bool). first_broken (refuse_if b (refusal n) ∷ map numbered_rule (range_with_len (n + 1) (count - (n + 1))))) broken in
       sym so_far ∙ parts ∙ one
 
-  pub no_number_left : (n count : ℕ) (total : Option Refusal) → count ≤ n → first_broken (map numbered_rule (range_with_len n (count - n))) ≡ total → total ≡ None
+  pub no_number_left : (n count : ℕ) (total : Option Refusal) → count ≤ n → first_broken (map numbered_rule (range_with_len n (count - n))) ≡ total →
+      total ≡ None
   no_number_left n count total le so_far =
       let k : count - n ≡ 0 = omega arith in sym so_far ∙ ap (λ (m : ℕ). first_broken (map numbered_rule (range_with_len n m))) k
 
 -- ---- what a `?` passes on
 
-pub told_of : (rules : List Rule) (result : Result (Unit {0}) Refusal) (error refusal : Refusal) → result ≡ Err error → error ≡ refusal → Answers (first_broken rules) (Err refusal)
+pub told_of : (rules : List Rule) (result : Result (Unit {0}) Refusal) (error refusal : Refusal) → result ≡ Err error → error ≡ refusal →
+    Answers (first_broken rules) (Err refusal)
     → Answers (first_broken rules) result
 told_of rules result error refusal is same answers = passed_on (first_broken rules) result refusal (is ∙ ap (λ (r : Refusal). Err r) same) answers
 
@@ -170,7 +180,8 @@ none_of_two a b r s kept is =
 pub first_of_three : (a b c : Bool) (r s t : Refusal) → a ≡ true → first_broken (refuse_if a r ∷ refuse_if b s ∷ refuse_if c t ∷ []) ≡ Some r
 first_of_three a b c r s t is = ap (λ (x : Bool). first_broken (refuse_if x r ∷ refuse_if b s ∷ refuse_if c t ∷ [])) is
 
-pub later_of_three : (a b c : Bool) (r s t : Refusal) → a ≡ false → first_broken (refuse_if a r ∷ refuse_if b s ∷ refuse_if c t ∷ []) ≡ first_broken (refuse_if b s ∷ refuse_if c t ∷ [])
+pub later_of_three : (a b c : Bool) (r s t : Refusal) → a ≡ false →
+    first_broken (refuse_if a r ∷ refuse_if b s ∷ refuse_if c t ∷ []) ≡ first_broken (refuse_if b s ∷ refuse_if c t ∷ [])
 later_of_three a b c r s t is = ap (λ (x : Bool). first_broken (refuse_if x r ∷ refuse_if b s ∷ refuse_if c t ∷ [])) is
 
 -- ---- the last phase, and all of them
@@ -218,7 +229,8 @@ none-from image formed =
     (kept_phase (thread_rules image) [] (kept_none (thread_rules image) formed.threads) no_phase)))
 
 -- what is answered where no rule is broken
-pub memory_alone : (breach : Option Refusal) (result : Result (Unit {0}) Refusal) → breach ≡ None → Answers breach result → IfErr result (λ refusal. refusal ≡ OutOfMemory)
+pub memory_alone : (breach : Option Refusal) (result : Result (Unit {0}) Refusal) → breach ≡ None → Answers breach result →
+    IfErr result (λ refusal. refusal ≡ OutOfMemory)
 memory_alone breach (Ok x) none answers = tt
 memory_alone breach (Err refusal) none (inl memory) = memory
 memory_alone breach (Err refusal) none (inr broken) = absurd (let clash : ◌≡◌ {A = Option Refusal} None (Some refusal) = sym none ∙ broken in cc)
@@ -227,12 +239,14 @@ pub told_formed : (image : Image) (result : Result (Unit {0}) Refusal) → Answe
 told_formed image (Ok x) answers = formed-from image answers
 told_formed image (Err refusal) answers = tt
 
-pub told_breach : (breach : Option Refusal) (result : Result (Unit {0}) Refusal) → Answers breach result → IfErr result (λ refusal. (refusal ≡ OutOfMemory) ⊎ (breach ≡ Some refusal))
+pub told_breach : (breach : Option Refusal) (result : Result (Unit {0}) Refusal) → Answers breach result →
+    IfErr result (λ refusal. (refusal ≡ OutOfMemory) ⊎ (breach ≡ Some refusal))
 told_breach breach (Ok x) answers = tt
 told_breach breach (Err refusal) answers = answers
 
 -- where no rule is broken, only memory can be refused
-pub only_memory : (breach : Option Refusal) (result : Result (Unit {0}) Refusal) → breach ≡ None → IfErr result (λ refusal. refusal ≡ OutOfMemory) → Answers breach result
+pub only_memory : (breach : Option Refusal) (result : Result (Unit {0}) Refusal) → breach ≡ None → IfErr result (λ refusal. refusal ≡ OutOfMemory) →
+    Answers breach result
 only_memory breach (Ok x) none memory = none
 only_memory breach (Err refusal) none memory = inl memory
 

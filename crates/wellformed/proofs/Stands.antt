@@ -1,5 +1,6 @@
 -- Where untypeds and objects lie.
-use Rattle.std.proofs.Common.{◌≡◌, ◌∙◌, ℕ, suc, ◌==◌, ◌+◌, ◌%◌, ◌^◌, ◌<◌, ◌≤◌, ◌||◌, ◌≢◌, inl, inr, Bool, true, false, not, Some, None, Option, List, [], ◌∷◌, ◌++◌, take, length, replicate, set, get_or, refl, sym, ap, subst, arith, add-one, take-suc}
+use Rattle.std.proofs.Common.{◌≡◌, ◌∙◌, ℕ, suc, ◌==◌, ◌+◌, ◌%◌, ◌^◌, ◌<◌, ◌≤◌, ◌||◌, ◌≢◌, inl, inr, Bool, true, false, not, Some, None, Option, List, [], ◌∷◌}
+use Rattle.std.proofs.Common.{◌++◌, take, length, replicate, set, get_or, refl, sym, ap, subst, arith, add-one, take-suc}
 use Rattle.std.specs.Prelude.{fold, if◌then◌else◌, is_none, nat_le, nat_lt, slice_get}
 use Rattle.std.proofs.lemmas.Bool.{leb-true}
 use Rattle.std.proofs.lemmas.Bool.Decides.{eqb_tells}
@@ -43,7 +44,8 @@ unfolding used_by
 used-none untyped = refl
 
 pub used-next : (objects : List ObjectEntry) (n : ℕ) (o : ObjectEntry) (untyped : ℕ) → slice_get objects n ≡ Some o
-    → used_by (take (n + 1) objects) untyped ≡ (if o.untyped == untyped then place_of_object (used_by (take n objects) untyped) (bits_of o) 1 else used_by (take n objects) untyped)
+    → used_by (take (n + 1) objects) untyped ≡ (if o.untyped == untyped then place_of_object (used_by (take n objects) untyped) (bits_of o) 1 else
+    used_by (take n objects) untyped)
 unfolding used_by
 used-next objects n o untyped is =
     let at : get_or objects n o ≡ o = get_or_from_slice_get objects n o o is in
@@ -63,10 +65,12 @@ room-is image n o used at is =
 pub untyped-there : (image : Image) (n : ℕ) (u : UntypedEntry) → slice_get image.untypeds n ≡ Some u → untyped_at image n ≡ u
 untyped-there image n u at = get_or_from_slice_get image.untypeds n u (record { offset = 0; bits = 0 }) at
 
-pub placed-end : (bits used size first end : ℕ) → ◌≡◌ {A = Option (ℕ × ℕ)} (Some (first, end)) (placement bits used size 1) → (end ≡ place_of_object used size 1) × (end ≤ 2 ^ bits)
+pub placed-end : (bits used size first end : ℕ) → ◌≡◌ {A = Option (ℕ × ℕ)} (Some (first, end)) (placement bits used size 1) →
+    (end ≡ place_of_object used size 1) × (end ≤ 2 ^ bits)
 placed-end bits used size first end is =
     let behind = place_of_object used size 1 in
-    elim (nat_le behind (2 ^ bits)) as (λ b. nat_le behind (2 ^ bits) ≡ b → (◌≡◌ {A = Option (ℕ × ℕ)} (Some (first, end)) (if b then Some (align used (2 ^ size), behind) else None)) → (end ≡ behind) × (end ≤ 2 ^ bits)) [
+    elim (nat_le behind (2 ^ bits)) as (λ b. nat_le behind (2 ^ bits) ≡ b →
+    (◌≡◌ {A = Option (ℕ × ℕ)} (Some (first, end)) (if b then Some (align used (2 ^ size), behind) else None)) → (end ≡ behind) × (end ≤ 2 ^ bits)) [
       | true ↦ λ room here.
           let same : end ≡ behind = (some_pair_parts first (align used (2 ^ size)) end behind here).1 in
           let least = leb-true behind (2 ^ bits) room in
@@ -91,7 +95,8 @@ module _ (image : Image) (n : ℕ) (o : ObjectEntry) (used : List ℕ) (end : �
             let inside : o.untyped < length used = omega (arith, many, few) in
             let here : get_or (set used o.untyped end) u 0 ≡ end =
             ap (λ (k : ℕ). get_or (set used o.untyped end) k 0) (sym same) ∙ get_or-set_same used o.untyped end 0 inside in
-            let before : get_or used o.untyped 0 ≡ used_by (take n image.objects) u = so_far o.untyped few ∙ ap (λ (k : ℕ). used_by (take n image.objects) k) same in
+            let before : get_or used o.untyped 0 ≡ used_by (take n image.objects) u = so_far o.untyped few
+            ∙ ap (λ (k : ℕ). used_by (take n image.objects) k) same in
             here ∙ is ∙ ap (λ (k : ℕ). place_of_object k (bits_of o) 1) before ∙ sym (used-next image.objects n o u at ∙ ap (next u) test)
         | inr (test, other) ↦
             let apart : u ≢ o.untyped = λ e. other (sym e) in
@@ -99,7 +104,8 @@ module _ (image : Image) (n : ℕ) (o : ObjectEntry) (used : List ℕ) (end : �
       ]
 
 pub within-step : (image : Image) (o : ObjectEntry) (used : List ℕ) (end : ℕ) → length used ≡ 64 → o.untyped < 64 → end ≤ 2 ^ (untyped_at image o.untyped).bits
-    → ((u : ℕ) → u < 64 → get_or used u 0 ≤ 2 ^ (untyped_at image u).bits) → (u : ℕ) → u < 64 → get_or (set used o.untyped end) u 0 ≤ 2 ^ (untyped_at image u).bits
+    → ((u : ℕ) → u < 64 → get_or used u 0 ≤ 2 ^ (untyped_at image u).bits) → (u : ℕ) → u < 64 →
+    get_or (set used o.untyped end) u 0 ≤ 2 ^ (untyped_at image u).bits
 within-step image o used end many few least so_far u lt =
     elim (eqb_tells o.untyped u) [
       | inl (test, same) ↦

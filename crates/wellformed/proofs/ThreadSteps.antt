@@ -1,5 +1,6 @@
 -- What threads so far have, and one thread more.
-use Rattle.std.proofs.Common.{◌≡◌, ◌∙◌, inl, inr, drop-cons, map, ◌-◌, ◌<◌, ◌≤◌, ℕ, suc, ◌+◌, ◌==◌, ◌||◌, ◌&&◌, not, Bool, true, false, List, [], ◌∷◌, ◌++◌, Some, take, drop, length, get_or, sym, ap, arith, add-one, take-suc}
+use Rattle.std.proofs.Common.{◌≡◌, ◌∙◌, inl, inr, drop-cons, map, ◌-◌, ◌<◌, ◌≤◌, ℕ, suc, ◌+◌, ◌==◌, ◌||◌, ◌&&◌, not, Bool, true, false, List, [], ◌∷◌, ◌++◌}
+use Rattle.std.proofs.Common.{Some, take, drop, length, get_or, sym, ap, arith, add-one, take-suc}
 use Rattle.std.specs.Prelude.{flat_map, nat_eq, slice_get}
 use Rattle.std.specs.List.{list_all, list_any, range_with_len}
 use Rattle.std.proofs.lemmas.Bool.{cases_lt}
@@ -37,8 +38,10 @@ module _ (image : Image) where
     reach = λ n. ap (λ (s : List ℕ). is_member n s) c;
   }
 
-  one-earlier : (n : ℕ) (t : Thread) (found : List ℕ) (m : ℕ) → slice_get image.threads n ≡ Some t → ((n : ℕ) → is_member n found ≡ is_member n (reached image t))
-      → is_member m (flat_map (reached image) (take (n + 1) image.threads)) ≡ (is_member m (flat_map (reached image) (take n image.threads)) || is_member m found)
+  one-earlier : (n : ℕ) (t : Thread) (found : List ℕ) (m : ℕ) → slice_get image.threads n ≡ Some t →
+      ((n : ℕ) → is_member n found ≡ is_member n (reached image t))
+      → is_member m (flat_map (reached image) (take (n + 1) image.threads))
+      ≡ (is_member m (flat_map (reached image) (take n image.threads)) || is_member m found)
   one-earlier n t found m at is =
       let here : get_or image.threads n t ≡ t = get_or_from_slice_get image.threads n t t at in
       let parts : take (n + 1) image.threads ≡ take n image.threads ++ (t ∷ []) =
@@ -48,8 +51,10 @@ module _ (image : Image) where
       ∙ list_any-append (nat_eq m) (flat_map (reached image) (take n image.threads)) (reached image t)
       ∙ ap (λ (b : Bool). is_member m (flat_map (reached image) (take n image.threads)) || b) (sym (is m))
 
-  pub earlier-next : (n : ℕ) (t : Thread) (found tcbs roots cnodes tcbs' roots' cnodes' : List ℕ) → slice_get image.threads n ≡ Some t → ((n : ℕ) → is_member n found ≡ is_member n (reached image t))
-      → tcbs' ≡ with_number t.header.tcb tcbs → roots' ≡ with_number t.header.root roots → ((m : ℕ) → is_member m cnodes' ≡ (is_member m cnodes || is_member m found))
+  pub earlier-next : (n : ℕ) (t : Thread) (found tcbs roots cnodes tcbs' roots' cnodes' : List ℕ) → slice_get image.threads n ≡ Some t →
+      ((n : ℕ) → is_member n found ≡ is_member n (reached image t))
+      → tcbs' ≡ with_number t.header.tcb tcbs → roots' ≡ with_number t.header.root roots →
+      ((m : ℕ) → is_member m cnodes' ≡ (is_member m cnodes || is_member m found))
       → AreEarlier image (take n image.threads) tcbs roots cnodes → AreEarlier image (take (n + 1) image.threads) tcbs' roots' cnodes'
   earlier-next n t found tcbs roots cnodes tcbs' roots' cnodes' at is put_tcb put_root put_cnodes before = record {
     have_tcbs = named-next (λ t. t.header.tcb) image.threads n t tcbs tcbs' at put_tcb before.have_tcbs;
@@ -57,23 +62,28 @@ module _ (image : Image) where
     reach = λ m. put_cnodes m ∙ ap (λ (b : Bool). b || is_member m found) (before.reach m) ∙ sym (one-earlier n t found m at is);
   }
 
-  pub shares-cspace-is : (n : ℕ) (t : Thread) (found tcbs roots cnodes : List ℕ) → ((n : ℕ) → is_member n found ≡ is_member n (reached image t)) → AreEarlier image (take n image.threads) tcbs roots cnodes
+  pub shares-cspace-is : (n : ℕ) (t : Thread) (found tcbs roots cnodes : List ℕ) → ((n : ℕ) → is_member n found ≡ is_member n (reached image t)) →
+      AreEarlier image (take n image.threads) tcbs roots cnodes
       → list_any (λ m. is_member m cnodes) found ≡ shares_cspace image (record { number = n; thread = t })
   unfolding shares_cspace
   shares-cspace-is n t found tcbs roots cnodes is before =
       let same : (λ (m : ℕ). is_member m cnodes) ≡ (λ (m : ℕ). is_member m (flat_map (reached image) (take n image.threads))) = λ i m. before.reach m i in
       ap (λ (p : ℕ → Bool). list_any p found) same ∙ any-members (λ m. is_member m (flat_map (reached image) (take n image.threads))) found (reached image t) is
 
-  pub shares-vspace-is : (n : ℕ) (t : Thread) (found tcbs roots cnodes : List ℕ) (root : ℕ) → root ≡ t.header.root → ((n : ℕ) → is_member n found ≡ is_member n (reached image t)) → AreEarlier image (take n image.threads) tcbs roots cnodes
-      → (is_member root roots || list_any (λ c. is_member c.cnode found && is_root_type (source_type image c.source) && not (c.source == root)) image.capabilities)
+  pub shares-vspace-is : (n : ℕ) (t : Thread) (found tcbs roots cnodes : List ℕ) (root : ℕ) → root ≡ t.header.root →
+      ((n : ℕ) → is_member n found ≡ is_member n (reached image t)) → AreEarlier image (take n image.threads) tcbs roots cnodes
+      → (is_member root roots || list_any (λ c. is_member c.cnode found && is_root_type (source_type image c.source) && not (c.source == root))
+      image.capabilities)
       ≡ shares_vspace image (record { number = n; thread = t })
   unfolding shares_vspace
   shares-vspace-is n t found tcbs roots cnodes root same is before =
       let holds : (λ (c : CapabilityEntry). is_member c.cnode found && is_root_type (source_type image c.source) && not (c.source == t.header.root))
       ≡ (λ (c : CapabilityEntry). is_member c.cnode (reached image t) && is_root_type (source_type image c.source) && not (c.source == t.header.root)) =
       λ i c. is c.cnode i && is_root_type (source_type image c.source) && not (c.source == t.header.root) in
-      ap (λ (r : ℕ). is_member r roots || list_any (λ c. is_member c.cnode found && is_root_type (source_type image c.source) && not (c.source == r)) image.capabilities) same
-      ∙ ap (λ (b : Bool). b || list_any (λ c. is_member c.cnode found && is_root_type (source_type image c.source) && not (c.source == t.header.root)) image.capabilities) (before.have_roots.is t.header.root)
+      ap (λ (r : ℕ). is_member r roots || list_any (λ c. is_member c.cnode found && is_root_type (source_type image c.source) && not (c.source == r))
+      image.capabilities) same
+      ∙ ap (λ (b : Bool). b || list_any (λ c. is_member c.cnode found && is_root_type (source_type image c.source) && not (c.source == t.header.root))
+      image.capabilities) (before.have_roots.is t.header.root)
       ∙ ap (λ (p : CapabilityEntry → Bool). list_any (λ u. u.header.root == t.header.root) (take n image.threads) || list_any p image.capabilities) holds
 
 -- ---- the pages of a program
@@ -82,7 +92,8 @@ module _ (test : ℕ → Bool) (f : ℕ → ℕ) (k count : ℕ) (total : Bool) 
   abbrev pub PagesLeft : ℕ → Type 0
   PagesLeft n = list_all test (map f (range_with_len n (count - n))) ≡ total
 
-  page-next : k < count → list_all test (map f (range_with_len k (count - k))) ≡ (test (f k) && list_all test (map f (range_with_len (k + 1) (count - (k + 1)))))
+  page-next : k < count → list_all test (map f (range_with_len k (count - k)))
+      ≡ (test (f k) && list_all test (map f (range_with_len (k + 1) (count - (k + 1)))))
   page-next lt = let one : count - k ≡ suc (count - (k + 1)) = omega arith in ap (λ (n : ℕ). list_all test (map f (range_with_len k n))) one
 
   pub page-passes : k < count → test (f k) ≡ true → PagesLeft k → PagesLeft (k + 1)

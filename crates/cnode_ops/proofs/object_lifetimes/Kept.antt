@@ -12,7 +12,8 @@ use Rattle.objects.specs.Standing.{Standing}
 use Rattle.objects.specs.Tables.{Tables, state_of}
 use Rattle.soundness.specs.Machines.{SameBase}
 
-pub kept : {S : Type 0} {held : S → Slots} {memory full : S → List ℕ} {old new : Parts S} (u : State) → IsConsistent (state_in held memory old) (memory old.store)
+pub kept : {S : Type 0} {held : S → Slots} {memory full : S → List ℕ} {old new : Parts S} (u : State) →
+    IsConsistent (state_in held memory old) (memory old.store)
     → SameBeside held memory full old new → state_in held memory new ≡ u → IsSound u → SameBase (state_in held memory old) u
     → IsConsistent (state_in held memory new) (memory new.store)
 kept {held = held} {memory = memory} {old = old} {new = new} u before beside is sound base = record {
@@ -22,7 +23,8 @@ kept {held = held} {memory = memory} {old = old} {new = new} u before beside is 
 }
 
 -- objects that fit their store are whole in a state that is consistent
-pub whole-of : {S : Type 0} (held : S → Slots) (memory : S → List ℕ) {live : Parts S} (o : Tables) (store : S) → IsConsistent (state_in held memory live) (memory live.store)
+pub whole-of : {S : Type 0} (held : S → Slots) (memory : S → List ℕ) {live : Parts S} (o : Tables) (store : S) →
+    IsConsistent (state_in held memory live) (memory live.store)
     → record { store = store; tables = o } ≡ live → Standing o (held store) (memory store) → IsWhole o (held store) (memory store)
 whole-of {S} held memory {live} o store now is stands = record {
   sound = subst (λ (k : Parts S). IsSound (state_in held memory k)) (sym is) now.sound;

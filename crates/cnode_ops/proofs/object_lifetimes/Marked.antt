@@ -1,5 +1,6 @@
 -- Where the watermark is set, none of the objects is made yet, and there is room for all of them.
-use Rattle.std.proofs.Common.{ℕ, ◌≡◌, ◌≢◌, ◌∙◌, ◌+◌, ◌-◌, ◌*◌, ◌^◌, ◌<◌, ◌≤◌, inl, inr, not, true, false, Option, Some, None, IsSome, List, refl, sym, ap, subst, arith}
+use Rattle.std.proofs.Common.{ℕ, ◌≡◌, ◌≢◌, ◌∙◌, ◌+◌, ◌-◌, ◌*◌, ◌^◌, ◌<◌, ◌≤◌, inl, inr, not, true, false, Option, Some, None, IsSome, List, refl, sym, ap}
+use Rattle.std.proofs.Common.{subst, arith}
 use Rattle.std.proofs.Math.Pow.{pow_mono}
 use Rattle.std.proofs.lemmas.Bool.Decides.{eqb_tells}
 use Rattle.kernel_invariant.proofs.Laws.{growing-base, put-closes, slots-law, stands-law}
@@ -103,14 +104,16 @@ module _ (o : Tables) (slots now : Slots) (old memory : List ℕ) (new : NewObje
 
   pub marked-stands : Standing o now memory
   marked-stands =
-      stands-law o slots now old memory agreed.1 same (λ x none. ap (λ (f : Slots). f x) marked-slots ∙ put-closes slots at.parent used (parent_at slots at.parent)
+      stands-law o slots now old memory agreed.1 same (λ x none. ap (λ (f : Slots). f x) marked-slots
+      ∙ put-closes slots at.parent used (parent_at slots at.parent)
       (full-open slots at.parent marked-full-before) x none)
 
   growing-marked : Growing (state_of o now memory) memory new.first (new.first + new.count * size_of new)
   unfolding state_of
   growing-marked =
       subst (λ (t : State). Growing t memory new.first (new.first + new.count * size_of new)) (sym (marked-state ∙ ap (with_slots s) marked-slots))
-      (growing-base s old memory at.parent placed.offset placed.bits placed.used at.watermark new.first (new.first + new.count * size_of new) sound placed.memory placed.behind placed.within
+      (growing-base s old memory at.parent placed.offset placed.bits placed.used at.watermark new.first (new.first + new.count * size_of new) sound
+      placed.memory placed.behind placed.within
       placed.fits agreed.0 same)
 
   module _ (window : (i : ℕ) → i < new.count → slots (at.window + i) ≡ Some empty_entry) (room : depth_of slots at.parent < 255) where
@@ -126,13 +129,15 @@ module _ (o : Tables) (slots now : Slots) (old memory : List ℕ) (new : NewObje
     marked-derivation : IsDerivation (recapped slots at.parent used)
     unfolding state_of
     marked-derivation =
-        derivation-recapped slots at.parent used sound.slots.derivation (marked-valid s new at placed sound) (untyped-some placed.offset placed.bits at.watermark)
+        derivation-recapped slots at.parent used sound.slots.derivation (marked-valid s new at placed sound)
+        (untyped-some placed.offset placed.bits at.watermark)
 
     marked-full : IsFull (recapped slots at.parent used) at.parent
     marked-full = full-recapped slots at.parent used was-full (untyped-some placed.offset placed.bits at.watermark) at.parent ∙ was-full
 
     marked-room : depth_of (recapped slots at.parent used) at.parent < 255
-    marked-room = subst (λ (n : ℕ). n < 255) (sym (depth-same 256 (parent_at slots) (parent_at (recapped slots at.parent used)) (parent-recapped slots at.parent used) at.parent)) room
+    marked-room = subst (λ (n : ℕ). n < 255)
+        (sym (depth-same 256 (parent_at slots) (parent_at (recapped slots at.parent used)) (parent-recapped slots at.parent used) at.parent)) room
 
     -- nothing is where the objects are to be
     new-free : IsFree s new.first (new.first + new.count * size_of new)
@@ -142,7 +147,8 @@ module _ (o : Tables) (slots now : Slots) (old memory : List ℕ) (new : NewObje
         let within = placed.within in
         let fits = placed.fits in
         record {
-          objects = λ offset kind is. elim (unused.free.objects offset kind is) [ inl before ↦ inl (omega (arith, before, behind)) | inr past ↦ inr (omega (arith, past, within, fits)) ];
+          objects = λ offset kind is. elim (unused.free.objects offset kind is)
+              [ inl before ↦ inl (omega (arith, before, behind)) | inr past ↦ inr (omega (arith, past, within, fits)) ];
           slots = λ place low high. unused.free.slots place (omega (arith, low, behind)) (omega (arith, high, within, fits));
           bytes = λ place low high. unused.free.bytes place (omega (arith, low, behind)) (omega (arith, high, within, fits));
         }
@@ -156,6 +162,7 @@ module _ (o : Tables) (slots now : Slots) (old memory : List ℕ) (new : NewObje
     none-made =
         made-none (state_of o now memory) memory new at.window at.parent growing-marked
         (λ i less. ap (λ (f : Slots). f (at.window + i)) marked-slots ∙ window-empty i less) (subst IsDerivation (sym marked-slots) marked-derivation)
-        (subst (λ (f : Slots). IsFull f at.parent) (sym marked-slots) marked-full) (subst (λ (f : Slots). depth_of f at.parent < 255) (sym marked-slots) marked-room)
+        (subst (λ (f : Slots). IsFull f at.parent) (sym marked-slots) marked-full)
+        (subst (λ (f : Slots). depth_of f at.parent < 255) (sym marked-slots) marked-room)
         (subst (λ (f : Slots). NoneNamed f new.first (new.first + new.count * size_of new)) (sym marked-slots) marked-unnamed)
         (subst (λ (f : Slots). object_at f at.parent ≡ None) (sym marked-slots) (marked-nameless slots at.parent placed.offset placed.bits at.watermark))

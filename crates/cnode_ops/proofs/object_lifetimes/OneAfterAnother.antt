@@ -1,7 +1,9 @@
 -- Objects one after another: none is made at first, one more each time, and all at the end.
-use Rattle.std.proofs.Common.{ℕ, ◌≡◌, ◌≢◌, ◌∙◌, ◌+◌, ◌-◌, ◌*◌, ◌/◌, ◌%◌, ◌^◌, ◌<◌, ◌≤◌, inl, inr, pow_pos, Bool, true, false, if◌then◌else◌, Option, Some, None, IsSome, List, refl, sym, ap, subst, arith}
+use Rattle.std.proofs.Common.{ℕ, ◌≡◌, ◌≢◌, ◌∙◌, ◌+◌, ◌-◌, ◌*◌, ◌/◌, ◌%◌, ◌^◌, ◌<◌, ◌≤◌, inl, inr, pow_pos, Bool, true, false, if◌then◌else◌, Option, Some, None}
+use Rattle.std.proofs.Common.{IsSome, List, refl, sym, ap, subst, arith}
 use Rattle.std.proofs.Math.Nat.{add-mul-mod_self_right, mul-le-mul_right}
-use Rattle.kernel_invariant.proofs.Laws.{alone, inserted-first, none-yet, one-more, parent-depth, parent-full, rest-empty, sixteen, slots-opened, slots-within, window-apart}
+use Rattle.kernel_invariant.proofs.Laws.{alone, inserted-first, none-yet, one-more, parent-depth, parent-full, rest-empty, sixteen, slots-opened, slots-within}
+use Rattle.kernel_invariant.proofs.Laws.{window-apart}
 use Rattle.kernel_invariant.specs.Growing.{Growing, one_placed}
 use Rattle.cnode_ops.proofs.object_lifetimes.Places.{of-some, room-depth, room-full, room-of_open}
 use Rattle.cnode_ops.proofs.object_lifetimes.Unnamed.{nameless-more, unnamed-more, unnamed-part}
@@ -59,7 +61,8 @@ module _ (s : State) (kind : NewObject) (place slot parent : ℕ) (memory : List
       (derivation-inserted wide slot (first_capability kind place) (Some parent) (wide-derivation tree)
       (room-of_open s kind place memory growing wide sixteenth refl slot (subst (λ (e : Option Entry). IsSome e) (sym empty) refl) ∙ empty) valid first-some
       (λ p is. of-some (IsFull wide) parent p (room-full s kind place memory growing wide sixteenth refl parent full) is)
-      (λ p is. of-some (λ y. depth_of wide y < 255) parent p (subst (λ (n : ℕ). n < 255) (sym (room-depth s kind place memory growing wide sixteenth refl parent)) room) is))
+      (λ p is. of-some (λ y. depth_of wide y < 255) parent p
+      (subst (λ (n : ℕ). n < 255) (sym (room-depth s kind place memory growing wide sixteenth refl parent)) room) is))
 
 -- ---- rounds
 
@@ -92,7 +95,8 @@ made-none t memory new window parent growing empty tree full room unnamed namele
   nameless = nameless;
 }
 
-module _ (t s : State) (old : List ℕ) (new : NewObjects) (window parent i : ℕ) (made : AreMade t s old new window parent i) (laid : AreLaid new) (less : i < new.count) where
+module _ (t s : State) (old : List ℕ) (new : NewObjects) (window parent i : ℕ) (made : AreMade t s old new window parent i) (laid : AreLaid new)
+    (less : i < new.count) where
   abbrev place : ℕ
   place = place_of_new new i
 
@@ -121,7 +125,8 @@ module _ (t s : State) (old : List ℕ) (new : NewObjects) (window parent i : �
   window-open j before =
       let here : is_within window i (window + j) ≡ true = bounds-within window i (window + j) (omega arith) (omega (arith, before)) in
       subst (λ (u : State). IsOpen u.slots (window + j)) (sym made.state)
-      (subst (λ (b : Bool). IsSome (if b then Some (record { capability = first_capability new.kind (new.first + (window + j - window) * size_of new); parent = Some parent })
+      (subst (λ (b : Bool).
+      IsSome (if b then Some (record { capability = first_capability new.kind (new.first + (window + j - window) * size_of new); parent = Some parent })
       else with_new_slots (record { kind = new.kind; first = new.first; count = i }) t.slots (window + j))) (sym here) refl)
 
   module _ (next : State) (now : List ℕ) (is : next ≡ one_placed s new.kind place (window + i) parent)
@@ -144,13 +149,17 @@ module _ (t s : State) (old : List ℕ) (new : NewObjects) (window parent i : �
           (derivation-placed s new.kind place (window + i) parent old room-for_one sixteenth one-empty made.full made.room made.derivation
           (first-valid new.kind place laid.large laid.small one-aligned one-near));
       full = subst (λ (u : State). IsFull u.slots parent) (sym is)
-          (parent-full s new.kind place (window + i) parent place (place + size_of new) room-for_one.free (omega arith) (omega arith) sixteenth one-empty made.full);
+          (parent-full s new.kind place (window + i) parent place (place + size_of new) room-for_one.free (omega arith) (omega arith) sixteenth one-empty
+          made.full);
       room = subst (λ (n : ℕ). n < 255) (sym (ap (λ (u : State). depth_of u.slots parent) is
-          ∙ parent-depth s new.kind place (window + i) parent place (place + size_of new) room-for_one.free (omega arith) (omega arith) sixteenth one-empty made.derivation made.full)) made.room;
+          ∙ parent-depth s new.kind place (window + i) parent place (place + size_of new) room-for_one.free (omega arith) (omega arith) sixteenth one-empty
+          made.derivation made.full)) made.room;
       unnamed = subst (λ (u : State). NoneNamed u.slots (place_of_new new (i + 1)) (new.first + new.count * size_of new)) (sym is)
-          (subst (λ (p : ℕ). NoneNamed (one_placed s new.kind place (window + i) parent).slots p (new.first + new.count * size_of new)) (next-place new.first (size_of new) i)
+          (subst (λ (p : ℕ). NoneNamed (one_placed s new.kind place (window + i) parent).slots p (new.first + new.count * size_of new))
+          (next-place new.first (size_of new) i)
           (unnamed-more s new.kind place (window + i) parent (new.first + new.count * size_of new) made.unnamed));
-      nameless = subst (λ (u : State). object_at u.slots parent ≡ None) (sym is) (nameless-more s new.kind place (window + i) parent made.full one-empty made.nameless);
+      nameless = subst (λ (u : State). object_at u.slots parent ≡ None) (sym is)
+          (nameless-more s new.kind place (window + i) parent made.full one-empty made.nameless);
     }
 
   -- the same, where place and slot have other names

@@ -1,7 +1,9 @@
 -- The state once one object was made: its room, its record, and its capability.
-use Rattle.std.proofs.Common.{ℕ, ◌≡◌, ◌∙◌, ◌+◌, ◌%◌, ◌^◌, ◌<◌, ◌≤◌, ◌⊎◌, inl, inr, Bool, true, false, if◌then◌else◌, Option, Some, IsSome, option_map, List, refl, sym, ap, subst, arith}
+use Rattle.std.proofs.Common.{ℕ, ◌≡◌, ◌∙◌, ◌+◌, ◌%◌, ◌^◌, ◌<◌, ◌≤◌, ◌⊎◌, inl, inr, Bool, true, false, if◌then◌else◌, Option, Some, IsSome, option_map, List}
+use Rattle.std.proofs.Common.{refl, sym, ap, subst, arith}
 use Rattle.std.proofs.lemmas.Bool.Decides.{eqb_tells}
-use Rattle.kernel_invariant.proofs.Laws.{alone, grown, inserted-first, is-open, placed-object, placed-untyped, put-closes, room-state, sixteen, slots-law, stands-law}
+use Rattle.kernel_invariant.proofs.Laws.{alone, grown, inserted-first, is-open, placed-object, placed-untyped, put-closes, room-state, sixteen, slots-law}
+use Rattle.kernel_invariant.proofs.Laws.{stands-law}
 use Rattle.kernel_invariant.specs.Growing.{Growing, one_placed}
 use Rattle.kernel_invariant.specs.Rooms.{RoomMade, has_page}
 use Rattle.cnode_ops.specs.Placed.{new_type}
@@ -51,7 +53,8 @@ kind-put : (s : State) (k : Kind) (place : ℕ) (made : List ℕ) (offset : ℕ)
     → (kind_at s offset ≡ Some kind) ⊎ ((offset ≡ place) × (kind ≡ kind_of (new_object k)))
 kind-put s k place made offset kind is = elim (eqb_tells offset place) [
   | inl here ↦
-      let new : Some (kind_of (new_object k)) ≡ Some kind = sym (ap (λ (b : Bool). option_map kind_of (if b then Some (new_object k) else s.objects offset)) here.0) ∙ is in
+      let new : Some (kind_of (new_object k)) ≡ Some kind =
+      sym (ap (λ (b : Bool). option_map kind_of (if b then Some (new_object k) else s.objects offset)) here.0) ∙ is in
       inr (here.1, cc)
   | inr apart ↦ inl (sym (ap (λ (b : Bool). option_map kind_of (if b then Some (new_object k) else s.objects offset)) apart.0) ∙ is)
 ]
@@ -91,7 +94,8 @@ module _ (o after : Tables) (slots room begun_slots now : Slots) (old made begun
   own-room = is_made
 
   begun-state : state_of after begun_slots begun_bytes ≡ with_begun (with_slots s room) made kind place
-  begun-state = state ∙ ap (λ (t : State). with_begun t made kind place) (room-state o slots room old made (new_type kind) place _ growing (omega arith) sixteenth is_made stood)
+  begun-state = state ∙ ap (λ (t : State). with_begun t made kind place)
+      (room-state o slots room old made (new_type kind) place _ growing (omega arith) sixteenth is_made stood)
 
   placed-slots : now ≡ with_first_capabilities (alone (new_type kind) place) slot parent (with_new_slots (alone (new_type kind) place) s.slots)
   placed-slots =
@@ -120,6 +124,7 @@ module _ (o after : Tables) (slots room begun_slots now : Slots) (old made begun
         → Growing (state_of after now new) new (place + 2 ^ object_bits (new_type kind)) to
     growing-made to more fits =
         subst (λ (t : State). Growing t new (place + 2 ^ object_bits (new_type kind)) to) (sym state-made)
-        (grown s (with_begun (with_slots s room) made kind place) (new_type kind) place slot parent to room old made begun_bytes new more fits aligned large small
+        (grown s (with_begun (with_slots s room) made kind place) (new_type kind) place slot parent to room old made begun_bytes new more fits aligned large
+        small
         (first-valid (new_type kind) place large small aligned near) empty own-room (kind-begun (with_slots s room) kind place made)
         (subst (λ (t : State). SameBesideObjects t made begun_bytes) begun-state beside) (subst (λ (r : Slots). SameOutside r begun_bytes new) same_slots same))

@@ -1,5 +1,6 @@
 -- The place of a new object: nothing is there, and what is at it when its room is made.
-use Rattle.std.proofs.Common.{ℕ, ◌≡◌, ◌∙◌, ◌+◌, ◌/◌, ◌%◌, ◌^◌, ◌<◌, inl, inr, Bool, true, false, if◌then◌else◌, Option, Some, None, IsSome, option_map, List, pow_pos, refl, sym, ap, subst, arith}
+use Rattle.std.proofs.Common.{ℕ, ◌≡◌, ◌∙◌, ◌+◌, ◌/◌, ◌%◌, ◌^◌, ◌<◌, inl, inr, Bool, true, false, if◌then◌else◌, Option, Some, None, IsSome, option_map, List}
+use Rattle.std.proofs.Common.{pow_pos, refl, sym, ap, subst, arith}
 use Rattle.kernel_invariant.proofs.Laws.{alone, slots-alone, some-one, window-apart}
 use Rattle.kernel_invariant.specs.Growing.{Growing}
 use Rattle.model.proofs.Ancestors.{full-open}
@@ -25,7 +26,8 @@ module _ (s : State) (kind : NewObject) (place : ℕ) (old : List ℕ) (growing 
     | Some o ↦ λ some.
         let own = pow_pos (object_bits (kind_of o)) in
         let new = pow_pos (object_bits kind) in
-        absurd (elim (growing.free.objects place (kind_of o) (ap (option_map kind_of) some)) [ inl before ↦ omega (arith, before, own) | inr behind ↦ omega (arith, behind, new) ])
+        absurd (elim (growing.free.objects place (kind_of o) (ap (option_map kind_of) some))
+        [ inl before ↦ omega (arith, before, own) | inr behind ↦ omega (arith, behind, new) ])
   ] refl
 
   pub place-near : place < 2 ^ s.memory_bits

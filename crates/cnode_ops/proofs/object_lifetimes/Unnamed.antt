@@ -1,5 +1,6 @@
 -- No capability names what is still to be made, and untyped memory names nothing.
-use Rattle.std.proofs.Common.{ℕ, ◌≡◌, ◌≢◌, ◌∙◌, ◌==◌, ◌+◌, ◌/◌, ◌^◌, ◌≤◌, inl, inr, true, false, if◌then◌else◌, Option, Some, None, pow_pos, refl, sym, ap, subst, arith}
+use Rattle.std.proofs.Common.{ℕ, ◌≡◌, ◌≢◌, ◌∙◌, ◌==◌, ◌+◌, ◌/◌, ◌^◌, ◌≤◌, inl, inr, true, false, if◌then◌else◌, Option, Some, None, pow_pos, refl, sym, ap}
+use Rattle.std.proofs.Common.{subst, arith}
 use Rattle.std.specs.Option.{option_map_or}
 use Rattle.std.proofs.lemmas.Bool.{eq-eqb}
 use Rattle.std.proofs.lemmas.Bool.Decides.{eqb_tells}
@@ -10,7 +11,8 @@ use Rattle.model.proofs.SlotChanges.{capability_of, entry-other, entry-same, ful
 use Rattle.model.specs.Capabilities.CapabilityKinds.{object_of}
 use Rattle.model.specs.Capabilities.Slots.{IsFull, Slots, capability_at, empty_entry, inserted, is_within, parent_at, recapped}
 use Rattle.model.specs.Kernel.Removal.{slot_count}
-use Rattle.model.specs.Kernel.Retype.{NewObject, NewUntyped, NewThread, NewEndpoint, NewNotification, NewCNode, NewFrame, NewPageTable, NewRootTable, first_capability, object, object_bits, with_new_slots}
+use Rattle.model.specs.Kernel.Retype.{NewObject, NewUntyped, NewThread, NewEndpoint, NewNotification, NewCNode, NewFrame, NewPageTable, NewRootTable}
+use Rattle.model.specs.Kernel.Retype.{first_capability, object, object_bits, with_new_slots}
 use Rattle.model.specs.Kernel.Soundness.{IsSound}
 use Rattle.model.specs.Kernel.State.{State}
 use Rattle.model.specs.declared.capabilities.Cap.{Cap}
@@ -32,14 +34,17 @@ first-named NewPageTable place offset is = let e : Some place ≡ Some offset = 
 first-named NewRootTable place offset is = let e : Some place ≡ Some offset = is in cc
 
 -- slots that are opened name nothing
-room-named : (kind : NewObject) (place x offset : ℕ) (slots : Slots) → object_at (with_new_slots (alone kind place) slots) x ≡ Some offset → object_at slots x ≡ Some offset
+room-named : (kind : NewObject) (place x offset : ℕ) (slots : Slots) → object_at (with_new_slots (alone kind place) slots) x ≡ Some offset →
+    object_at slots x ≡ Some offset
 room-named kind place x offset slots is =
-    elim (is_within (place / 16) (slot_count (object kind)) x) as (λ b. object_of (capability_of (if b then Some empty_entry else slots x)) ≡ Some offset → object_at slots x ≡ Some offset) [
+    elim (is_within (place / 16) (slot_count (object kind)) x) as (λ b. object_of (capability_of (if b then Some empty_entry else slots x)) ≡ Some offset →
+    object_at slots x ≡ Some offset) [
       | true ↦ λ none. absurd (let clash : None ≡ Some offset = none in cc)
       | false ↦ λ named. named
     ] (sym (ap (λ e. object_of (capability_of e)) (slots-alone kind place x slots)) ∙ is)
 
-nameless-still : (kind : NewObject) (place parent : ℕ) (slots : Slots) → object_at slots parent ≡ None → object_at (with_new_slots (alone kind place) slots) parent ≡ None
+nameless-still : (kind : NewObject) (place parent : ℕ) (slots : Slots) → object_at slots parent ≡ None →
+    object_at (with_new_slots (alone kind place) slots) parent ≡ None
 nameless-still kind place parent slots none =
     elim (object_at (with_new_slots (alone kind place) slots) parent) as (λ o. object_at (with_new_slots (alone kind place) slots) parent ≡ o → o ≡ None) [
       | None ↦ λ is. refl
@@ -47,7 +52,8 @@ nameless-still kind place parent slots none =
     ] refl
 
 -- the new object's capability may hang below untyped memory
-pub kin-made : (slots room now : Slots) (kind : NewObject) (place parent : ℕ) (capability : Cap) → NoneNamed slots place (place + 2 ^ object_bits kind) → object_at slots parent ≡ None
+pub kin-made : (slots room now : Slots) (kind : NewObject) (place parent : ℕ) (capability : Cap) → NoneNamed slots place (place + 2 ^ object_bits kind) →
+    object_at slots parent ≡ None
     → room ≡ with_new_slots (alone kind place) slots → now ≡ room → capability ≡ first_capability kind place → IsKin now capability (Some parent)
 kin-made slots room now kind place parent capability unnamed nameless opens same is =
     let size = pow_pos (object_bits kind) in
@@ -57,7 +63,8 @@ kin-made slots room now kind place parent capability unnamed nameless opens same
       nameless-still kind place parent slots nameless,
       λ offset x own named.
           let here : offset ≡ place = first-named kind place offset (ap object_of (sym is) ∙ own) in
-          elim (unnamed x offset (room-named kind place x offset slots named)) [ inl before ↦ omega (arith, before, here) | inr behind ↦ omega (arith, behind, here, size) ],
+          elim (unnamed x offset (room-named kind place x offset slots named))
+          [ inl before ↦ omega (arith, before, here) | inr behind ↦ omega (arith, behind, here, size) ],
     ))
 
 -- ---- one object more
@@ -91,11 +98,13 @@ module _ (s : State) (kind : NewObject) (place slot parent : ℕ) where
         | inr off ↦ elim (unnamed x offset (beside-named x offset off.1 is)) [ inl before ↦ inl (omega (arith, before, size)) | inr behind ↦ inr behind ]
       ]
 
-  pub nameless-more : IsFull s.slots parent → s.slots slot ≡ Some empty_entry → object_at s.slots parent ≡ None → object_at (one_placed s kind place slot parent).slots parent ≡ None
+  pub nameless-more : IsFull s.slots parent → s.slots slot ≡ Some empty_entry → object_at s.slots parent ≡ None →
+      object_at (one_placed s kind place slot parent).slots parent ≡ None
   nameless-more full empty none =
       elim (object_at (one_placed s kind place slot parent).slots parent) as (λ o. object_at (one_placed s kind place slot parent).slots parent ≡ o → o ≡ None) [
         | None ↦ λ is. refl
-        | Some offset ↦ λ is. absurd (let clash : None ≡ Some offset = sym none ∙ beside-named parent offset (full-not-empty s.slots parent slot full empty) is in cc)
+        | Some offset ↦ λ is. absurd (let clash : None ≡ Some offset = sym none
+            ∙ beside-named parent offset (full-not-empty s.slots parent slot full empty) is in cc)
       ] refl
 
 -- room for less is there too
@@ -110,7 +119,8 @@ free-unnamed : (s : State) (from to : ℕ) → IsSound s → IsFree s from to �
 free-unnamed s from to sound free x offset is =
     let named = object-kind (capability_at s.slots x) offset (ap (λ (o : Option ℕ). option_map_or (λ n. n == offset) o false) is ∙ eq-eqb offset offset refl) in
     let size = pow_pos (object_bits named.0) in
-    elim (free.objects offset named.0 (sound.memory.named x named.0 offset named.1)) [ inl before ↦ inl (omega (arith, before, size)) | inr behind ↦ inr behind ]
+    elim (free.objects offset named.0 (sound.memory.named x named.0 offset named.1))
+    [ inl before ↦ inl (omega (arith, before, size)) | inr behind ↦ inr behind ]
 
 module _ (slots : Slots) (parent offset bits used : ℕ) where
   abbrev marked : Slots
@@ -128,5 +138,6 @@ module _ (slots : Slots) (parent offset bits used : ℕ) where
     | inr off ↦ unnamed x named (sym (ap (λ e. object_of (capability_of e)) (entry-other slots parent mark x off.1)) ∙ is)
   ]
 
-pub first-unnamed : (s : State) (parent offset bits used from to : ℕ) → IsSound s → IsFree s from to → NoneNamed (recapped s.slots parent (Untyped offset bits used)) from to
+pub first-unnamed : (s : State) (parent offset bits used from to : ℕ) → IsSound s → IsFree s from to →
+    NoneNamed (recapped s.slots parent (Untyped offset bits used)) from to
 first-unnamed s parent offset bits used from to sound free = marked-unnamed s.slots parent offset bits used from to (free-unnamed s from to sound free)

@@ -7,7 +7,8 @@ use Rattle.model.specs.Capabilities.CapabilityKinds.{badge_fits, carries_message
 use Rattle.model.specs.Capabilities.CapabilityWords.{AreEndpointRights, IsCapability, IsGuardWord}
 use Rattle.model.specs.Kernel.Arguments.{◌>>=◌, check}
 use Rattle.model.specs.declared.capabilities.Cap.{Cap}
-use Rattle.model.specs.declared.capabilities.Cap.TheVariants.{Empty, Untyped, Endpoint, Notification, CNode, Frame, PageTable, Tcb, RootTable, InterruptControl, InterruptHandler}
+use Rattle.model.specs.declared.capabilities.Cap.TheVariants.{Empty, Untyped, Endpoint, Notification, CNode, Frame, PageTable, Tcb, RootTable, InterruptControl}
+use Rattle.model.specs.declared.capabilities.Cap.TheVariants.{InterruptHandler}
 use Rattle.model.specs.declared.errors.KError.{KError}
 use Rattle.model.specs.declared.errors.KError.TheVariants.{IllegalOperation, RangeError}
 use Rattle.derivation.specs.cap_copies.Copies.{copy_of, minted_copy_of}
@@ -36,7 +37,8 @@ guard_word radix word fits = grind (arith, nat_tests)
 badge : (word : ℕ) → nat_lt word (2 ^ 28) ≡ true → word < 2 ^ 28
 badge word fits = grind (arith, nat_tests)
 
-pub payload-valid : (held : Cap) (word payload : ℕ) → IsCapability held → badge_fits held payload ≡ true → guard_fits held payload ≡ true → IsCapability (with_payload (copied held word) payload)
+pub payload-valid : (held : Cap) (word payload : ℕ) → IsCapability held → badge_fits held payload ≡ true → guard_fits held payload ≡ true →
+    IsCapability (with_payload (copied held word) payload)
 payload-valid Empty word payload valid fits guards = valid
 payload-valid (Untyped offset bits watermark) word payload valid fits guards = valid
 payload-valid (Endpoint offset r old) word payload valid fits guards = (valid.0, fewer_rights r.0 word valid.1, badge payload fits)

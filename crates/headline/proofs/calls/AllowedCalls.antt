@@ -22,7 +22,8 @@ unfolding state_rules
 call-kept image t point state kept = kept 5 None (omega arith)
 
 -- a call that is looked at, and not refused
-allowed-at : (image : Image) (t : Numbered) (point : ℕ) (state : PointState) (result : Result AfterCall Refusal) → after_call image t.thread (point_of t point) state ≡ result
+allowed-at : (image : Image) (t : Numbered) (point : ℕ) (state : PointState) (result : Result AfterCall Refusal) →
+    after_call image t.thread (point_of t point) state ≡ result
     → call_at image t point state ≡ Some result → refused_call (Some result) ≡ None → IsAllowed image t point state
 allowed-at image t point state (Ok left) is at kept = record { left = left; at = at; is = is }
 allowed-at image t point state (Err refusal) is at kept = absurd (let clash : ◌≡◌ {A = Rule} (Some refusal) None = kept in cc)
@@ -33,7 +34,8 @@ unfolding call_at
 looked-at image t point state own =
     ap (λ (b : Bool). if b then None else Some (after_call image t.thread (point_of t point) state)) own
 
-pub call-allowed : (bytes : List ℕ) (image : Image) (t : Numbered) (point : ℕ) (state : PointState) → IsAccepted bytes image → Contains (numbered_threads image) t
+pub call-allowed : (bytes : List ℕ) (image : Image) (t : Numbered) (point : ℕ) (state : PointState) → IsAccepted bytes image →
+    Contains (numbered_threads image) t
     → point < t.thread.header.words → noted image t point ≡ Known state → instruction_at t.thread point ≡ Some Ecall → IsAllowed image t point state
 call-allowed bytes image t point state accepted listed inside known is =
     let looked = looked-at image t point state (point-at bytes image t accepted listed point state inside known).own in

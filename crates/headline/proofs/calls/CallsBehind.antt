@@ -77,7 +77,8 @@ module _ (bytes : List ℕ) (image : Image) (t : Numbered) (accepted : IsAccepte
     falls-behind : left.is_wait ≡ false → (r after : RegisterFile) → WritesOnly r after left.written → LieWithin r state.ranges → LieWithin after left.ranges
         → measured next.measure after <ℤ measured state.measure r
     falls-behind plain r after only before behind =
-        falls-over r after left.written state.measure next.measure state.ranges left.ranges only (named-at point state known) (named-at leads.point next leads.known)
+        falls-over r after left.written state.measure next.measure state.ranges left.ranges only (named-at point state known)
+        (named-at leads.point next leads.known)
         before behind (leads.falling plain)
 
     leads-behind : LeadsBehind image t point state left
@@ -95,4 +96,5 @@ module _ (bytes : List ℕ) (image : Image) (t : Numbered) (accepted : IsAccepte
 pub calls-behind : (bytes : List ℕ) (image : Image) (t : Numbered) (point : ℕ) (state : PointState) (left : AfterCall) → IsAccepted bytes image
     → Contains (numbered_threads image) t → point < t.thread.header.words → noted image t point ≡ Known state → instruction_at t.thread point ≡ Some Ecall
     → call_at image t point state ≡ Some (Ok left) → LeadsBehind image t point state left
-calls-behind bytes image t point state left accepted listed inside known is left_so = leads-behind bytes image t accepted listed point state left inside known is left_so
+calls-behind bytes image t point state left accepted listed inside known is left_so =
+    leads-behind bytes image t accepted listed point state left inside known is left_so

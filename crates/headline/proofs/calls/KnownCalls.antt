@@ -60,14 +60,16 @@ word-known at state x n registers less is within =
 abbrev IsNumbered : Register → Type 0
 IsNumbered x = x.0 < 32
 
-pub words-known : (at : Point) (state : PointState) (xs : List Register) (ns : List ℕ) (registers : RegisterFile) → All IsNumbered xs → all_known at state xs ≡ Ok ns
+pub words-known : (at : Point) (state : PointState) (xs : List Register) (ns : List ℕ) (registers : RegisterFile) → All IsNumbered xs →
+    all_known at state xs ≡ Ok ns
     → LieWithin registers state.ranges → map (read registers) xs ≡ ns
 unfolding all_known
 words-known at state [] ns registers less is within = let equal : ◌≡◌ {A = Result (List ℕ) Refusal} (Ok []) (Ok ns) = is in cc
 words-known at state (x ∷ xs) ns registers less is within =
     let first = passes (known at state x) (λ value. all_known at state xs >>= (λ values. Ok (value ∷ values))) ns is in
     let rest = passes (all_known at state xs) (λ values. Ok (Passes.value first ∷ values)) ns (Passes.goes first) in
-    let here : read registers x ≡ Passes.value first = word-known at state x (Passes.value first) registers (All-head IsNumbered x xs less) (Passes.is first) within in
+    let here : read registers x ≡ Passes.value first = word-known at state x (Passes.value first) registers (All-head IsNumbered x xs less) (Passes.is first)
+    within in
     let there : map (read registers) xs ≡ Passes.value rest =
     words-known at state xs (Passes.value rest) registers (All-tail IsNumbered x xs less) (Passes.is rest) within in
     let whole : (Passes.value first ∷ Passes.value rest) ≡ ns =
@@ -82,7 +84,8 @@ call-numbered image t at state left registers (Some call) number is = record { c
 call-numbered image t at state left registers None number is =
     absurd (let clash : ◌≡◌ {A = Result AfterCall Refusal} (Err (CallRefused at IllegalOperation)) (Ok left) = is in cc)
 
-pub call-known : (image : Image) (t : Thread) (at : Point) (state : PointState) (left : AfterCall) (registers : RegisterFile) → after_call image t at state ≡ Ok left
+pub call-known : (image : Image) (t : Thread) (at : Point) (state : PointState) (left : AfterCall) (registers : RegisterFile) →
+    after_call image t at state ≡ Ok left
     → LieWithin registers state.ranges → CallsSo image t at state left registers
 unfolding after_call
 call-known image t at state left registers is within =
@@ -96,7 +99,8 @@ slot-found : (at : Point) (r : Result ℕ LookupFailure) (slot : ℕ) → found_
 slot-found at (Ok other) slot h = let equal : ◌≡◌ {A = Result ℕ Refusal} (Ok other) (Ok slot) = h in cc
 slot-found at (Err failure) slot h = absurd (let clash : ◌≡◌ {A = Result ℕ Refusal} (Err (CapNotThere at)) (Ok slot) = h in cc)
 
-pub name-known : (image : Image) (t : Thread) (at : Point) (state : PointState) (rule : ℕ → Cap → Result AfterCall Refusal) (left : AfterCall) (registers : RegisterFile)
+pub name-known : (image : Image) (t : Thread) (at : Point) (state : PointState) (rule : ℕ → Cap → Result AfterCall Refusal) (left : AfterCall)
+    (registers : RegisterFile)
     → by_capability image t at state rule ≡ Ok left → LieWithin registers state.ranges → NamesSo image t state rule left registers
 name-known image t at state rule left registers is within =
     let slots : Slots = (noted_kernel image t state.slots).slots in

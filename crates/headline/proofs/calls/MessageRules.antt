@@ -3,11 +3,13 @@ use Rattle.std.proofs.Common.{ℕ, ◌≡◌, Bool, true, false, ◌&&◌, Resul
 use Rattle.std.proofs.lemmas.Bool.{and_parts}
 use Rattle.headline.specs.calls.Messages.{NeedsNothing, ReceivesBy, on_endpoint, on_notification, SendsBy, calls, sends, tries, signals, invokes}
 use Rattle.model.specs.declared.capabilities.Cap.{Cap}
-use Rattle.model.specs.declared.capabilities.Cap.TheVariants.{Empty, Untyped, Endpoint, Notification, CNode, Frame, PageTable, Tcb, RootTable, InterruptControl, InterruptHandler}
+use Rattle.model.specs.declared.capabilities.Cap.TheVariants.{Empty, Untyped, Endpoint, Notification, CNode, Frame, PageTable, Tcb, RootTable, InterruptControl}
+use Rattle.model.specs.declared.capabilities.Cap.TheVariants.{InterruptHandler}
 use Rattle.model.specs.declared.refusals.Point.{Point}
 use Rattle.model.specs.declared.refusals.Refusal.{Refusal}
 use Rattle.model.specs.declared.refusals.Refusal.TheVariants.{CapNotThere}
-use Rattle.model.specs.Acceptance.CallRules.{AfterCall, answers, badges, by_call, changes_nothing, demand, known_behind, message_registers, receive_rule, send_rule, with_answer, with_message}
+use Rattle.model.specs.Acceptance.CallRules.{AfterCall, answers, badges, by_call, changes_nothing, demand, known_behind, message_registers, receive_rule}
+use Rattle.model.specs.Acceptance.CallRules.{send_rule, with_answer, with_message}
 use Rattle.model.specs.Acceptance.NotedStates.{PointState}
 use Rattle.model.specs.Acceptance.Ranges.{single, with_range}
 use Rattle.model.specs.Capabilities.Rights.{may_grant_reply, may_read, may_write}
@@ -33,7 +35,8 @@ refused refusal left h = absurd (let clash : ◌≡◌ {A = Result AfterCall Ref
 
 -- ---- receives
 
-pub receives-known : (at : Point) (state : PointState) (is_wait : Bool) (capability : Cap) (left : AfterCall) → receive_rule at state is_wait capability ≡ Ok left
+pub receives-known : (at : Point) (state : PointState) (is_wait : Bool) (capability : Cap) (left : AfterCall) →
+    receive_rule at state is_wait capability ≡ Ok left
     → ReceivesBy state is_wait capability left
 receives-known at state is_wait (Endpoint offset r badge) left h =
     let parts = demanded (may_read r) (CapNotThere at) (known_behind state (with_message state.ranges badges) is_wait message_registers) left h in

@@ -1,5 +1,6 @@
 -- What a message writes: words of registers one after another, after the badge and the info word.
-use Rattle.std.proofs.Common.{refl, true, nat_le, nat_lt, ◌&&◌, ℕ, ◌≡◌, ◌^◌, ◌<◌, List, [], ◌∷◌, length, get_or, inl, inr, Bool, if◌then◌else◌, sym, ap, subst, arith}
+use Rattle.std.proofs.Common.{refl, true, nat_le, nat_lt, ◌&&◌, ℕ, ◌≡◌, ◌^◌, ◌<◌, List, [], ◌∷◌, length, get_or, inl, inr, Bool, if◌then◌else◌, sym, ap, subst}
+use Rattle.std.proofs.Common.{arith}
 use Rattle.std.proofs.lemmas.Bool.Decides.{eqb_tells}
 use Rattle.std.specs.List.{All, list_all}
 use Rattle.std.proofs.lemmas.Bool.{and_parts, leb-true, ltb-true}
@@ -63,7 +64,8 @@ words-writable : AreWritable word_registers
 unfolding word_registers
 words-writable = refl
 
-module _ (registers : RegisterFile) (ranges : List Range) (count : length registers.words ≡ 32) (small : All IsSmall registers.words) (long : length ranges ≡ 31)
+module _ (registers : RegisterFile) (ranges : List Range) (count : length registers.words ≡ 32) (small : All IsSmall registers.words)
+    (long : length ranges ≡ 31)
     (within : LieWithin registers ranges) where
   words-small : (k : ℕ) → k < 32 → read registers (register_numbered k) < 2 ^ 32
   words-small k less = elim (eqb_tells k 0) [
@@ -86,8 +88,11 @@ module _ (registers : RegisterFile) (ranges : List Range) (count : length regist
       let two : Fits second wide = wrote first (with_range ranges a0 out) a1 number full info-writable info (below-full number info) one in
       let last : RegisterFile = write_words second word_registers message.words in
       let only : WritesOnly second last word_registers = words-only second word_registers message.words words-writable in
-      let fit = words-fit second wide word_registers message.words words-writable words two in
-      (fit.within, writes-more registers last a0 badge (a1 ∷ word_registers) badge-writable (writes-more first last a1 number word_registers info-writable only))
+      let fit = words-fit second wide word_registers message.words words-writable words two in (
+        fit.within,
+        writes-more registers last a0 badge (a1 ∷ word_registers) badge-writable
+            (writes-more first last a1 number word_registers info-writable only),
+      )
 
   pub signal-fits : (word : ℕ) → word < 2 ^ 28
       → LieWithin (write registers a0 word) (with_range ranges a0 badges) × WritesOnly registers (write registers a0 word) (a0 ∷ [])
@@ -100,7 +105,8 @@ module _ (registers : RegisterFile) (ranges : List Range) (count : length regist
   result-fits =
       let first : RegisterFile = write registers a0 0 in
       let second : RegisterFile = write first a1 0 in
-      let one : Fits first (with_range ranges a0 (single 0)) = wrote registers ranges a0 0 (single 0) badge-writable (omega arith) (omega arith, omega arith) start in
+      let one : Fits first (with_range ranges a0 (single 0)) =
+      wrote registers ranges a0 0 (single 0) badge-writable (omega arith) (omega arith, omega arith) start in
       let two = wrote first (with_range ranges a0 (single 0)) a1 0 (single 0) info-writable (omega arith) (omega arith, omega arith) one in
       (two.within, writes-more registers second a0 0 (a1 ∷ []) badge-writable (writes-more first second a1 0 [] info-writable (writes-none second [])))
 

@@ -1,5 +1,6 @@
 -- What a word spells has fields in their ranges.
-use Rattle.std.proofs.Common.{◌≡◌, ◌==◌, ◌||◌, ℕ, ◌+◌, ◌*◌, ◌^◌, ◌<◌, ◌≤◌, Bool, true, false, pos, Option, Some, None, if◌then◌else◌, nat_lt, refl, subst, arith}
+use Rattle.std.proofs.Common.{◌≡◌, ◌==◌, ◌||◌, ℕ, ◌+◌, ◌*◌, ◌^◌, ◌<◌, ◌≤◌, Bool, true, false, pos, Option, Some, None, if◌then◌else◌, nat_lt, refl, subst}
+use Rattle.std.proofs.Common.{arith}
 use Rattle.std.specs.Prelude.{◌-ℤ◌, option_map}
 use Rattle.std.proofs.lemmas.Bool.{ltb-false, ltb-true}
 use Rattle.std.proofs.lemmas.Int.{ints}
@@ -12,7 +13,8 @@ use Rattle.model.specs.declared.instructions.RegisterOp.{RegisterOp}
 use Rattle.model.specs.declared.instructions.ShiftOp.{ShiftOp}
 use Rattle.model.specs.declared.instructions.StoreOp.{StoreOp}
 use Rattle.model.specs.Machine.Instructions.{IsBranchOffset, IsImmediate, IsInstr, IsJumpOffset, bits}
-use Rattle.model.specs.Machine.Decoding.{b_offset, branch_op, decoded, funct3_of, funct7_of, i_immediate, immediate_op, j_offset, load_op, rd_of, register_op, rs1_of, rs2_of, s_immediate, shift_op, sign_extended, store_op}
+use Rattle.model.specs.Machine.Decoding.{b_offset, branch_op, decoded, funct3_of, funct7_of, i_immediate, immediate_op, j_offset, load_op, rd_of, register_op}
+use Rattle.model.specs.Machine.Decoding.{rs1_of, rs2_of, s_immediate, shift_op, sign_extended, store_op}
 
 abbrev HaveFields : Option Instr → Type 0
 HaveFields None = Unit {0}

@@ -7,7 +7,8 @@ use Rattle.model.specs.Acceptance.WellFormed.{is_root_type}
 use Rattle.model.specs.Images.Described.{original}
 use Rattle.model.specs.Images.Image.{Image}
 use Rattle.model.specs.Images.Places.{offset_of, type_at}
-use Rattle.model.specs.Kernel.Retype.{NewObject, NewUntyped, NewThread, NewEndpoint, NewNotification, NewCNode, NewFrame, NewPageTable, NewRootTable, first_capability}
+use Rattle.model.specs.Kernel.Retype.{NewObject, NewUntyped, NewThread, NewEndpoint, NewNotification, NewCNode, NewFrame, NewPageTable, NewRootTable}
+use Rattle.model.specs.Kernel.Retype.{first_capability}
 use Rattle.soundness.proofs.Laws.{mapped_by}
 
 pub mapped-root : (image : Image) (found : Option TableEntry) (offset : ℕ) → mapped_by image found (RootTable offset) ≡ RootTable offset

@@ -1,5 +1,6 @@
 -- What follows from rules that are kept: each part of them is, and a rule that refuses where a test holds says that it fails.
-use Rattle.std.proofs.Common.{◌≤◌, inl, inr, ℕ, zero, suc, ◌≡◌, ◌+◌, ◌<◌, Bool, true, false, List, [], ◌∷◌, length, None, refl, subst, arith, ◌-◌, ◌*◌, ◌/◌, ◌%◌, not, ◌&&◌}
+use Rattle.std.proofs.Common.{◌≤◌, inl, inr, ℕ, zero, suc, ◌≡◌, ◌+◌, ◌<◌, Bool, true, false, List, [], ◌∷◌, length, None, refl, subst, arith, ◌-◌, ◌*◌, ◌/◌}
+use Rattle.std.proofs.Common.{◌%◌, not, ◌&&◌}
 use Rattle.std.specs.Prelude.{Contains, flat_map, slice_index_or}
 use Rattle.std.specs.List.{range_with_len}
 use Rattle.std.proofs.lemmas.Bool.{cases_eq}

@@ -26,8 +26,10 @@ signals-same s masked pending n badge y o (w ∷ others) = refl
 
 signals-store : (image : Image) (s : State) (masked pending later : ℕ → Bool) (n badge : ℕ) (o : NotificationState) (waiters : List ℕ)
     → SameGround image s (record (signals (record s { masked = masked; pending = pending }) n badge o waiters) { masked = later })
-signals-store image s masked pending later n badge o [] = record { memory_bits = refl; boot_radix = refl; slots = λ slot. refl; bytes = λ frame place code low high. refl }
-signals-store image s masked pending later n badge o (w ∷ others) = record { memory_bits = refl; boot_radix = refl; slots = λ slot. refl; bytes = λ frame place code low high. refl }
+signals-store image s masked pending later n badge o [] =
+    record { memory_bits = refl; boot_radix = refl; slots = λ slot. refl; bytes = λ frame place code low high. refl }
+signals-store image s masked pending later n badge o (w ∷ others) =
+    record { memory_bits = refl; boot_radix = refl; slots = λ slot. refl; bytes = λ frame place code low high. refl }
 
 module _ (laws : Laws) (bytes : List ℕ) (image : Image) (s : State) (labels : List Label) (accepted : IsAccepted bytes image) (all : AllStand image s labels)
     (t : Numbered) (listed : Contains (numbered_threads image) t) (own : ThreadState) (point : ℕ) (state : PointState) (left : AfterCall)
@@ -51,7 +53,8 @@ module _ (laws : Laws) (bytes : List ℕ) (image : Image) (s : State) (labels : 
 
   stays : IsSound unmasked → HasSignalled image t unmasked labels own point state left
   stays sound =
-      let store : SameGround image s unmasked = record { memory_bits = refl; boot_radix = refl; slots = λ slot. refl; bytes = λ frame place code low high. refl } in
+      let store : SameGround image s unmasked =
+      record { memory_bits = refl; boot_radix = refl; slots = λ slot. refl; bytes = λ frame place code low high. refl } in
       record {
         all = unchanged-stand laws bytes image s labels labels accepted all (λ u member. refl) unmasked sound store (λ y. refl);
         at = calls-on laws bytes image s labels accepted all t listed own point state left at unmasked sound store own at.there refl refl;

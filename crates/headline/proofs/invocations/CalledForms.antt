@@ -2,8 +2,12 @@
 use Rattle.std.proofs.Common.{ℕ, ◌≡◌, ◌==◌, ◌<◌, Bool, true, false, if◌then◌else◌, List, Option, Some, None, refl, subst, arith}
 use Rattle.std.specs.Prelude.{⊤}
 use Rattle.model.specs.declared.capabilities.Cap.{Cap}
-use Rattle.model.specs.declared.capabilities.Cap.TheVariants.{Empty, Untyped, Endpoint, Notification, CNode, Frame, PageTable, Tcb, RootTable, InterruptControl, InterruptHandler}
-use Rattle.model.specs.Kernel.CallForms.{CallForm, acknowledge_label, clear_label, configure_label, copy_label, delete_label, form_of, get_handler_label, map_frame_label, map_table_label, mint_label, move_label, mutate_label, resume_label, retype_label, revoke_label, set_notification_label, set_priority_label, set_register_label, suspend_label, unmap_frame_label, unmap_table_label, word}
+use Rattle.model.specs.declared.capabilities.Cap.TheVariants.{Empty, Untyped, Endpoint, Notification, CNode, Frame, PageTable, Tcb, RootTable, InterruptControl}
+use Rattle.model.specs.declared.capabilities.Cap.TheVariants.{InterruptHandler}
+use Rattle.model.specs.Kernel.CallForms.{CallForm, acknowledge_label, clear_label, configure_label, copy_label, delete_label, form_of, get_handler_label}
+use Rattle.model.specs.Kernel.CallForms.{map_frame_label, map_table_label, mint_label, move_label, mutate_label, resume_label, retype_label, revoke_label}
+use Rattle.model.specs.Kernel.CallForms.{set_notification_label, set_priority_label, set_register_label, suspend_label, unmap_frame_label, unmap_table_label}
+use Rattle.model.specs.Kernel.CallForms.{word}
 use Rattle.headline.specs.invocations.Performed.{IsOn}
 
 -- the first words are the same

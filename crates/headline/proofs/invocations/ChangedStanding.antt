@@ -11,7 +11,8 @@ use Rattle.model.specs.Acceptance.Measures.{measured}
 use Rattle.model.specs.Acceptance.NotedKernel.{key_of, noted_after, slot_of_key}
 use Rattle.model.specs.Acceptance.NotedStates.{NotedSlot, PointState}
 use Rattle.model.specs.Acceptance.PointStates.{address_of}
-use Rattle.model.specs.Acceptance.ThreadInvariants.{HasBootParent, LieWithin, MapsAreNoted, NamesNoCode, StandsAt, ThreadInvariant, root_table_of, runs as runs_so, tcb_of}
+use Rattle.model.specs.Acceptance.ThreadInvariants.{HasBootParent, LieWithin, MapsAreNoted, NamesNoCode, StandsAt, ThreadInvariant, root_table_of}
+use Rattle.model.specs.Acceptance.ThreadInvariants.{runs as runs_so, tcb_of}
 use Rattle.model.specs.Acceptance.ThreadRules.{reached}
 use Rattle.model.specs.Capabilities.CapabilityKinds.{root_of}
 use Rattle.model.specs.Capabilities.Slots.{capability_at}

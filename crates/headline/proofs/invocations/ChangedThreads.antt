@@ -32,7 +32,8 @@ pub record LawsOfCalls : Type 0 where
   pub result : ResultFits
 
 module _ (laws : LawsOfCalls) (bytes : List ℕ) (image : Image) (t : Numbered) (s : State) (labels later : List Label) (own : ThreadState) (point : ℕ)
-    (state : PointState) (left : AfterCall) (after : State) (accepted : IsAccepted bytes image) (all : AllStand image s labels) (listed : Contains (numbered_threads image) t)
+    (state : PointState) (left : AfterCall) (after : State) (accepted : IsAccepted bytes image) (all : AllStand image s labels)
+    (listed : Contains (numbered_threads image) t)
     (at : CallsAt image t s labels own point state left) (m : Mirrors image t s state.slots) (c : ChangesOwn image t s after left.slots)
     (hung : DerivesFromSome image t after)
     (counts : IsCounted image t labels later false) where
@@ -42,7 +43,8 @@ module _ (laws : LawsOfCalls) (bytes : List ℕ) (image : Image) (t : Numbered) 
   -- ---- where the thread's object alone is another one
 
   module _ (objects : ℕ → Option Object) (others : (y : ℕ) → y ≢ tcb_of image t → objects y ≡ after.objects y)
-      (sound : IsSound (record after { objects = objects })) (wait : left.is_wait ≡ false) (passing : PassesWith (record after { objects = objects }) (tcb_of image t) own state left) where
+      (sound : IsSound (record after { objects = objects })) (wait : left.is_wait ≡ false)
+      (passing : PassesWith (record after { objects = objects }) (tcb_of image t) own state left) where
     abbrev behind : State
     behind = record after { objects = objects }
 

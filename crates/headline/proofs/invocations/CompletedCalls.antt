@@ -33,7 +33,8 @@ use Rattle.headline.specs.calls.Laws.{AreRegisters}
 use Rattle.headline.proofs.facts.Laws.{at-place}
 
 module _ (laws : LawsOfCalls) (bytes : List ℕ) (image : Image) (t : Numbered) (s : State) (labels later : List Label) (own : ThreadState) (point : ℕ)
-    (state : PointState) (left : AfterCall) (after : State) (accepted : IsAccepted bytes image) (all : AllStand image s labels) (listed : Contains (numbered_threads image) t)
+    (state : PointState) (left : AfterCall) (after : State) (accepted : IsAccepted bytes image) (all : AllStand image s labels)
+    (listed : Contains (numbered_threads image) t)
     (at : CallsAt image t s labels own point state left) (m : Mirrors image t s state.slots) (c : ChangesOwn image t s after left.slots)
     (hung : DerivesFromSome image t after)
     (counts : IsCounted image t labels later false) where
@@ -96,7 +97,8 @@ module _ (laws : LawsOfCalls) (bytes : List ℕ) (image : Image) (t : Numbered) 
   stands-completed kind asks = subst Stand (sym (completed-is after tcb own kind there-still at.status)) (by-kind kind asks)
 
 pub all-completed : LawsOfCalls → (bytes : List ℕ) (image : Image) (t : Numbered) (s : State) (labels : List Label) (own : ThreadState)
-    (point : ℕ) (state : PointState) (left : AfterCall) (kind : SendCall) (after : State) → IsAccepted bytes image → AllStand image s labels → Contains (numbered_threads image) t
+    (point : ℕ) (state : PointState) (left : AfterCall) (kind : SendCall) (after : State) → IsAccepted bytes image → AllStand image s labels →
+    Contains (numbered_threads image) t
     → CallsAt image t s labels own point state left → Mirrors image t s state.slots → ChangesOwn image t s after left.slots → DerivesFromSome image t after
     → IsAnswered kind state left → IsSound (completed after (tcb_of image t) kind)
     → AllStand image (completed after (tcb_of image t) kind) (labels ++ Ran (memory_base + tcb_of image t) own.registers.pc Completed ∷ [])

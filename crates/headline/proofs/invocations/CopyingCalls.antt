@@ -1,7 +1,8 @@
 -- Copy, Mint and Move on the state as it is.
 use Rattle.std.proofs.Common.{ℕ, ◌≡◌, ◌∙◌, true, false, not, List, Result, Ok, Some, None, refl, sym, ap, subst}
 use Rattle.model.specs.declared.capabilities.Cap.{Cap}
-use Rattle.model.specs.declared.capabilities.Cap.TheVariants.{Empty, Untyped, Endpoint, Notification, CNode, Frame, PageTable, Tcb, RootTable, InterruptControl, InterruptHandler}
+use Rattle.model.specs.declared.capabilities.Cap.TheVariants.{Empty, Untyped, Endpoint, Notification, CNode, Frame, PageTable, Tcb, RootTable, InterruptControl}
+use Rattle.model.specs.declared.capabilities.Cap.TheVariants.{InterruptHandler}
 use Rattle.model.specs.declared.errors.KError.{KError}
 use Rattle.model.specs.declared.errors.KError.TheVariants.{IllegalOperation, RangeError}
 use Rattle.model.specs.declared.invocations.CNodeCall.TheVariants.{Copy, Mint, Move}
@@ -15,7 +16,8 @@ use Rattle.model.specs.Images.Described.{Numbered}
 use Rattle.model.specs.Images.Image.{Image}
 use Rattle.model.specs.Kernel.Arguments.{◌>>=◌, check, may_have_child}
 use Rattle.model.specs.Kernel.State.{State, with_slots}
-use Rattle.soundness.proofs.Laws.{IsAlike, alike-both, check-passes, copied-alike, copied-unmapped, copies-shared, goes, is_single, passes, passes-both, payload-alike, payload-mapping}
+use Rattle.soundness.proofs.Laws.{IsAlike, alike-both, check-passes, copied-alike, copied-unmapped, copies-shared, goes, is_single, passes, passes-both}
+use Rattle.soundness.proofs.Laws.{payload-alike, payload-mapping}
 use Rattle.headline.specs.lookups.Found.{slots_noted}
 use Rattle.headline.specs.invocations.Changes.{ChangesOwn}
 use Rattle.headline.specs.invocations.Mirrors.{Mirrors}

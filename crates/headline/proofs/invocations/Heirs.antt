@@ -1,5 +1,6 @@
 -- What stays after a removal derives from something still, since some ancestor outside of the removed slots is left.
-use Rattle.std.proofs.Common.{ℕ, zero, suc, ◌≡◌, ◌∙◌, ◌==◌, ◌&&◌, ◌||◌, ◌+◌, ◌^◌, ◌<◌, ◌⊎◌, inl, inr, Bool, true, false, not, get_or, if◌then◌else◌, Option, Some, None, option_map, Result, Ok, Err, List, [], ◌∷◌, filter, refl, sym, ap, subst, arith}
+use Rattle.std.proofs.Common.{ℕ, zero, suc, ◌≡◌, ◌∙◌, ◌==◌, ◌&&◌, ◌||◌, ◌+◌, ◌^◌, ◌<◌, ◌⊎◌, inl, inr, Bool, true, false, not, get_or, if◌then◌else◌, Option}
+use Rattle.std.proofs.Common.{Some, None, option_map, Result, Ok, Err, List, [], ◌∷◌, filter, refl, sym, ap, subst, arith}
 use Rattle.std.specs.Prelude.{fold}
 use Rattle.std.specs.List.{list_any, range_with_len}
 use Rattle.std.specs.Option.{option_map_or}
@@ -11,7 +12,8 @@ use Rattle.model.specs.declared.errors.KError.TheVariants.{RevokeFirst}
 use Rattle.model.specs.declared.slot_entries.Entry.{Entry}
 use Rattle.model.specs.Capabilities.CapabilityKinds.{is_handler_of}
 use Rattle.model.specs.Capabilities.Slots.{IsDerivation, IsFull, depth_within, empty_entry, is_empty, parent_at}
-use Rattle.model.specs.Kernel.Removal.{SlotSet, ancestor_outside, closes, closing, emptied, is_set_back, kept_entry, remove, slots_emptied, takes_last, thread_places, wants_revoke_first, with_bindings, without_slots}
+use Rattle.model.specs.Kernel.Removal.{SlotSet, ancestor_outside, closes, closing, emptied, is_set_back, kept_entry, remove, slots_emptied, takes_last}
+use Rattle.model.specs.Kernel.Removal.{thread_places, wants_revoke_first, with_bindings, without_slots}
 use Rattle.model.specs.Kernel.Scheduling.{wake}
 use Rattle.model.specs.Kernel.State.{State, binding_slot}
 use Rattle.removal_laws.proofs.Laws.{kept-test}

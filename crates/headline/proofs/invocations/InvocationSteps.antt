@@ -1,10 +1,12 @@
 -- A step of a thread that invokes a capability goes well.
 use Rattle.std.proofs.Common.{ℕ, ◌≡◌, ◌∙◌, ◌+◌, ◌++◌, Option, Some, Result, Ok, List, [], ◌∷◌, refl, sym, ap, subst}
 use Rattle.std.specs.Prelude.{Contains}
-use Rattle.headline.specs.calls.Messages.{IsInvoked, SendsBy, calls as calls_by, sends as sends_by, tries as tries_by, signals as signals_by, invokes as invokes_by}
+use Rattle.headline.specs.calls.Messages.{IsInvoked, SendsBy, calls as calls_by, sends as sends_by, tries as tries_by, signals as signals_by}
+use Rattle.headline.specs.calls.Messages.{invokes as invokes_by}
 use Rattle.headline.specs.facts.Standing.{AllStand}
 use Rattle.model.specs.declared.capabilities.Cap.{Cap}
-use Rattle.model.specs.declared.capabilities.Cap.TheVariants.{Empty, Untyped, Endpoint, Notification, CNode, Frame, PageTable, Tcb, RootTable, InterruptControl, InterruptHandler}
+use Rattle.model.specs.declared.capabilities.Cap.TheVariants.{Empty, Untyped, Endpoint, Notification, CNode, Frame, PageTable, Tcb, RootTable, InterruptControl}
+use Rattle.model.specs.declared.capabilities.Cap.TheVariants.{InterruptHandler}
 use Rattle.model.specs.declared.events.Event.TheVariants.{Step}
 use Rattle.model.specs.declared.invocations.Invocation.{Invocation}
 use Rattle.model.specs.declared.labels.Label.{Label}
@@ -26,7 +28,8 @@ use Rattle.model.specs.Kernel.Messages.{a1, extra_capabilities_of, message_of}
 use Rattle.model.specs.Kernel.Scheduling.{current}
 use Rattle.model.specs.Kernel.Soundness.{IsSound}
 use Rattle.model.specs.Kernel.State.{State, ThreadState}
-use Rattle.model.specs.Kernel.Steps.{Done, after_invocation, calls, completed, cspace_of, invokes, memory_base, named_slot, registers_of, send_by, send_call, send_named}
+use Rattle.model.specs.Kernel.Steps.{Done, after_invocation, calls, completed, cspace_of, invokes, memory_base, named_slot, registers_of, send_by, send_call}
+use Rattle.model.specs.Kernel.Steps.{send_named}
 use Rattle.model.specs.declared.system_calls.SendCall.{SendCall}
 use Rattle.model.specs.declared.system_calls.SystemCall.{SystemCall}
 use Rattle.model.specs.declared.system_calls.SystemCall.TheVariants.{Sends}

@@ -1,5 +1,6 @@
 -- What a thread's slots hang below: in the state and among what is noted the same own slots, boot slots of the same depth, and so all depths.
-use Rattle.std.proofs.Common.{ℕ, zero, suc, ◌≡◌, ◌∙◌, ◌+◌, ◌^◌, ◌<◌, ◌⊎◌, inl, inr, true, false, if◌then◌else◌, List, Option, Some, None, option_and_then, refl, sym, ap, subst}
+use Rattle.std.proofs.Common.{ℕ, zero, suc, ◌≡◌, ◌∙◌, ◌+◌, ◌^◌, ◌<◌, ◌⊎◌, inl, inr, true, false, if◌then◌else◌, List, Option, Some, None, option_and_then, refl}
+use Rattle.std.proofs.Common.{sym, ap, subst}
 use Rattle.std.specs.Prelude.{Contains}
 use Rattle.std.specs.Option.{option_map_or}
 use Rattle.std.proofs.lemmas.Bool.{false≢true}

@@ -15,7 +15,8 @@ use Rattle.model.specs.Kernel.State.{State}
 use Rattle.soundness.proofs.Laws.{goes, passes-both}
 use Rattle.headline.specs.lookups.Found.{slots_noted}
 use Rattle.headline.specs.invocations.Mirrors.{Mirrors}
-use Rattle.headline.proofs.invocations.NamedSlots.{IsNamedSo, cnode-inside, destination-named, named-destination, named-so, named-source, root-inside, source-named}
+use Rattle.headline.proofs.invocations.NamedSlots.{IsNamedSo, cnode-inside, destination-named, named-destination, named-so, named-source, root-inside}
+use Rattle.headline.proofs.invocations.NamedSlots.{source-named}
 
 -- the checks of both slots, and then what is made of them
 abbrev pub with_ends : Slots → Cap → Cap → SlotName → SlotName → (ℕ → ℕ → Result State KError) → Result State KError

@@ -8,8 +8,10 @@ use Rattle.model.specs.declared.rights.Rights.{Rights}
 use Rattle.model.specs.Acceptance.CallRules.{may_make}
 use Rattle.model.specs.Capabilities.CapabilityKinds.{frame_mapping, is_untyped}
 use Rattle.model.specs.Kernel.Removal.{slot_count}
-use Rattle.model.specs.Kernel.Retype.{NewObject, NewUntyped, NewThread, NewEndpoint, NewNotification, NewCNode, NewFrame, NewPageTable, NewRootTable, first_capability, object}
-use Rattle.model.specs.Kernel.State.{Object, ThreadObject, EndpointObject, NotificationObject, FrameObject, EndpointState, NotificationState, ThreadState, new_endpoint, new_notification}
+use Rattle.model.specs.Kernel.Retype.{NewObject, NewUntyped, NewThread, NewEndpoint, NewNotification, NewCNode, NewFrame, NewPageTable, NewRootTable}
+use Rattle.model.specs.Kernel.Retype.{first_capability, object}
+use Rattle.model.specs.Kernel.State.{Object, ThreadObject, EndpointObject, NotificationObject, FrameObject, EndpointState, NotificationState, ThreadState}
+use Rattle.model.specs.Kernel.State.{new_endpoint, new_notification}
 
 pub record IsMade (kind : NewObject) : Type 0 where
   pub no_slots : slot_count (object kind) ≡ 0

@@ -1,5 +1,6 @@
 -- New objects lie where nothing was: what was there is still there, and its bytes are the same.
-use Rattle.std.proofs.Common.{ℕ, ◌≡◌, ◌∙◌, ◌==◌, ◌+◌, ◌*◌, ◌^◌, ◌<◌, ◌≤◌, ◌⊎◌, ◌&&◌, inl, inr, Bool, true, false, if◌then◌else◌, Option, Some, refl, sym, ap, arith, pow_pos}
+use Rattle.std.proofs.Common.{ℕ, ◌≡◌, ◌∙◌, ◌==◌, ◌+◌, ◌*◌, ◌^◌, ◌<◌, ◌≤◌, ◌⊎◌, ◌&&◌, inl, inr, Bool, true, false, if◌then◌else◌, Option, Some, refl, sym, ap}
+use Rattle.std.proofs.Common.{arith, pow_pos}
 use Rattle.std.specs.Prelude.{option_map}
 use Rattle.std.specs.Option.{option_map_or}
 use Rattle.std.proofs.lemmas.Bool.{eqb-true}
@@ -7,7 +8,8 @@ use Rattle.std.proofs.lemmas.Bool.Decides.{nat_tests}
 use Rattle.model.specs.Capabilities.Slots.{is_within}
 use Rattle.model.specs.Kernel.AddressSpaces.{page_size}
 use Rattle.model.specs.Kernel.Kinds.{kind_at, kind_of}
-use Rattle.model.specs.Kernel.Retype.{NewObject, NewObjects, NewFrame, is_frame, object, object_bits, place_of_new, size_of, some_new, with_new_bytes, with_new_objects}
+use Rattle.model.specs.Kernel.Retype.{NewObject, NewObjects, NewFrame, is_frame, object, object_bits, place_of_new, size_of, some_new, with_new_bytes}
+use Rattle.model.specs.Kernel.Retype.{with_new_objects}
 use Rattle.model.specs.Kernel.State.{State, Object}
 use Rattle.soundness.specs.Unused.{IsUnused}
 use Rattle.soundness.proofs.Laws.{IsLaid, next-within, some-place}

@@ -1,5 +1,6 @@
 -- Nobody waits at what ends with a thread's slots: who waits holds a capability to its queue, in slots of its own.
-use Rattle.std.proofs.Common.{ℕ, ◌≡◌, ◌∙◌, ◌==◌, ◌&&◌, inl, inr, Bool, true, false, not, if◌then◌else◌, Option, Some, None, Result, Ok, Err, List, [], ◌∷◌, filter, refl, sym, ap, subst}
+use Rattle.std.proofs.Common.{ℕ, ◌≡◌, ◌∙◌, ◌==◌, ◌&&◌, inl, inr, Bool, true, false, not, if◌then◌else◌, Option, Some, None, Result, Ok, Err, List, [], ◌∷◌}
+use Rattle.std.proofs.Common.{filter, refl, sym, ap, subst}
 use Rattle.std.specs.Prelude.{fold}
 use Rattle.std.specs.Option.{option_map_or}
 use Rattle.std.proofs.lemmas.Bool.{eq-eqb, false≢true}
@@ -15,12 +16,15 @@ use Rattle.model.specs.Capabilities.Slots.{capability_at, is_empty}
 use Rattle.model.specs.Images.Described.{Numbered}
 use Rattle.model.specs.Images.Image.{Image}
 use Rattle.model.specs.Kernel.Kinds.{object_named}
-use Rattle.model.specs.Kernel.Removal.{SlotSet, closes, closing, emptied, ends, is_set_back, remove, slots_emptied, thread_places, waits_on_ended, with_bindings, without_slots}
+use Rattle.model.specs.Kernel.Removal.{SlotSet, closes, closing, emptied, ends, is_set_back, remove, slots_emptied, thread_places, waits_on_ended}
+use Rattle.model.specs.Kernel.Removal.{with_bindings, without_slots}
 use Rattle.model.specs.Kernel.Retype.{NewObject, NewEndpoint, NewNotification}
 use Rattle.model.specs.Kernel.Scheduling.{wake}
-use Rattle.model.specs.Kernel.State.{State, Status, Inactive, Runnable, Blocked, AwaitsReply, AwaitsHandler, Object, ThreadObject, EndpointObject, NotificationObject, CNodeObject, FrameObject, PageTableObject, RootTableObject, ThreadState, as_thread, with_slots}
+use Rattle.model.specs.Kernel.State.{State, Status, Inactive, Runnable, Blocked, AwaitsReply, AwaitsHandler, Object, ThreadObject, EndpointObject}
+use Rattle.model.specs.Kernel.State.{NotificationObject, CNodeObject, FrameObject, PageTableObject, RootTableObject, ThreadState, as_thread, with_slots}
 use Rattle.model.specs.declared.capabilities.Cap.{Cap}
-use Rattle.model.specs.declared.capabilities.Cap.TheVariants.{Empty, Untyped, Endpoint, Notification, CNode, Frame, PageTable, Tcb, RootTable, InterruptControl, InterruptHandler}
+use Rattle.model.specs.declared.capabilities.Cap.TheVariants.{Empty, Untyped, Endpoint, Notification, CNode, Frame, PageTable, Tcb, RootTable, InterruptControl}
+use Rattle.model.specs.declared.capabilities.Cap.TheVariants.{InterruptHandler}
 use Rattle.headline.proofs.moves.Laws.{StandsWaiting, stands-waiting}
 use Rattle.headline.specs.invocations.Mirrors.{Mirrors}
 use Rattle.headline.specs.invocations.Running.{Runs}

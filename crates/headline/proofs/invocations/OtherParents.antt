@@ -1,5 +1,6 @@
 -- Slots that are none of the thread's keep their parents and their capabilities where own slots are removed.
-use Rattle.std.proofs.Common.{ℕ, ◌≡◌, ◌∙◌, ◌^◌, ◌<◌, ◌&&◌, inl, inr, Bool, true, false, not, if◌then◌else◌, Option, Some, None, List, refl, sym, ap, subst, arith}
+use Rattle.std.proofs.Common.{ℕ, ◌≡◌, ◌∙◌, ◌^◌, ◌<◌, ◌&&◌, inl, inr, Bool, true, false, not, if◌then◌else◌, Option, Some, None, List, refl, sym, ap, subst}
+use Rattle.std.proofs.Common.{arith}
 use Rattle.std.specs.Option.{option_map_or}
 use Rattle.std.specs.List.{list_any}
 use Rattle.std.proofs.lemmas.Bool.{and_parts, eqb-true, false≢true}
@@ -12,7 +13,8 @@ use Rattle.model.specs.Images.Image.{Image}
 use Rattle.model.specs.Kernel.Removal.{SlotSet, ancestor_outside, is_some_slot, kept, loses_last_child, new_parent, with_bindings}
 use Rattle.model.specs.Kernel.State.{State, slots_of}
 use Rattle.model.specs.declared.capabilities.Cap.{Cap}
-use Rattle.model.specs.declared.capabilities.Cap.TheVariants.{Empty, Untyped, Endpoint, Notification, CNode, Frame, PageTable, Tcb, RootTable, InterruptControl, InterruptHandler}
+use Rattle.model.specs.declared.capabilities.Cap.TheVariants.{Empty, Untyped, Endpoint, Notification, CNode, Frame, PageTable, Tcb, RootTable, InterruptControl}
+use Rattle.model.specs.declared.capabilities.Cap.TheVariants.{InterruptHandler}
 use Rattle.model.specs.declared.slot_entries.Entry.{Entry}
 use Rattle.removal_laws.proofs.Laws.{found-where, outside-none, outside-out}
 use Rattle.typestate.proofs.Laws.{reset}

@@ -11,7 +11,8 @@ use Rattle.model.specs.Capabilities.Slots.{capability_at, is_full, is_within}
 use Rattle.model.specs.Images.Described.{Numbered}
 use Rattle.model.specs.Images.Image.{Image}
 use Rattle.model.specs.Kernel.Kinds.{kind_at}
-use Rattle.model.specs.Kernel.Removal.{SlotSet, closes, ends, ends_filled, is_slot_of, kept, loses_last_child, slot_count, some_inside, some_outside, wants_revoke_first, with_bindings}
+use Rattle.model.specs.Kernel.Removal.{SlotSet, closes, ends, ends_filled, is_slot_of, kept, loses_last_child, slot_count, some_inside, some_outside}
+use Rattle.model.specs.Kernel.Removal.{wants_revoke_first, with_bindings}
 use Rattle.model.specs.Kernel.Retype.{NewObject}
 use Rattle.model.specs.Kernel.State.{State, slots_of}
 use Rattle.model.specs.declared.capabilities.Cap.{Cap}

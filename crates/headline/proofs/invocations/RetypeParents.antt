@@ -15,7 +15,8 @@ use Rattle.headline.specs.invocations.Changes.{IsOther}
 use Rattle.headline.specs.invocations.Mirrors.{Mirrors}
 use Rattle.headline.proofs.invocations.DepthsKept.{depth-kept}
 use Rattle.headline.proofs.invocations.NewSlots.{as_before, as_new, as_pool}
-use Rattle.headline.proofs.invocations.RetypeSlots.{IsKept, Making, Place, before-kept, behind, new, new-held, new-parent, others, parent_by, place-of, pool-kept, window}
+use Rattle.headline.proofs.invocations.RetypeSlots.{IsKept, Making, Place, before-kept, behind, new, new-held, new-parent, others, parent_by, place-of}
+use Rattle.headline.proofs.invocations.RetypeSlots.{pool-kept, window}
 
 module _ (image : Image) (t : Numbered) (s : State) (m : Making image t s) (slots : List NotedSlot) (mirrors : Mirrors image t s slots) where
   abbrev after : Slots

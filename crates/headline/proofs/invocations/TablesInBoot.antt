@@ -6,7 +6,8 @@ use Rattle.std.proofs.lemmas.Bool.{and_from, and_parts, eq-eqb, eqb-true}
 use Rattle.std.proofs.lemmas.List.Folds.{Any-from_list_any}
 use Rattle.std.proofs.lemmas.Option.{slice_get-get_or}
 use Rattle.soundness.specs.boot_laws.Loading.{all_loaded, is_moved, original_so_far}
-use Rattle.soundness.proofs.Laws.{AreFormed, CountsAreLengths, ReadsBoot, TableKept, are-formed, boot-slots-suffice, counts-are, first_of_type, mapped_by, original-untyped, table-type}
+use Rattle.soundness.proofs.Laws.{AreFormed, CountsAreLengths, ReadsBoot, TableKept, are-formed, boot-slots-suffice, counts-are, first_of_type, mapped_by}
+use Rattle.soundness.proofs.Laws.{original-untyped, table-type}
 use Rattle.format_laws.specs.Fitting.{IsFitting, TableFits}
 use Rattle.format_laws.proofs.Laws.{is-fitting}
 use Rattle.model.specs.declared.entries.TableEntry.{TableEntry}

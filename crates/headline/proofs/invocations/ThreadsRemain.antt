@@ -12,7 +12,8 @@ use Rattle.model.specs.Kernel.Kinds.{kind_at, kind_of}
 use Rattle.model.specs.Kernel.Removal.{SlotSet, ends, is_ending_thread, objects_kept, with_bindings}
 use Rattle.model.specs.Kernel.Retype.{NewThread, NewCNode}
 use Rattle.model.specs.Kernel.Scheduling.{without_threads}
-use Rattle.model.specs.Kernel.State.{State, Object, ThreadObject, EndpointObject, NotificationObject, CNodeObject, FrameObject, PageTableObject, RootTableObject, ThreadState, as_thread}
+use Rattle.model.specs.Kernel.State.{State, Object, ThreadObject, EndpointObject, NotificationObject, CNodeObject, FrameObject, PageTableObject}
+use Rattle.model.specs.Kernel.State.{RootTableObject, ThreadState, as_thread}
 use Rattle.removal_laws.proofs.Laws.{threads-all}
 use Rattle.headline.specs.invocations.Mirrors.{Mirrors}
 use Rattle.headline.proofs.invocations.OwnHeld.{OwnHeld, own-held, slots_of_kind}

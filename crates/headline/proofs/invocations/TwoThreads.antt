@@ -1,5 +1,6 @@
 -- Two threads of an image have no slot in common, and each slot has an owner or is apart from all.
-use Rattle.std.proofs.Common.{ℕ, zero, suc, ◌≡◌, ◌∙◌, ◌<◌, ◌⊎◌, ◌||◌, inl, inr, Bool, true, false, nat_eq, List, [], ◌∷◌, take, Some, refl, sym, ap, subst, arith}
+use Rattle.std.proofs.Common.{ℕ, zero, suc, ◌≡◌, ◌∙◌, ◌<◌, ◌⊎◌, ◌||◌, inl, inr, Bool, true, false, nat_eq, List, [], ◌∷◌, take, Some, refl, sym, ap, subst}
+use Rattle.std.proofs.Common.{arith}
 use Rattle.std.specs.Prelude.{Contains, flat_map, slice_get}
 use Rattle.std.specs.List.{list_any}
 use Rattle.std.proofs.lemmas.Bool.{and_parts, cases_order, false≢true}

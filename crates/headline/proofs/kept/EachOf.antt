@@ -1,5 +1,6 @@
 -- What holds of each element of a list, and of each that is picked out of it.
-use Rattle.std.proofs.Common.{ℕ, zero, suc, ◌≡◌, ◌+◌, ◌<◌, ◌≤◌, Bool, true, false, cond, List, [], ◌∷◌, ◌++◌, map, length, get_or, Option, Some, None, refl, subst, arith}
+use Rattle.std.proofs.Common.{ℕ, zero, suc, ◌≡◌, ◌+◌, ◌<◌, ◌≤◌, Bool, true, false, cond, List, [], ◌∷◌, ◌++◌, map, length, get_or, Option, Some, None, refl}
+use Rattle.std.proofs.Common.{subst, arith}
 use Rattle.std.specs.Prelude.{Contains, filter, filter_map, flat_map}
 use Rattle.std.specs.List.{cons_option, range_with_len}
 
@@ -26,7 +27,8 @@ pub each-flat : {A B : Type 0} (P : B → Type 0) (f : A → List B) (xs : List 
 each-flat P f [] all = tt
 each-flat P f (x ∷ xs) all = each-append P (f x) (flat_map f xs) all.0 (each-flat P f xs all.1)
 
-pub each-range : {B : Type 0} (P : B → Type 0) (f : ℕ → B) (from count : ℕ) → ((k : ℕ) → from ≤ k → k < from + count → P (f k)) → Each P (map f (range_with_len from count))
+pub each-range : {B : Type 0} (P : B → Type 0) (f : ℕ → B) (from count : ℕ) → ((k : ℕ) → from ≤ k → k < from + count → P (f k)) →
+    Each P (map f (range_with_len from count))
 each-range P f from zero all = tt
 each-range P f from (suc count) all =
     (all from (omega arith) (omega arith), each-range P f (from + 1) count (λ k low high. all k (omega (arith, low)) (omega (arith, high))))

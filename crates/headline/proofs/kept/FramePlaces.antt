@@ -13,7 +13,8 @@ use Rattle.model.specs.Acceptance.WellFormed.{is_frame_type}
 use Rattle.model.specs.Capabilities.Placement.{align}
 use Rattle.model.specs.Images.Image.{Image}
 use Rattle.model.specs.Images.Places.{bits_of, object_at, offset_of, type_at, untyped_at, used_before}
-use Rattle.model.specs.Kernel.Retype.{NewObject, NewUntyped, NewThread, NewEndpoint, NewNotification, NewCNode, NewFrame, NewPageTable, NewRootTable, object_bits}
+use Rattle.model.specs.Kernel.Retype.{NewObject, NewUntyped, NewThread, NewEndpoint, NewNotification, NewCNode, NewFrame, NewPageTable, NewRootTable}
+use Rattle.model.specs.Kernel.Retype.{object_bits}
 use Rattle.headline.proofs.kept.FrameRules.{untyped-aligned}
 
 -- ---- numbers
@@ -58,7 +59,8 @@ frame-aligned image number fitting apart formed less is =
     let u = untyped_at image home in
     let stands = apart.inside number less in
     let few = StandsInside.is_entry stands in
-    let at : slice_get image.untypeds home ≡ Some u = slice_get-get_or image.untypeds home (record { offset = 0; bits = 0 }) (omega (arith, few, fitting.untypeds)) in
+    let at : slice_get image.untypeds home ≡ Some u = slice_get-get_or image.untypeds home (record { offset = 0; bits = 0 })
+    (omega (arith, few, fitting.untypeds)) in
     let bits : bits_of (object_at image number) ≡ 12 = frame-bits (type_at image number) is in
     let size : 2 ^ bits_of (object_at image number) ≡ 4096 = ap (λ (k : ℕ). 2 ^ k) bits in
     let begins = StandsInside.begins stands in

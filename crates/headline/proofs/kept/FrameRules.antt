@@ -11,7 +11,8 @@ use Rattle.model.specs.declared.entries.UntypedEntry.{UntypedEntry}
 use Rattle.model.specs.declared.refusals.Refusal.TheVariants.{BadMapping, BadObject, NoRoom, UntypedOverlap}
 use Rattle.model.specs.Acceptance.Accepted.{AreKept, IsWellFormed}
 use Rattle.model.specs.Acceptance.Rules.{Rule, refuse_if}
-use Rattle.model.specs.Acceptance.WellFormed.{content_rule, frame_rules, has_no_room, has_writable_code, mapping_rules, misplaces_frame, misplaces_table, object_rules, overlaps, too_few_boot_slots}
+use Rattle.model.specs.Acceptance.WellFormed.{content_rule, frame_rules, has_no_room, has_writable_code, mapping_rules, misplaces_frame, misplaces_table}
+use Rattle.model.specs.Acceptance.WellFormed.{object_rules, overlaps, too_few_boot_slots}
 use Rattle.model.specs.Images.Described.{numbered}
 use Rattle.model.specs.Images.Image.{Image}
 use Rattle.headline.proofs.kept.OwnBlocks.{one-object}
@@ -20,7 +21,8 @@ use Rattle.headline.specs.steps.Frames.{FrameIsKept, FramesAreKept}
 -- ---- parts of a list of rules
 
 -- the rules of the entry at a place, which has the place's number
-rules-of : {A : Type 0} (f : ℕ × A → List Rule) (from : ℕ) (xs : List A) → AreKept (flat_map f (enumerate_from from xs)) → (k : ℕ) (x : A) → slice_get xs k ≡ Some x
+rules-of : {A : Type 0} (f : ℕ × A → List Rule) (from : ℕ) (xs : List A) → AreKept (flat_map f (enumerate_from from xs)) → (k : ℕ) (x : A) →
+    slice_get xs k ≡ Some x
     → AreKept (f (from + k, x))
 rules-of f from [] kept k x at = absurd (let clash : None ≡ Some x = at in cc)
 rules-of f from (y ∷ ys) kept zero x at =
@@ -74,7 +76,8 @@ by-rules image item f fitting at is code =
     let fits = fitting.frame item f at in
     record { rights = not-false _ rights.1; fits = fits.rights; code = code; object = fits.frame; frame = not-false _ objects.1 }
 
-frame-kept : (image : Image) (item : ℕ) (f : FrameEntry) → IsFitting image → IsWellFormed image → slice_get image.frames item ≡ Some f → FrameIsKept image item f
+frame-kept : (image : Image) (item : ℕ) (f : FrameEntry) → IsFitting image → IsWellFormed image → slice_get image.frames item ≡ Some f →
+    FrameIsKept image item f
 unfolding mapping_rules
 frame-kept image item f fitting formed at =
     let tables = map (λ t. refuse_if (misplaces_table image t) (BadMapping t.0)) (numbered image.tables) in

@@ -1,5 +1,6 @@
 -- A thread's program stays where the mappings of code under its root table stay, and the bytes of code.
-use Rattle.std.proofs.Common.{ℕ, zero, suc, ◌≡◌, ◌∙◌, ◌+◌, ◌*◌, ◌/◌, ◌^◌, ◌<◌, ◌≤◌, inl, List, [], ◌∷◌, map, Option, Some, None, Result, Ok, Err, refl, sym, ap, subst, arith}
+use Rattle.std.proofs.Common.{ℕ, zero, suc, ◌≡◌, ◌∙◌, ◌+◌, ◌*◌, ◌/◌, ◌^◌, ◌<◌, ◌≤◌, inl, List, [], ◌∷◌, map, Option, Some, None, Result, Ok, Err, refl, sym, ap}
+use Rattle.std.proofs.Common.{subst, arith}
 use Rattle.std.specs.Prelude.{slice_index}
 use Rattle.std.specs.Int.{byte_len, from_le_bytes}
 use Rattle.std.specs.Option.{option_map_or}
@@ -83,7 +84,8 @@ same-word c d access address word inside same is = by-places (places_from c acce
         → loaded d access Word address ≡ Ok word
     by-places (Ok places) from done =
         let there = same-places c d access (byte_len (width_of Word)) address inside same places from in
-        ap (λ o. o >>= λ all. Ok (from_le_bytes (width_of Word) (map d.byte all))) there.0 ∙ ap (λ (bytes : List ℕ). Ok (from_le_bytes (width_of Word) bytes)) there.1 ∙ done
+        ap (λ o. o >>= λ all. Ok (from_le_bytes (width_of Word) (map d.byte all))) there.0
+        ∙ ap (λ (bytes : List ℕ). Ok (from_le_bytes (width_of Word) bytes)) there.1 ∙ done
     by-places (Err failed) from done = absurd (let clash : ◌≡◌ {A = Result ℕ MemoryFault} (Err failed) (Ok word) = done in cc)
 
 -- ---- code
@@ -99,7 +101,8 @@ module _ (image : Image) (t : Numbered) (s after : State) (slots : List NotedSlo
   is-code address frame p is = record { entry = IsProgramPage.entry p; listed = IsProgramPage.listed p; place = is; executes = IsProgramPage.executes_so p }
 
   code-maps : (address : ℕ) (p : IsProgramPage image t address)
-      → Maps s.slots (root_table_of image t) (address / page_size) (offset_of image (IsProgramPage.entry p).frame) (mapping_rights frame_rights (IsProgramPage.entry p).rights)
+      → Maps s.slots (root_table_of image t) (address / page_size) (offset_of image (IsProgramPage.entry p).frame)
+      (mapping_rights frame_rights (IsProgramPage.entry p).rights)
   code-maps address p =
       let f = IsProgramPage.entry p in
       let by_image : ImageMaps image t (address / page_size) (offset_of image f.frame) (mapping_rights frame_rights f.rights) = record {
@@ -120,7 +123,8 @@ module _ (image : Image) (t : Numbered) (s after : State) (slots : List NotedSlo
       let frame = NamesFrame.frame n in
       let allowed = NamesFrame.allowed n in
       let f = IsProgramPage.entry p in
-      let one = one-frame s root page frame (offset_of image f.frame) allowed (mapping_rights frame_rights f.rights) sound (NamesFrame.maps n) (code-maps address p) in
+      let one = one-frame s root page frame (offset_of image f.frame) allowed (mapping_rights frame_rights f.rights) sound (NamesFrame.maps n)
+      (code-maps address p) in
       let code = is-code address frame p one in
       let place_is = NamesFrame.place_is n in
       let maps_after = mapped page frame allowed code (NamesFrame.maps n) in
@@ -133,7 +137,8 @@ module _ (image : Image) (t : Numbered) (s after : State) (slots : List NotedSlo
   program-kept stands point inside =
       let ends = facts.ends in
       let address = address_of t.thread point in
-      same-word (content_of s (tcb_of image t)) (content_of after (tcb_of image t)) accesses.Fetch address (slice_index t.thread.words point) (omega (arith, ends, inside))
+      same-word (content_of s (tcb_of image t)) (content_of after (tcb_of image t)) accesses.Fetch address (slice_index t.thread.words point)
+      (omega (arith, ends, inside))
       (λ k less.
       let there : t.thread.header.base + (4 * point + k) ≡ address_of t.thread point + k = omega arith in
       subst (IsSameAt (content_of s (tcb_of image t)) (content_of after (tcb_of image t)) accesses.Fetch) there

@@ -1,5 +1,6 @@
 -- No two threads of an accepted image have one control block.
-use Rattle.std.proofs.Common.{ℕ, zero, suc, ◌≡◌, ◌∙◌, ◌==◌, ◌+◌, ◌^◌, ◌<◌, inl, inr, Bool, true, false, List, [], ◌∷◌, length, get_or, map, take, Some, None, pow_pos, sym, ap, subst, arith}
+use Rattle.std.proofs.Common.{ℕ, zero, suc, ◌≡◌, ◌∙◌, ◌==◌, ◌+◌, ◌^◌, ◌<◌, inl, inr, Bool, true, false, List, [], ◌∷◌, length, get_or, map, take, Some, None}
+use Rattle.std.proofs.Common.{pow_pos, sym, ap, subst, arith}
 use Rattle.std.specs.Prelude.{Contains, slice_get}
 use Rattle.std.specs.List.{enumerate_from, list_any}
 use Rattle.std.proofs.lemmas.Bool.{cases_eq, cases_order, eq-eqb, or_parts}
@@ -50,7 +51,8 @@ not-earlier image t u at once same less =
 -- ---- objects
 
 -- objects that lie at one offset are one object
-pub one-object : (image : Image) (i j : ℕ) → StandApart image → i < image.header.objects → j < image.header.objects → offset_of image i ≡ offset_of image j → i ≡ j
+pub one-object : (image : Image) (i j : ℕ) → StandApart image → i < image.header.objects → j < image.header.objects → offset_of image i ≡ offset_of image j →
+    i ≡ j
 one-object image i j apart less few same = elim (cases_eq i j) [
   | inl here ↦ here
   | inr other ↦

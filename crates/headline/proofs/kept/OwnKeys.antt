@@ -1,5 +1,6 @@
 -- The slots that are noted of a thread are its own: where those stay as they are, the same is noted.
-use Rattle.std.proofs.Common.{ℕ, ◌≡◌, ◌∙◌, ◌/◌, inl, inr, Bool, true, false, not, ◌||◌, nat_eq, if◌then◌else◌, List, [], ◌∷◌, Option, Some, None, sym, ap, subst, arith}
+use Rattle.std.proofs.Common.{ℕ, ◌≡◌, ◌∙◌, ◌/◌, inl, inr, Bool, true, false, not, ◌||◌, nat_eq, if◌then◌else◌, List, [], ◌∷◌, Option, Some, None, sym, ap}
+use Rattle.std.proofs.Common.{subst, arith}
 use Rattle.std.specs.Prelude.{option_and_then}
 use Rattle.std.specs.Option.{option_map_or}
 use Rattle.std.specs.List.{list_any}
@@ -56,7 +57,8 @@ unfolding noted-by
 same-of image cnodes s after key same = ap (noted-by image cnodes key) same
 
 -- a thread whose own slots are the same notes the same
-pub same-noted : (image : Image) (t : Thread) (s after : Slots) → ((slot : ℕ) → IsOwnSlot image t slot → after slot ≡ s slot) → noted_after image t after ≡ noted_after image t s
+pub same-noted : (image : Image) (t : Thread) (s after : Slots) → ((slot : ℕ) → IsOwnSlot image t slot → after slot ≡ s slot) →
+    noted_after image t after ≡ noted_after image t s
 unfolding noted_after
 same-noted image t s after same =
     let cnodes = reached image t in

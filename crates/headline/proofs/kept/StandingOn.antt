@@ -31,16 +31,19 @@ parent-kept s after slot radix same h = record {
   boot = subst (λ (n : ℕ). h.parent < 2 ^ n) (sym radix) h.boot;
 }
 
-module _ (image : Image) (t : Numbered) (s after : State) (facts : IsGiven image t) (sound : IsSound s) (sound_after : IsSound after) (same : IsUntouched image t s after) where
+module _ (image : Image) (t : Numbered) (s after : State) (facts : IsGiven image t) (sound : IsSound s) (sound_after : IsSound after)
+    (same : IsUntouched image t s after) where
   maps-kept : (slots : List NotedSlot) → MapsAreNoted image t s slots → MapsAreNoted image t after slots
   maps-kept slots maps page frame allowed = (
     λ m. (maps page frame allowed).0 ((same.maps page frame allowed).0 m),
     λ given. (same.maps page frame allowed).1 ((maps page frame allowed).1 given),
   )
 
-  pub stands-on : (own next : ThreadState) (point following : ℕ) (state known : PointState) → StandsAt image t s own point state → following < t.thread.header.words
+  pub stands-on : (own next : ThreadState) (point following : ℕ) (state known : PointState) → StandsAt image t s own point state →
+      following < t.thread.header.words
       → noted image t following ≡ Known known
-      → next.registers.pc ≡ address_of t.thread following → LieWithin next.registers known.ranges → known.slots ≡ state.slots → StandsAt image t after next following known
+      → next.registers.pc ≡ address_of t.thread following → LieWithin next.registers known.ranges → known.slots ≡ state.slots →
+      StandsAt image t after next following known
   stands-on own next point following state known stands inside is_known pc registers slots =
       let vspace : vspace_of s (tcb_of image t) ≡ Some (root_table_of image t) = ap root_of stands.vspace ∙ facts.root in
       let root_after = same-capability s.slots after.slots (vspace_slot (tcb_of image t)) same.vspace in
@@ -55,9 +58,11 @@ module _ (image : Image) (t : Numbered) (s after : State) (facts : IsGiven image
         parents = λ slot listed none.
             let there : Contains state.slots slot = subst (λ (all : List NotedSlot). Contains all slot) slots listed in
             let found : Contains (noted_after image t.thread s.slots) slot = subst (λ (all : List NotedSlot). Contains all slot) (sym stands.slots) there in
-            let own = each-contained (λ (n : NotedSlot). IsOwnKey image t.thread n.key) (noted_after image t.thread s.slots) slot (noted-own image t.thread s.slots) found in
+            let own = each-contained (λ (n : NotedSlot). IsOwnKey image t.thread n.key) (noted_after image t.thread s.slots) slot
+            (noted-own image t.thread s.slots) found in
             parent-kept s after (slot_of_key image slot.key) same.boot_radix (same.slots (slot_of_key image slot.key) own) (stands.parents slot there none);
-        program = program-kept image t s after known.slots facts sound sound_after (λ page frame allowed code. (same.maps page frame allowed).1) same.bytes maps vspace vspace_after stands.program;
+        program = program-kept image t s after known.slots facts sound sound_after (λ page frame allowed code. (same.maps page frame allowed).1) same.bytes maps
+            vspace vspace_after stands.program;
         maps = maps-kept known.slots maps;
         code = subst (λ (all : List NotedSlot). NamesNoCode image all) (sym slots) stands.code;
         cspace = same-capability s.slots after.slots (cspace_slot (tcb_of image t)) same.cspace ∙ stands.cspace;

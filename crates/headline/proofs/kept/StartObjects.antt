@@ -1,5 +1,6 @@
 -- The thread objects of the described state: those of the image's threads run, and all others are new.
-use Rattle.std.proofs.Common.{ℕ, zero, suc, ◌≡◌, ◌∙◌, ◌==◌, ◌+◌, ◌⊎◌, inl, inr, Bool, true, false, if◌then◌else◌, List, [], ◌∷◌, map, find, Option, Some, None, refl, sym, ap, subst, arith}
+use Rattle.std.proofs.Common.{ℕ, zero, suc, ◌≡◌, ◌∙◌, ◌==◌, ◌+◌, ◌⊎◌, inl, inr, Bool, true, false, if◌then◌else◌, List, [], ◌∷◌, map, find, Option, Some, None}
+use Rattle.std.proofs.Common.{refl, sym, ap, subst, arith}
 use Rattle.std.specs.Prelude.{Contains, option_and_then, slice_get}
 use Rattle.std.specs.Option.{option_map_or}
 use Rattle.std.specs.List.{enumerate_from, range_with_len}
@@ -17,10 +18,11 @@ use Rattle.headline.proofs.facts.Laws.{find-entry, with_number}
 -- the first that is there is somewhere
 some-there : {A : Type 0} (f : ℕ → Option A) (x : A) (from count : ℕ) → first_some (map f (range_with_len from count)) ≡ Some x → (n : ℕ) × (f n ≡ Some x)
 some-there f x from zero is = absurd (let clash : None ≡ Some x = is in cc)
-some-there f x from (suc count) is = elim (f from) as (λ o. f from ≡ o → first_some (o ∷ map f (range_with_len (from + 1) count)) ≡ Some x → (n : ℕ) × (f n ≡ Some x)) [
-  | None ↦ λ _ later. some-there f x (from + 1) count later
-  | Some y ↦ λ here same. (from, here ∙ same)
-] refl is
+some-there f x from (suc count) is = elim (f from) as (λ o. f from ≡ o → first_some (o ∷ map f (range_with_len (from + 1) count)) ≡ Some x → (n : ℕ)
+    × (f n ≡ Some x)) [
+      | None ↦ λ _ later. some-there f x (from + 1) count later
+      | Some y ↦ λ here same. (from, here ∙ same)
+    ] refl is
 
 -- a listed thread has a number
 listed-from : (from : ℕ) (threads : List Thread) (k : ℕ) (t : Thread) → slice_get threads k ≡ Some t
@@ -62,7 +64,12 @@ by-number image number own is = by-found (find (λ t. t.header.tcb == number) im
     by-found (Some t) from there =
         let at = find-entry (λ u. u.header.tcb == number) image.threads t from in
         let listed = listed-from 0 image.threads at.0 t at.1 in
-        inr (record { thread = record { number = listed.0; thread = t }; listed = listed.1; is = ap (offset_of image) (sym (eqb-true t.header.tcb number at.2)) })
+        inr (record {
+          thread = record { number = listed.0; thread = t };
+          listed = listed.1;
+          is =
+              ap (offset_of image) (sym (eqb-true t.header.tcb number at.2));
+        })
 
 by-offset : (image : Image) (offset number : ℕ) (own : ThreadState) (b : Bool) → offset_of image number == offset ≡ b
     → (if b then described_object image number else None) ≡ Some (ThreadObject own)
@@ -79,5 +86,6 @@ others-inactive image offset own is =
     by-offset image offset there.0 own (offset_of image there.0 == offset) refl there.1
 
 -- a thread of the image runs
-pub listed-runs : (t : Thread) (o : Option Object) (own : ThreadState) → o ≡ Some (ThreadObject (listed_thread t)) → o ≡ Some (ThreadObject own) → Runnable ≡ own.status
+pub listed-runs : (t : Thread) (o : Option Object) (own : ThreadState) → o ≡ Some (ThreadObject (listed_thread t)) → o ≡ Some (ThreadObject own) →
+    Runnable ≡ own.status
 listed-runs t o own listed is = ap status_in (sym listed ∙ is)

@@ -1,5 +1,6 @@
 -- No thread's stores reach a frame of code: the image maps such a frame once, without write, and no noted capability names it.
-use Rattle.std.proofs.Common.{ℕ, zero, suc, ◌≡◌, ◌≢◌, ◌∙◌, ◌==◌, ◌+◌, ◌/◌, ◌%◌, ◌<◌, ◌≤◌, ◌&&◌, ◌||◌, inl, inr, Bool, true, false, not, List, [], ◌∷◌, Option, Some, None, refl, sym, ap, subst, arith}
+use Rattle.std.proofs.Common.{ℕ, zero, suc, ◌≡◌, ◌≢◌, ◌∙◌, ◌==◌, ◌+◌, ◌/◌, ◌%◌, ◌<◌, ◌≤◌, ◌&&◌, ◌||◌, inl, inr, Bool, true, false, not, List, [], ◌∷◌, Option}
+use Rattle.std.proofs.Common.{Some, None, refl, sym, ap, subst, arith}
 use Rattle.std.specs.Prelude.{Contains, bit_and, slice_get}
 use Rattle.std.specs.Option.{option_map_or}
 use Rattle.std.specs.List.{enumerate_from, list_any}
@@ -42,22 +43,27 @@ not-writes (suc (suc (suc (suc (suc (suc (suc zero))))))) fits is most code writ
 not-writes (suc (suc (suc (suc (suc (suc (suc (suc bits)))))))) fits is most code writes = absurd (omega (arith, fits))
 
 -- no other entry maps the frame
-not-twice : (from i : ℕ) (frames : List FrameEntry) (j frame : ℕ) (g : FrameEntry) → list_any (λ x. not (x.0 == i) && ((x.1).frame == frame)) (enumerate_from from frames) ≡ false
+not-twice : (from i : ℕ) (frames : List FrameEntry) (j frame : ℕ) (g : FrameEntry) →
+    list_any (λ x. not (x.0 == i) && ((x.1).frame == frame)) (enumerate_from from frames) ≡ false
     → slice_get frames j ≡ Some g → (not (from + j == i) && (g.frame == frame)) ≡ false
 not-twice from i [] j frame g none at = absurd (let clash : None ≡ Some g = at in cc)
 not-twice from i (h ∷ hs) zero frame g none at =
     let same : h ≡ g = cc in
     let first : from ≡ from + 0 = omega arith in
-    let here = (or_parts (not (from == i) && (h.frame == frame)) (list_any (λ x. not (x.0 == i) && ((x.1).frame == frame)) (enumerate_from (from + 1) hs)) none).0 in
+    let here = (or_parts (not (from == i) && (h.frame == frame)) (list_any (λ x. not (x.0 == i) && ((x.1).frame == frame)) (enumerate_from (from + 1) hs))
+    none).0 in
     subst (λ n. (not (n == i) && (g.frame == frame)) ≡ false) first (subst (λ (f : FrameEntry). (not (from == i) && (f.frame == frame)) ≡ false) same here)
 not-twice from i (h ∷ hs) (suc j) frame g none at =
     let next : from + 1 + j ≡ from + suc j = omega arith in
-    let later = (or_parts (not (from == i) && (h.frame == frame)) (list_any (λ x. not (x.0 == i) && ((x.1).frame == frame)) (enumerate_from (from + 1) hs)) none).1 in
+    let later = (or_parts (not (from == i) && (h.frame == frame)) (list_any (λ x. not (x.0 == i) && ((x.1).frame == frame)) (enumerate_from (from + 1) hs))
+    none).1 in
     subst (λ n. (not (n == i) && (g.frame == frame)) ≡ false) next (not-twice (from + 1) i hs j frame g later at)
 
-one-mapping : (image : Image) (i j frame : ℕ) (g : FrameEntry) → slice_get image.frames j ≡ Some g → is_named_otherwise image i frame ≡ false → g.frame ≡ frame → j ≡ i
+one-mapping : (image : Image) (i j frame : ℕ) (g : FrameEntry) → slice_get image.frames j ≡ Some g → is_named_otherwise image i frame ≡ false →
+    g.frame ≡ frame → j ≡ i
 one-mapping image i j frame g at none same =
-    let outer = or_parts (is_mapped_twice image i frame || list_any (λ c. c.source == frame) image.capabilities) (list_any (λ c. c.header.frame == frame) image.contents) none in
+    let outer = or_parts (is_mapped_twice image i frame || list_any (λ c. c.source == frame) image.capabilities)
+    (list_any (λ c. c.header.frame == frame) image.contents) none in
     let inner = or_parts (is_mapped_twice image i frame) (list_any (λ c. c.source == frame) image.capabilities) outer.0 in
     let start : 0 + j ≡ j = omega arith in
     by-test (j == i) refl (subst (λ n. (not (n == i) && (g.frame == frame)) ≡ false) start (not-twice 0 i image.frames j frame g inner.0 at))
@@ -144,7 +150,8 @@ module _ (image : Image) (t : Numbered) (s : State) (slots : List NotedSlot) (ke
       ]
 
   pub untouched : (u : Numbered) (registers : RegisterFile) (left : Content)
-      → ((place : ℕ) → ((a q : ℕ) → (content_of s (tcb_of image t)).place accesses.Store a ≡ Some q → q ≢ place) → left.byte place ≡ (content_of s (tcb_of image t)).byte place)
+      → ((place : ℕ) → ((a q : ℕ) → (content_of s (tcb_of image t)).place accesses.Store a ≡ Some q → q ≢ place) →
+      left.byte place ≡ (content_of s (tcb_of image t)).byte place)
       → IsUntouched image u s (with_content (with_registers s (tcb_of image t) registers) left)
   untouched u registers left writes = record {
     boot_radix = refl;

@@ -15,7 +15,8 @@ use Rattle.headline.proofs.lookups.ThreadKeys.{AreLow, HasKey, key-among, key-lo
 
 -- ---- a look-up among what a function notes at keys
 
-module _ (note : SlotKey → Option NotedSlot) (keeps : (k : SlotKey) (s : NotedSlot) → note k ≡ Some s → s.key ≡ k) (key : SlotKey) (low : key.index < 2 ^ 32) where
+module _ (note : SlotKey → Option NotedSlot) (keeps : (k : SlotKey) (s : NotedSlot) → note k ≡ Some s → s.key ≡ k) (key : SlotKey)
+    (low : key.index < 2 ^ 32) where
   abbrev Looks : List SlotKey → Type 0
   Looks keys = slot_at (filter_map note keys) key ≡ (if is_among key keys then note key else None)
 
@@ -35,12 +36,14 @@ module _ (note : SlotKey → Option NotedSlot) (keeps : (k : SlotKey) (s : Noted
       never false = refl
 
   -- where it is another
-  later : (k : SlotKey) (rest : List SlotKey) → is_same_key k key ≡ false → Looks rest → slot_at (filter_map note (k ∷ rest)) key ≡ (if is_among key rest then note key else None)
-  later k rest other others = elim (note k) as (λ o. note k ≡ o → slot_at (cons_option o (filter_map note rest)) key ≡ (if is_among key rest then note key else None)) [
-    | None ↦ λ _. others
-    | Some s ↦ λ some.
-        ap (λ b. if b then Some s else slot_at (filter_map note rest) key) (ap (λ (k : SlotKey). is_same_key k key) (keeps k s some) ∙ other) ∙ others
-  ] refl
+  later : (k : SlotKey) (rest : List SlotKey) → is_same_key k key ≡ false → Looks rest →
+      slot_at (filter_map note (k ∷ rest)) key ≡ (if is_among key rest then note key else None)
+  later k rest other others = elim (note k) as (λ o. note k ≡ o →
+      slot_at (cons_option o (filter_map note rest)) key ≡ (if is_among key rest then note key else None)) [
+        | None ↦ λ _. others
+        | Some s ↦ λ some.
+            ap (λ b. if b then Some s else slot_at (filter_map note rest) key) (ap (λ (k : SlotKey). is_same_key k key) (keeps k s some) ∙ other) ∙ others
+      ] refl
 
   pub looks : (keys : List SlotKey) → AreLow keys → Looks keys
   looks [] are = refl

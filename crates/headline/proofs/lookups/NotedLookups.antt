@@ -1,5 +1,6 @@
 -- A lookup that begins at a thread's root finds what is noted.
-use Rattle.std.proofs.Common.{ℕ, suc, ◌≡◌, ◌∙◌, ◌==◌, ◌+◌, ◌/◌, ◌^◌, ◌<◌, ◌&&◌, ◌||◌, Bool, true, false, not, if◌then◌else◌, Option, Some, None, List, [], ◌∷◌, length, refl, sym, ap, arith}
+use Rattle.std.proofs.Common.{ℕ, suc, ◌≡◌, ◌∙◌, ◌==◌, ◌+◌, ◌/◌, ◌^◌, ◌<◌, ◌&&◌, ◌||◌, Bool, true, false, not, if◌then◌else◌, Option, Some, None, List, [], ◌∷◌}
+use Rattle.std.proofs.Common.{length, refl, sym, ap, arith}
 use Rattle.std.specs.Prelude.{Contains}
 use Rattle.std.specs.Option.{option_map_or}
 use Rattle.std.specs.List.{list_any}
@@ -7,11 +8,13 @@ use Rattle.std.proofs.lemmas.Bool.{and_parts, eqb-true, false≢true, not-false,
 use Rattle.std.proofs.lemmas.Bool.Decides.{nat_tests}
 use Rattle.std.proofs.lemmas.Option.{none-some, same_Some}
 use Rattle.model.specs.declared.capabilities.Cap.{Cap}
-use Rattle.model.specs.declared.capabilities.Cap.TheVariants.{Empty, Untyped, Endpoint, Notification, CNode, Frame, PageTable, Tcb, RootTable, InterruptControl, InterruptHandler}
+use Rattle.model.specs.declared.capabilities.Cap.TheVariants.{Empty, Untyped, Endpoint, Notification, CNode, Frame, PageTable, Tcb, RootTable, InterruptControl}
+use Rattle.model.specs.declared.capabilities.Cap.TheVariants.{InterruptHandler}
 use Rattle.model.specs.Acceptance.Accepted.{IsWellFormed}
 use Rattle.model.specs.Acceptance.Authority.{IsOwnSlot}
 use Rattle.model.specs.Acceptance.NotedKernel.{noted_after, noted_root, slots_of_cnode, stands_in}
-use Rattle.model.specs.Acceptance.NotedStates.{NotedSlot, PointState, SlotKey, has_stray_slots, is_foreign, is_own, is_own_cnode, is_same_key, is_stray, leads_to_boot, notes_outside, record_of, slot_at}
+use Rattle.model.specs.Acceptance.NotedStates.{NotedSlot, PointState, SlotKey, has_stray_slots, is_foreign, is_own, is_own_cnode, is_same_key, is_stray}
+use Rattle.model.specs.Acceptance.NotedStates.{leads_to_boot, notes_outside, record_of, slot_at}
 use Rattle.model.specs.Acceptance.ThreadRules.{reached}
 use Rattle.model.specs.Acceptance.WellFormed.{radix_of}
 use Rattle.model.specs.Capabilities.CapabilityFields.{is_capability}
@@ -35,7 +38,8 @@ pub within-first : (first count index : ℕ) → index < count → is_within (fi
 within-first first count index less = grind (arith, nat_tests)
 
 stands-there : (image : Image) (slot offset index radix cnode : ℕ) → slot ≡ offset / 16 + index → index < 2 ^ radix
-    → ((offset_of image cnode == offset) && option_map_or (λ own. own == radix) (radix_of (type_at image cnode)) false) ≡ true → stands_in image slot cnode ≡ true
+    → ((offset_of image cnode == offset) && option_map_or (λ own. own == radix) (radix_of (type_at image cnode)) false) ≡ true →
+    stands_in image slot cnode ≡ true
 stands-there image slot offset index radix cnode is less passes =
     let parts = and_parts (offset_of image cnode == offset) (option_map_or (λ own. own == radix) (radix_of (type_at image cnode)) false) passes in
     let size : slots_of_cnode image cnode ≡ 2 ^ radix = by-radix (radix_of (type_at image cnode)) parts.1 in
@@ -58,12 +62,14 @@ any-passes one more passes (x ∷ rest) some = elim (one x) as (λ b. one x ≡ 
 pub slot-own : (image : Image) (t : Thread) (offset radix index : ℕ) → is_own_cnode image (reached image t) offset radix ≡ true → index < 2 ^ radix
     → IsOwnSlot image t (offset / 16 + index)
 slot-own image t offset radix index own less =
-    any-passes (λ c. (offset_of image c == offset) && option_map_or (λ own. own == radix) (radix_of (type_at image c)) false) (stands_in image (offset / 16 + index))
+    any-passes (λ c. (offset_of image c == offset) && option_map_or (λ own. own == radix) (radix_of (type_at image c)) false)
+    (stands_in image (offset / 16 + index))
     (λ cnode passes. stands-there image (offset / 16 + index) offset index radix cnode refl less passes) (reached image t) own
 
 -- ---- what is noted leads to no other CNode
 
-pub passes-not : (test : NotedSlot → Bool) (slots : List NotedSlot) (key : SlotKey) (s : NotedSlot) → list_any test slots ≡ false → slot_at slots key ≡ Some s → test s ≡ false
+pub passes-not : (test : NotedSlot → Bool) (slots : List NotedSlot) (key : SlotKey) (s : NotedSlot) → list_any test slots ≡ false → slot_at slots key ≡ Some s →
+    test s ≡ false
 passes-not test [] key s none found = absurd (none-some s found)
 passes-not test (r ∷ rest) key s none found =
     let parts = or_parts (test r) (list_any test rest) none in
@@ -72,7 +78,8 @@ passes-not test (r ∷ rest) key s none found =
       | false ↦ λ later. passes-not test rest key s parts.1 later
     ] found
 
-pub home-inside : (image : Image) (t : Thread) (c : Cap) → is_foreign image t (reached image t) c ≡ false → is_among (is_own_cnode image (reached image t)) c ≡ true
+pub home-inside : (image : Image) (t : Thread) (c : Cap) → is_foreign image t (reached image t) c ≡ false →
+    is_among (is_own_cnode image (reached image t)) c ≡ true
 home-inside image t Empty is = refl
 home-inside image t (Untyped _ _ _) is = refl
 home-inside image t (Endpoint _ _ _) is = refl
@@ -107,12 +114,14 @@ noted-inside : (image : Image) (t : Thread) (slots : List NotedSlot) (key : Slot
 noted-inside image t slots key none =
     elim (slot_at slots key) as (λ o. slot_at slots key ≡ o → is_among (is_own_cnode image (reached image t)) (capability_noted o) ≡ true) [
       | None ↦ λ _. refl
-      | Some s ↦ λ found. home-inside image t s.capability (not-foreign image t slots s (passes-not (is_stray image t (reached image t) slots) slots key s none found))
+      | Some s ↦ λ found. home-inside image t s.capability
+          (not-foreign image t slots s (passes-not (is_stray image t (reached image t) slots) slots key s none found))
     ] refl
 
 -- ---- lookups
 
-module _ (image : Image) (t : Numbered) (stand : StandsApart image t.thread) (s : State) (point : ℕ) (state : PointState) (same : noted_after image t.thread s.slots ≡ state.slots)
+module _ (image : Image) (t : Numbered) (stand : StandsApart image t.thread) (s : State) (point : ℕ) (state : PointState)
+    (same : noted_after image t.thread s.slots ≡ state.slots)
     (none : has_stray_slots image t.thread point state ≡ false) where
   abbrev noted : Slots
   noted = slots_noted image t state.slots
@@ -120,7 +129,8 @@ module _ (image : Image) (t : Numbered) (stand : StandsApart image t.thread) (s 
   abbrev own_cnode : ℕ → ℕ → Bool
   own_cnode = is_own_cnode image (reached image t.thread)
 
-  holds-same : (offset radix index : ℕ) → own_cnode offset radix ≡ true → index < 2 ^ radix → HoldsSame s.slots noted own_cnode (IsOwnSlot image t.thread) (offset / 16 + index)
+  holds-same : (offset radix index : ℕ) → own_cnode offset radix ≡ true → index < 2 ^ radix →
+      HoldsSame s.slots noted own_cnode (IsOwnSlot image t.thread) (offset / 16 + index)
   holds-same offset radix index mine less =
       let slot = offset / 16 + index in
       let own : IsOwnSlot image t.thread slot = slot-own image t.thread offset radix index mine less in

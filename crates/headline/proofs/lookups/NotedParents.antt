@@ -1,5 +1,6 @@
 -- The parent of a full slot of a thread's is the noted one.
-use Rattle.std.proofs.Common.{ℕ, suc, ◌≡◌, ◌∙◌, ◌+◌, ◌-◌, ◌/◌, ◌≤◌, Bool, true, false, if◌then◌else◌, Option, Some, None, option_and_then, option_map, List, [], ◌∷◌, refl, sym, ap, subst, arith}
+use Rattle.std.proofs.Common.{ℕ, suc, ◌≡◌, ◌∙◌, ◌+◌, ◌-◌, ◌/◌, ◌≤◌, Bool, true, false, if◌then◌else◌, Option, Some, None, option_and_then, option_map, List, []}
+use Rattle.std.proofs.Common.{◌∷◌, refl, sym, ap, subst, arith}
 use Rattle.std.specs.Prelude.{Contains}
 use Rattle.std.specs.List.{find}
 use Rattle.std.proofs.lemmas.Bool.Decides.{nat_tests}
@@ -34,7 +35,8 @@ within-back first count slot is = let from : first ≤ slot = grind (arith, nat_
 place-of : (image : Image) (cnodes : List ℕ) (slot : ℕ) (key : SlotKey) → key_of image cnodes slot ≡ Some key → slot_of_key image key ≡ slot
 place-of image cnodes slot key is =
     elim (find (stands_in image slot) cnodes) as (λ o. find (stands_in image slot) cnodes ≡ o
-    → option_map (λ cnode. let k : SlotKey = record { cnode = cnode; index = slot - cnode_slot image cnode 0 } in k) o ≡ Some key → slot_of_key image key ≡ slot) [
+    → option_map (λ cnode. let k : SlotKey = record { cnode = cnode; index = slot - cnode_slot image cnode 0 } in k) o ≡ Some key →
+    slot_of_key image key ≡ slot) [
       | None ↦ λ _ clash. absurd (none-some key clash)
       | Some cnode ↦ λ at here.
           ap (slot_of_key image) (sym (same_Some _ key here))
@@ -58,7 +60,8 @@ module _ (image : Image) (cnodes : List ℕ) where
   parent-keyed None key is = absurd (none-some key is)
   parent-keyed (Some above) key is = ap (λ (n : ℕ). Some n) (sym (place-of image cnodes above key is))
 
-module _ (image : Image) (t : Numbered) (stand : StandsApart image t.thread) (s : State) (slots : List NotedSlot) (same : noted_after image t.thread s.slots ≡ slots)
+module _ (image : Image) (t : Numbered) (stand : StandsApart image t.thread) (s : State) (slots : List NotedSlot)
+    (same : noted_after image t.thread s.slots ≡ slots)
     (parents : (noted : NotedSlot) → Contains slots noted → noted.parent ≡ None → HasBootParent s (slot_of_key image noted.key)) where
   abbrev cnodes : List ℕ
   cnodes = reached image t.thread

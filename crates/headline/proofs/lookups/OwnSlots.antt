@@ -25,7 +25,8 @@ module _ (image : Image) (t : Numbered) (slots : List NotedSlot) (slot : ℕ) (o
   -- what is in an own slot of the kernel in which the rules look up
   pub entry-noted : slots_noted image t slots slot ≡ Some (noted_entry image t.thread slots of.key)
   unfolding noted_kernel
-  entry-noted = ap (λ (k : Option SlotKey). option_map_or (λ (key : SlotKey). Some (noted_entry image t.thread slots key)) k ((described image).slots slot)) of.at
+  entry-noted = ap (λ (k : Option SlotKey). option_map_or (λ (key : SlotKey). Some (noted_entry image t.thread slots key)) k ((described image).slots slot))
+      of.at
 
   pub capability-noted : capability_at (slots_noted image t slots) slot ≡ capability_noted (slot_at slots of.key)
   capability-noted =
@@ -36,7 +37,8 @@ module _ (image : Image) (t : Numbered) (slots : List NotedSlot) (slot : ℕ) (o
       by-found None = refl
       by-found (Some s) = refl
 
-module _ (image : Image) (t : Numbered) (stand : StandsApart image t.thread) (after : Slots) (slots : List NotedSlot) (same : noted_after image t.thread after ≡ slots) where
+module _ (image : Image) (t : Numbered) (stand : StandsApart image t.thread) (after : Slots) (slots : List NotedSlot)
+    (same : noted_after image t.thread after ≡ slots) where
   abbrev cnodes : List ℕ
   cnodes = reached image t.thread
 
@@ -49,7 +51,12 @@ module _ (image : Image) (t : Numbered) (stand : StandsApart image t.thread) (af
     slot-noted =
         ap (λ (noted : List NotedSlot). slot_at noted of.key) (sym same) ∙ noted-at image t.thread stand after slot of
         ∙ ap (λ (n : ℕ). if not (is_empty (capability_at after n))
-        then Some (let s : NotedSlot = record { key = of.key; capability = capability_at after n; parent = option_and_then (key_of image cnodes) (parent_at after n) } in s)
+        then Some (let s : NotedSlot = record {
+          key = of.key;
+          capability = capability_at after n;
+          parent =
+              option_and_then (key_of image cnodes) (parent_at after n);
+        } in s)
         else None) of.place
 
     held-there : capability_noted (slot_at slots of.key) ≡ capability_at after slot

@@ -18,7 +18,8 @@ use Rattle.model.specs.Images.Fills.{program_pages}
 use Rattle.model.specs.Images.Image.{Image, Thread}
 use Rattle.model.specs.Images.Places.{offset_of, type_at}
 use Rattle.model.specs.Kernel.AddressSpaces.{address_limit, page_size}
-use Rattle.model.specs.Kernel.Retype.{NewObject, NewUntyped, NewThread, NewEndpoint, NewNotification, NewCNode, NewFrame, NewPageTable, NewRootTable, first_capability}
+use Rattle.model.specs.Kernel.Retype.{NewObject, NewUntyped, NewThread, NewEndpoint, NewNotification, NewCNode, NewFrame, NewPageTable, NewRootTable}
+use Rattle.model.specs.Kernel.Retype.{first_capability}
 use Rattle.typestate.specs.Spaces.{is_among}
 use Rattle.thread_spaces.proofs.Laws.{member-any, root-reached}
 use Rattle.soundness.proofs.Laws.{mapped_by}

@@ -1,5 +1,6 @@
 -- The keys of a thread's slots: each slot of its CNodes has its key among them, and keys with the same number are the same.
-use Rattle.std.proofs.Common.{ℕ, zero, suc, ◌≡◌, ◌∙◌, ◌+◌, ◌-◌, ◌*◌, ◌/◌, ◌^◌, ◌<◌, ◌≤◌, ◌≢◌, ◌||◌, inl, inr, Bool, true, false, nat_eq, if◌then◌else◌, Some, option_map, List, [], ◌∷◌, ◌++◌, map, filter, refl, sym, ap, subst, arith}
+use Rattle.std.proofs.Common.{ℕ, zero, suc, ◌≡◌, ◌∙◌, ◌+◌, ◌-◌, ◌*◌, ◌/◌, ◌^◌, ◌<◌, ◌≤◌, ◌≢◌, ◌||◌, inl, inr, Bool, true, false, nat_eq, if◌then◌else◌, Some}
+use Rattle.std.proofs.Common.{option_map, List, [], ◌∷◌, ◌++◌, map, filter, refl, sym, ap, subst, arith}
 use Rattle.std.specs.List.{find, flat_map, list_any, range_with_len}
 use Rattle.std.proofs.lemmas.Bool.{eq-eqb, false≢true}
 use Rattle.std.proofs.lemmas.Bool.Decides.{eqb_tells, nat_tests}
@@ -130,13 +131,15 @@ among-range : (cnode a n index : ℕ) → a ≤ index → index < a + n → is_a
 among-range cnode a zero index from below = absurd (omega (arith, from, below))
 among-range cnode a (suc n) index from below = elim (eqb_tells (number_of (key_for cnode a)) (number_of (key_for cnode index))) [
   | inl same ↦ ap (λ b. b || is_among (key_for cnode index) (map (key_for cnode) (range_with_len (a + 1) n))) same.0
-  | inr other ↦ or-second (is_same_key (key_for cnode a) (key_for cnode index)) _ (among-range cnode (a + 1) n index (later a index from other.1) (omega (arith, below)))
+  | inr other ↦ or-second (is_same_key (key_for cnode a) (key_for cnode index)) _
+      (among-range cnode (a + 1) n index (later a index from other.1) (omega (arith, below)))
 ]
   where
     later : (a index : ℕ) → a ≤ index → cnode * 2 ^ 32 + a ≢ cnode * 2 ^ 32 + index → a + 1 ≤ index
     later a index from other = omega (arith, from, other)
 
-among-all : (image : Image) (test : ℕ → Bool) (a n : ℕ) (key : SlotKey) → test key.cnode ≡ true → key.index < slots_of_cnode image key.cnode → a ≤ key.cnode → key.cnode < a + n
+among-all : (image : Image) (test : ℕ → Bool) (a n : ℕ) (key : SlotKey) → test key.cnode ≡ true → key.index < slots_of_cnode image key.cnode → a ≤ key.cnode →
+    key.cnode < a + n
     → is_among key (keys_from image test a n) ≡ true
 among-all image test a zero key passes inside from below = absurd (omega (arith, from, below))
 among-all image test a (suc n) key passes inside from below = elim (eqb_tells a key.cnode) [

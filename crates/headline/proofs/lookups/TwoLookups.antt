@@ -1,7 +1,8 @@
 -- A lookup goes the same way in two maps of slots that hold the same in each slot of some CNodes which it cannot leave, and ends in such a slot.
 use Rattle.std.proofs.Common.{ℕ, zero, suc, ◌≡◌, ◌∙◌, ◌==◌, ◌+◌, ◌/◌, ◌^◌, ◌<◌, ◌||◌, Bool, true, false, not, if◌then◌else◌, Result, Ok, Err, refl, ap, subst}
 use Rattle.model.specs.declared.capabilities.Cap.{Cap}
-use Rattle.model.specs.declared.capabilities.Cap.TheVariants.{Empty, Untyped, Endpoint, Notification, CNode, Frame, PageTable, Tcb, RootTable, InterruptControl, InterruptHandler}
+use Rattle.model.specs.declared.capabilities.Cap.TheVariants.{Empty, Untyped, Endpoint, Notification, CNode, Frame, PageTable, Tcb, RootTable, InterruptControl}
+use Rattle.model.specs.declared.capabilities.Cap.TheVariants.{InterruptHandler}
 use Rattle.model.specs.declared.lookup_failures.LookupFailure.{LookupFailure}
 use Rattle.model.specs.Capabilities.Lookup.{go_on, is_cnode, lookup_within, resolve}
 use Rattle.model.specs.Capabilities.Slots.{Slots, capability_at}
@@ -74,7 +75,8 @@ module _ (a b : Slots) (own : ℕ → ℕ → Bool) (IsOwn : ℕ → Type 0)
   goes-same (suc n) (Untyped _ _ _) left mine = record { result = refl; finds = tt }
   goes-same (suc n) (Endpoint _ _ _) left mine = record { result = refl; finds = tt }
   goes-same (suc n) (Notification _ _ _) left mine = record { result = refl; finds = tt }
-  goes-same (suc n) (CNode offset radix guard) left mine = through n offset radix (resolve radix guard address left) mine (index-below radix guard address left) (goes-same n)
+  goes-same (suc n) (CNode offset radix guard) left mine = through n offset radix (resolve radix guard address left) mine (index-below radix guard address left)
+      (goes-same n)
   goes-same (suc n) (Frame _ _ _) left mine = record { result = refl; finds = tt }
   goes-same (suc n) (PageTable _ _) left mine = record { result = refl; finds = tt }
   goes-same (suc n) (Tcb _) left mine = record { result = refl; finds = tt }

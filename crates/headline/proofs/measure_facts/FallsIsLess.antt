@@ -8,7 +8,8 @@ use Rattle.model.specs.declared.ranges.Range.{Range}
 use Rattle.model.specs.Machine.Effects.{effect}
 use Rattle.model.specs.Machine.Instructions.{IsInstr}
 use Rattle.model.specs.Machine.ProgramMemory.{Content, RegisterFile, read}
-use Rattle.model.specs.Acceptance.Measures.{Form, Measure, behind_form, difference_form, falls, greatest_on, measured, range_at, register_numbered, substituted, variable_form}
+use Rattle.model.specs.Acceptance.Measures.{Form, Measure, behind_form, difference_form, falls, greatest_on, measured, range_at, register_numbered, substituted}
+use Rattle.model.specs.Acceptance.Measures.{variable_form}
 use Rattle.model.specs.Acceptance.Ranges.{range_of}
 use Rattle.model.specs.Acceptance.ThreadInvariants.{LieWithin}
 use Rattle.ranges.specs.Inside.{LiesIn}
@@ -40,10 +41,12 @@ values-behind r s k less =
       | inr below ↦ absurd (omega (arith, below.1))
     ]
 
-pub values-inside : (r s : RegisterFile) (before behind : List Range) → LieWithin r before → LieWithin s behind → (k : ℕ) → k < 64 → LiesIn (values_on r s k) (range_at before behind k)
+pub values-inside : (r s : RegisterFile) (before behind : List Range) → LieWithin r before → LieWithin s behind → (k : ℕ) → k < 64 →
+    LiesIn (values_on r s k) (range_at before behind k)
 values-inside r s before behind within after k less =
     elim (nat_le 32 k) as (λ b. nat_le 32 k ≡ b
-    → LiesIn (if b then read s (register_numbered (k - 32)) else read r (register_numbered k)) (if b then range_of behind (register_numbered (k - 32)) else range_of before (register_numbered k))) [
+    → LiesIn (if b then read s (register_numbered (k - 32)) else read r (register_numbered k))
+    (if b then range_of behind (register_numbered (k - 32)) else range_of before (register_numbered k))) [
       | true ↦ λ h. after (k - 32) (omega (arith, less))
       | false ↦ λ h. within k (below-32 k h)
     ] refl where

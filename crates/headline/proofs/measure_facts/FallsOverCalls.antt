@@ -6,7 +6,8 @@ use Rattle.std.proofs.lemmas.Int.{ints}
 use Rattle.model.specs.declared.instructions.Register.{Register}
 use Rattle.model.specs.declared.ranges.Range.{Range}
 use Rattle.model.specs.Machine.ProgramMemory.{RegisterFile, read}
-use Rattle.model.specs.Acceptance.Measures.{Form, Measure, call_form, difference_form, falls, fresh, greatest_on, measured, range_at, register_numbered, stays_below, substituted, variable_form}
+use Rattle.model.specs.Acceptance.Measures.{Form, Measure, call_form, difference_form, falls, fresh, greatest_on, measured, range_at, register_numbered}
+use Rattle.model.specs.Acceptance.Measures.{stays_below, substituted, variable_form}
 use Rattle.model.specs.Acceptance.ThreadInvariants.{LieWithin}
 use Rattle.headline.specs.measure_facts.Terms.{NamesRegisters, WritesOnly}
 use Rattle.headline.proofs.measure_facts.FormValues.{value, value-difference, value-variable}
@@ -23,7 +24,8 @@ call-valued r s written k only less =
       | false ↦ λ h. value-variable 64 (values_on r s) k (omega (arith, less)) ∙ ap pos (values-before r s k less ∙ sym (only k less h))
     ] refl
 
-pub falls-over : (r s : RegisterFile) (written : List Register) (from to : Measure) (before behind : List Range) → WritesOnly r s written → NamesRegisters from → NamesRegisters to
+pub falls-over : (r s : RegisterFile) (written : List Register) (from to : Measure) (before behind : List Range) → WritesOnly r s written →
+    NamesRegisters from → NamesRegisters to
     → LieWithin r before → LieWithin s behind → falls from to (call_form written) before behind ≡ true → measured to s <ℤ measured from r
 unfolding falls
 falls-over r s written from to before behind only first second within after is =
@@ -43,13 +45,15 @@ falls-over r s written from to before behind only first second within after is =
 no-more-than : (a b c : ℤ) → a ≤ℤ b → int_le b c ≡ true → a ≤ℤ c
 no-more-than a b c less is = omega (arith, ints)
 
-pub stays-within : (r s : RegisterFile) (written : List Register) (budget : ℕ) (to : Measure) (before behind : List Range) → WritesOnly r s written → NamesRegisters to
+pub stays-within : (r s : RegisterFile) (written : List Register) (budget : ℕ) (to : Measure) (before behind : List Range) → WritesOnly r s written →
+    NamesRegisters to
     → LieWithin r before → LieWithin s behind → stays_below budget to (call_form written) before behind ≡ true → measured to s ≤ℤ pos budget
 unfolding stays_below
 stays-within r s written budget to before behind only are within after is =
     let v : ℕ → ℕ = values_on r s in
     let form : Form = substituted to (call_form written) in
     no-more-than (measured to s) (greatest_on before behind form) (pos budget)
-    (subst (λ (z : ℤ). z ≤ℤ greatest_on before behind form) (measure-valued 64 v to (call_form written) s (λ k some less. call-valued r s written k only less) are)
+    (subst (λ (z : ℤ). z ≤ℤ greatest_on before behind form)
+    (measure-valued 64 v to (call_form written) s (λ k some less. call-valued r s written k only less) are)
     (value-above 64 v form (range_at before behind) (values-inside r s before behind within after)))
     is

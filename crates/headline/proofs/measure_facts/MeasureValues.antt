@@ -17,7 +17,8 @@ IsTerm t = (1 ≤ t.register) × (t.register < 32)
 abbrev pub HaveValues : ℕ → (ℕ → ℕ) → (ℕ → Form) → RegisterFile → Type 0
 HaveValues n v value_of r = (k : ℕ) → 1 ≤ k → k < 32 → value n v (value_of k) ≡ pos (read r (register_numbered k))
 
-terms-valued : (n : ℕ) (v : ℕ → ℕ) (value_of : ℕ → Form) (r : RegisterFile) (start : Form) (c s : ℤ) (terms : List TermEntry) → HaveValues n v value_of r → All IsTerm terms
+terms-valued : (n : ℕ) (v : ℕ → ℕ) (value_of : ℕ → Form) (r : RegisterFile) (start : Form) (c s : ℤ) (terms : List TermEntry) → HaveValues n v value_of r →
+    All IsTerm terms
     → value n v start ≡ c +ℤ s
     → value n v (fold (λ f t. sum_form f (times_form t.coefficient (value_of t.register))) start terms)
     ≡ c +ℤ fold (λ a b. a +ℤ b) s (map (λ t. t.coefficient *ℤ pos (read r (register_numbered t.register))) terms)

@@ -1,5 +1,6 @@
 -- The measure that is noted of a point names registers: a record's terms do by the format, and what follows from a point keeps them.
-use Rattle.std.proofs.Common.{ℕ, zero, suc, ◌≡◌, ◌+◌, ◌≤◌, Bool, true, false, if◌then◌else◌, List, [], ◌∷◌, Option, Some, None, Result, Ok, Err, pos, refl, subst, arith}
+use Rattle.std.proofs.Common.{ℕ, zero, suc, ◌≡◌, ◌+◌, ◌≤◌, Bool, true, false, if◌then◌else◌, List, [], ◌∷◌, Option, Some, None, Result, Ok, Err, pos, refl}
+use Rattle.std.proofs.Common.{subst, arith}
 use Rattle.std.specs.Prelude.{find, slice_get}
 use Rattle.std.specs.List.{All, list_any}
 use Rattle.std.specs.Option.{option_map_or}
@@ -14,11 +15,14 @@ use Rattle.model.specs.Acceptance.CallRules.{AfterCall}
 use Rattle.model.specs.Acceptance.Edges.{Edge, after}
 use Rattle.model.specs.Acceptance.Measures.{Measure, has_term, lowered}
 use Rattle.model.specs.Acceptance.NotedStates.{PointState, record_of, record_state}
-use Rattle.model.specs.Acceptance.PointStates.{Noted, Known, Missing, Unmeasured, address_of, call_at, follows, follows_call, follows_edge, follows_instruction, instruction_at, noted, noted_or, whole_budget, with_measure}
+use Rattle.model.specs.Acceptance.PointStates.{Noted, Known, Missing, Unmeasured, address_of, call_at, follows, follows_call, follows_edge, follows_instruction}
+use Rattle.model.specs.Acceptance.PointStates.{instruction_at, noted, noted_or, whole_budget, with_measure}
 use Rattle.model.specs.Acceptance.RangeRules.{destination}
 use Rattle.model.specs.Images.Described.{Numbered}
 use Rattle.model.specs.Images.Format.{many_fit}
-use Rattle.model.specs.Images.Image.{Image, StateRecord, Thread, image_with, record_format, record_header_format, ranges_format, records_format, sections_format, slots_format, term_format, terms_format, registers_format, thread_format, thread_header_format, whole_image, words_format}
+use Rattle.model.specs.Images.Image.{Image, StateRecord, Thread, image_with, record_format, record_header_format, ranges_format, records_format}
+use Rattle.model.specs.Images.Image.{sections_format, slots_format, term_format, terms_format, registers_format, thread_format, thread_header_format}
+use Rattle.model.specs.Images.Image.{whole_image, words_format}
 use Rattle.format_laws.proofs.Laws.{field-between, many-each}
 use Rattle.headline.specs.measure_facts.Terms.{NamesRegisters}
 use Rattle.headline.proofs.measure_facts.MeasureValues.{IsTerm}
@@ -48,7 +52,8 @@ record-terms objects words least r is =
     let c = and_parts (((slots_format objects).entries r.header.slots).fits r.slots) _ b.1 in
     terms-above 1 r.header.terms r.terms c.1 (omega arith)
 
-thread-terms : (objects : ℕ) (t : Thread) → (thread_format (slots_format objects) objects).fits t ≡ true → (k : ℕ) (r : StateRecord) → slice_get t.records k ≡ Some r → All IsTerm r.terms
+thread-terms : (objects : ℕ) (t : Thread) → (thread_format (slots_format objects) objects).fits t ≡ true → (k : ℕ) (r : StateRecord) →
+    slice_get t.records k ≡ Some r → All IsTerm r.terms
 unfolding thread_format records_format
 thread-terms objects t is k r at =
     let a = and_parts ((thread_header_format objects).fits t.header) _ is in
@@ -103,18 +108,27 @@ edge-named : (instr : Instr) (s : PointState) (edge : Option Edge) → NamesRegi
 edge-named instr s None are = tt
 edge-named instr s (Some edge) are = known-if s edge (option_map_or (λ rd. has_term s.measure rd.0) (destination instr) false) are
 
-next-named : (image : Image) (t : Numbered) (point : ℕ) (s : PointState) (instr : Option Instr) → NamesRegisters s.measure → AreNamed (follows_instruction image t point s instr)
+next-named : (image : Image) (t : Numbered) (point : ℕ) (s : PointState) (instr : Option Instr) → NamesRegisters s.measure →
+    AreNamed (follows_instruction image t point s instr)
 next-named image t point s None are = tt
 next-named image t point s (Some Ecall) are = behind-named t.thread s.measure (call_at image t point s) are
-next-named image t point s (Some (Upper op rd z)) are = edge-named (Upper op rd z) s (after (address_of t.thread point) (Upper op rd z) s.ranges).fall_through are
+next-named image t point s (Some (Upper op rd z)) are = edge-named (Upper op rd z) s (after (address_of t.thread point) (Upper op rd z) s.ranges).fall_through
+    are
 next-named image t point s (Some (Jal rd z)) are = edge-named (Jal rd z) s (after (address_of t.thread point) (Jal rd z) s.ranges).fall_through are
-next-named image t point s (Some (Jalr rd rs1 z)) are = edge-named (Jalr rd rs1 z) s (after (address_of t.thread point) (Jalr rd rs1 z) s.ranges).fall_through are
-next-named image t point s (Some (Branch op rs1 rs2 z)) are = edge-named (Branch op rs1 rs2 z) s (after (address_of t.thread point) (Branch op rs1 rs2 z) s.ranges).fall_through are
-next-named image t point s (Some (Load op rd rs1 z)) are = edge-named (Load op rd rs1 z) s (after (address_of t.thread point) (Load op rd rs1 z) s.ranges).fall_through are
-next-named image t point s (Some (Store op rs1 rs2 z)) are = edge-named (Store op rs1 rs2 z) s (after (address_of t.thread point) (Store op rs1 rs2 z) s.ranges).fall_through are
-next-named image t point s (Some (Immediate op rd rs1 z)) are = edge-named (Immediate op rd rs1 z) s (after (address_of t.thread point) (Immediate op rd rs1 z) s.ranges).fall_through are
-next-named image t point s (Some (Shift op rd rs1 n)) are = edge-named (Shift op rd rs1 n) s (after (address_of t.thread point) (Shift op rd rs1 n) s.ranges).fall_through are
-next-named image t point s (Some (Registers op rd rs1 rs2)) are = edge-named (Registers op rd rs1 rs2) s (after (address_of t.thread point) (Registers op rd rs1 rs2) s.ranges).fall_through are
+next-named image t point s (Some (Jalr rd rs1 z)) are = edge-named (Jalr rd rs1 z) s (after (address_of t.thread point) (Jalr rd rs1 z) s.ranges).fall_through
+    are
+next-named image t point s (Some (Branch op rs1 rs2 z)) are =
+    edge-named (Branch op rs1 rs2 z) s (after (address_of t.thread point) (Branch op rs1 rs2 z) s.ranges).fall_through are
+next-named image t point s (Some (Load op rd rs1 z)) are = edge-named (Load op rd rs1 z) s
+    (after (address_of t.thread point) (Load op rd rs1 z) s.ranges).fall_through are
+next-named image t point s (Some (Store op rs1 rs2 z)) are =
+    edge-named (Store op rs1 rs2 z) s (after (address_of t.thread point) (Store op rs1 rs2 z) s.ranges).fall_through are
+next-named image t point s (Some (Immediate op rd rs1 z)) are =
+    edge-named (Immediate op rd rs1 z) s (after (address_of t.thread point) (Immediate op rd rs1 z) s.ranges).fall_through are
+next-named image t point s (Some (Shift op rd rs1 n)) are = edge-named (Shift op rd rs1 n) s
+    (after (address_of t.thread point) (Shift op rd rs1 n) s.ranges).fall_through are
+next-named image t point s (Some (Registers op rd rs1 rs2)) are =
+    edge-named (Registers op rd rs1 rs2) s (after (address_of t.thread point) (Registers op rd rs1 rs2) s.ranges).fall_through are
 next-named image t point s (Some Fence) are = edge-named Fence s (after (address_of t.thread point) Fence s.ranges).fall_through are
 next-named image t point s (Some Ebreak) are = edge-named Ebreak s (after (address_of t.thread point) Ebreak s.ranges).fall_through are
 
@@ -123,19 +137,23 @@ follows-named image t point (Known s) are = next-named image t point s (instruct
 follows-named image t point Missing are = tt
 follows-named image t point Unmeasured are = tt
 
-or-named : (image : Image) (t : Thread) (o : Option StateRecord) (otherwise : Noted) → ((r : StateRecord) → o ≡ Some r → All IsTerm r.terms) → AreNamed otherwise → AreNamed (noted_or image t o otherwise)
+or-named : (image : Image) (t : Thread) (o : Option StateRecord) (otherwise : Noted) → ((r : StateRecord) → o ≡ Some r → All IsTerm r.terms) →
+    AreNamed otherwise → AreNamed (noted_or image t o otherwise)
 unfolding record_state
 or-named image t (Some r) otherwise each are = each r refl
 or-named image t None otherwise each are = are
 
-noted-all : (image : Image) (t : Numbered) → ((i : ℕ) (r : StateRecord) → slice_get t.thread.records i ≡ Some r → All IsTerm r.terms) → (point : ℕ) → AreNamed (noted image t point)
+noted-all : (image : Image) (t : Numbered) → ((i : ℕ) (r : StateRecord) → slice_get t.thread.records i ≡ Some r → All IsTerm r.terms) → (point : ℕ) →
+    AreNamed (noted image t point)
 unfolding noted
 noted-all image t each zero =
     or-named image t.thread (record_of t.thread 0) Missing (λ r is. let place = find-place _ t.thread.records r is in each place.0 r place.1) tt
 noted-all image t each (suc point) =
-    or-named image t.thread (record_of t.thread (suc point)) (follows image t point (noted image t point)) (λ r is. let place = find-place _ t.thread.records r is in each place.0 r place.1)
+    or-named image t.thread (record_of t.thread (suc point)) (follows image t point (noted image t point))
+    (λ r is. let place = find-place _ t.thread.records r is in each place.0 r place.1)
     (follows-named image t point (noted image t point) (noted-all image t each point))
 
-pub noted-named : (image : Image) (k : ℕ) (t : Numbered) (point : ℕ) (state : PointState) → whole_image.fits image ≡ true → slice_get image.threads k ≡ Some t.thread
+pub noted-named : (image : Image) (k : ℕ) (t : Numbered) (point : ℕ) (state : PointState) → whole_image.fits image ≡ true →
+    slice_get image.threads k ≡ Some t.thread
     → noted image t point ≡ Known state → NamesRegisters state.measure
 noted-named image k t point state fits at is = subst (λ (n : Noted). AreNamed n) is (noted-all image t (image-terms image k t.thread fits at) point)

@@ -1,5 +1,6 @@
 -- A register after an instruction has the value of the form that the rules give it.
-use Rattle.std.proofs.Common.{ℕ, suc, ◌≡◌, ◌≢◌, ◌∙◌, ◌==◌, ◌+◌, ◌-◌, ◌%◌, ◌^◌, ◌<◌, ◌≤◌, Bool, true, false, if◌then◌else◌, List, length, get_or, Option, Some, None, Result, Ok, Err, ℤ, pos, negsuc, ◌+ℤ◌, ◌*ℤ◌, refl, sym, ap, arith}
+use Rattle.std.proofs.Common.{ℕ, suc, ◌≡◌, ◌≢◌, ◌∙◌, ◌==◌, ◌+◌, ◌-◌, ◌%◌, ◌^◌, ◌<◌, ◌≤◌, Bool, true, false, if◌then◌else◌, List, length, get_or, Option, Some}
+use Rattle.std.proofs.Common.{None, Result, Ok, Err, ℤ, pos, negsuc, ◌+ℤ◌, ◌*ℤ◌, refl, sym, ap, arith}
 use Rattle.std.specs.Prelude.{int_le, int_lt, slice_set}
 use Rattle.std.specs.Option.{option_map_or}
 use Rattle.std.proofs.lemmas.Int.{ints}
@@ -20,8 +21,10 @@ use Rattle.model.specs.declared.instructions.RegisterOp.TheVariants.{Add, Sub, S
 use Rattle.model.specs.declared.ranges.Range.{Range}
 use Rattle.model.specs.Machine.Instructions.{IsInstr, IsRegister}
 use Rattle.model.specs.Machine.ProgramMemory.{Content, RegisterFile, loaded, read, stored, write}
-use Rattle.model.specs.Machine.Effects.{branches, effect, goes_on, immediate_result, is_taken, jumps, load_size, loads, next_pc, plus, register_result, stays, store_size, stores}
-use Rattle.model.specs.Acceptance.Measures.{Form, before_form, behind_form, constant_form, difference_form, exact_sum, form_if, fresh, immediate_sum, is_register, moves_within, other_value, register_numbered, register_sum, sum_form, variable_form}
+use Rattle.model.specs.Machine.Effects.{branches, effect, goes_on, immediate_result, is_taken, jumps, load_size, loads, next_pc, plus, register_result, stays}
+use Rattle.model.specs.Machine.Effects.{store_size, stores}
+use Rattle.model.specs.Acceptance.Measures.{Form, before_form, behind_form, constant_form, difference_form, exact_sum, form_if, fresh, immediate_sum}
+use Rattle.model.specs.Acceptance.Measures.{is_register, moves_within, other_value, register_numbered, register_sum, sum_form, variable_form}
 use Rattle.model.specs.Acceptance.RangeRules.{destination, difference_fits, is_single, sum_fits}
 use Rattle.model.specs.Acceptance.Ranges.{range_of}
 use Rattle.model.specs.Acceptance.ThreadInvariants.{LieWithin}
@@ -56,9 +59,11 @@ written-same r rd n k long some less is =
 
 -- ---- registers that an instruction does not write
 
-jump-leaves : (r : RegisterFile) (content : Content) (written : RegisterFile) (target k : ℕ) → word written k ≡ word r k → word (jumps r content written target).registers k ≡ word r k
+jump-leaves : (r : RegisterFile) (content : Content) (written : RegisterFile) (target k : ℕ) → word written k ≡ word r k →
+    word (jumps r content written target).registers k ≡ word r k
 jump-leaves r content written target k same =
-    elim (target % 4 == 0) as (λ b. word (if b then goes_on (record written { pc = target }) content else stays r content (outcomes.Trap Misaligned)).registers k ≡ word r k) [
+    elim (target % 4 == 0) as (λ b. word (if b then goes_on (record written { pc = target }) content else stays r content (outcomes.Trap Misaligned)).registers
+    k ≡ word r k) [
       | true ↦ same
       | false ↦ refl
     ]
@@ -67,7 +72,8 @@ branch-leaves : (r : RegisterFile) (content : Content) (taken : Bool) (target k 
 branch-leaves r content true target k = jump-leaves r content r target k refl
 branch-leaves r content false target k = refl
 
-load-leaves : (r : RegisterFile) (content : Content) (op : LoadOp) (rd : Register) (found : Result ℕ MemoryFault) (k : ℕ) → (rd.0 == k) ≡ false → word (loads r content op rd found).registers k ≡ word r k
+load-leaves : (r : RegisterFile) (content : Content) (op : LoadOp) (rd : Register) (found : Result ℕ MemoryFault) (k : ℕ) → (rd.0 == k) ≡ false →
+    word (loads r content op rd found).registers k ≡ word r k
 load-leaves r content op rd (Ok n) k other = written-other r rd _ k other
 load-leaves r content op rd (Err fault) k other = refl
 
@@ -84,7 +90,8 @@ others-stay r content (Jalr rd rs1 offset) k other =
     let target = plus (read r rs1) offset in
     jump-leaves r content (write r rd (next_pc r)) (target - target % 2) k (written-other r rd (next_pc r) k other)
 others-stay r content (Branch op rs1 rs2 offset) k other = branch-leaves r content (is_taken op (read r rs1) (read r rs2)) (plus r.pc offset) k
-others-stay r content (Load op rd rs1 offset) k other = load-leaves r content op rd (loaded content accesses.Load (load_size op) (plus (read r rs1) offset)) k other
+others-stay r content (Load op rd rs1 offset) k other = load-leaves r content op rd (loaded content accesses.Load (load_size op) (plus (read r rs1) offset)) k
+    other
 others-stay r content (Store op rs1 rs2 offset) k other = store-leaves r content (stored content (store_size op) (plus (read r rs1) offset) (read r rs2)) k
 others-stay r content (Immediate op rd rs1 immediate) k other = written-other r rd _ k other
 others-stay r content (Shift op rd rs1 amount) k other = written-other r rd _ k other
@@ -128,7 +135,8 @@ summed-exactly x y s t here there fits =
     let same : x + y ≡ (x + y) % 2 ^ 32 = omega (arith, few, here.1, there.1) in
     ap pos same
 
-subtracted-exactly : (x y : ℕ) (s t : Range) → x < 2 ^ 32 → LiesIn x s → LiesIn y t → difference_fits s t ≡ true → pos x +ℤ (negsuc 0 *ℤ pos y) ≡ pos ((x + (2 ^ 32 - y)) % 2 ^ 32)
+subtracted-exactly : (x y : ℕ) (s t : Range) → x < 2 ^ 32 → LiesIn x s → LiesIn y t → difference_fits s t ≡ true →
+    pos x +ℤ (negsuc 0 *ℤ pos y) ≡ pos ((x + (2 ^ 32 - y)) % 2 ^ 32)
 subtracted-exactly x y s t small here there fits =
     let room : t.high ≤ s.low = leb-true t.high s.low fits in
     let under : y ≤ x = omega (arith, room, here.0, there.1) in
@@ -144,7 +152,8 @@ Reads r v = (k : ℕ) → k < 32 → v k ≡ word r k
 before-value : (r : RegisterFile) (v : ℕ → ℕ) (x : Register) → Reads r v → IsRegister x → value 64 v (before_form x) ≡ pos (read r x)
 before-value r v x reads fits = value-variable 64 v x.0 (omega (arith, fits)) ∙ ap pos (reads x.0 fits)
 
-immediate-exact : (r : RegisterFile) (v : ℕ → ℕ) (op : ImmediateOp) (rs1 : Register) (z : ℤ) (s : Range) (form : Form) → Reads r v → IsRegister rs1 → read r rs1 < 2 ^ 32 → LiesIn (read r rs1) s
+immediate-exact : (r : RegisterFile) (v : ℕ → ℕ) (op : ImmediateOp) (rs1 : Register) (z : ℤ) (s : Range) (form : Form) → Reads r v → IsRegister rs1 →
+    read r rs1 < 2 ^ 32 → LiesIn (read r rs1) s
     → immediate_sum op rs1 z s ≡ Some form → value 64 v form ≡ pos (immediate_result op (read r rs1) z)
 immediate-exact r v Addi rs1 z s form reads fits small inside is =
     let found = if-form (moves_within s z) (sum_form (before_form rs1) (constant_form z)) form is in
@@ -161,7 +170,8 @@ immediate-exact r v Andi rs1 z s form reads fits small inside is = absurd (let c
 abbrev IsExact : RegisterFile → (ℕ → ℕ) → RegisterOp → Register → Register → Range → Range → Type 0
 IsExact r v op rs1 rs2 s t = (form : Form) → register_sum op rs1 rs2 s t ≡ Some form → value 64 v form ≡ pos (register_result op (read r rs1) (read r rs2))
 
-register-exact : (r : RegisterFile) (v : ℕ → ℕ) (op : RegisterOp) (rs1 rs2 : Register) (s t : Range) → Reads r v → IsRegister rs1 → IsRegister rs2 → read r rs1 < 2 ^ 32
+register-exact : (r : RegisterFile) (v : ℕ → ℕ) (op : RegisterOp) (rs1 rs2 : Register) (s t : Range) → Reads r v → IsRegister rs1 → IsRegister rs2 →
+    read r rs1 < 2 ^ 32
     → LiesIn (read r rs1) s → LiesIn (read r rs2) t → IsExact r v op rs1 rs2 s t
 register-exact r v Add rs1 rs2 s t reads first second small here there form is =
     let found = if-form (sum_fits s t) (sum_form (before_form rs1) (before_form rs2)) form is in
@@ -184,22 +194,31 @@ register-exact r v Sra rs1 rs2 s t reads first second small here there form is =
 register-exact r v Or rs1 rs2 s t reads first second small here there form is = absurd (let clash : ◌≡◌ {A = Option Form} None (Some form) = is in cc)
 register-exact r v And rs1 rs2 s t reads first second small here there form is = absurd (let clash : ◌≡◌ {A = Option Form} None (Some form) = is in cc)
 
-sum-exact : (r : RegisterFile) (content : Content) (v : ℕ → ℕ) (instr : Instr) (before : List Range) (k : ℕ) (form : Form) → AreWords r content → IsInstr instr → LieWithin r before → Reads r v
-    → 1 ≤ k → k < 32 → is_register (destination instr) k ≡ true → exact_sum instr before ≡ Some form → value 64 v form ≡ pos (word (effect r content instr).registers k)
+sum-exact : (r : RegisterFile) (content : Content) (v : ℕ → ℕ) (instr : Instr) (before : List Range) (k : ℕ) (form : Form) → AreWords r content →
+    IsInstr instr → LieWithin r before → Reads r v
+    → 1 ≤ k → k < 32 → is_register (destination instr) k ≡ true → exact_sum instr before ≡ Some form →
+    value 64 v form ≡ pos (word (effect r content instr).registers k)
 unfolding effect exact_sum
 sum-exact r content v (Immediate op rd rs1 z) before k form are fits within reads some less here is =
     immediate-exact r v op rs1 z (range_of before rs1) form reads fits.1 (are.words rs1) (within rs1.0 fits.1) is
     ∙ ap pos (sym (written-same r rd (immediate_result op (read r rs1) z) k are.count some less here))
 sum-exact r content v (Registers op rd rs1 rs2) before k form are fits within reads some less here is =
-    register-exact r v op rs1 rs2 (range_of before rs1) (range_of before rs2) reads fits.1 fits.2 (are.words rs1) (within rs1.0 fits.1) (within rs2.0 fits.2) form is
+    register-exact r v op rs1 rs2 (range_of before rs1) (range_of before rs2) reads fits.1 fits.2 (are.words rs1) (within rs1.0 fits.1) (within rs2.0 fits.2)
+    form is
     ∙ ap pos (sym (written-same r rd (register_result op (read r rs1) (read r rs2)) k are.count some less here))
-sum-exact r content v (Upper op rd z) before k form are fits within reads some less here is = absurd (let clash : ◌≡◌ {A = Option Form} None (Some form) = is in cc)
+sum-exact r content v (Upper op rd z) before k form are fits within reads some less here is =
+    absurd (let clash : ◌≡◌ {A = Option Form} None (Some form) = is in cc)
 sum-exact r content v (Jal rd z) before k form are fits within reads some less here is = absurd (let clash : ◌≡◌ {A = Option Form} None (Some form) = is in cc)
-sum-exact r content v (Jalr rd rs1 z) before k form are fits within reads some less here is = absurd (let clash : ◌≡◌ {A = Option Form} None (Some form) = is in cc)
-sum-exact r content v (Branch op rs1 rs2 z) before k form are fits within reads some less here is = absurd (let clash : ◌≡◌ {A = Option Form} None (Some form) = is in cc)
-sum-exact r content v (Load op rd rs1 z) before k form are fits within reads some less here is = absurd (let clash : ◌≡◌ {A = Option Form} None (Some form) = is in cc)
-sum-exact r content v (Store op rs1 rs2 z) before k form are fits within reads some less here is = absurd (let clash : ◌≡◌ {A = Option Form} None (Some form) = is in cc)
-sum-exact r content v (Shift op rd rs1 amount) before k form are fits within reads some less here is = absurd (let clash : ◌≡◌ {A = Option Form} None (Some form) = is in cc)
+sum-exact r content v (Jalr rd rs1 z) before k form are fits within reads some less here is =
+    absurd (let clash : ◌≡◌ {A = Option Form} None (Some form) = is in cc)
+sum-exact r content v (Branch op rs1 rs2 z) before k form are fits within reads some less here is =
+    absurd (let clash : ◌≡◌ {A = Option Form} None (Some form) = is in cc)
+sum-exact r content v (Load op rd rs1 z) before k form are fits within reads some less here is =
+    absurd (let clash : ◌≡◌ {A = Option Form} None (Some form) = is in cc)
+sum-exact r content v (Store op rs1 rs2 z) before k form are fits within reads some less here is =
+    absurd (let clash : ◌≡◌ {A = Option Form} None (Some form) = is in cc)
+sum-exact r content v (Shift op rd rs1 amount) before k form are fits within reads some less here is =
+    absurd (let clash : ◌≡◌ {A = Option Form} None (Some form) = is in cc)
 sum-exact r content v Fence before k form are fits within reads some less here is = absurd (let clash : ◌≡◌ {A = Option Form} None (Some form) = is in cc)
 sum-exact r content v Ecall before k form are fits within reads some less here is = absurd (let clash : ◌≡◌ {A = Option Form} None (Some form) = is in cc)
 sum-exact r content v Ebreak before k form are fits within reads some less here is = absurd (let clash : ◌≡◌ {A = Option Form} None (Some form) = is in cc)
@@ -221,7 +240,8 @@ by-single v s k x false less is single = value-variable 64 v (fresh k) (omega (a
 abbrev ReadsBehind : RegisterFile → (ℕ → ℕ) → Type 0
 ReadsBehind r v = (k : ℕ) → k < 32 → v (fresh k) ≡ word r k
 
-by-sum : (r : RegisterFile) (content : Content) (v : ℕ → ℕ) (instr : Instr) (before behind : List Range) (k : ℕ) (found : Option Form) → AreWords r content → IsInstr instr
+by-sum : (r : RegisterFile) (content : Content) (v : ℕ → ℕ) (instr : Instr) (before behind : List Range) (k : ℕ) (found : Option Form) → AreWords r content →
+    IsInstr instr
     → LieWithin r before → LieWithin (effect r content instr).registers behind → Reads r v → ReadsBehind (effect r content instr).registers v → 1 ≤ k → k < 32
     → is_register (destination instr) k ≡ true → exact_sum instr before ≡ found
     → value 64 v (option_map_or (λ form. form) found (other_value behind k)) ≡ pos (word (effect r content instr).registers k)
@@ -237,7 +257,8 @@ pub behind-valued : (r : RegisterFile) (content : Content) (v : ℕ → ℕ) (in
     → value 64 v (behind_form instr before behind k) ≡ pos (word (effect r content instr).registers k)
 behind-valued r content v instr before behind k are fits within after reads later some less =
     elim (is_register (destination instr) k) as (λ b. is_register (destination instr) k ≡ b
-    → value 64 v (if b then option_map_or (λ form. form) (exact_sum instr before) (other_value behind k) else variable_form k) ≡ pos (word (effect r content instr).registers k)) [
+    → value 64 v (if b then option_map_or (λ form. form) (exact_sum instr before) (other_value behind k) else variable_form k) ≡ pos
+    (word (effect r content instr).registers k)) [
       | true ↦ λ here. by-sum r content v instr before behind k (exact_sum instr before) are fits within after reads later some less here refl
       | false ↦ λ here. value-variable 64 v k (omega (arith, less)) ∙ ap pos (reads k less ∙ sym (others-stay r content instr k here))
     ] refl

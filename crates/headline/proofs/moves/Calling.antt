@@ -34,7 +34,8 @@ pub record IsCounted (image : Image) (t : Numbered) (labels later : List Label) 
   pub passes : is_wait ≡ false → open_count (tcb_of image t) later ≡ open_count (tcb_of image t) labels + 1
   pub others : (thread : ℕ) → thread ≢ tcb_of image t → open_count thread later ≡ open_count thread labels
 
-pub counted : (image : Image) (t : Numbered) (labels : List Label) (pc : ℕ) (outcome : Outcome) → IsCounted image t labels (labels ++ Ran (memory_base + tcb_of image t) pc outcome ∷ []) (is_waited outcome)
+pub counted : (image : Image) (t : Numbered) (labels : List Label) (pc : ℕ) (outcome : Outcome) →
+    IsCounted image t labels (labels ++ Ran (memory_base + tcb_of image t) pc outcome ∷ []) (is_waited outcome)
 counted image t labels pc outcome =
     let tcb = tcb_of image t in
     let own = own-label tcb labels (Ran (memory_base + tcb) pc outcome) (eq-eqb (memory_base + tcb) (memory_base + tcb) refl) in
@@ -55,9 +56,12 @@ NoThread object = (t : ThreadState) → object ≡ ThreadObject t → ⊥
 
 -- the places of a thread in the changed queue were its places before
 pub record QueuesOn (old new : Object) (thread : ℕ) : Type 0 where
-  pub sends : (e : EndpointState) (x : Sender) → new ≡ EndpointObject e → Contains e.senders x → x.thread ≡ thread → (f : EndpointState) × (old ≡ EndpointObject f) × Contains f.senders x
-  pub receives : (e : EndpointState) → new ≡ EndpointObject e → Contains e.receivers thread → (f : EndpointState) × (old ≡ EndpointObject f) × Contains f.receivers thread
-  pub waits : (n : NotificationState) → new ≡ NotificationObject n → Contains n.waiters thread → (m : NotificationState) × (old ≡ NotificationObject m) × Contains m.waiters thread
+  pub sends : (e : EndpointState) (x : Sender) → new ≡ EndpointObject e → Contains e.senders x → x.thread ≡ thread → (f : EndpointState)
+      × (old ≡ EndpointObject f) × Contains f.senders x
+  pub receives : (e : EndpointState) → new ≡ EndpointObject e → Contains e.receivers thread → (f : EndpointState) × (old ≡ EndpointObject f)
+      × Contains f.receivers thread
+  pub waits : (n : NotificationState) → new ≡ NotificationObject n → Contains n.waiters thread → (m : NotificationState) × (old ≡ NotificationObject m)
+      × Contains m.waiters thread
 
 pub record QueueChanges (s after : State) (queue : ℕ) (old new : Object) (moves : ℕ → Bool) : Type 0 where
   pub was : s.objects queue ≡ Some old
@@ -98,7 +102,8 @@ module _ (s after : State) (queue : ℕ) (old new : Object) (moves : ℕ → Boo
         → (f : EndpointState) × (s.objects q ≡ Some (EndpointObject f)) × Contains f.senders x
     sends-by q e x there among own = elim (decided q queue) [
       | inl at ↦
-          let found = (change.queues thread rests).sends e x (one-object (after.objects q) new (EndpointObject e) (ap after.objects at ∙ change.is) there) among own in
+          let found = (change.queues thread rests).sends e x (one-object (after.objects q) new (EndpointObject e) (ap after.objects at ∙ change.is) there) among
+          own in
           (found.0, ap s.objects at ∙ change.was ∙ ap Some found.1, found.2)
       | inr other ↦ (e, still-there q (EndpointObject e) (λ t clash. absurd cc) other there, among)
     ]
@@ -107,7 +112,8 @@ module _ (s after : State) (queue : ℕ) (old new : Object) (moves : ℕ → Boo
         → (f : EndpointState) × (s.objects q ≡ Some (EndpointObject f)) × Contains f.receivers thread
     receives-by q e there among = elim (decided q queue) [
       | inl at ↦
-          let found = (change.queues thread rests).receives e (one-object (after.objects q) new (EndpointObject e) (ap after.objects at ∙ change.is) there) among in
+          let found = (change.queues thread rests).receives e (one-object (after.objects q) new (EndpointObject e) (ap after.objects at ∙ change.is) there)
+          among in
           (found.0, ap s.objects at ∙ change.was ∙ ap Some found.1, found.2)
       | inr other ↦ (e, still-there q (EndpointObject e) (λ t clash. absurd cc) other there, among)
     ]
@@ -116,7 +122,8 @@ module _ (s after : State) (queue : ℕ) (old new : Object) (moves : ℕ → Boo
         → (m : NotificationState) × (s.objects q ≡ Some (NotificationObject m)) × Contains m.waiters thread
     waits-by q n there among = elim (decided q queue) [
       | inl at ↦
-          let found = (change.queues thread rests).waits n (one-object (after.objects q) new (NotificationObject n) (ap after.objects at ∙ change.is) there) among in
+          let found = (change.queues thread rests).waits n (one-object (after.objects q) new (NotificationObject n) (ap after.objects at ∙ change.is) there)
+          among in
           (found.0, ap s.objects at ∙ change.was ∙ ap Some found.1, found.2)
       | inr other ↦ (n, still-there q (NotificationObject n) (λ t clash. absurd cc) other there, among)
     ]
@@ -137,7 +144,8 @@ pub record ThreadsMove (s after : State) (moves : ℕ → Bool) : Type 0 where
 module _ (s after : State) (moves : ℕ → Bool) (change : ThreadsMove s after moves) where
   there-before : (y : ℕ) (object : Object) → NoThread object → after.objects y ≡ Some object → s.objects y ≡ Some object
   there-before y object none there = elim (moves y) as (λ b. moves y ≡ b → s.objects y ≡ Some object) [
-    | true ↦ λ move. let thread = change.moved y move in let same : Some object ≡ Some (ThreadObject thread.0) = sym there ∙ thread.1 in absurd (none thread.0 (let e : object ≡ ThreadObject thread.0 = cc in e))
+    | true ↦ λ move. let thread = change.moved y move in let same : Some object ≡ Some (ThreadObject thread.0) = sym there ∙ thread.1 in
+        absurd (none thread.0 (let e : object ≡ ThreadObject thread.0 = cc in e))
     | false ↦ λ rests. sym (change.others y rests) ∙ there
   ] refl
 
@@ -154,14 +162,21 @@ module _ (s after : State) (moves : ℕ → Bool) (change : ThreadsMove s after 
 
 -- ---- the thread itself
 
-module _ (laws : Laws) (bytes : List ℕ) (image : Image) (s : State) (labels later : List Label) (accepted : IsAccepted bytes image) (all : AllStand image s labels)
+module _ (laws : Laws) (bytes : List ℕ) (image : Image) (s : State) (labels later : List Label) (accepted : IsAccepted bytes image)
+    (all : AllStand image s labels)
     (t : Numbered) (listed : Contains (numbered_threads image) t) (own : ThreadState) (point : ℕ) (state : PointState) (left : AfterCall)
     (at : CallsAt image t s labels own point state left) where
   -- its registers are fine
   pub own-registers : AreRegisters own.registers state.ranges
   own-registers =
       let fine = all.sound.threads.threads (tcb_of image t) own at.there in
-      record { count = fine.registers; words = fine.words; long = laws.is_long bytes image t point state accepted listed at.stands.known; within = at.stands.registers }
+      record {
+        count = fine.registers;
+        words = fine.words;
+        long = laws.is_long bytes image t point state accepted listed at.stands.known;
+        within =
+            at.stands.registers;
+      }
 
   -- it is a thread of the image
   pub own-control : (offset : ℕ) → offset ≡ tcb_of image t → IsControlBlock image offset
@@ -173,8 +188,10 @@ module _ (laws : Laws) (bytes : List ℕ) (image : Image) (s : State) (labels la
   own-passes after sound store slots passes counts =
       let alone = touches-none bytes image t s after accepted listed all.sound sound store in (
         elim left.is_wait as (λ b. left.is_wait ≡ b → ThreadInvariant image t after later) [
-          | true ↦ λ wait. ends-wait laws.stand_on image t s after own point state alone at.stands laws.lead laws.ends left at.ecall at.call slots passes later wait (counts.waits wait)
-          | false ↦ λ no_wait. passes-on laws.stand_on image t s after own point state alone at.stands laws.lead laws.ends left at.ecall at.call slots passes labels later no_wait at.budget (counts.passes no_wait)
+          | true ↦ λ wait. ends-wait laws.stand_on image t s after own point state alone at.stands laws.lead laws.ends left at.ecall at.call slots passes later
+              wait (counts.waits wait)
+          | false ↦ λ no_wait. passes-on laws.stand_on image t s after own point state alone at.stands laws.lead laws.ends left at.ecall at.call slots passes
+              labels later no_wait at.budget (counts.passes no_wait)
         ] refl,
         runs-free image t after passes.next passes.is passes.runs,
       )

@@ -4,7 +4,8 @@ use Rattle.std.specs.Prelude.{Contains}
 use Rattle.std.specs.Option.{option_map_or}
 use Rattle.headline.specs.facts.Standing.{AllStand}
 use Rattle.model.specs.declared.capabilities.Cap.{Cap}
-use Rattle.model.specs.declared.capabilities.Cap.TheVariants.{Empty, Untyped, Endpoint, Notification, CNode, Frame, PageTable, Tcb, RootTable, InterruptControl, InterruptHandler}
+use Rattle.model.specs.declared.capabilities.Cap.TheVariants.{Empty, Untyped, Endpoint, Notification, CNode, Frame, PageTable, Tcb, RootTable, InterruptControl}
+use Rattle.model.specs.declared.capabilities.Cap.TheVariants.{InterruptHandler}
 use Rattle.model.specs.declared.events.Event.TheVariants.{Irq}
 use Rattle.model.specs.declared.labels.Label.{Label}
 use Rattle.model.specs.declared.labels.Label.TheVariants.{Raised}
@@ -82,7 +83,8 @@ bound-there s sound line bound is =
 
 -- ---- all threads
 
-module _ (laws : Laws) (bytes : List ℕ) (image : Image) (s : State) (labels later : List Label) (accepted : IsAccepted bytes image) (all : AllStand image s labels)
+module _ (laws : Laws) (bytes : List ℕ) (image : Image) (s : State) (labels later : List Label) (accepted : IsAccepted bytes image)
+    (all : AllStand image s labels)
     (counts : (t : Numbered) → Contains (numbered_threads image) t → open_count (tcb_of image t) later ≡ open_count (tcb_of image t) labels) where
   pub unchanged-stand : (after : State) → IsSound after → SameGround image s after → ((y : ℕ) → after.objects y ≡ s.objects y) → AllStand image after later
   unchanged-stand after sound store same =
@@ -90,35 +92,47 @@ module _ (laws : Laws) (bytes : List ℕ) (image : Image) (s : State) (labels la
       (λ t listed never. absurd (let clash : false ≡ true = never in cc)) (λ offset own never. absurd (let clash : false ≡ true = never in cc))
       (λ t listed rests. counts t listed)
 
-  delivered-stand : (line : ℕ) (bound : Signal) → binding s line ≡ Some bound → IsSound (interrupt s line bound) → SameGround image s (interrupt s line bound) → AllStand image (interrupt s line bound) later
+  delivered-stand : (line : ℕ) (bound : Signal) → binding s line ≡ Some bound → IsSound (interrupt s line bound) → SameGround image s (interrupt s line bound) →
+      AllStand image (interrupt s line bound) later
   delivered-stand line bound is sound store =
       let there = bound-there s all.sound line bound is in
-      signal-stands laws bytes image s labels later accepted all counts bound.notification bound.badge there.small there.old there.was (interrupt s line bound) sound store (λ y. refl)
+      signal-stands laws bytes image s labels later accepted all counts bound.notification bound.badge there.small there.old there.was (interrupt s line bound)
+      sound store (λ y. refl)
 
-  signals-store : (n badge line : ℕ) (o : NotificationState) (waiters : List ℕ) → SameGround image s (record (signals s n badge o waiters) { masked = put s.masked line true })
+  signals-store : (n badge line : ℕ) (o : NotificationState) (waiters : List ℕ) →
+      SameGround image s (record (signals s n badge o waiters) { masked = put s.masked line true })
   signals-store n badge line o [] = record { memory_bits = refl; boot_radix = refl; slots = λ slot. refl; bytes = λ frame place code low high. refl }
   signals-store n badge line o (w ∷ others) = record { memory_bits = refl; boot_radix = refl; slots = λ slot. refl; bytes = λ frame place code low high. refl }
 
   bound-stands : (line : ℕ) (bound : Option Signal) → binding s line ≡ bound → IsSound (option_map_or (interrupt s line) bound (with_pending s line true))
       → AllStand image (option_map_or (interrupt s line) bound (with_pending s line true)) later
-  bound-stands line None is sound = unchanged-stand (with_pending s line true) sound (record { memory_bits = refl; boot_radix = refl; slots = λ slot. refl; bytes = λ frame place code low high. refl }) (λ y. refl)
+  bound-stands line None is sound = unchanged-stand (with_pending s line true) sound
+      (record { memory_bits = refl; boot_radix = refl; slots = λ slot. refl; bytes = λ frame place code low high. refl }) (λ y. refl)
   bound-stands line (Some bound) is sound =
       let o = notification_at s bound.notification in
       delivered-stand line bound is sound (signals-store bound.notification bound.badge line o o.waiters)
 
   raised-stands : (line : ℕ) → IsSound (raise s line) → AllStand image (raise s line) later
   raised-stands line =
-      elim (nat_lt 63 line) as (λ b. let after = if b then s else if s.masked line then with_pending s line true else option_map_or (interrupt s line) (binding s line) (with_pending s line true) in IsSound after → AllStand image after later) [
-        | true ↦ λ sound. unchanged-stand s sound (record { memory_bits = refl; boot_radix = refl; slots = λ slot. refl; bytes = λ frame place code low high. refl }) (λ y. refl)
-        | false ↦ elim (s.masked line) as (λ b. let after = if b then with_pending s line true else option_map_or (interrupt s line) (binding s line) (with_pending s line true) in IsSound after → AllStand image after later) [
-          | true ↦ λ sound. unchanged-stand (with_pending s line true) sound (record { memory_bits = refl; boot_radix = refl; slots = λ slot. refl; bytes = λ frame place code low high. refl }) (λ y. refl)
-          | false ↦ bound-stands line (binding s line) refl
-        ]
+      elim (nat_lt 63 line) as (λ b. let after = if b then s else if s.masked line then with_pending s line true else
+      option_map_or (interrupt s line) (binding s line) (with_pending s line true) in IsSound after →
+      AllStand image after later) [
+        | true ↦ λ sound. unchanged-stand s sound
+            (record { memory_bits = refl; boot_radix = refl; slots = λ slot. refl; bytes = λ frame place code low high. refl }) (λ y. refl)
+        | false ↦ elim (s.masked line) as (λ b. let after = if b then with_pending s line true else
+            option_map_or (interrupt s line) (binding s line) (with_pending s line true) in IsSound after →
+            AllStand image after later) [
+              | true ↦ λ sound. unchanged-stand (with_pending s line true) sound
+                  (record { memory_bits = refl; boot_radix = refl; slots = λ slot. refl; bytes = λ frame place code low high. refl }) (λ y. refl)
+              | false ↦ bound-stands line (binding s line) refl
+            ]
       ]
 
-pub all-over-interrupt : Laws → (bytes : List ℕ) (image : Image) (s : State) (labels : List Label) (number : ℕ) → IsAccepted bytes image → AllStand image s labels
+pub all-over-interrupt : Laws → (bytes : List ℕ) (image : Image) (s : State) (labels : List Label) (number : ℕ) → IsAccepted bytes image →
+    AllStand image s labels
     → AllStand image (step s (Irq number)).0 (labels ++ (step s (Irq number)).1 ∷ [])
 unfolding step
 all-over-interrupt laws bytes image s labels number accepted all =
-    raised-stands laws bytes image s labels (labels ++ Raised number ∷ []) accepted all (λ t listed. other-label (tcb_of image t) labels (Raised number) refl) number
+    raised-stands laws bytes image s labels (labels ++ Raised number ∷ []) accepted all (λ t listed. other-label (tcb_of image t) labels (Raised number) refl)
+    number
     (one-event laws.keeps s (Irq number) all.sound)

@@ -9,11 +9,13 @@ use Rattle.model.specs.Acceptance.Authority.{Holds}
 use Rattle.model.specs.Acceptance.CallRules.{AfterCall}
 use Rattle.model.specs.Acceptance.Measures.{measured}
 use Rattle.model.specs.Acceptance.NotedStates.{PointState}
-use Rattle.model.specs.Acceptance.ThreadInvariants.{IsWaiting, IsWithinBudget, LieWithin, StandsAt, ThreadInvariant, WaitsThere, runs as runs_so, waits as waits_so, tcb_of}
+use Rattle.model.specs.Acceptance.ThreadInvariants.{IsWaiting, IsWithinBudget, LieWithin, StandsAt, ThreadInvariant, WaitsThere, runs as runs_so}
+use Rattle.model.specs.Acceptance.ThreadInvariants.{waits as waits_so, tcb_of}
 use Rattle.model.specs.Capabilities.Slots.{capability_at}
 use Rattle.model.specs.Images.Described.{Numbered}
 use Rattle.model.specs.Images.Image.{Image}
-use Rattle.model.specs.Kernel.State.{State, Status, Inactive, Runnable, Blocked, AwaitsReply, AwaitsHandler, Object, ThreadObject, ThreadState, as_thread, new_thread}
+use Rattle.model.specs.Kernel.State.{State, Status, Inactive, Runnable, Blocked, AwaitsReply, AwaitsHandler, Object, ThreadObject, ThreadState, as_thread}
+use Rattle.model.specs.Kernel.State.{new_thread}
 use Rattle.model.specs.Kernel.Waits.{open_count}
 use Rattle.model.specs.Machine.ProgramMemory.{RegisterFile}
 use Rattle.headline.specs.kept.Laws.{StandsOn}
@@ -70,14 +72,16 @@ module _ (image : Image) (t : Numbered) (s after : State) (alone : IsLeftAlone i
       still-runs labels later count status budget =
           runs_so goes.new point state goes.is (goes.status ∙ status) still-stands
           (subst (λ (n : ℕ). (pos n +ℤ measured state.measure goes.new.registers) ≤ℤ pos t.thread.header.budget) (sym count)
-          (subst (λ (r : RegisterFile). (pos (open_count (tcb_of image t) labels) +ℤ measured state.measure r) ≤ℤ pos t.thread.header.budget) (sym goes.registers) budget))
+          (subst (λ (r : RegisterFile). (pos (open_count (tcb_of image t) labels) +ℤ measured state.measure r) ≤ℤ pos t.thread.header.budget)
+          (sym goes.registers) budget))
 
       still-blocked : (labels later : List Label) → open_count (tcb_of image t) later ≡ open_count (tcb_of image t) labels → IsWaiting old.status
           → WaitsThere image t point state → open_count (tcb_of image t) labels ≡ 0 → ThreadInvariant image t after later
       still-blocked labels later count status waits none =
           waits_so goes.new point state goes.is (subst IsWaiting (sym goes.status) status) still-stands waits (count ∙ none)
 
-  left-alone : StandsOn → (labels later : List Label) → ((old : ThreadState) → s.objects (tcb_of image t) ≡ Some (ThreadObject old) → GoesOnAs after (tcb_of image t) old)
+  left-alone : StandsOn → (labels later : List Label) →
+      ((old : ThreadState) → s.objects (tcb_of image t) ≡ Some (ThreadObject old) → GoesOnAs after (tcb_of image t) old)
       → open_count (tcb_of image t) later ≡ open_count (tcb_of image t) labels → ThreadInvariant image t s labels → WaitsAsAsked image t s
       → ThreadInvariant image t after later × WaitsAsAsked image t after
   left-alone stand-on labels later goes count (runs_so own point state there status stands budget) asked =
@@ -89,4 +93,5 @@ pub stands-alone : StandsOn → (image : Image) (t : Numbered) (s after : State)
     → ((old : ThreadState) → s.objects (tcb_of image t) ≡ Some (ThreadObject old) → GoesOnAs after (tcb_of image t) old) → WaitsOn s after (tcb_of image t)
     → open_count (tcb_of image t) later ≡ open_count (tcb_of image t) labels → ThreadInvariant image t s labels → WaitsAsAsked image t s
     → ThreadInvariant image t after later × WaitsAsAsked image t after
-stands-alone stand-on image t s after labels later alone goes queued count stands asked = left-alone image t s after alone queued stand-on labels later goes count stands asked
+stands-alone stand-on image t s after labels later alone goes queued count stands asked =
+    left-alone image t s after alone queued stand-on labels later goes count stands asked

@@ -52,24 +52,30 @@ module _ (laws : Laws) (bytes : List ℕ) (image : Image) (s : State) (labels : 
   answers-first : HasReplied image t (reply s tcb) labels own point state left
   answers-first = reply-stands laws bytes image s labels accepted all t listed own point state left at sound-replied
 
-  passes-fine : (outcome : Outcome) → is_waited outcome ≡ false → left ≡ changes_nothing state false → IsSound (passes s tcb) → AllStand image (passes s tcb) (behind outcome)
+  passes-fine : (outcome : Outcome) → is_waited outcome ≡ false → left ≡ changes_nothing state false → IsSound (passes s tcb) →
+      AllStand image (passes s tcb) (behind outcome)
   passes-fine outcome plain asks =
-      passes-stand laws bytes image s labels (behind outcome) accepted all t listed own point state left at (counts outcome (plain ∙ sym (ap (λ (l : AfterCall). l.is_wait) asks))) asks
+      passes-stand laws bytes image s labels (behind outcome) accepted all t listed own point state left at
+      (counts outcome (plain ∙ sym (ap (λ (l : AfterCall). l.is_wait) asks))) asks
 
   pub calls-fine : (call : SystemCall) → by_call image t.thread (point_of t point) state call ≡ Ok left
       → ((kind : SendCall) (slot : ℕ) → call ≡ Sends kind → named_slot s tcb ≡ Ok slot → IsInvoked (capability_at s.slots slot) → ⊥)
       → IsSound (calls s tcb call).0 → IsFine image t labels pc (calls s tcb call)
-  calls-fine (Sends kind) rule quiet sound = send-fine laws bytes image s labels accepted all t listed own point state left at pc kind rule (λ slot. quiet kind slot refl) sound
-  calls-fine (Receives Receiving) rule quiet sound = receive-fine laws bytes image s labels accepted all t listed own point state left at pc Receiving rule sound
+  calls-fine (Sends kind) rule quiet sound = send-fine laws bytes image s labels accepted all t listed own point state left at pc kind rule
+      (λ slot. quiet kind slot refl) sound
+  calls-fine (Receives Receiving) rule quiet sound = receive-fine laws bytes image s labels accepted all t listed own point state left at pc Receiving rule
+      sound
   calls-fine (Receives Polling) rule quiet sound = receive-fine laws bytes image s labels accepted all t listed own point state left at pc Polling rule sound
   calls-fine RepliesAndReceives rule quiet sound =
-      receive-fine laws bytes image (reply s tcb) labels accepted answers-first.all t listed (record own { caller = None }) point state left answers-first.at pc Receiving rule sound
+      receive-fine laws bytes image (reply s tcb) labels accepted answers-first.all t listed (record own { caller = None }) point state left answers-first.at pc
+      Receiving rule sound
   calls-fine Replies rule quiet sound =
       let asks = laws.others image t.thread (point_of t point) state Replies left tt rule in
       record {
         faults = refl;
         errors = refl;
-        stands = passes-stand laws bytes image (reply s tcb) labels (behind Plain) accepted answers-first.all t listed (record own { caller = None }) point state left answers-first.at
+        stands = passes-stand laws bytes image (reply s tcb) labels (behind Plain) accepted answers-first.all t listed (record own { caller = None }) point
+            state left answers-first.at
             (counts Plain (sym (ap (λ (l : AfterCall). l.is_wait) asks))) asks sound;
       }
   calls-fine Yields rule quiet sound =
@@ -77,7 +83,8 @@ module _ (laws : Laws) (bytes : List ℕ) (image : Image) (s : State) (labels : 
       record {
         faults = refl;
         errors = refl;
-        stands = yields-stand laws bytes image s labels (behind Plain) accepted all t listed own point state left at (counts Plain (sym (ap (λ (l : AfterCall). l.is_wait) asks))) asks sound;
+        stands = yields-stand laws bytes image s labels (behind Plain) accepted all t listed own point state left at
+            (counts Plain (sym (ap (λ (l : AfterCall). l.is_wait) asks))) asks sound;
       }
   calls-fine PutsCharacter rule quiet sound =
       let asks = laws.others image t.thread (point_of t point) state PutsCharacter left tt rule in

@@ -46,7 +46,8 @@ CallsAreFine image t s labels =
     → call_of (read (registers_of s (tcb_of image t)) a7) ≡ Some call → by_call image t.thread (point_of t point) state call ≡ Ok left
     → IsSound (calls s (tcb_of image t) call).0 → IsFine image t labels (registers_of s (tcb_of image t)).pc (calls s (tcb_of image t) call)
 
-module _ (laws : Laws) (bytes : List ℕ) (image : Image) (t : Numbered) (s : State) (labels : List Label) (accepted : IsAccepted bytes image) (all : AllStand image s labels)
+module _ (laws : Laws) (bytes : List ℕ) (image : Image) (t : Numbered) (s : State) (labels : List Label) (accepted : IsAccepted bytes image)
+    (all : AllStand image s labels)
     (listed : Contains (numbered_threads image) t) (now : current s ≡ Some (tcb_of image t)) (makes : MakesCall s (tcb_of image t)) where
   abbrev tcb : ℕ
   tcb = tcb_of image t
@@ -93,7 +94,8 @@ module _ (laws : Laws) (bytes : List ℕ) (image : Image) (t : Numbered) (s : St
 
     stepped : step s Step ≡ ((system_call s tcb).0, Ran (memory_base + tcb) r.pc (system_call s tcb).1)
     unfolding step
-    stepped = ap (λ (o : Option ℕ). option_map_or (ran s) o (s, Idle)) now ∙ ap (λ (d : Done). let x : State × Label = (d.0, Ran (memory_base + tcb) r.pc d.1) in x) runs-so
+    stepped = ap (λ (o : Option ℕ). option_map_or (ran s) o (s, Idle)) now
+        ∙ ap (λ (d : Done). let x : State × Label = (d.0, Ran (memory_base + tcb) r.pc d.1) in x) runs-so
 
     sound-called : IsSound (calls s tcb so.call).0
     sound-called = subst (λ (d : Done). IsSound d.0) called-is (subst (λ (x : State × Label). IsSound x.0) stepped (one-event laws.keeps s Step all.sound))
@@ -114,7 +116,8 @@ module _ (laws : Laws) (bytes : List ℕ) (image : Image) (t : Numbered) (s : St
   from-invariant (runs_so own point state there status stands budget) fine = goes own point state there status stands budget fine
   from-invariant (waits_so own point state there status stands asks none) fine =
       let running = current-runs s all.sound.threads tcb now in
-      absurd (no-runner own.status (ap (λ (u : ThreadState). u.status) (sym (at-place s tcb own there)) ∙ runs-status (thread_at s tcb).status running.runs) status)
+      absurd (no-runner own.status (ap (λ (u : ThreadState). u.status) (sym (at-place s tcb own there)) ∙ runs-status (thread_at s tcb).status running.runs)
+      status)
 
   pub call-goes-well : CallsAreFine image t s labels → GoesWell image s labels Step
   call-goes-well fine = from-invariant (all.stand t listed) fine

@@ -35,10 +35,12 @@ use Rattle.headline.specs.moves.Moving.{CallsAt}
 use Rattle.headline.specs.moves.Laws.{Laws}
 
 -- no slot of a point whose call is looked at is one that the thread may not have
-no-stray : (image : Image) (t : Numbered) (point : ℕ) (state : PointState) (left : AfterCall) → call_at image t point state ≡ Some (Ok left) → has_stray_slots image t.thread point state ≡ false
+no-stray : (image : Image) (t : Numbered) (point : ℕ) (state : PointState) (left : AfterCall) → call_at image t point state ≡ Some (Ok left) →
+    has_stray_slots image t.thread point state ≡ false
 unfolding call_at
 no-stray image t point state left is =
-    elim (has_stray_slots image t.thread point state) as (λ b. (if b then None else Some (after_call image t.thread (point_of t point) state)) ≡ Some (Ok left) → b ≡ false) [
+    elim (has_stray_slots image t.thread point state)
+    as (λ b. (if b then None else Some (after_call image t.thread (point_of t point) state)) ≡ Some (Ok left) → b ≡ false) [
       | true ↦ λ clash. absurd (let e : ◌≡◌ {A = Option (Result AfterCall Refusal)} None (Some (Ok left)) = clash in cc)
       | false ↦ λ same. refl
     ] is
@@ -72,7 +74,8 @@ pub record NamesHere (image : Image) (t : Numbered) (s : State) (rules : ℕ →
   pub full : is_full s.slots slot ≡ true
   pub rule : rules slot (capability_at s.slots slot) ≡ Ok left
 
-module _ (laws : Laws) (bytes : List ℕ) (image : Image) (s : State) (labels : List Label) (accepted : IsAccepted bytes image) (t : Numbered) (listed : Contains (numbered_threads image) t)
+module _ (laws : Laws) (bytes : List ℕ) (image : Image) (s : State) (labels : List Label) (accepted : IsAccepted bytes image) (t : Numbered)
+    (listed : Contains (numbered_threads image) t)
     (own : ThreadState) (point : ℕ) (state : PointState) (left : AfterCall) (at : CallsAt image t s labels own point state left) where
   abbrev address : ℕ
   address = read own.registers a0
@@ -83,7 +86,8 @@ module _ (laws : Laws) (bytes : List ℕ) (image : Image) (s : State) (labels : 
   finds : FindsNoted image t s state.slots address 32
   finds = laws.finds bytes image t s point state accepted listed at.stands.slots (no-stray image t point state left at.call) address 32
 
-  pub named-here : (rules : ℕ → Cap → Result AfterCall Refusal) → by_capability image t.thread (point_of t point) state rules ≡ Ok left → NamesHere image t s rules left
+  pub named-here : (rules : ℕ → Cap → Result AfterCall Refusal) → by_capability image t.thread (point_of t point) state rules ≡ Ok left →
+      NamesHere image t s rules left
   named-here rules by =
       let names = laws.named image t.thread (point_of t point) state rules left own.registers by at.stands.registers in
       let both = called-both noted_here (lookup noted_here (noted_root image t.thread) address 32) names.slot names.found in
@@ -91,9 +95,11 @@ module _ (laws : Laws) (bytes : List ℕ) (image : Image) (s : State) (labels : 
       let here : lookup s.slots (noted_root image t.thread) address 32 ≡ Ok found = finds.same ∙ CallsBoth.is both in
       let same : found.0 ≡ names.slot = IsCalled.same (CallsBoth.at both) in
       let own_found : IsOwnSlot image t.thread found.0 = finds.own found here in
-      let held : capability_at s.slots found.0 ≡ capability_at noted_here found.0 = laws.holds bytes image t s state accepted listed at.stands.slots found.0 own_found in
+      let held : capability_at s.slots found.0 ≡ capability_at noted_here found.0 =
+      laws.holds bytes image t s state accepted listed at.stands.slots found.0 own_found in
       let full : is_full s.slots found.0 ≡ true = ap (λ (c : Cap). not (is_empty c)) held ∙ IsCalled.full (CallsBoth.at both) in
-      let called_here : called_slot s.slots (noted_root image t.thread) address ≡ Ok found.0 = ap (called s.slots) here ∙ ap (λ b. if b then Ok found.0 else Err MissingCapability) full in
+      let called_here : called_slot s.slots (noted_root image t.thread) address ≡ Ok found.0 = ap (called s.slots) here
+      ∙ ap (λ b. if b then Ok found.0 else Err MissingCapability) full in
       record {
         slot = names.slot;
         named = ap (λ (c : Cap). called_slot s.slots c (read (registers_of s (tcb_of image t)) a0)) at.stands.cspace
@@ -101,7 +107,8 @@ module _ (laws : Laws) (bytes : List ℕ) (image : Image) (s : State) (labels : 
             ∙ called_here ∙ ap Ok same;
         own = subst (IsOwnSlot image t.thread) same own_found;
         full = subst (λ n. is_full s.slots n ≡ true) same full;
-        rule = subst (λ n. rules names.slot (capability_at s.slots n) ≡ Ok left) same (ap (λ (c : Cap). rules names.slot c) (held ∙ ap (capability_at noted_here) same) ∙ names.rule);
+        rule = subst (λ n. rules names.slot (capability_at s.slots n) ≡ Ok left) same
+            (ap (λ (c : Cap). rules names.slot c) (held ∙ ap (capability_at noted_here) same) ∙ names.rule);
       }
 
 -- ---- what is where a capability leads
@@ -118,7 +125,8 @@ pub record NotificationThere (image : Image) (t : Numbered) (s : State) (offset 
   pub held : Holds image t.thread s (NamesQueue offset)
   pub small : badge < 2 ^ 28
 
-module _ (image : Image) (t : Numbered) (s : State) (labels : List Label) (all : AllStand image s labels) (slot : ℕ) (own : IsOwnSlot image t.thread slot) (offset : ℕ) (r : Rights) (badge : ℕ) where
+module _ (image : Image) (t : Numbered) (s : State) (labels : List Label) (all : AllStand image s labels) (slot : ℕ) (own : IsOwnSlot image t.thread slot)
+    (offset : ℕ) (r : Rights) (badge : ℕ) where
   pub endpoint-named : capability_at s.slots slot ≡ Endpoint offset r badge → EndpointThere image t s offset badge
   endpoint-named is =
       let found = endpoint-kind (s.objects offset) (all.sound.memory.named slot NewEndpoint offset (ap object_named is)) in

@@ -1,5 +1,6 @@
 -- Calls on a notification. By a wait or a poll its word is taken, or the thread waits in its queue, or gets nothing; a signal leaves the thread at its call.
-use Rattle.std.proofs.Common.{ℕ, ◌≡◌, ◌≢◌, ◌∙◌, ◌==◌, ◌++◌, ◌^◌, ◌<◌, ◌≤◌, Bool, true, false, if◌then◌else◌, Option, Some, List, [], ◌∷◌, refl, sym, ap, subst, arith}
+use Rattle.std.proofs.Common.{ℕ, ◌≡◌, ◌≢◌, ◌∙◌, ◌==◌, ◌++◌, ◌^◌, ◌<◌, ◌≤◌, Bool, true, false, if◌then◌else◌, Option, Some, List, [], ◌∷◌, refl, sym, ap, subst}
+use Rattle.std.proofs.Common.{arith}
 use Rattle.std.specs.Prelude.{Contains, bit_or}
 use Rattle.std.specs.Option.{option_map_or}
 use Rattle.std.proofs.lemmas.Bool.{eqb-true, eqb-false}
@@ -21,7 +22,8 @@ use Rattle.model.specs.Images.Image.{Image}
 use Rattle.model.specs.Kernel.Messages.{a0, deliver_word, poll, signal, signals, wait, waits_for_signal}
 use Rattle.model.specs.Kernel.Scheduling.{block}
 use Rattle.model.specs.Kernel.Soundness.{IsSound, waiting_at}
-use Rattle.model.specs.Kernel.State.{State, Runnable, Blocked, Object, ThreadObject, EndpointObject, NotificationObject, NotificationState, ThreadState, as_notification, new_notification, notification_at, thread_at, with_notification}
+use Rattle.model.specs.Kernel.State.{State, Runnable, Blocked, Object, ThreadObject, EndpointObject, NotificationObject, NotificationState, ThreadState}
+use Rattle.model.specs.Kernel.State.{as_notification, new_notification, notification_at, thread_at, with_notification}
 use Rattle.model.specs.Shared.Lists.{times_in}
 use Rattle.model.specs.Machine.Effects.{advanced}
 use Rattle.model.specs.Machine.ProgramMemory.{RegisterFile, write}
@@ -48,7 +50,8 @@ holds-on image t s after queue store held = record {
   such = subst (NamesQueue queue) (ap (λ (o : Option Entry). option_map_or (λ (x : Entry). x.capability) o Empty) (sym (store.slots held.slot))) held.such;
 }
 
-module _ (laws : Laws) (bytes : List ℕ) (image : Image) (s : State) (labels later : List Label) (accepted : IsAccepted bytes image) (all : AllStand image s labels)
+module _ (laws : Laws) (bytes : List ℕ) (image : Image) (s : State) (labels later : List Label) (accepted : IsAccepted bytes image)
+    (all : AllStand image s labels)
     (t : Numbered) (listed : Contains (numbered_threads image) t) (own : ThreadState) (point : ℕ) (state : PointState) (left : AfterCall)
     (at : CallsAt image t s labels own point state left) (counts : IsCounted image t labels later left.is_wait)
     (n : ℕ) (old : NotificationState) (was : s.objects n ≡ Some (NotificationObject old)) where
@@ -66,7 +69,8 @@ module _ (laws : Laws) (bytes : List ℕ) (image : Image) (s : State) (labels la
       (after : State) (there : after.objects (tcb_of image t) ≡ Some (ThreadObject (record own { registers = advanced (write own.registers a0 word) }))) where
     gets-word : PassesWith after (tcb_of image t) own state left
     gets-word =
-        let fit = laws.signal own.registers state.ranges word (own-registers laws bytes image s labels later accepted all t listed own point state left at) small in
+        let fit = laws.signal own.registers state.ranges word (own-registers laws bytes image s labels later accepted all t listed own point state left at)
+        small in
         subst (λ (l : AfterCall). PassesWith after tcb own state l) (sym left_is) (record {
           next = record own { registers = advanced (write own.registers a0 word) };
           is = there;
@@ -80,7 +84,8 @@ module _ (laws : Laws) (bytes : List ℕ) (image : Image) (s : State) (labels la
 
   -- ---- the notification's queue changes, and this thread moves
 
-  module _ (new : NotificationState) (after : State) (sound : IsSound after) (store : SameGround image s after) (is : after.objects n ≡ Some (NotificationObject new))
+  module _ (new : NotificationState) (after : State) (sound : IsSound after) (store : SameGround image s after)
+      (is : after.objects n ≡ Some (NotificationObject new))
       (others : (y : ℕ) → y ≢ n → y ≢ tcb_of image t → after.objects y ≡ s.objects y)
       (fewer : (thread : ℕ) → thread ≢ tcb_of image t → Contains new.waiters thread → Contains old.waiters thread) where
     queues-on : (thread : ℕ) → thread ≢ tcb → QueuesOn (NotificationObject old) (NotificationObject new) thread
@@ -140,7 +145,8 @@ module _ (laws : Laws) (bytes : List ℕ) (image : Image) (s : State) (labels la
         (λ y apart other. objects y ∙ passed-there one tcb written y other ∙ put-there s.objects n (Some (NotificationObject emptied)) y apart)
         (λ thread other among. among)
         passes.next passes.is
-        (own-passes laws bytes image s labels later accepted all t listed own point state left at after sound store (ap (λ (l : AfterCall). l.slots) left_is) passes counts)
+        (own-passes laws bytes image s labels later accepted all t listed own point state left at after sound store (ap (λ (l : AfterCall). l.slots) left_is)
+        passes counts)
 
   -- ---- the thread waits
 
@@ -161,7 +167,8 @@ module _ (laws : Laws) (bytes : List ℕ) (image : Image) (s : State) (labels la
     two-own = objects tcb ∙ blocked two tcb (Blocked n) own (put-there s.objects n (Some (NotificationObject longer)) tcb tcb-apart ∙ at.there)
 
     queue-there : after.objects n ≡ Some (NotificationObject longer)
-    queue-there = objects n ∙ blocked-there two tcb (Blocked n) n (λ same. tcb-apart (sym same)) ∙ put-here s.objects n (Some (NotificationObject longer)) n refl
+    queue-there = objects n ∙ blocked-there two tcb (Blocked n) n (λ same. tcb-apart (sym same))
+        ∙ put-here s.objects n (Some (NotificationObject longer)) n refl
 
     queues-so : QueuesSo image t after state left n
     queues-so = record {
@@ -188,13 +195,16 @@ module _ (laws : Laws) (bytes : List ℕ) (image : Image) (s : State) (labels la
 
   -- ---- the two calls
 
-  pub wait-stands : left ≡ behind_signal state → Holds image t.thread s (NamesQueue n) → IsSound (wait s n (tcb_of image t)) → AllStand image (wait s n (tcb_of image t)) later
+  pub wait-stands : left ≡ behind_signal state → Holds image t.thread s (NamesQueue n) → IsSound (wait s n (tcb_of image t)) →
+      AllStand image (wait s n (tcb_of image t)) later
   wait-stands left_is held =
       let m = notification_at s n in
       let taken = deliver_word (with_notification s n (record m { word = 0 })) tcb m.word in
       elim (m.word == 0) as (λ b. let after = if b then waits_for_signal s n tcb else taken in IsSound after → AllStand image after later) [
-        | true ↦ λ sound. blocks left_is held (waits_for_signal s n tcb) sound (record { memory_bits = refl; boot_radix = refl; slots = λ slot. refl; bytes = λ frame place code low high. refl })
-            (λ y. ap (λ (o : NotificationState). (block (with_notification s n (record o { waiters = o.waiters ++ tcb ∷ [] })) tcb (Blocked n)).objects y) read-there)
+        | true ↦ λ sound. blocks left_is held (waits_for_signal s n tcb) sound
+            (record { memory_bits = refl; boot_radix = refl; slots = λ slot. refl; bytes = λ frame place code low high. refl })
+            (λ y. ap (λ (o : NotificationState). (block (with_notification s n (record o { waiters = o.waiters ++ tcb ∷ [] })) tcb (Blocked n)).objects y)
+            read-there)
         | false ↦ λ sound. takes-word true left_is taken sound
             (record { memory_bits = refl; boot_radix = refl; slots = λ slot. refl; bytes = λ frame place code low high. refl })
             (λ y. ap (λ (o : NotificationState). (deliver_word (with_notification s n (record o { word = 0 })) tcb o.word).objects y) read-there)
@@ -207,7 +217,8 @@ module _ (laws : Laws) (bytes : List ℕ) (image : Image) (s : State) (labels la
       with-registers laws bytes image s labels later accepted all t listed own point state left at counts (λ u. write u a0 0)
       (ap (λ (l : AfterCall). l.slots) left_is)
       (gets-word false left_is 0 (omega arith) (deliver_word s tcb 0)
-      (passed s tcb r ∙ ap (λ (u : ThreadState). Some (ThreadObject (record u { registers = advanced (write u.registers a0 0) }))) (at-place s tcb own at.there)))
+      (passed s tcb r ∙ ap (λ (u : ThreadState). Some (ThreadObject (record u { registers = advanced (write u.registers a0 0) })))
+      (at-place s tcb own at.there)))
       sound
 
   pub poll-stands : left ≡ known_behind state (with_range state.ranges a0 badges) false (a0 ∷ []) → IsSound (poll s n (tcb_of image t))
@@ -225,7 +236,8 @@ module _ (laws : Laws) (bytes : List ℕ) (image : Image) (s : State) (labels la
 -- ---- a signal, after which the thread has its answer yet to get
 
 -- the threads' invariant holds, and this one is at its call
-pub record HasSignalled (image : Image) (t : Numbered) (after : State) (labels : List Label) (own : ThreadState) (point : ℕ) (state : PointState) (left : AfterCall) : Type 0 where
+pub record HasSignalled (image : Image) (t : Numbered) (after : State) (labels : List Label) (own : ThreadState) (point : ℕ) (state : PointState)
+    (left : AfterCall) : Type 0 where
   pub all : AllStand image after labels
   pub at : CallsAt image t after labels own point state left
 
@@ -241,7 +253,8 @@ module _ (laws : Laws) (bytes : List ℕ) (image : Image) (s : State) (labels : 
   waiter-apart w others first same =
       let waits : IsBlockedAt s w n =
       queued-there s w n all.sound.threads
-      (subst (λ (o : Option Object). 1 ≤ times_in (waiting_at o) w) (sym was) (subst (λ (xs : List ℕ). 1 ≤ times_in xs w) (sym first) (first-times others w w refl))) in
+      (subst (λ (o : Option Object). 1 ≤ times_in (waiting_at o) w) (sym was)
+      (subst (λ (xs : List ℕ). 1 ≤ times_in xs w) (sym first) (first-times others w w refl))) in
       let alike : waits.own ≡ own = one-thread (s.objects w) waits.own own waits.is (ap s.objects (sym same) ∙ at.there) in
       absurd (let clash : Blocked n ≡ Runnable = sym waits.status ∙ ap (λ (u : ThreadState). u.status) alike ∙ at.status in cc)
 
@@ -261,9 +274,11 @@ module _ (laws : Laws) (bytes : List ℕ) (image : Image) (s : State) (labels : 
   pub signal-leaves-so : (after : State) → IsSound after → SameGround image s after → ((y : ℕ) → after.objects y ≡ (signal s n badge).objects y)
       → HasSignalled image t after labels own point state left
   signal-leaves-so after sound store objects =
-      let same : notification_at s n ≡ old = ap (λ (o : Option Object). option_map_or (λ (x : NotificationState). x) (as_notification o) new_notification) was in
+      let same : notification_at s n ≡ old = ap (λ (o : Option Object). option_map_or (λ (x : NotificationState). x) (as_notification o) new_notification)
+      was in
       let there : after.objects (tcb_of image t) ≡ Some (ThreadObject own) =
-      objects (tcb_of image t) ∙ ap (λ (o : NotificationState). (signals s n badge o o.waiters).objects (tcb_of image t)) same ∙ caller-stays old.waiters refl ∙ at.there in
+      objects (tcb_of image t) ∙ ap (λ (o : NotificationState). (signals s n badge o o.waiters).objects (tcb_of image t)) same ∙ caller-stays old.waiters refl
+      ∙ at.there in
       record {
         all = signal-stands laws bytes image s labels labels accepted all (λ u member. refl) n badge small old was after sound store objects;
         at = calls-on laws bytes image s labels accepted all t listed own point state left at after sound store own there refl refl;

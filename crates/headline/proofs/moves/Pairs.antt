@@ -31,8 +31,10 @@ neither-place a b y is = elim (eqb_tells y a) [
   | inr other ↦ (other.1, eqb-false y b (ap (λ c. c || (y == b)) (sym other.0) ∙ is))
 ]
 
-module _ (laws : Laws) (bytes : List ℕ) (image : Image) (s : State) (labels later : List Label) (accepted : IsAccepted bytes image) (all : AllStand image s labels)
-    (after : State) (sound : IsSound after) (store : SameGround image s after) (t : Numbered) (listed : Contains (numbered_threads image) t) (u : Numbered) (among : Contains (numbered_threads image) u)
+module _ (laws : Laws) (bytes : List ℕ) (image : Image) (s : State) (labels later : List Label) (accepted : IsAccepted bytes image)
+    (all : AllStand image s labels)
+    (after : State) (sound : IsSound after) (store : SameGround image s after) (t : Numbered) (listed : Contains (numbered_threads image) t) (u : Numbered)
+    (among : Contains (numbered_threads image) u)
     (from : ℕ) (is_from : from ≡ tcb_of image u) (counts : (thread : ℕ) → thread ≢ tcb_of image t → open_count thread later ≡ open_count thread labels)
     (queue : ℕ) (old new : Object) (was : s.objects queue ≡ Some old) (is : after.objects queue ≡ Some new) (old_none : NoThread old) (new_none : NoThread new)
     (next gone : ThreadState) (own_is : after.objects (tcb_of image t) ≡ Some (ThreadObject next)) (from_is : after.objects from ≡ Some (ThreadObject gone))
@@ -48,16 +50,20 @@ module _ (laws : Laws) (bytes : List ℕ) (image : Image) (s : State) (labels la
     old_none = old_none;
     new_none = new_none;
     others = λ y other rests. let beside = neither-place (tcb_of image t) from y rests in others y other beside.0 beside.1;
-    moved = λ y move. elim (either-place (tcb_of image t) from y move) [ inl at ↦ (next, ap after.objects at ∙ own_is) | inr at ↦ (gone, ap after.objects at ∙ from_is) ];
+    moved = λ y move. elim (either-place (tcb_of image t) from y move)
+        [ inl at ↦ (next, ap after.objects at ∙ own_is) | inr at ↦ (gone, ap after.objects at ∙ from_is) ];
     queues = λ thread rests. let beside = neither-place (tcb_of image t) from thread rests in queues thread beside.0 beside.1;
   }
 
-  pub two-move : ThreadInvariant image t after later × WaitsAsAsked image t after → ThreadInvariant image u after later × WaitsAsAsked image u after → AllStand image after later
+  pub two-move : ThreadInvariant image t after later × WaitsAsAsked image t after → ThreadInvariant image u after later × WaitsAsAsked image u after →
+      AllStand image after later
   two-move own_stands from_stands =
       all-stand laws.stand_on bytes image s after labels later moves accepted all sound store (rest-by-queue s after queue old new moves changes)
       (λ v there move. elim (either-place (tcb_of image t) from (tcb_of image v) move) [
-        | inl at ↦ subst (λ w. ThreadInvariant image w after later × WaitsAsAsked image w after) (laws.own_blocks bytes image t v accepted listed there (sym at)) own_stands
-        | inr at ↦ subst (λ w. ThreadInvariant image w after later × WaitsAsAsked image w after) (laws.own_blocks bytes image u v accepted among there (sym is_from ∙ sym at)) from_stands
+        | inl at ↦ subst (λ w. ThreadInvariant image w after later × WaitsAsAsked image w after)
+            (laws.own_blocks bytes image t v accepted listed there (sym at)) own_stands
+        | inr at ↦ subst (λ w. ThreadInvariant image w after later × WaitsAsAsked image w after)
+            (laws.own_blocks bytes image u v accepted among there (sym is_from ∙ sym at)) from_stands
       ])
       (λ offset own move there. elim (either-place (tcb_of image t) from offset move) [
         | inl at ↦ record { thread = t; listed = listed; is = at }

@@ -8,7 +8,8 @@ use Rattle.model.specs.Acceptance.CallRules.{AfterCall}
 use Rattle.model.specs.Acceptance.Measures.{measured}
 use Rattle.model.specs.Acceptance.NotedStates.{PointState}
 use Rattle.model.specs.Acceptance.PointStates.{address_of, call_at, instruction_at}
-use Rattle.model.specs.Acceptance.ThreadInvariants.{IsWaiting, IsWithinBudget, LieWithin, StandsAt, ThreadInvariant, WaitsThere, runs as runs_so, waits as waits_so, tcb_of}
+use Rattle.model.specs.Acceptance.ThreadInvariants.{IsWaiting, IsWithinBudget, LieWithin, StandsAt, ThreadInvariant, WaitsThere, runs as runs_so}
+use Rattle.model.specs.Acceptance.ThreadInvariants.{waits as waits_so, tcb_of}
 use Rattle.model.specs.Images.Described.{Numbered}
 use Rattle.model.specs.Images.Image.{Image}
 use Rattle.model.specs.Kernel.State.{State, ThreadObject, ThreadState}
@@ -28,7 +29,8 @@ first-within budget value within = grind (arith, ints, within)
 
 module _ (stand-on : StandsOn) (image : Image) (t : Numbered) (s after : State) (own : ThreadState) (point : ℕ) (state : PointState)
     (alone : IsLeftAlone image t s after) (stands : StandsAt image t s own point state) where
-  pub begins : (next : ThreadState) (later : List Label) → WaitsThere image t point state → after.objects (tcb_of image t) ≡ Some (ThreadObject next) → IsWaiting next.status
+  pub begins : (next : ThreadState) (later : List Label) → WaitsThere image t point state → after.objects (tcb_of image t) ≡ Some (ThreadObject next) →
+      IsWaiting next.status
       → next.registers ≡ own.registers → open_count (tcb_of image t) later ≡ 0 → ThreadInvariant image t after later
   begins next later waits is status registers none =
       let still : StandsAt image t after next point state =
@@ -37,7 +39,8 @@ module _ (stand-on : StandsOn) (image : Image) (t : Numbered) (s after : State) 
       (subst (λ (r : RegisterFile). LieWithin r state.ranges) (sym registers) stands.registers) refl in
       waits_so next point state is status still waits none
 
-  module _ (lead : LeadsOn) (ends : Ends) (left : AfterCall) (ecall : instruction_at t.thread point ≡ Some Ecall) (call : call_at image t point state ≡ Some (Ok left))
+  module _ (lead : LeadsOn) (ends : Ends) (left : AfterCall) (ecall : instruction_at t.thread point ≡ Some Ecall)
+      (call : call_at image t point state ≡ Some (Ok left))
       (slots : left.slots ≡ state.slots) (passes : PassesWith after (tcb_of image t) own state left) where
     leads : LeadsBehind image t point state left
     leads = lead alone.bytes image t point state left alone.accepted alone.listed stands.inside stands.known ecall call
@@ -53,23 +56,29 @@ module _ (stand-on : StandsOn) (image : Image) (t : Numbered) (s after : State) 
 
     next-stands : StandsAt image t after passes.next (point + 1) leads.next
     next-stands =
-        stand-on alone.bytes image t s after own passes.next point (point + 1) state leads.next alone.accepted alone.listed alone.before alone.behind alone.untouched stands
-        leads.inside leads.known pc-behind (subst (λ (r : RegisterFile). LieWithin r leads.next.ranges) (sym passes.registers) (leads.ranges written passes.within))
+        stand-on alone.bytes image t s after own passes.next point (point + 1) state leads.next alone.accepted alone.listed alone.before alone.behind
+        alone.untouched stands
+        leads.inside leads.known pc-behind (subst (λ (r : RegisterFile). LieWithin r leads.next.ranges) (sym passes.registers)
+        (leads.ranges written passes.within))
         (leads.kept slots)
 
-    goes-on : (later : List Label) → (pos (open_count (tcb_of image t) later) +ℤ measured leads.next.measure written) ≤ℤ pos t.thread.header.budget → ThreadInvariant image t after later
+    goes-on : (later : List Label) → (pos (open_count (tcb_of image t) later) +ℤ measured leads.next.measure written) ≤ℤ pos t.thread.header.budget →
+        ThreadInvariant image t after later
     goes-on later budget =
         runs_so passes.next (point + 1) leads.next passes.is passes.runs next-stands
-        (subst (λ (r : RegisterFile). (pos (open_count (tcb_of image t) later) +ℤ measured leads.next.measure r) ≤ℤ pos t.thread.header.budget) (sym passes.registers) budget)
+        (subst (λ (r : RegisterFile). (pos (open_count (tcb_of image t) later) +ℤ measured leads.next.measure r) ≤ℤ pos t.thread.header.budget)
+        (sym passes.registers) budget)
 
     pub ends-wait : (later : List Label) → left.is_wait ≡ true → open_count (tcb_of image t) later ≡ 0 → ThreadInvariant image t after later
     ends-wait later wait none =
         goes-on later (subst (λ (n : ℕ). (pos n +ℤ measured leads.next.measure written) ≤ℤ pos t.thread.header.budget) (sym none)
-        (first-within t.thread.header.budget (measured leads.next.measure written) (leads.within wait own.registers written passes.only stands.registers passes.within)))
+        (first-within t.thread.header.budget (measured leads.next.measure written)
+        (leads.within wait own.registers written passes.only stands.registers passes.within)))
 
     pub passes-on : (labels later : List Label) → left.is_wait ≡ false → IsWithinBudget image t labels own state
         → open_count (tcb_of image t) later ≡ open_count (tcb_of image t) labels + 1 → ThreadInvariant image t after later
     passes-on labels later wait budget more =
         goes-on later (subst (λ (n : ℕ). (pos n +ℤ measured leads.next.measure written) ≤ℤ pos t.thread.header.budget) (sym more)
-        (within-still (open_count (tcb_of image t) labels) t.thread.header.budget (measured state.measure own.registers) (measured leads.next.measure written) budget
+        (within-still (open_count (tcb_of image t) labels) t.thread.header.budget (measured state.measure own.registers) (measured leads.next.measure written)
+        budget
         (leads.falls wait own.registers written passes.only stands.registers passes.within)))

@@ -4,7 +4,8 @@ use Rattle.std.specs.Option.{option_map_or}
 use Rattle.headline.proofs.facts.Laws.{at-place}
 use Rattle.model.specs.Kernel.Messages.{Message, deliver, delivered, passes, passes_with, with_caller, with_registers}
 use Rattle.model.specs.Kernel.Scheduling.{block, full_slice, wake}
-use Rattle.model.specs.Kernel.State.{State, Status, Runnable, Object, ThreadObject, EndpointObject, EndpointState, ThreadState, as_endpoint, as_thread, endpoint_at, new_endpoint, new_thread, thread_at, with_endpoint, with_thread}
+use Rattle.model.specs.Kernel.State.{State, Status, Runnable, Object, ThreadObject, EndpointObject, EndpointState, ThreadState, as_endpoint, as_thread}
+use Rattle.model.specs.Kernel.State.{endpoint_at, new_endpoint, new_thread, thread_at, with_endpoint, with_thread}
 use Rattle.model.specs.Machine.Effects.{advanced}
 use Rattle.model.specs.Machine.ProgramMemory.{RegisterFile}
 use Rattle.headline.proofs.moves.Puts.{put-here, put-there}
@@ -31,11 +32,13 @@ passed s x r =
 pub passed-there : (s : State) (x : ℕ) (r : RegisterFile) (y : ℕ) → y ≢ x → (passes_with s x r).objects y ≡ s.objects y
 passed-there s x r y other =
     let one = with_registers s x r in
-    with-there one x (record (thread_at one x) { registers = advanced (thread_at one x).registers }) y other ∙ with-there s x (record (thread_at s x) { registers = r }) y other
+    with-there one x (record (thread_at one x) { registers = advanced (thread_at one x).registers }) y other
+    ∙ with-there s x (record (thread_at s x) { registers = r }) y other
 
 -- ---- a thread wakes
 
-pub woke : (s : State) (x : ℕ) (t : ThreadState) → s.objects x ≡ Some (ThreadObject t) → (wake s x).objects x ≡ Some (ThreadObject (record t { status = Runnable; slice = full_slice }))
+pub woke : (s : State) (x : ℕ) (t : ThreadState) → s.objects x ≡ Some (ThreadObject t) →
+    (wake s x).objects x ≡ Some (ThreadObject (record t { status = Runnable; slice = full_slice }))
 woke s x t is =
     with-here s x (record (thread_at s x) { status = Runnable; slice = full_slice })
     ∙ ap (λ (u : ThreadState). Some (ThreadObject (record u { status = Runnable; slice = full_slice }))) (at-place s x t is)
@@ -45,17 +48,21 @@ woke-there s x y other = with-there s x (record (thread_at s x) { status = Runna
 
 -- ---- a thread blocks
 
-pub blocked : (s : State) (x : ℕ) (status : Status) (t : ThreadState) → s.objects x ≡ Some (ThreadObject t) → (block s x status).objects x ≡ Some (ThreadObject (record t { status = status }))
+pub blocked : (s : State) (x : ℕ) (status : Status) (t : ThreadState) → s.objects x ≡ Some (ThreadObject t) →
+    (block s x status).objects x ≡ Some (ThreadObject (record t { status = status }))
 blocked s x status t is =
-    with-here s x (record (thread_at s x) { status = status }) ∙ ap (λ (u : ThreadState). Some (ThreadObject (record u { status = status }))) (at-place s x t is)
+    with-here s x (record (thread_at s x) { status = status })
+    ∙ ap (λ (u : ThreadState). Some (ThreadObject (record u { status = status }))) (at-place s x t is)
 
 pub blocked-there : (s : State) (x : ℕ) (status : Status) (y : ℕ) → y ≢ x → (block s x status).objects y ≡ s.objects y
 blocked-there s x status y other = with-there s x (record (thread_at s x) { status = status }) y other
 
 -- ---- a thread gets or loses the right to reply
 
-pub caller-here : (s : State) (x : ℕ) (caller : Option ℕ) (t : ThreadState) → s.objects x ≡ Some (ThreadObject t) → (with_caller s x caller).objects x ≡ Some (ThreadObject (record t { caller = caller }))
-caller-here s x caller t is = with-here s x (record (thread_at s x) { caller = caller }) ∙ ap (λ (u : ThreadState). Some (ThreadObject (record u { caller = caller }))) (at-place s x t is)
+pub caller-here : (s : State) (x : ℕ) (caller : Option ℕ) (t : ThreadState) → s.objects x ≡ Some (ThreadObject t) →
+    (with_caller s x caller).objects x ≡ Some (ThreadObject (record t { caller = caller }))
+caller-here s x caller t is = with-here s x (record (thread_at s x) { caller = caller })
+    ∙ ap (λ (u : ThreadState). Some (ThreadObject (record u { caller = caller }))) (at-place s x t is)
 
 pub caller-there : (s : State) (x : ℕ) (caller : Option ℕ) (y : ℕ) → y ≢ x → (with_caller s x caller).objects y ≡ s.objects y
 caller-there s x caller y other = with-there s x (record (thread_at s x) { caller = caller }) y other
@@ -73,7 +80,8 @@ delivered-there s x badge message y other = passed-there s x (delivered (thread_
 
 -- ---- a thread goes on after its call
 
-pub went-here : (s : State) (x : ℕ) (t : ThreadState) → s.objects x ≡ Some (ThreadObject t) → (passes s x).objects x ≡ Some (ThreadObject (record t { registers = advanced t.registers }))
+pub went-here : (s : State) (x : ℕ) (t : ThreadState) → s.objects x ≡ Some (ThreadObject t) →
+    (passes s x).objects x ≡ Some (ThreadObject (record t { registers = advanced t.registers }))
 went-here s x t is =
     with-here s x (record (thread_at s x) { registers = advanced (thread_at s x).registers })
     ∙ ap (λ (u : ThreadState). Some (ThreadObject (record u { registers = advanced u.registers }))) (at-place s x t is)

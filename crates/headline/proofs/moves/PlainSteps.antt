@@ -1,5 +1,6 @@
 -- A step that makes no system call goes well: it is the effect of one instruction, which touches no other thread.
-use Rattle.std.proofs.Common.{ℕ, ◌≡◌, ◌∙◌, ◌==◌, ◌+◌, ◌-◌, ◌%◌, ◌++◌, ◌⊎◌, inl, inr, Bool, true, false, if◌then◌else◌, Option, Some, None, Result, Ok, Err, List, [], ◌∷◌, refl, sym, ap, subst}
+use Rattle.std.proofs.Common.{ℕ, ◌≡◌, ◌∙◌, ◌==◌, ◌+◌, ◌-◌, ◌%◌, ◌++◌, ◌⊎◌, inl, inr, Bool, true, false, if◌then◌else◌, Option, Some, None, Result, Ok, Err}
+use Rattle.std.proofs.Common.{List, [], ◌∷◌, refl, sym, ap, subst}
 use Rattle.std.specs.Prelude.{Contains, slice_index}
 use Rattle.std.specs.Option.{option_map_or}
 use Rattle.std.proofs.lemmas.Bool.{eqb-true, eqb-false}
@@ -76,7 +77,8 @@ branches-no-call : (r : RegisterFile) (content : Content) (taken : Bool) (target
 branches-no-call r content true target call = jumps-no-call r content r target call
 branches-no-call r content false target call = next-no-call call
 
-loads-no-call : (r : RegisterFile) (content : Content) (op : LoadOp) (rd : Register) (got : Result ℕ MemoryFault) → (loads r content op rd got).exec ≡ outcomes.Ecall → ⊥
+loads-no-call : (r : RegisterFile) (content : Content) (op : LoadOp) (rd : Register) (got : Result ℕ MemoryFault) →
+    (loads r content op rd got).exec ≡ outcomes.Ecall → ⊥
 loads-no-call r content op rd (Ok n) call = next-no-call call
 loads-no-call r content op rd (Err failed) call = memory-no-call failed call
 
@@ -92,7 +94,8 @@ only-ecall r content (Jalr rd rs1 offset) other call =
     let target = plus (read r rs1) offset in jumps-no-call r content (write r rd (next_pc r)) (target - target % 2) call
 only-ecall r content (Branch op rs1 rs2 offset) other call = branches-no-call r content (is_taken op (read r rs1) (read r rs2)) (plus r.pc offset) call
 only-ecall r content (Load op rd rs1 offset) other call = loads-no-call r content op rd (loaded content Loading (load_size op) (plus (read r rs1) offset)) call
-only-ecall r content (Store op rs1 rs2 offset) other call = stores-no-call r content (stored content (store_size op) (plus (read r rs1) offset) (read r rs2)) call
+only-ecall r content (Store op rs1 rs2 offset) other call = stores-no-call r content (stored content (store_size op) (plus (read r rs1) offset) (read r rs2))
+    call
 only-ecall r content (Immediate op rd rs1 immediate) other call = next-no-call call
 only-ecall r content (Shift op rd rs1 amount) other call = next-no-call call
 only-ecall r content (Registers op rd rs1 rs2) other call = next-no-call call
@@ -110,8 +113,10 @@ is-done s thread pc address r (outcomes.Memory at access) done other fine = absu
 
 -- ---- all threads, where one sets its registers and stores
 
-module _ (laws : Laws) (bytes : List ℕ) (image : Image) (t : Numbered) (s : State) (labels : List Label) (accepted : IsAccepted bytes image) (all : AllStand image s labels)
-    (listed : Contains (numbered_threads image) t) (own : ThreadState) (there : s.objects (tcb_of image t) ≡ Some (ThreadObject own)) (status : own.status ≡ Runnable)
+module _ (laws : Laws) (bytes : List ℕ) (image : Image) (t : Numbered) (s : State) (labels : List Label) (accepted : IsAccepted bytes image)
+    (all : AllStand image s labels)
+    (listed : Contains (numbered_threads image) t) (own : ThreadState) (there : s.objects (tcb_of image t) ≡ Some (ThreadObject own))
+    (status : own.status ≡ Runnable)
     (left : RegisterFile) (content : Content) (pc : ℕ) where
   abbrev tcb : ℕ
   tcb = tcb_of image t
@@ -151,12 +156,14 @@ module _ (laws : Laws) (bytes : List ℕ) (image : Image) (t : Numbered) (s : St
     alone u among = record { bytes = bytes; accepted = accepted; listed = among; before = all.sound; behind = sound; untouched = untouched u among }
 
     -- the thread itself, or one that is left alone
-    each : (u : Numbered) → Contains (numbered_threads image) u → (b : Bool) → moves (tcb_of image u) ≡ b → ThreadInvariant image u after later × WaitsAsAsked image u after
+    each : (u : Numbered) → Contains (numbered_threads image) u → (b : Bool) → moves (tcb_of image u) ≡ b → ThreadInvariant image u after later
+        × WaitsAsAsked image u after
     each u among true is =
         let same : t ≡ u = laws.own_blocks bytes image t u accepted listed among (sym (eqb-true (tcb_of image u) tcb is)) in
         subst (λ (v : Numbered). ThreadInvariant image v after later × WaitsAsAsked image v after) same (stands, waits)
     each u among false is =
-        stands-alone laws.stand_on image u s after labels later (alone u among) (λ old was. rest.goes (tcb_of image u) old is was) (rest.queues (tcb_of image u) is)
+        stands-alone laws.stand_on image u s after labels later (alone u among) (λ old was. rest.goes (tcb_of image u) old is was)
+        (rest.queues (tcb_of image u) is)
         (counts.others (tcb_of image u) (eqb-false (tcb_of image u) tcb is)) (all.stand u among) (all.wait u among)
 
     other : (offset : ℕ) (new : ThreadState) → after.objects offset ≡ Some (ThreadObject new) → (b : Bool) → moves offset ≡ b
@@ -205,7 +212,8 @@ module _ (laws : Laws) (keeps : PlainStepsKeepThreads) (writes : WritesWhereStor
     word = slice_index t.thread.words point
 
     fetch : loaded (content_of s thread) Fetch Word r.pc ≡ Ok word
-    fetch = ap (loaded (content_of s thread) Fetch Word) (ap (λ (u : ThreadState). u.registers.pc) (at-place s thread own there) ∙ stands.pc) ∙ stands.program point stands.inside
+    fetch = ap (loaded (content_of s thread) Fetch Word) (ap (λ (u : ThreadState). u.registers.pc) (at-place s thread own there) ∙ stands.pc)
+        ∙ stands.program point stands.inside
 
     fetched-so : runs s thread ≡ runs_decoded s thread (decoded word)
     unfolding runs
@@ -233,7 +241,8 @@ module _ (laws : Laws) (keeps : PlainStepsKeepThreads) (writes : WritesWhereStor
       done-so = is-done s thread r.pc (memory_base + thread) r e.exec (behind, Plain) no-call (no-fault (Some instr) is)
 
       stepped : step s Step ≡ (behind, label)
-      stepped = ran-so ∙ ap (λ (d : Done). let x : State × Label = (d.0, Ran (memory_base + thread) r.pc d.1) in x) (fetched-so ∙ ap (runs_decoded s thread) is ∙ done-so)
+      stepped = ran-so ∙ ap (λ (d : Done). let x : State × Label = (d.0, Ran (memory_base + thread) r.pc d.1) in x)
+          (fetched-so ∙ ap (runs_decoded s thread) is ∙ done-so)
 
       sound : IsSound behind
       sound = subst (λ (x : State × Label). IsSound x.0) stepped (one-event laws.keeps s Step all.sound)
@@ -260,10 +269,12 @@ module _ (laws : Laws) (keeps : PlainStepsKeepThreads) (writes : WritesWhereStor
     by-decoded (Some instr) is = goes-by instr is
 
   from-invariant : ThreadInvariant image t s labels → GoesWell image s labels Step
-  from-invariant (runs_so own point state there status stands budget) = by-decoded own point state there status stands (decoded (slice_index t.thread.words point)) refl
+  from-invariant (runs_so own point state there status stands budget) =
+      by-decoded own point state there status stands (decoded (slice_index t.thread.words point)) refl
   from-invariant (waits_so own point state there status stands asks none) =
       let running = current-runs s all.sound.threads thread now in
-      absurd (no-runner own.status (ap (λ (u : ThreadState). u.status) (sym (at-place s thread own there)) ∙ runs-status (thread_at s thread).status running.runs) status)
+      absurd (no-runner own.status (ap (λ (u : ThreadState). u.status) (sym (at-place s thread own there))
+      ∙ runs-status (thread_at s thread).status running.runs) status)
 
   pub plain-goes-well : GoesWell image s labels Step
   plain-goes-well = from-invariant (all.stand t listed)

@@ -1,11 +1,13 @@
 -- Maps with another value at one place, and what a changed object means to threads and queues.
-use Rattle.std.proofs.Common.{ℕ, ◌≡◌, ◌≢◌, ◌∙◌, ◌++◌, ◌⊎◌, inl, inr, true, false, if◌then◌else◌, Option, Some, None, option_map, List, [], ◌∷◌, filter, fold, refl, ap}
+use Rattle.std.proofs.Common.{ℕ, ◌≡◌, ◌≢◌, ◌∙◌, ◌++◌, ◌⊎◌, inl, inr, true, false, if◌then◌else◌, Option, Some, None, option_map, List, [], ◌∷◌, filter, fold}
+use Rattle.std.proofs.Common.{refl, ap}
 use Rattle.std.specs.Option.{option_map_or}
 use Rattle.std.proofs.lemmas.Bool.Decides.{eqb_tells}
 use Rattle.model.specs.declared.labels.Label.{Label}
 use Rattle.model.specs.Kernel.Kinds.{kind_of}
 use Rattle.model.specs.Kernel.Retype.{NewObject, NewThread, NewEndpoint, NewNotification, NewCNode, NewFrame, NewPageTable, NewRootTable}
-use Rattle.model.specs.Kernel.State.{Object, ThreadObject, EndpointObject, EndpointState, NotificationObject, NotificationState, CNodeObject, FrameObject, PageTableObject, RootTableObject, ThreadState, as_thread, new_thread, put}
+use Rattle.model.specs.Kernel.State.{Object, ThreadObject, EndpointObject, EndpointState, NotificationObject, NotificationState, CNodeObject, FrameObject}
+use Rattle.model.specs.Kernel.State.{PageTableObject, RootTableObject, ThreadState, as_thread, new_thread, put}
 use Rattle.model.specs.Kernel.Waits.{count_open, is_of, open_count}
 
 -- ---- one place of a map
@@ -47,22 +49,29 @@ thread-there (Some RootTableObject) is = absurd (let clash : ◌≡◌ {A = Opti
 -- ---- labels
 
 count-behind : (thread count : ℕ) (labels : List Label) (label : Label)
-    → fold count_open count (filter (is_of thread) (labels ++ label ∷ [])) ≡ (if is_of thread label then count_open (fold count_open count (filter (is_of thread) labels)) label else fold count_open count (filter (is_of thread) labels))
-count-behind thread count [] label = elim (is_of thread label) as (λ b. fold count_open count (if b then label ∷ [] else []) ≡ (if b then count_open count label else count)) [ true ↦ refl | false ↦ refl ]
-count-behind thread count (x ∷ labels) label = elim (is_of thread x) as (λ b. fold count_open count (if b then x ∷ filter (is_of thread) (labels ++ label ∷ []) else filter (is_of thread) (labels ++ label ∷ []))
-    ≡ (if is_of thread label then count_open (fold count_open count (if b then x ∷ filter (is_of thread) labels else filter (is_of thread) labels)) label else fold count_open count (if b then x ∷ filter (is_of thread) labels else filter (is_of thread) labels))) [
+    → fold count_open count (filter (is_of thread) (labels ++ label ∷ []))
+    ≡ (if is_of thread label then count_open (fold count_open count (filter (is_of thread) labels)) label else
+    fold count_open count (filter (is_of thread) labels))
+count-behind thread count [] label = elim (is_of thread label)
+    as (λ b. fold count_open count (if b then label ∷ [] else []) ≡ (if b then count_open count label else count)) [ true ↦ refl | false ↦ refl ]
+count-behind thread count (x ∷ labels) label = elim (is_of thread x)
+    as (λ b. fold count_open count (if b then x ∷ filter (is_of thread) (labels ++ label ∷ []) else filter (is_of thread) (labels ++ label ∷ []))
+    ≡ (if is_of thread label then count_open (fold count_open count (if b then x ∷ filter (is_of thread) labels else filter (is_of thread) labels)) label else
+    fold count_open count (if b then x ∷ filter (is_of thread) labels else filter (is_of thread) labels))) [
       | true ↦ count-behind thread (count_open count x) labels label
       | false ↦ count-behind thread count labels label
     ]
 
 -- the label of another thread, or of none, does not count
-pub other-label : (thread : ℕ) (labels : List Label) (label : Label) → is_of thread label ≡ false → open_count thread (labels ++ label ∷ []) ≡ open_count thread labels
+pub other-label : (thread : ℕ) (labels : List Label) (label : Label) → is_of thread label ≡ false →
+    open_count thread (labels ++ label ∷ []) ≡ open_count thread labels
 unfolding open_count
 other-label thread labels label other =
     count-behind thread 0 labels label
     ∙ ap (λ b. if b then count_open (fold count_open 0 (filter (is_of thread) labels)) label else fold count_open 0 (filter (is_of thread) labels)) other
 
-pub own-label : (thread : ℕ) (labels : List Label) (label : Label) → is_of thread label ≡ true → open_count thread (labels ++ label ∷ []) ≡ count_open (open_count thread labels) label
+pub own-label : (thread : ℕ) (labels : List Label) (label : Label) → is_of thread label ≡ true →
+    open_count thread (labels ++ label ∷ []) ≡ count_open (open_count thread labels) label
 unfolding open_count
 own-label thread labels label own =
     count-behind thread 0 labels label

@@ -1,11 +1,13 @@
 -- Who is in a queue is blocked there.
-use Rattle.std.proofs.Common.{ℕ, zero, suc, ◌≡◌, ◌∙◌, ◌==◌, ◌+◌, ◌++◌, ◌<◌, ◌≤◌, ◌≢◌, ◌⊎◌, inl, inr, Bool, true, false, if◌then◌else◌, Option, Some, None, List, [], ◌∷◌, length, get_or, refl, sym, ap, arith}
+use Rattle.std.proofs.Common.{ℕ, zero, suc, ◌≡◌, ◌∙◌, ◌==◌, ◌+◌, ◌++◌, ◌<◌, ◌≤◌, ◌≢◌, ◌⊎◌, inl, inr, Bool, true, false, if◌then◌else◌, Option, Some, None, List}
+use Rattle.std.proofs.Common.{[], ◌∷◌, length, get_or, refl, sym, ap, arith}
 use Rattle.std.specs.Prelude.{Contains}
 use Rattle.std.specs.Option.{option_map_or}
 use Rattle.std.proofs.lemmas.Bool.{eq-eqb}
 use Rattle.std.proofs.lemmas.Bool.Decides.{eqb_tells}
 use Rattle.model.specs.Kernel.Soundness.{ThreadsAreSound, is_blocked_on, waiting_at, waits_at}
-use Rattle.model.specs.Kernel.State.{State, Status, Inactive, Runnable, Blocked, AwaitsReply, AwaitsHandler, Object, ThreadObject, EndpointObject, NotificationObject, CNodeObject, FrameObject, PageTableObject, RootTableObject, ThreadState, as_thread}
+use Rattle.model.specs.Kernel.State.{State, Status, Inactive, Runnable, Blocked, AwaitsReply, AwaitsHandler, Object, ThreadObject, EndpointObject}
+use Rattle.model.specs.Kernel.State.{NotificationObject, CNodeObject, FrameObject, PageTableObject, RootTableObject, ThreadState, as_thread}
 use Rattle.model.specs.Shared.Lists.{times_in}
 
 pub record IsBlockedAt (s : State) (thread queue : ℕ) : Type 0 where
@@ -24,7 +26,8 @@ blocked-status queue (Blocked other) is = elim (eqb_tells other queue) [
 ]
 
 module _ (s : State) (thread queue : ℕ) where
-  from-object : (o : Option Object) → s.objects thread ≡ o → option_map_or (λ (t : ThreadState). is_blocked_on queue t.status) (as_thread o) false ≡ true → IsBlockedAt s thread queue
+  from-object : (o : Option Object) → s.objects thread ≡ o → option_map_or (λ (t : ThreadState). is_blocked_on queue t.status) (as_thread o) false ≡ true →
+      IsBlockedAt s thread queue
   from-object (Some (ThreadObject t)) is waits = record { own = t; is = is; status = blocked-status queue t.status waits }
   from-object None is waits = absurd (let clash : false ≡ true = waits in cc)
   from-object (Some (EndpointObject e)) is waits = absurd (let clash : false ≡ true = waits in cc)
@@ -92,7 +95,8 @@ times-behind (y ∷ xs) ys x =
 
 pub times-before : (xs ys : List ℕ) (x : ℕ) → times_in xs x ≤ times_in (xs ++ ys) x
 times-before [] ys x = omega arith
-times-before (y ∷ xs) ys x = elim (y == x) as (λ b. (if b then times_in xs x + 1 else times_in xs x) ≤ (if b then times_in (xs ++ ys) x + 1 else times_in (xs ++ ys) x)) [
-  | true ↦ let rest = times-before xs ys x in omega (arith, rest)
-  | false ↦ times-before xs ys x
-]
+times-before (y ∷ xs) ys x =
+    elim (y == x) as (λ b. (if b then times_in xs x + 1 else times_in xs x) ≤ (if b then times_in (xs ++ ys) x + 1 else times_in (xs ++ ys) x)) [
+      | true ↦ let rest = times-before xs ys x in omega (arith, rest)
+      | false ↦ times-before xs ys x
+    ]

@@ -20,10 +20,12 @@ use Rattle.model.specs.Acceptance.ThreadInvariants.{tcb_of}
 use Rattle.model.specs.Capabilities.Slots.{capability_at}
 use Rattle.model.specs.Images.Described.{Numbered, numbered_threads}
 use Rattle.model.specs.Images.Image.{Image}
-use Rattle.model.specs.Kernel.Messages.{Message, a0, deliver, deliver_word, message_sent, poll, receive, receive_from, received_waiting, receives, try_to_receive, wait, waits_to_receive, with_caller}
+use Rattle.model.specs.Kernel.Messages.{Message, a0, deliver, deliver_word, message_sent, poll, receive, receive_from, received_waiting, receives}
+use Rattle.model.specs.Kernel.Messages.{try_to_receive, wait, waits_to_receive, with_caller}
 use Rattle.model.specs.Kernel.Scheduling.{block}
 use Rattle.model.specs.Kernel.Soundness.{IsSound}
-use Rattle.model.specs.Kernel.State.{State, Inactive, AwaitsReply, Sender, Sent, BySend, ByCall, ByFault, EndpointObject, EndpointState, ThreadObject, ThreadState, endpoint_at, thread_at, with_endpoint}
+use Rattle.model.specs.Kernel.State.{State, Inactive, AwaitsReply, Sender, Sent, BySend, ByCall, ByFault, EndpointObject, EndpointState, ThreadObject}
+use Rattle.model.specs.Kernel.State.{ThreadState, endpoint_at, thread_at, with_endpoint}
 use Rattle.model.specs.Kernel.Steps.{Done, lacks_capability, memory_base, receive_by, receive_call, receive_named}
 use Rattle.model.specs.declared.system_calls.ReceiveCall.{ReceiveCall}
 use Rattle.model.specs.declared.system_calls.ReceiveCall.TheVariants.{Receiving, Polling}
@@ -64,45 +66,58 @@ module _ (laws : Laws) (bytes : List ℕ) (image : Image) (s : State) (labels : 
     abbrev ready : State
     ready = with_caller s tcb None
 
-    store-received : (x : Sender) (f : EndpointState) (b : ℕ) (m : Message) (kind : Sent) → SameGround image s (received_waiting (deliver (with_endpoint ready e f) tcb b m) x kind tcb)
+    store-received : (x : Sender) (f : EndpointState) (b : ℕ) (m : Message) (kind : Sent) →
+        SameGround image s (received_waiting (deliver (with_endpoint ready e f) tcb b m) x kind tcb)
     store-received x f b m BySend = record { memory_bits = refl; boot_radix = refl; slots = λ slot. refl; bytes = λ frame place code low high. refl }
-    store-received x f b m ByCall = elim x.grant_reply as (λ g. SameGround image s (if g then with_caller (block (deliver (with_endpoint ready e f) tcb b m) x.thread AwaitsReply) tcb (Some x.thread) else block (deliver (with_endpoint ready e f) tcb b m) x.thread Inactive)) [
-      | true ↦ record { memory_bits = refl; boot_radix = refl; slots = λ slot. refl; bytes = λ frame place code low high. refl }
-      | false ↦ record { memory_bits = refl; boot_radix = refl; slots = λ slot. refl; bytes = λ frame place code low high. refl }
-    ]
+    store-received x f b m ByCall =
+        elim x.grant_reply as (λ g.
+        SameGround image s (if g then with_caller (block (deliver (with_endpoint ready e f) tcb b m) x.thread AwaitsReply) tcb (Some x.thread) else
+        block (deliver (with_endpoint ready e f) tcb b m) x.thread Inactive)) [
+          | true ↦ record { memory_bits = refl; boot_radix = refl; slots = λ slot. refl; bytes = λ frame place code low high. refl }
+          | false ↦ record { memory_bits = refl; boot_radix = refl; slots = λ slot. refl; bytes = λ frame place code low high. refl }
+        ]
     store-received x f b m (ByFault fault) = record { memory_bits = refl; boot_radix = refl; slots = λ slot. refl; bytes = λ frame place code low high. refl }
 
-    some-sends : (outcome : Outcome) → is_waited outcome ≡ left.is_wait → left ≡ known_behind state (with_message state.ranges badges) left.is_wait message_registers
+    some-sends : (outcome : Outcome) → is_waited outcome ≡ left.is_wait →
+        left ≡ known_behind state (with_message state.ranges badges) left.is_wait message_registers
         → Holds image t.thread s (NamesQueue e) → (otherwise : State) (x : Sender) (others : List Sender) → (endpoint_at ready e).senders ≡ x ∷ others
         → IsSound (receives ready e tcb otherwise (x ∷ others)) → AllStand image (receives ready e tcb otherwise (x ∷ others)) (behind outcome)
     some-sends outcome waited asks held otherwise x others first sound =
         let f = record (endpoint_at ready e) { senders = others } in
         let after = receive_from (with_endpoint ready e f) x tcb in
-        receives-stand laws bytes image s labels (behind outcome) accepted all t listed own point state left at (counts outcome waited) e old was held after sound
+        receives-stand laws bytes image s labels (behind outcome) accepted all t listed own point state left at (counts outcome waited) e old was held after
+        sound
         (store-received x f x.badge (message_sent (with_endpoint ready e f) x x.sent) x.sent) x others first (λ y. refl) asks
 
-    receive-waits : left ≡ behind_receive state → Holds image t.thread s (NamesQueue e) → IsSound (receive s e tcb) → AllStand image (receive s e tcb) (behind Waited)
+    receive-waits : left ≡ behind_receive state → Holds image t.thread s (NamesQueue e) → IsSound (receive s e tcb) →
+        AllStand image (receive s e tcb) (behind Waited)
     receive-waits asks held =
         let wait : true ≡ left.is_wait = sym (ap (λ (l : AfterCall). l.is_wait) asks) in
-        let asks_so : left ≡ known_behind state (with_message state.ranges badges) left.is_wait message_registers = asks ∙ ap (λ b. known_behind state (with_message state.ranges badges) b message_registers) wait in
-        elim (endpoint_at ready e).senders as (λ xs. (endpoint_at ready e).senders ≡ xs → IsSound (receives ready e tcb (waits_to_receive ready e tcb) xs) → AllStand image (receives ready e tcb (waits_to_receive ready e tcb) xs) (behind Waited)) [
+        let asks_so : left ≡ known_behind state (with_message state.ranges badges) left.is_wait message_registers = asks
+        ∙ ap (λ b. known_behind state (with_message state.ranges badges) b message_registers) wait in
+        elim (endpoint_at ready e).senders as (λ xs. (endpoint_at ready e).senders ≡ xs → IsSound (receives ready e tcb (waits_to_receive ready e tcb) xs) →
+        AllStand image (receives ready e tcb (waits_to_receive ready e tcb) xs) (behind Waited)) [
           | [] ↦ λ none sound.
-              blocks-stand laws bytes image s labels (behind Waited) accepted all t listed own point state left at (counts Waited wait) e old was held (waits_to_receive ready e tcb) sound
+              blocks-stand laws bytes image s labels (behind Waited) accepted all t listed own point state left at (counts Waited wait) e old was held
+              (waits_to_receive ready e tcb) sound
               (record { memory_bits = refl; boot_radix = refl; slots = λ slot. refl; bytes = λ frame place code low high. refl }) none (λ y. refl) asks
           | x ∷ others ↦ λ first sound. some-sends Waited wait asks_so held (waits_to_receive ready e tcb) x others first sound
         ] refl
 
     -- nothing is there: a0 becomes 0
-    finds-nothing : left ≡ known_behind state (with_message state.ranges badges) false message_registers → IsSound (deliver_word ready tcb 0) → AllStand image (deliver_word ready tcb 0) (behind Plain)
+    finds-nothing : left ≡ known_behind state (with_message state.ranges badges) false message_registers → IsSound (deliver_word ready tcb 0) →
+        AllStand image (deliver_word ready tcb 0) (behind Plain)
     finds-nothing asks sound =
-        let fit = laws.nothing own.registers state.ranges (own-registers laws bytes image s labels (behind Plain) accepted all t listed own point state left at) in
+        let fit = laws.nothing own.registers state.ranges
+        (own-registers laws bytes image s labels (behind Plain) accepted all t listed own point state left at) in
         let free : ThreadState = record own { caller = None } in
         let next : ThreadState = record free { registers = advanced (write own.registers a0 0) } in
         let passes : PassesWith (deliver_word ready tcb 0) tcb own state left =
         subst (λ (l : AfterCall). PassesWith (deliver_word ready tcb 0) tcb own state l) (sym asks) (record {
           next = next;
           is = passed ready tcb (write (thread_at ready tcb).registers a0 0)
-              ∙ ap (λ (u : ThreadState). Some (ThreadObject (record u { registers = advanced (write u.registers a0 0) }))) (at-place ready tcb free (caller-here s tcb None own at.there));
+              ∙ ap (λ (u : ThreadState). Some (ThreadObject (record u { registers = advanced (write u.registers a0 0) })))
+              (at-place ready tcb free (caller-here s tcb None own at.there));
           runs = at.status;
           written = write own.registers a0 0;
           registers = refl;
@@ -110,15 +125,20 @@ module _ (laws : Laws) (bytes : List ℕ) (image : Image) (s : State) (labels : 
           only = fit.1;
           within = fit.0;
         }) in
-        it-passes laws bytes image s labels (behind Plain) accepted all t listed own point state left at (counts Plain (sym (ap (λ (l : AfterCall). l.is_wait) asks))) (deliver_word ready tcb 0) sound
-        (record { memory_bits = refl; boot_radix = refl; slots = λ slot. refl; bytes = λ frame place code low high. refl }) (ap (λ (l : AfterCall). l.slots) asks) passes
+        it-passes laws bytes image s labels (behind Plain) accepted all t listed own point state left at
+        (counts Plain (sym (ap (λ (l : AfterCall). l.is_wait) asks))) (deliver_word ready tcb 0) sound
+        (record { memory_bits = refl; boot_radix = refl; slots = λ slot. refl; bytes = λ frame place code low high. refl })
+        (ap (λ (l : AfterCall). l.slots) asks) passes
         (λ y other. passed-there ready tcb (write (thread_at ready tcb).registers a0 0) y other ∙ caller-there s tcb None y other)
 
-    receive-polls : left ≡ known_behind state (with_message state.ranges badges) false message_registers → Holds image t.thread s (NamesQueue e) → IsSound (try_to_receive s e tcb) → AllStand image (try_to_receive s e tcb) (behind Plain)
+    receive-polls : left ≡ known_behind state (with_message state.ranges badges) false message_registers → Holds image t.thread s (NamesQueue e) →
+        IsSound (try_to_receive s e tcb) → AllStand image (try_to_receive s e tcb) (behind Plain)
     receive-polls asks held =
         let wait : false ≡ left.is_wait = sym (ap (λ (l : AfterCall). l.is_wait) asks) in
-        let asks_so : left ≡ known_behind state (with_message state.ranges badges) left.is_wait message_registers = asks ∙ ap (λ b. known_behind state (with_message state.ranges badges) b message_registers) wait in
-        elim (endpoint_at ready e).senders as (λ xs. (endpoint_at ready e).senders ≡ xs → IsSound (receives ready e tcb (deliver_word ready tcb 0) xs) → AllStand image (receives ready e tcb (deliver_word ready tcb 0) xs) (behind Plain)) [
+        let asks_so : left ≡ known_behind state (with_message state.ranges badges) left.is_wait message_registers = asks
+        ∙ ap (λ b. known_behind state (with_message state.ranges badges) b message_registers) wait in
+        elim (endpoint_at ready e).senders as (λ xs. (endpoint_at ready e).senders ≡ xs → IsSound (receives ready e tcb (deliver_word ready tcb 0) xs) →
+        AllStand image (receives ready e tcb (deliver_word ready tcb 0) xs) (behind Plain)) [
           | [] ↦ λ none sound. finds-nothing asks sound
           | x ∷ others ↦ λ first sound. some-sends Plain wait asks_so held (deliver_word ready tcb 0) x others first sound
         ] refl
@@ -129,7 +149,8 @@ module _ (laws : Laws) (bytes : List ℕ) (image : Image) (s : State) (labels : 
   is_wait_of Receiving = true
   is_wait_of Polling = false
 
-  fine : (outcome : Outcome) (after : State) → is_fault (Ran (memory_base + tcb) pc outcome) ≡ false → is_error (Ran (memory_base + tcb) pc outcome) ≡ false → AllStand image after (behind outcome) → IsFine image t labels pc (after, outcome)
+  fine : (outcome : Outcome) (after : State) → is_fault (Ran (memory_base + tcb) pc outcome) ≡ false → is_error (Ran (memory_base + tcb) pc outcome) ≡ false →
+      AllStand image after (behind outcome) → IsFine image t labels pc (after, outcome)
   fine outcome after runs allowed stands = record { faults = runs; errors = allowed; stands = stands }
 
   by-object : (kind : ReceiveCall) (slot : ℕ) → IsOwnSlot image t.thread slot → ReceivesBy state (is_wait_of kind) (capability_at s.slots slot) left
@@ -138,30 +159,37 @@ module _ (laws : Laws) (bytes : List ℕ) (image : Image) (s : State) (labels : 
       let there = endpoint-named image t s labels all slot mine offset r badge is in
       let same : receive_by s tcb Receiving (capability_at s.slots slot) ≡ (receive s offset tcb, Waited) =
       ap (receive_by s tcb Receiving) is ∙ ap (λ b. if b then (receive s offset tcb, Waited) else lacks_capability s tcb 1 MissingCapability) reads in
-      subst (λ (done : Done). IsSound done.0 → IsFine image t labels pc done) (sym same) (λ sound. fine Waited (receive s offset tcb) refl refl (receive-waits offset there.old there.was asks there.held sound))
+      subst (λ (done : Done). IsSound done.0 → IsFine image t labels pc done) (sym same)
+      (λ sound. fine Waited (receive s offset tcb) refl refl (receive-waits offset there.old there.was asks there.held sound))
   by-object Polling slot mine (ReceivesBy.on_endpoint offset r badge is reads asks) =
       let there = endpoint-named image t s labels all slot mine offset r badge is in
       let same : receive_by s tcb Polling (capability_at s.slots slot) ≡ (try_to_receive s offset tcb, Plain) =
       ap (receive_by s tcb Polling) is ∙ ap (λ b. if b then (try_to_receive s offset tcb, Plain) else lacks_capability s tcb 1 MissingCapability) reads in
-      subst (λ (done : Done). IsSound done.0 → IsFine image t labels pc done) (sym same) (λ sound. fine Plain (try_to_receive s offset tcb) refl refl (receive-polls offset there.old there.was asks there.held sound))
+      subst (λ (done : Done). IsSound done.0 → IsFine image t labels pc done) (sym same)
+      (λ sound. fine Plain (try_to_receive s offset tcb) refl refl (receive-polls offset there.old there.was asks there.held sound))
   by-object Receiving slot mine (ReceivesBy.on_notification offset r badge is reads asks) =
       let there = notification-named image t s labels all slot mine offset r badge is in
       let same : receive_by s tcb Receiving (capability_at s.slots slot) ≡ (wait s offset tcb, Waited) =
       ap (receive_by s tcb Receiving) is ∙ ap (λ b. if b then (wait s offset tcb, Waited) else lacks_capability s tcb 1 MissingCapability) reads in
       subst (λ (done : Done). IsSound done.0 → IsFine image t labels pc done) (sym same)
       (λ sound. fine Waited (wait s offset tcb) refl refl
-      (wait-stands laws bytes image s labels (behind Waited) accepted all t listed own point state left at (counts Waited (sym (ap (λ (l : AfterCall). l.is_wait) asks))) offset there.old there.was asks there.held sound))
+      (wait-stands laws bytes image s labels (behind Waited) accepted all t listed own point state left at
+      (counts Waited (sym (ap (λ (l : AfterCall). l.is_wait) asks))) offset there.old there.was asks there.held sound))
   by-object Polling slot mine (ReceivesBy.on_notification offset r badge is reads asks) =
       let there = notification-named image t s labels all slot mine offset r badge is in
       let same : receive_by s tcb Polling (capability_at s.slots slot) ≡ (poll s offset tcb, Plain) =
       ap (receive_by s tcb Polling) is ∙ ap (λ b. if b then (poll s offset tcb, Plain) else lacks_capability s tcb 1 MissingCapability) reads in
       subst (λ (done : Done). IsSound done.0 → IsFine image t labels pc done) (sym same)
       (λ sound. fine Plain (poll s offset tcb) refl refl
-      (poll-stands laws bytes image s labels (behind Plain) accepted all t listed own point state left at (counts Plain (sym (ap (λ (l : AfterCall). l.is_wait) asks))) offset there.old there.was asks sound))
+      (poll-stands laws bytes image s labels (behind Plain) accepted all t listed own point state left at
+      (counts Plain (sym (ap (λ (l : AfterCall). l.is_wait) asks))) offset there.old there.was asks sound))
 
-  pub receive-fine : (kind : ReceiveCall) → by_capability image t.thread (point_of t point) state (λ slot. receive_rule (point_of t point) state (is_wait_of kind)) ≡ Ok left
+  pub receive-fine : (kind : ReceiveCall) → by_capability image t.thread (point_of t point) state
+      (λ slot. receive_rule (point_of t point) state (is_wait_of kind)) ≡ Ok left
       → IsSound (receive_call s tcb kind).0 → IsFine image t labels pc (receive_call s tcb kind)
   receive-fine kind rule =
-      let names = named-here laws bytes image s labels accepted t listed own point state left at (λ slot. receive_rule (point_of t point) state (is_wait_of kind)) rule in
+      let names = named-here laws bytes image s labels accepted t listed own point state left at
+      (λ slot. receive_rule (point_of t point) state (is_wait_of kind)) rule in
       let by = laws.receives (point_of t point) state (is_wait_of kind) (capability_at s.slots names.slot) left names.rule in
-      subst (λ (done : Done). IsSound done.0 → IsFine image t labels pc done) (sym (ap (receive_named s tcb kind) names.named)) (by-object kind names.slot names.own by)
+      subst (λ (done : Done). IsSound done.0 → IsFine image t labels pc done) (sym (ap (receive_named s tcb kind) names.named))
+      (by-object kind names.slot names.own by)

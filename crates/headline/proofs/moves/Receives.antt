@@ -1,5 +1,6 @@
 -- A receive on an endpoint keeps the threads' invariant: the first sender is received, or the thread waits.
-use Rattle.std.proofs.Common.{ℕ, ◌≡◌, ◌≢◌, ◌∙◌, ◌==◌, ◌++◌, ◌^◌, ◌<◌, ◌≤◌, false, if◌then◌else◌, Option, Some, None, List, [], ◌∷◌, length, map, get_or, refl, sym, ap, subst, arith}
+use Rattle.std.proofs.Common.{ℕ, ◌≡◌, ◌≢◌, ◌∙◌, ◌==◌, ◌++◌, ◌^◌, ◌<◌, ◌≤◌, false, if◌then◌else◌, Option, Some, None, List, [], ◌∷◌, length, map, get_or, refl}
+use Rattle.std.proofs.Common.{sym, ap, subst, arith}
 use Rattle.std.specs.Prelude.{Contains}
 use Rattle.std.proofs.lemmas.Bool.{eqb-true, eqb-false}
 use Rattle.headline.specs.facts.Standing.{AllStand}
@@ -15,10 +16,12 @@ use Rattle.model.specs.Acceptance.ThreadInvariants.{IsWaiting, ThreadInvariant, 
 use Rattle.model.specs.Images.Described.{Numbered, numbered_threads}
 use Rattle.model.specs.Images.Image.{Image}
 use Rattle.model.specs.Kernel.Deliveries.{woken}
-use Rattle.model.specs.Kernel.Messages.{Message, deliver, delivered, message_of, message_sent, passes, receive_from, received_waiting, waits_to_receive, with_caller}
+use Rattle.model.specs.Kernel.Messages.{Message, deliver, delivered, message_of, message_sent, passes, receive_from, received_waiting, waits_to_receive}
+use Rattle.model.specs.Kernel.Messages.{with_caller}
 use Rattle.model.specs.Kernel.Scheduling.{block}
 use Rattle.model.specs.Kernel.Soundness.{IsSound, SenderIsSound, waiting_at}
-use Rattle.model.specs.Kernel.State.{State, Inactive, Runnable, Blocked, AwaitsReply, Object, ThreadObject, EndpointObject, EndpointState, NotificationObject, Sender, Sent, BySend, ByCall, ByFault, ThreadState, endpoint_at, thread_at, with_endpoint}
+use Rattle.model.specs.Kernel.State.{State, Inactive, Runnable, Blocked, AwaitsReply, Object, ThreadObject, EndpointObject, EndpointState, NotificationObject}
+use Rattle.model.specs.Kernel.State.{Sender, Sent, BySend, ByCall, ByFault, ThreadState, endpoint_at, thread_at, with_endpoint}
 use Rattle.model.specs.Kernel.Waits.{open_count}
 use Rattle.model.specs.Machine.Effects.{advanced}
 use Rattle.model.specs.Shared.Lists.{times_in}
@@ -31,7 +34,8 @@ use Rattle.headline.proofs.moves.Calling.{IsCounted, QueueChanges, QueuesOn, own
 use Rattle.headline.proofs.moves.NotificationCalls.{holds-on}
 use Rattle.headline.proofs.moves.Pairs.{two-move}
 use Rattle.headline.proofs.moves.Passing.{begins}
-use Rattle.headline.proofs.moves.Places.{at-endpoint, blocked, blocked-there, caller-here, caller-there, delivered-here, delivered-there, endpoint-here, endpoint-there, went-here, went-there, woke, woke-there}
+use Rattle.headline.proofs.moves.Places.{at-endpoint, blocked, blocked-there, caller-here, caller-there, delivered-here, delivered-there, endpoint-here}
+use Rattle.headline.proofs.moves.Places.{endpoint-there, went-here, went-there, woke, woke-there}
 use Rattle.headline.proofs.moves.Queued.{IsBlockedAt, contains-before, contains-more, first-times, queued-there}
 use Rattle.headline.proofs.moves.Standing.{all-stand, touches-none}
 use Rattle.headline.proofs.moves.Waiters.{StandsWaiting, called-so, delivered-pc, no-fault, own-message, sent-so, stands-waiting}
@@ -41,7 +45,8 @@ use Rattle.headline.proofs.moves.Woken.{FitsBehind, wakes-up}
 first-sender : (x : Sender) (others : List Sender) (receivers : List ℕ) → 1 ≤ times_in (map (λ (y : Sender). y.thread) (x ∷ others) ++ receivers) x.thread
 first-sender x others receivers = first-times (map (λ (y : Sender). y.thread) others ++ receivers) x.thread x.thread refl
 
-module _ (laws : Laws) (bytes : List ℕ) (image : Image) (s : State) (labels later : List Label) (accepted : IsAccepted bytes image) (all : AllStand image s labels)
+module _ (laws : Laws) (bytes : List ℕ) (image : Image) (s : State) (labels later : List Label) (accepted : IsAccepted bytes image)
+    (all : AllStand image s labels)
     (t : Numbered) (listed : Contains (numbered_threads image) t) (own : ThreadState) (point : ℕ) (state : PointState) (left : AfterCall)
     (at : CallsAt image t s labels own point state left) (counts : IsCounted image t labels later left.is_wait)
     (e : ℕ) (old : EndpointState) (was : s.objects e ≡ Some (EndpointObject old)) (held : Holds image t.thread s (NamesQueue e))
@@ -90,12 +95,18 @@ module _ (laws : Laws) (bytes : List ℕ) (image : Image) (s : State) (labels la
 
     after-others : (y : ℕ) → y ≢ e → (y == tcb) ≡ false → after.objects y ≡ s.objects y
     after-others y other rests =
-        objects y ∙ blocked-there one tcb (Blocked e) y (eqb-false y tcb rests) ∙ endpoint-there ready e queued y other ∙ caller-there s tcb None y (eqb-false y tcb rests)
+        objects y ∙ blocked-there one tcb (Blocked e) y (eqb-false y tcb rests) ∙ endpoint-there ready e queued y other
+        ∙ caller-there s tcb None y (eqb-false y tcb rests)
 
     queued-on : (thread : ℕ) → (thread == tcb) ≡ false → QueuesOn (EndpointObject ep) (EndpointObject queued) thread
     queued-on thread rests = record {
       sends = λ f x is among mine. let same : queued ≡ f = cc in (ep, refl, subst (λ (g : EndpointState). Contains g.senders x) (sym same) among);
-      receives = λ f is among. let same : queued ≡ f = cc in (ep, refl, contains-before ep.receivers thread tcb (subst (λ (g : EndpointState). Contains g.receivers thread) (sym same) among) (eqb-false thread tcb rests));
+      receives = λ f is among. let same : queued ≡ f = cc in (
+        ep,
+        refl,
+        contains-before ep.receivers thread tcb
+            (subst (λ (g : EndpointState). Contains g.receivers thread) (sym same) among) (eqb-false thread tcb rests),
+      );
       waits = λ n is among. absurd cc;
     }
 
@@ -115,8 +126,10 @@ module _ (laws : Laws) (bytes : List ℕ) (image : Image) (s : State) (labels la
         asked-once image t after next after-own point state left at.stands.pc at.stands.known at.call
         (record {
           held = holds-on image t s after e store held;
-          sends = λ f x is among mine. absurd (let same : queued ≡ f = let both : Some (EndpointObject queued) ≡ Some (EndpointObject f) = sym after-queue ∙ is in cc in
-              let empty : Contains [] x = subst (λ (xs : List Sender). Contains xs x) (ap (λ (g : EndpointState). g.senders) (sym same) ∙ none) among in omega (arith, empty.1));
+          sends = λ f x is among mine. absurd (let same : queued ≡ f = let both : Some (EndpointObject queued) ≡ Some (EndpointObject f) = sym after-queue
+              ∙ is in cc in
+              let empty : Contains [] x = subst (λ (xs : List Sender). Contains xs x) (ap (λ (g : EndpointState). g.senders) (sym same) ∙ none) among in
+              omega (arith, empty.1));
           receives = λ f is among. asks;
           waits = λ n is among. absurd (let clash : Some (EndpointObject queued) ≡ Some (NotificationObject n) = sym after-queue ∙ is in cc);
         })
@@ -128,7 +141,8 @@ module _ (laws : Laws) (bytes : List ℕ) (image : Image) (s : State) (labels la
 
     pub blocks-stand : AllStand image after later
     blocks-stand =
-        all-stand laws.stand_on bytes image s after labels later (λ y. y == tcb) accepted all sound store (rest-by-queue s after e (EndpointObject ep) (EndpointObject queued) (λ y. y == tcb) changes)
+        all-stand laws.stand_on bytes image s after labels later (λ y. y == tcb) accepted all sound store
+        (rest-by-queue s after e (EndpointObject ep) (EndpointObject queued) (λ y. y == tcb) changes)
         (λ u among move.
         let same : t ≡ u = laws.own_blocks bytes image t u accepted listed among (sym (eqb-true (tcb_of image u) tcb move)) in
         subst (λ v. ThreadInvariant image v after later × WaitsAsAsked image v after) same (own-begins, asked))
@@ -138,7 +152,8 @@ module _ (laws : Laws) (bytes : List ℕ) (image : Image) (s : State) (labels la
   -- ---- somebody sends
 
   module _ (x : Sender) (others : List Sender) (first : ep.senders ≡ x ∷ others)
-      (objects : (y : ℕ) → after.objects y ≡ (receive_from (with_endpoint ready e (record ep { senders = others })) x tcb).objects y) (asks : left ≡ known_behind state (with_message state.ranges badges) left.is_wait message_registers) where
+      (objects : (y : ℕ) → after.objects y ≡ (receive_from (with_endpoint ready e (record ep { senders = others })) x tcb).objects y)
+      (asks : left ≡ known_behind state (with_message state.ranges badges) left.is_wait message_registers) where
     abbrev from : ℕ
     from = x.thread
 
@@ -195,14 +210,20 @@ module _ (laws : Laws) (bytes : List ℕ) (image : Image) (s : State) (labels la
     waits-so : StandsWaiting image s labels from sender
     waits-so = stands-waiting image s labels all from sender blocked-from.is (subst IsWaiting (sym blocked-from.status) tt)
 
-    sends-so : (u : Numbered) (state : PointState) (left : AfterCall) → from ≡ tcb_of image u → WaitsSo image u s state left sender.status → SendsSo state left x
+    sends-so : (u : Numbered) (state : PointState) (left : AfterCall) → from ≡ tcb_of image u → WaitsSo image u s state left sender.status →
+        SendsSo state left x
     sends-so u state left is so =
-        (subst (WaitsSo image u s state left) blocked-from.status so).sends ep x was-ep (subst (λ (xs : List Sender). Contains xs x) (sym first) (0, omega arith, refl)) is
+        (subst (WaitsSo image u s state left) blocked-from.status so).sends ep x was-ep
+        (subst (λ (xs : List Sender). Contains xs x) (sym first) (0, omega arith, refl)) is
 
     queued-still : (thread : ℕ) → QueuesOn (EndpointObject ep) (EndpointObject fewer) thread
     queued-still thread = record {
-      sends = λ f y is among mine. let same : fewer ≡ f = cc in
-          (ep, refl, subst (λ (xs : List Sender). Contains xs y) (sym first) (contains-more x y others (subst (λ (g : EndpointState). Contains g.senders y) (sym same) among)));
+      sends = λ f y is among mine. let same : fewer ≡ f = cc in (
+        ep,
+        refl,
+        subst (λ (xs : List Sender). Contains xs y) (sym first)
+            (contains-more x y others (subst (λ (g : EndpointState). Contains g.senders y) (sym same) among)),
+      );
       receives = λ f is among. let same : fewer ≡ f = cc in (ep, refl, subst (λ (g : EndpointState). Contains g.receivers thread) (sym same) among);
       waits = λ n is among. absurd cc;
     }
@@ -212,16 +233,20 @@ module _ (laws : Laws) (bytes : List ℕ) (image : Image) (s : State) (labels la
         → ((y : ℕ) → y ≢ tcb → y ≢ from → after.objects y ≡ two.objects y) → ThreadInvariant image t after later × WaitsAsAsked image t after
         → ThreadInvariant image waits-so.thread after later × WaitsAsAsked image waits-so.thread after → AllStand image after later
     pair-stands next gone own_is from_is apart own_stands from_stands =
-        two-move laws bytes image s labels later accepted all after sound store t listed waits-so.thread waits-so.listed from waits-so.is counts.others e (EndpointObject ep) (EndpointObject fewer)
+        two-move laws bytes image s labels later accepted all after sound store t listed waits-so.thread waits-so.listed from waits-so.is counts.others e
+        (EndpointObject ep) (EndpointObject fewer)
         was-ep (apart e e-apart (λ is. from-queue (sym is)) ∙ two-queue) (λ u clash. absurd cc) (λ u clash. absurd cc) next gone own_is from_is
-        (λ y other own_apart from_apart. apart y own_apart from_apart ∙ two-others y other own_apart) (λ thread own_apart from_apart. queued-still thread) own_stands from_stands
+        (λ y other own_apart from_apart. apart y own_apart from_apart ∙ two-others y other own_apart) (λ thread own_apart from_apart. queued-still thread)
+        own_stands from_stands
 
     -- ---- the thread that receives
 
     is-fine : IsMessage message → x.badge < 2 ^ 28 → FitsBehind state left own.registers (delivered own.registers x.badge message)
     is-fine fine small =
-        let fit = laws.message own.registers state.ranges x.badge message (own-registers laws bytes image s labels later accepted all t listed own point state left at) small fine in
-        subst (λ (l : AfterCall). FitsBehind state l own.registers (delivered own.registers x.badge message)) (sym asks) (record { slots = refl; pc = delivered-pc own.registers x.badge message; only = fit.1; within = fit.0 })
+        let fit = laws.message own.registers state.ranges x.badge message
+        (own-registers laws bytes image s labels later accepted all t listed own point state left at) small fine in
+        subst (λ (l : AfterCall). FitsBehind state l own.registers (delivered own.registers x.badge message)) (sym asks)
+        (record { slots = refl; pc = delivered-pc own.registers x.badge message; only = fit.1; within = fit.0 })
 
     small-badge : x.badge < 2 ^ 28
     small-badge =
@@ -234,12 +259,23 @@ module _ (laws : Laws) (bytes : List ℕ) (image : Image) (s : State) (labels la
         subst (λ (u : ThreadState). IsMessage (message_of u)) (sym (at-place taken from sender taken-from))
         (own-message sender (all.sound.threads.threads from sender blocked-from.is))
 
-    own-receives : (next : ThreadState) → after.objects tcb ≡ Some (ThreadObject next) → next.status ≡ own.status → next.registers ≡ received.registers → IsMessage message
+    own-receives : (next : ThreadState) → after.objects tcb ≡ Some (ThreadObject next) → next.status ≡ own.status → next.registers ≡ received.registers →
+        IsMessage message
         → ThreadInvariant image t after later × WaitsAsAsked image t after
     own-receives next is status registers fine =
         let fit = is-fine fine small-badge in
         own-passes laws bytes image s labels later accepted all t listed own point state left at after sound store fit.slots
-        (record { next = next; is = is; runs = status ∙ at.status; written = delivered own.registers x.badge message; registers = registers; pc = fit.pc; only = fit.only; within = fit.within }) counts
+        (record {
+          next = next;
+          is = is;
+          runs = status ∙ at.status;
+          written = delivered own.registers x.badge message;
+          registers = registers;
+          pc = fit.pc;
+          only =
+              fit.only;
+          within = fit.within;
+        }) counts
 
     sent-by : (kind : Sent) → x.sent ≡ kind → (y : ℕ) → after.objects y ≡ (received_waiting two x kind tcb).objects y
     sent-by kind is y = objects y ∙ ap (λ k. (received_waiting two x k tcb).objects y) is
@@ -256,12 +292,15 @@ module _ (laws : Laws) (bytes : List ℕ) (image : Image) (s : State) (labels la
     by-send kind =
         let gone : ThreadState = woken sender (advanced sender.registers) in
         let three : State = passes two from in
-        let from_is : after.objects from ≡ Some (ThreadObject gone) = sent-by BySend kind from ∙ woke three from (record sender { registers = advanced sender.registers }) (went-here two from sender two-from) in
-        let apart : (y : ℕ) → y ≢ from → after.objects y ≡ two.objects y = λ y other. sent-by BySend kind y ∙ woke-there three from y other ∙ went-there two from y other in
+        let from_is : after.objects from ≡ Some (ThreadObject gone) = sent-by BySend kind from
+        ∙ woke three from (record sender { registers = advanced sender.registers }) (went-here two from sender two-from) in
+        let apart : (y : ℕ) → y ≢ from → after.objects y ≡ two.objects y = λ y other. sent-by BySend kind y ∙ woke-there three from y other
+        ∙ went-there two from y other in
         let own_is : after.objects tcb ≡ Some (ThreadObject received) = apart tcb (λ is. from-apart (sym is)) ∙ two-own in
         let fine : IsMessage message = subst (λ (k : Sent). IsMessage (message_sent taken x k)) (sym kind) sender-message in
         pair-stands received gone own_is from_is (λ y other beside. apart y beside) (own-receives received own_is refl refl fine)
-        (wakes-up laws bytes image s labels later accepted all after sound store waits-so.thread waits-so.listed count-from sender there-from sender.registers gone
+        (wakes-up laws bytes image s labels later accepted all after sound store waits-so.thread waits-so.listed count-from sender there-from sender.registers
+        gone
         (ap after.objects (sym waits-so.is) ∙ from_is) refl refl
         (λ at_state behind so registers.
         let behind_is = sent-so at_state behind x (sends-so waits-so.thread at_state behind waits-so.is so) kind in
@@ -282,7 +321,8 @@ module _ (laws : Laws) (bytes : List ℕ) (image : Image) (s : State) (labels la
         λ y. sent-by ByCall kind y ∙ ap (λ b. (if b then with_caller three tcb (Some from) else block two from Inactive).objects y) calls.0 in
         let own_is : after.objects tcb ≡ Some (ThreadObject next) =
         granted tcb ∙ caller-here three tcb (Some from) received (blocked-there two from AwaitsReply tcb (λ is. from-apart (sym is)) ∙ two-own) in
-        let from_is : after.objects from ≡ Some (ThreadObject gone) = granted from ∙ caller-there three tcb (Some from) from from-apart ∙ blocked two from AwaitsReply sender two-from in
+        let from_is : after.objects from ≡ Some (ThreadObject gone) = granted from ∙ caller-there three tcb (Some from) from from-apart
+        ∙ blocked two from AwaitsReply sender two-from in
         let fine : IsMessage message = subst (λ (k : Sent). IsMessage (message_sent taken x k)) (sym kind) sender-message in
         let from_here : after.objects (tcb_of image waits-so.thread) ≡ Some (ThreadObject gone) = ap after.objects (sym waits-so.is) ∙ from_is in
         pair-stands next gone own_is from_is
@@ -290,14 +330,17 @@ module _ (laws : Laws) (bytes : List ℕ) (image : Image) (s : State) (labels la
         (own-receives next own_is refl refl fine) (
           begins laws.stand_on image waits-so.thread s after sender waits-so.point waits-so.state
               (touches-none bytes image waits-so.thread s after accepted waits-so.listed all.sound sound store) waits-so.stands gone later
-              (waits-so.ecall, (waits-so.left, waits-so.call, waits-so.wait)) from_here tt refl (count-from ∙ ap (λ (n : ℕ). open_count n labels) (sym waits-so.is) ∙ waits-so.none),
-          asked-once image waits-so.thread after gone from_here waits-so.point waits-so.state waits-so.left waits-so.stands.pc waits-so.stands.known waits-so.call calls.1,
+              (waits-so.ecall, (waits-so.left, waits-so.call, waits-so.wait)) from_here tt refl
+              (count-from ∙ ap (λ (n : ℕ). open_count n labels) (sym waits-so.is) ∙ waits-so.none),
+          asked-once image waits-so.thread after gone from_here waits-so.point waits-so.state waits-so.left waits-so.stands.pc waits-so.stands.known
+              waits-so.call calls.1,
         )
 
     by-kind : (kind : Sent) → x.sent ≡ kind → AllStand image after later
     by-kind BySend kind = by-send kind
     by-kind ByCall kind = by-call kind
-    by-kind (ByFault fault) kind = absurd (no-fault waits-so.state waits-so.left x fault (sends-so waits-so.thread waits-so.state waits-so.left waits-so.is waits-so.so) kind)
+    by-kind (ByFault fault) kind =
+        absurd (no-fault waits-so.state waits-so.left x fault (sends-so waits-so.thread waits-so.state waits-so.left waits-so.is waits-so.so) kind)
 
     pub receives-stand : AllStand image after later
     receives-stand = by-kind x.sent refl

@@ -18,7 +18,9 @@ use Rattle.model.specs.Kernel.Deliveries.{woken}
 use Rattle.model.specs.Kernel.Messages.{Message, deliver, delivered, message_of, replied, reply, reply_to_call, with_caller}
 use Rattle.model.specs.Kernel.Scheduling.{wake}
 use Rattle.model.specs.Kernel.Soundness.{IsSound, awaits_answer}
-use Rattle.model.specs.Kernel.State.{State, Status, Inactive, Runnable, Blocked, AwaitsReply, AwaitsHandler, Object, ThreadObject, EndpointObject, NotificationObject, CNodeObject, FrameObject, PageTableObject, RootTableObject, ThreadState, as_thread, new_thread, thread_at}
+use Rattle.model.specs.Kernel.State.{State, Status, Inactive, Runnable, Blocked, AwaitsReply, AwaitsHandler, Object, ThreadObject, EndpointObject}
+use Rattle.model.specs.Kernel.State.{NotificationObject, CNodeObject, FrameObject, PageTableObject, RootTableObject, ThreadState, as_thread, new_thread}
+use Rattle.model.specs.Kernel.State.{thread_at}
 use Rattle.model.specs.Machine.Effects.{advanced}
 use Rattle.model.specs.Machine.ProgramMemory.{RegisterFile}
 use Rattle.headline.specs.moves.Moving.{CallsAt}
@@ -89,7 +91,8 @@ either true b is = absurd (let clash : true ≡ false = is in cc)
 either false b is = (refl, is)
 
 -- what the reply leaves: the threads' invariant, and that the one that replies is at its call, with no caller
-pub record HasReplied (image : Image) (t : Numbered) (after : State) (labels : List Label) (own : ThreadState) (point : ℕ) (state : PointState) (left : AfterCall) : Type 0 where
+pub record HasReplied (image : Image) (t : Numbered) (after : State) (labels : List Label) (own : ThreadState) (point : ℕ) (state : PointState)
+    (left : AfterCall) : Type 0 where
   pub all : AllStand image after labels
   pub at : CallsAt image t after labels (record own { caller = None }) point state left
 
@@ -169,9 +172,11 @@ module _ (laws : Laws) (bytes : List ℕ) (image : Image) (s : State) (labels : 
     ] refl is
 
     rests-apart : (y : ℕ) → moves y ≡ false → after.objects y ≡ s.objects y
-    rests-apart y rests = let apart = either (y == caller) (y == tcb) rests in after-there y (eqb-false y caller apart.0) ∙ caller-there s tcb None y (eqb-false y tcb apart.1)
+    rests-apart y rests = let apart = either (y == caller) (y == tcb) rests in after-there y (eqb-false y caller apart.0)
+        ∙ caller-there s tcb None y (eqb-false y tcb apart.1)
 
-    moves-so : (v : Numbered) → Contains (numbered_threads image) v → moves (tcb_of image v) ≡ true → ThreadInvariant image v after labels × WaitsAsAsked image v after
+    moves-so : (v : Numbered) → Contains (numbered_threads image) v → moves (tcb_of image v) ≡ true → ThreadInvariant image v after labels
+        × WaitsAsAsked image v after
     moves-so v among is =
         moved-is (tcb_of image v) is
         (λ same. subst (λ (x : Numbered). ThreadInvariant image x after labels × WaitsAsAsked image x after)
@@ -184,7 +189,8 @@ module _ (laws : Laws) (bytes : List ℕ) (image : Image) (s : State) (labels : 
         all-stand laws.stand_on bytes image s after labels labels moves accepted all sound store
         (rest-by-threads s after moves (record {
           others = rests-apart;
-          moved = λ y is. moved-is y is (λ same. (woken other (advanced written), ap after.objects same ∙ after-caller)) (λ same. (next, ap after.objects same ∙ after-own));
+          moved = λ y is. moved-is y is (λ same. (woken other (advanced written), ap after.objects same ∙ after-caller))
+              (λ same. (next, ap after.objects same ∙ after-own));
         }))
         moves-so
         (λ offset thread is there.
@@ -194,7 +200,8 @@ module _ (laws : Laws) (bytes : List ℕ) (image : Image) (s : State) (labels : 
     replied-so : HasReplied image t after labels own point state left
     replied-so = record { all = all-replied; at = calls-still after sound store after-own }
 
-  caller-control : (caller : ℕ) (other : ThreadState) → s.objects caller ≡ Some (ThreadObject other) → IsTrue (awaits_answer other.status) → IsControlBlock image caller
+  caller-control : (caller : ℕ) (other : ThreadState) → s.objects caller ≡ Some (ThreadObject other) → IsTrue (awaits_answer other.status) →
+      IsControlBlock image caller
   caller-control caller other is awaits = elim (all.others caller other is) [
     | inl stopped ↦ absurd (no-stopped other.status awaits stopped)
     | inr block ↦ block
@@ -203,7 +210,8 @@ module _ (laws : Laws) (bytes : List ℕ) (image : Image) (s : State) (labels : 
   abbrev ToCaller : ℕ → State
   ToCaller caller = replied (with_caller s tcb None) caller (thread_at s caller).status (message_of (thread_at s tcb))
 
-  to-caller : (caller : ℕ) → (thread_at s tcb).caller ≡ Some caller → IsSound (ToCaller caller) → HasReplied image t (ToCaller caller) labels own point state left
+  to-caller : (caller : ℕ) → (thread_at s tcb).caller ≡ Some caller → IsSound (ToCaller caller) →
+      HasReplied image t (ToCaller caller) labels own point state left
   to-caller caller has sound =
       let there = awaits-there s caller (s.objects caller) refl (all.sound.threads.callers tcb caller has) in
       let other = AwaitsThere.other there in
@@ -222,7 +230,8 @@ module _ (laws : Laws) (bytes : List ℕ) (image : Image) (s : State) (labels : 
   -- it has none, and nothing changes
   no-caller : (thread_at s tcb).caller ≡ None → HasReplied image t s labels own point state left
   no-caller none =
-      let same : own ≡ next = ap (λ (c : Option ℕ). record own { caller = c }) (ap (λ (x : ThreadState). x.caller) (sym (at-place s tcb own at.there)) ∙ none) in
+      let same : own ≡ next = ap (λ (c : Option ℕ). record own { caller = c })
+      (ap (λ (x : ThreadState). x.caller) (sym (at-place s tcb own at.there)) ∙ none) in
       record { all = all; at = subst (λ (x : ThreadState). CallsAt image t s labels x point state left) same at }
 
   pub reply-stands : IsSound (reply s (tcb_of image t)) → HasReplied image t (reply s (tcb_of image t)) labels own point state left

@@ -56,7 +56,8 @@ module _ (s : State) (thread : ℕ) where
   by-instruction word fetched (Some (Branch op rs1 rs2 offset)) is = other-instruction word fetched (Some (Branch op rs1 rs2 offset)) is (λ clash. absurd cc)
   by-instruction word fetched (Some (Load op rd rs1 offset)) is = other-instruction word fetched (Some (Load op rd rs1 offset)) is (λ clash. absurd cc)
   by-instruction word fetched (Some (Store op rs1 rs2 offset)) is = other-instruction word fetched (Some (Store op rs1 rs2 offset)) is (λ clash. absurd cc)
-  by-instruction word fetched (Some (Immediate op rd rs1 immediate)) is = other-instruction word fetched (Some (Immediate op rd rs1 immediate)) is (λ clash. absurd cc)
+  by-instruction word fetched (Some (Immediate op rd rs1 immediate)) is =
+      other-instruction word fetched (Some (Immediate op rd rs1 immediate)) is (λ clash. absurd cc)
   by-instruction word fetched (Some (Shift op rd rs1 amount)) is = other-instruction word fetched (Some (Shift op rd rs1 amount)) is (λ clash. absurd cc)
   by-instruction word fetched (Some (Registers op rd rs1 rs2)) is = other-instruction word fetched (Some (Registers op rd rs1 rs2)) is (λ clash. absurd cc)
   by-instruction word fetched (Some Fence) is = other-instruction word fetched (Some Fence) is (λ clash. absurd cc)
@@ -77,8 +78,10 @@ not-stopped (Blocked queue) runs is = absurd cc
 not-stopped AwaitsReply runs is = absurd cc
 not-stopped AwaitsHandler runs is = absurd cc
 
-module _ (laws : Laws) (plain : PlainStepsGoWell) (bytes : List ℕ) (image : Image) (s : State) (labels : List Label) (accepted : IsAccepted bytes image) (all : AllStand image s labels)
-    (calls : (t : Numbered) → Contains (numbered_threads image) t → current s ≡ Some (tcb_of image t) → MakesCall s (tcb_of image t) → GoesWell image s labels Step) where
+module _ (laws : Laws) (plain : PlainStepsGoWell) (bytes : List ℕ) (image : Image) (s : State) (labels : List Label) (accepted : IsAccepted bytes image)
+    (all : AllStand image s labels)
+    (calls : (t : Numbered) → Contains (numbered_threads image) t → current s ≡ Some (tcb_of image t) → MakesCall s (tcb_of image t) →
+    GoesWell image s labels Step) where
   thread-goes : (x : ℕ) → current s ≡ Some x → GoesWell image s labels Step
   thread-goes x now =
       let running = current-runs s all.sound.threads x now in
@@ -98,7 +101,8 @@ module _ (laws : Laws) (plain : PlainStepsGoWell) (bytes : List ℕ) (image : Im
 
   idle-goes : current s ≡ None → GoesWell image s labels Step
   idle-goes none =
-      let stands = unchanged-stand laws bytes image s labels (labels ++ Idle ∷ []) accepted all (λ t listed. other-label (tcb_of image t) labels Idle refl) s all.sound
+      let stands = unchanged-stand laws bytes image s labels (labels ++ Idle ∷ []) accepted all (λ t listed. other-label (tcb_of image t) labels Idle refl) s
+      all.sound
       (record { memory_bits = refl; boot_radix = refl; slots = λ slot. refl; bytes = λ frame place code low high. refl }) (λ y. refl) in
       record {
         faults = ap (λ (x : State × Label). is_fault x.1) (idle-is none);

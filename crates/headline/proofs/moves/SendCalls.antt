@@ -25,7 +25,8 @@ use Rattle.model.specs.Images.Image.{Image}
 use Rattle.model.specs.Kernel.Kinds.{kind_of}
 use Rattle.model.specs.Kernel.Messages.{a0, a1, passes, send, send_to, sends, signal, tries_to_send, try_to_send, waits_to_send}
 use Rattle.model.specs.Kernel.Soundness.{IsSound}
-use Rattle.model.specs.Kernel.State.{State, BySend, ByCall, EndpointObject, EndpointState, NotificationObject, NotificationState, ThreadState, endpoint_at, with_endpoint}
+use Rattle.model.specs.Kernel.State.{State, BySend, ByCall, EndpointObject, EndpointState, NotificationObject, NotificationState, ThreadState, endpoint_at}
+use Rattle.model.specs.Kernel.State.{with_endpoint}
 use Rattle.model.specs.Kernel.Steps.{Done, memory_base, named_slot, refused, send_by, send_call, send_named, sender, send_on, signal_on}
 use Rattle.model.specs.declared.system_calls.SendCall.{SendCall}
 use Rattle.model.specs.declared.system_calls.SendCall.TheVariants.{Calling, Sending, Trying}
@@ -53,52 +54,71 @@ module _ (laws : Laws) (bytes : List ℕ) (image : Image) (s : State) (labels : 
 
   -- ---- endpoints
 
-  module _ (e badge : ℕ) (small : badge < 2 ^ 28) (old : EndpointState) (was : s.objects e ≡ Some (EndpointObject old)) (held : Holds image t.thread s (NamesQueue e)) where
-    by-call : (grants : Bool) → grants ≡ true → left ≡ behind_reply state → IsSound (send s e (sender tcb ByCall badge grants)) → AllStand image (send s e (sender tcb ByCall badge grants)) (behind Waited)
+  module _ (e badge : ℕ) (small : badge < 2 ^ 28) (old : EndpointState) (was : s.objects e ≡ Some (EndpointObject old))
+      (held : Holds image t.thread s (NamesQueue e)) where
+    by-call : (grants : Bool) → grants ≡ true → left ≡ behind_reply state → IsSound (send s e (sender tcb ByCall badge grants)) →
+        AllStand image (send s e (sender tcb ByCall badge grants)) (behind Waited)
     by-call grants grant asks =
         let x = sender tcb ByCall badge grants in
         let wait : true ≡ left.is_wait = sym (ap (λ (l : AfterCall). l.is_wait) asks) in
-        elim (endpoint_at s e).receivers as (λ xs. (endpoint_at s e).receivers ≡ xs → IsSound (sends s e x xs) → AllStand image (sends s e x xs) (behind Waited)) [
+        elim (endpoint_at s e).receivers as (λ xs. (endpoint_at s e).receivers ≡ xs → IsSound (sends s e x xs) →
+        AllStand image (sends s e x xs) (behind Waited)) [
           | [] ↦ λ none sound.
-              waits-stand laws bytes image s labels (behind Waited) accepted all t listed own point state left at (counts Waited wait) e old was held ByCall badge grants (waits_to_send s e x) sound
-              (record { memory_bits = refl; boot_radix = refl; slots = λ slot. refl; bytes = λ frame place code low high. refl }) none (λ y. refl) (sym wait) (SendsSo.by_call refl grant asks)
+              waits-stand laws bytes image s labels (behind Waited) accepted all t listed own point state left at (counts Waited wait) e old was held ByCall
+              badge grants (waits_to_send s e x) sound
+              (record { memory_bits = refl; boot_radix = refl; slots = λ slot. refl; bytes = λ frame place code low high. refl }) none (λ y. refl) (sym wait)
+              (SendsSo.by_call refl grant asks)
           | r ∷ others ↦ λ first sound.
               let one = with_endpoint s e (record (endpoint_at s e) { receivers = others }) in
-              called-stands laws bytes image s labels (behind Waited) accepted all t listed own point state left at (counts Waited wait) e old was held ByCall badge grants (send_to one x r) sound
+              called-stands laws bytes image s labels (behind Waited) accepted all t listed own point state left at (counts Waited wait) e old was held ByCall
+              badge grants (send_to one x r) sound
               (elim grants as (λ g. SameGround image s (send_to one (sender tcb ByCall badge g) r)) [
                 | true ↦ record { memory_bits = refl; boot_radix = refl; slots = λ slot. refl; bytes = λ frame place code low high. refl }
                 | false ↦ record { memory_bits = refl; boot_radix = refl; slots = λ slot. refl; bytes = λ frame place code low high. refl }
               ]) r others first small (λ y. refl) refl grant asks
         ] refl
 
-    by-send : (grants : Bool) → left ≡ changes_nothing state true → IsSound (send s e (sender tcb BySend badge grants)) → AllStand image (send s e (sender tcb BySend badge grants)) (behind Waited)
+    by-send : (grants : Bool) → left ≡ changes_nothing state true → IsSound (send s e (sender tcb BySend badge grants)) →
+        AllStand image (send s e (sender tcb BySend badge grants)) (behind Waited)
     by-send grants asks =
         let x = sender tcb BySend badge grants in
         let wait : true ≡ left.is_wait = sym (ap (λ (l : AfterCall). l.is_wait) asks) in
-        elim (endpoint_at s e).receivers as (λ xs. (endpoint_at s e).receivers ≡ xs → IsSound (sends s e x xs) → AllStand image (sends s e x xs) (behind Waited)) [
+        elim (endpoint_at s e).receivers as (λ xs. (endpoint_at s e).receivers ≡ xs → IsSound (sends s e x xs) →
+        AllStand image (sends s e x xs) (behind Waited)) [
           | [] ↦ λ none sound.
-              waits-stand laws bytes image s labels (behind Waited) accepted all t listed own point state left at (counts Waited wait) e old was held BySend badge grants (waits_to_send s e x) sound
-              (record { memory_bits = refl; boot_radix = refl; slots = λ slot. refl; bytes = λ frame place code low high. refl }) none (λ y. refl) (sym wait) (SendsSo.by_send refl asks)
+              waits-stand laws bytes image s labels (behind Waited) accepted all t listed own point state left at (counts Waited wait) e old was held BySend
+              badge grants (waits_to_send s e x) sound
+              (record { memory_bits = refl; boot_radix = refl; slots = λ slot. refl; bytes = λ frame place code low high. refl }) none (λ y. refl) (sym wait)
+              (SendsSo.by_send refl asks)
           | r ∷ others ↦ λ first sound. to-receiver Waited wait grants r others first (asks ∙ ap (changes_nothing state) wait) sound
         ] refl
       where
-        to-receiver : (outcome : Outcome) → is_waited outcome ≡ left.is_wait → (grants : Bool) (r : ℕ) (others : List ℕ) → (endpoint_at s e).receivers ≡ r ∷ others → left ≡ changes_nothing state left.is_wait
-            → IsSound (sends s e (sender tcb BySend badge grants) (r ∷ others)) → AllStand image (sends s e (sender tcb BySend badge grants) (r ∷ others)) (behind outcome)
+        to-receiver : (outcome : Outcome) → is_waited outcome ≡ left.is_wait → (grants : Bool) (r : ℕ) (others : List ℕ) →
+            (endpoint_at s e).receivers ≡ r ∷ others → left ≡ changes_nothing state left.is_wait
+            → IsSound (sends s e (sender tcb BySend badge grants) (r ∷ others)) →
+            AllStand image (sends s e (sender tcb BySend badge grants) (r ∷ others)) (behind outcome)
         to-receiver outcome waited grants r others first asks sound =
-            sent-stands laws bytes image s labels (behind outcome) accepted all t listed own point state left at (counts outcome waited) e old was held BySend badge grants
+            sent-stands laws bytes image s labels (behind outcome) accepted all t listed own point state left at (counts outcome waited) e old was held BySend
+            badge grants
             (send_to (with_endpoint s e (record (endpoint_at s e) { receivers = others })) (sender tcb BySend badge grants) r) sound
-            (record { memory_bits = refl; boot_radix = refl; slots = λ slot. refl; bytes = λ frame place code low high. refl }) r others first small (λ y. refl) refl asks
+            (record { memory_bits = refl; boot_radix = refl; slots = λ slot. refl; bytes = λ frame place code low high. refl }) r others first small (λ y. refl)
+            refl asks
 
-    by-try : (grants : Bool) → left ≡ changes_nothing state false → IsSound (try_to_send s e (sender tcb BySend badge grants)) → AllStand image (try_to_send s e (sender tcb BySend badge grants)) (behind Plain)
+    by-try : (grants : Bool) → left ≡ changes_nothing state false → IsSound (try_to_send s e (sender tcb BySend badge grants)) →
+        AllStand image (try_to_send s e (sender tcb BySend badge grants)) (behind Plain)
     by-try grants asks =
         let x = sender tcb BySend badge grants in
         let wait : false ≡ left.is_wait = sym (ap (λ (l : AfterCall). l.is_wait) asks) in
-        elim (endpoint_at s e).receivers as (λ xs. (endpoint_at s e).receivers ≡ xs → IsSound (tries_to_send s e x xs) → AllStand image (tries_to_send s e x xs) (behind Plain)) [
-          | [] ↦ λ none sound. passes-stand laws bytes image s labels (behind Plain) accepted all t listed own point state left at (counts Plain wait) asks sound
+        elim (endpoint_at s e).receivers as (λ xs. (endpoint_at s e).receivers ≡ xs → IsSound (tries_to_send s e x xs) →
+        AllStand image (tries_to_send s e x xs) (behind Plain)) [
+          | [] ↦ λ none sound. passes-stand laws bytes image s labels (behind Plain) accepted all t listed own point state left at (counts Plain wait) asks
+              sound
           | r ∷ others ↦ λ first sound.
-              sent-stands laws bytes image s labels (behind Plain) accepted all t listed own point state left at (counts Plain wait) e old was held BySend badge grants
+              sent-stands laws bytes image s labels (behind Plain) accepted all t listed own point state left at (counts Plain wait) e old was held BySend badge
+              grants
               (send_to (with_endpoint s e (record (endpoint_at s e) { receivers = others })) x r) sound
-              (record { memory_bits = refl; boot_radix = refl; slots = λ slot. refl; bytes = λ frame place code low high. refl }) r others first small (λ y. refl) refl (asks ∙ ap (changes_nothing state) wait)
+              (record { memory_bits = refl; boot_radix = refl; slots = λ slot. refl; bytes = λ frame place code low high. refl }) r others first small
+              (λ y. refl) refl (asks ∙ ap (changes_nothing state) wait)
         ] refl
 
   -- ---- notifications
@@ -114,14 +134,17 @@ module _ (laws : Laws) (bytes : List ℕ) (image : Image) (s : State) (labels : 
 
     passes-signal : left ≡ changes_nothing state false → IsSound (passes signalled tcb) → AllStand image (passes signalled tcb) (behind Plain)
     passes-signal asks =
-        passes-stand laws bytes image signalled labels (behind Plain) accepted signal-left.all t listed own point state left signal-left.at (counts Plain (sym (ap (λ (l : AfterCall). l.is_wait) asks))) asks
+        passes-stand laws bytes image signalled labels (behind Plain) accepted signal-left.all t listed own point state left signal-left.at
+        (counts Plain (sym (ap (λ (l : AfterCall). l.is_wait) asks))) asks
 
-    signal-fine : (kind : SendCall) → left ≡ (if answers kind then known_behind state (with_answer state.ranges) false (a0 ∷ a1 ∷ []) else changes_nothing state false)
+    signal-fine : (kind : SendCall) → left ≡ (if answers kind then known_behind state (with_answer state.ranges) false (a0 ∷ a1 ∷ []) else
+        changes_nothing state false)
         → IsSound (signal_on s tcb kind n badge).0 → IsFine image t labels pc (signal_on s tcb kind n badge)
     signal-fine Calling asks sound = record {
       faults = refl;
       errors = refl;
-      stands = result-stands laws bytes image signalled labels (behind Plain) accepted signal-left.all t listed own point state left signal-left.at (counts Plain (sym (ap (λ (l : AfterCall). l.is_wait) asks))) asks sound;
+      stands = result-stands laws bytes image signalled labels (behind Plain) accepted signal-left.all t listed own point state left signal-left.at
+          (counts Plain (sym (ap (λ (l : AfterCall). l.is_wait) asks))) asks sound;
     }
     signal-fine Sending asks sound = record { faults = refl; errors = refl; stands = passes-signal asks sound }
     signal-fine Trying asks sound = record { faults = refl; errors = refl; stands = passes-signal asks sound }
@@ -129,7 +152,8 @@ module _ (laws : Laws) (bytes : List ℕ) (image : Image) (s : State) (labels : 
   -- ---- whatever the thread names
 
   -- a capability that may write is used
-  used : (kind : SendCall) (slot : ℕ) (c : Cap) (by : Done) (r : Rights) → may_write r ≡ true → send_by s tcb kind slot c ≡ (if may_write r then by else refused s tcb kind InvalidCapability)
+  used : (kind : SendCall) (slot : ℕ) (c : Cap) (by : Done) (r : Rights) → may_write r ≡ true →
+      send_by s tcb kind slot c ≡ (if may_write r then by else refused s tcb kind InvalidCapability)
       → (IsSound by.0 → IsFine image t labels pc by) → IsSound (send_by s tcb kind slot c).0 → IsFine image t labels pc (send_by s tcb kind slot c)
   used kind slot c by r writes is =
       let same : send_by s tcb kind slot c ≡ by = is ∙ ap (λ b. if b then by else refused s tcb kind InvalidCapability) writes in
@@ -142,29 +166,46 @@ module _ (laws : Laws) (bytes : List ℕ) (image : Image) (s : State) (labels : 
       let there = endpoint-named image t s labels all slot mine offset r badge is in
       let by : Done = send_on s tcb Calling offset badge (may_grant_reply r) in
       used kind slot (capability_at s.slots slot) by r writes
-      (ap (λ k. send_by s tcb k slot (capability_at s.slots slot)) kind_is ∙ ap (send_by s tcb Calling slot) is ∙ ap (λ k. if may_write r then by else refused s tcb k InvalidCapability) (sym kind_is))
-      (λ sound. record { faults = refl; errors = refl; stands = by-call offset badge there.small there.old there.was there.held (may_grant_reply r) grants asks sound })
+      (ap (λ k. send_by s tcb k slot (capability_at s.slots slot)) kind_is ∙ ap (send_by s tcb Calling slot) is
+      ∙ ap (λ k. if may_write r then by else refused s tcb k InvalidCapability) (sym kind_is))
+      (λ sound. record {
+        faults = refl;
+        errors = refl;
+        stands =
+            by-call offset badge there.small there.old there.was there.held (may_grant_reply r) grants asks sound;
+      })
   by-object kind slot mine quiet (SendsBy.sends offset r badge kind_is is writes asks) =
       let there = endpoint-named image t s labels all slot mine offset r badge is in
       let by : Done = send_on s tcb Sending offset badge (may_grant_reply r) in
       used kind slot (capability_at s.slots slot) by r writes
-      (ap (λ k. send_by s tcb k slot (capability_at s.slots slot)) kind_is ∙ ap (send_by s tcb Sending slot) is ∙ ap (λ k. if may_write r then by else refused s tcb k InvalidCapability) (sym kind_is))
-      (λ sound. record { faults = refl; errors = refl; stands = by-send offset badge there.small there.old there.was there.held (may_grant_reply r) asks sound })
+      (ap (λ k. send_by s tcb k slot (capability_at s.slots slot)) kind_is ∙ ap (send_by s tcb Sending slot) is
+      ∙ ap (λ k. if may_write r then by else refused s tcb k InvalidCapability) (sym kind_is))
+      (λ sound. record {
+        faults = refl;
+        errors = refl;
+        stands =
+            by-send offset badge there.small there.old there.was there.held (may_grant_reply r) asks sound;
+      })
   by-object kind slot mine quiet (SendsBy.tries offset r badge kind_is is writes asks) =
       let there = endpoint-named image t s labels all slot mine offset r badge is in
       let by : Done = send_on s tcb Trying offset badge (may_grant_reply r) in
       used kind slot (capability_at s.slots slot) by r writes
-      (ap (λ k. send_by s tcb k slot (capability_at s.slots slot)) kind_is ∙ ap (send_by s tcb Trying slot) is ∙ ap (λ k. if may_write r then by else refused s tcb k InvalidCapability) (sym kind_is))
+      (ap (λ k. send_by s tcb k slot (capability_at s.slots slot)) kind_is ∙ ap (send_by s tcb Trying slot) is
+      ∙ ap (λ k. if may_write r then by else refused s tcb k InvalidCapability) (sym kind_is))
       (λ sound. record { faults = refl; errors = refl; stands = by-try offset badge there.small there.old there.was there.held (may_grant_reply r) asks sound })
   by-object kind slot mine quiet (SendsBy.signals offset r badge is writes asks) =
       let there = notification-named image t s labels all slot mine offset r badge is in
       let by : Done = signal_on s tcb kind offset badge in
-      used kind slot (capability_at s.slots slot) by r writes (ap (send_by s tcb kind slot) is) (signal-fine offset badge there.small there.old there.was kind asks)
+      used kind slot (capability_at s.slots slot) by r writes (ap (send_by s tcb kind slot) is)
+      (signal-fine offset badge there.small there.old there.was kind asks)
   by-object kind slot mine quiet (SendsBy.invokes invoked asks) = absurd (quiet invoked)
 
   pub send-fine : (kind : SendCall) → by_capability image t.thread (point_of t point) state (send_rule image t.thread (point_of t point) state kind) ≡ Ok left
-      → ((slot : ℕ) → named_slot s tcb ≡ Ok slot → IsInvoked (capability_at s.slots slot) → ⊥) → IsSound (send_call s tcb kind).0 → IsFine image t labels pc (send_call s tcb kind)
+      → ((slot : ℕ) → named_slot s tcb ≡ Ok slot → IsInvoked (capability_at s.slots slot) → ⊥) → IsSound (send_call s tcb kind).0 →
+      IsFine image t labels pc (send_call s tcb kind)
   send-fine kind rule quiet =
-      let names = named-here laws bytes image s labels accepted t listed own point state left at (send_rule image t.thread (point_of t point) state kind) rule in
+      let names = named-here laws bytes image s labels accepted t listed own point state left at (send_rule image t.thread (point_of t point) state kind)
+      rule in
       let by = laws.sends image t.thread (point_of t point) state kind names.slot (capability_at s.slots names.slot) left names.rule in
-      subst (λ (done : Done). IsSound done.0 → IsFine image t labels pc done) (sym (ap (send_named s tcb kind) names.named)) (by-object kind names.slot names.own (quiet names.slot names.named) by)
+      subst (λ (done : Done). IsSound done.0 → IsFine image t labels pc done) (sym (ap (send_named s tcb kind) names.named))
+      (by-object kind names.slot names.own (quiet names.slot names.named) by)

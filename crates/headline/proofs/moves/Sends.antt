@@ -1,5 +1,6 @@
 -- A send to an endpoint keeps the threads' invariant: the first receiver gets the message, or the thread waits.
-use Rattle.std.proofs.Common.{ℕ, zero, suc, ◌≡◌, ◌≢◌, ◌∙◌, ◌==◌, ◌++◌, ◌^◌, ◌<◌, ◌≤◌, inl, inr, Bool, true, false, if◌then◌else◌, Option, Some, List, [], ◌∷◌, length, map, get_or, refl, sym, ap, subst, arith}
+use Rattle.std.proofs.Common.{ℕ, zero, suc, ◌≡◌, ◌≢◌, ◌∙◌, ◌==◌, ◌++◌, ◌^◌, ◌<◌, ◌≤◌, inl, inr, Bool, true, false, if◌then◌else◌, Option, Some, List, [], ◌∷◌}
+use Rattle.std.proofs.Common.{length, map, get_or, refl, sym, ap, subst, arith}
 use Rattle.std.specs.Prelude.{Contains}
 use Rattle.std.proofs.lemmas.Bool.{eqb-true, eqb-false}
 use Rattle.headline.specs.facts.Standing.{AllStand}
@@ -18,7 +19,8 @@ use Rattle.model.specs.Kernel.Deliveries.{woken}
 use Rattle.model.specs.Kernel.Messages.{Message, deliver, delivered, message_of, message_sent, received, send_to, waits_to_send, with_caller}
 use Rattle.model.specs.Kernel.Scheduling.{block, wake}
 use Rattle.model.specs.Kernel.Soundness.{IsSound, waiting_at}
-use Rattle.model.specs.Kernel.State.{State, Inactive, Runnable, Blocked, AwaitsReply, Object, ThreadObject, EndpointObject, EndpointState, NotificationObject, Sender, Sent, BySend, ByCall, ThreadState, endpoint_at, thread_at, with_endpoint}
+use Rattle.model.specs.Kernel.State.{State, Inactive, Runnable, Blocked, AwaitsReply, Object, ThreadObject, EndpointObject, EndpointState, NotificationObject}
+use Rattle.model.specs.Kernel.State.{Sender, Sent, BySend, ByCall, ThreadState, endpoint_at, thread_at, with_endpoint}
 use Rattle.model.specs.Kernel.Steps.{sender}
 use Rattle.model.specs.Kernel.Waits.{open_count}
 use Rattle.model.specs.Machine.Effects.{advanced}
@@ -33,8 +35,10 @@ use Rattle.headline.proofs.moves.Calling.{IsCounted, QueueChanges, QueuesOn, own
 use Rattle.headline.proofs.moves.NotificationCalls.{holds-on}
 use Rattle.headline.proofs.moves.Pairs.{two-move}
 use Rattle.headline.proofs.moves.Passing.{begins}
-use Rattle.headline.proofs.moves.Places.{at-endpoint, blocked, blocked-there, caller-here, caller-there, delivered-here, delivered-there, endpoint-here, endpoint-there, went-here, went-there, woke, woke-there}
-use Rattle.headline.proofs.moves.Queued.{IsBlockedAt, contains-before, contains-last, contains-more, first-times, more-times, queued-there, times-before, times-behind}
+use Rattle.headline.proofs.moves.Places.{at-endpoint, blocked, blocked-there, caller-here, caller-there, delivered-here, delivered-there, endpoint-here}
+use Rattle.headline.proofs.moves.Places.{endpoint-there, went-here, went-there, woke, woke-there}
+use Rattle.headline.proofs.moves.Queued.{IsBlockedAt, contains-before, contains-last, contains-more, first-times, more-times, queued-there, times-before}
+use Rattle.headline.proofs.moves.Queued.{times-behind}
 use Rattle.headline.proofs.moves.Standing.{all-stand, touches-none}
 use Rattle.headline.proofs.moves.Waiters.{StandsWaiting, delivered-pc, own-message, stands-waiting}
 use Rattle.headline.proofs.moves.Woken.{FitsBehind, wakes-up}
@@ -61,7 +65,8 @@ receiver-times senders r others =
     let more = times-behind senders (r ∷ others) r in
     omega (arith, first, more)
 
-module _ (laws : Laws) (bytes : List ℕ) (image : Image) (s : State) (labels later : List Label) (accepted : IsAccepted bytes image) (all : AllStand image s labels)
+module _ (laws : Laws) (bytes : List ℕ) (image : Image) (s : State) (labels later : List Label) (accepted : IsAccepted bytes image)
+    (all : AllStand image s labels)
     (t : Numbered) (listed : Contains (numbered_threads image) t) (own : ThreadState) (point : ℕ) (state : PointState) (left : AfterCall)
     (at : CallsAt image t s labels own point state left) (counts : IsCounted image t labels later left.is_wait)
     (e : ℕ) (old : EndpointState) (was : s.objects e ≡ Some (EndpointObject old)) (held : Holds image t.thread s (NamesQueue e))
@@ -83,7 +88,8 @@ module _ (laws : Laws) (bytes : List ℕ) (image : Image) (s : State) (labels la
 
   -- ---- nobody receives
 
-  module _ (none : ep.receivers ≡ []) (objects : (y : ℕ) → after.objects y ≡ (waits_to_send s e x).objects y) (waits : left.is_wait ≡ true) (so : SendsSo state left x) where
+  module _ (none : ep.receivers ≡ []) (objects : (y : ℕ) → after.objects y ≡ (waits_to_send s e x).objects y) (waits : left.is_wait ≡ true)
+      (so : SendsSo state left x) where
     abbrev queued : EndpointState
     queued = record ep { senders = ep.senders ++ x ∷ [] }
 
@@ -147,8 +153,10 @@ module _ (laws : Laws) (bytes : List ℕ) (image : Image) (s : State) (labels la
         (record {
           held = holds-on image t s after e store held;
           sends = sends-own;
-          receives = λ f is among. absurd (let same : queued ≡ f = let both : Some (EndpointObject queued) ≡ Some (EndpointObject f) = sym after-queue ∙ is in cc in
-              let empty : Contains [] tcb = subst (λ (xs : List ℕ). Contains xs tcb) (ap (λ (g : EndpointState). g.receivers) (sym same) ∙ none) among in omega (arith, empty.1));
+          receives = λ f is among. absurd (let same : queued ≡ f = let both : Some (EndpointObject queued) ≡ Some (EndpointObject f) = sym after-queue ∙ is in
+              cc in
+              let empty : Contains [] tcb = subst (λ (xs : List ℕ). Contains xs tcb) (ap (λ (g : EndpointState). g.receivers) (sym same) ∙ none) among in
+              omega (arith, empty.1));
           waits = λ n is among. absurd (let clash : Some (EndpointObject queued) ≡ Some (NotificationObject n) = sym after-queue ∙ is in cc);
         })
 
@@ -159,7 +167,8 @@ module _ (laws : Laws) (bytes : List ℕ) (image : Image) (s : State) (labels la
 
     pub waits-stand : AllStand image after later
     waits-stand =
-        all-stand laws.stand_on bytes image s after labels later (λ y. y == tcb) accepted all sound store (rest-by-queue s after e (EndpointObject ep) (EndpointObject queued) (λ y. y == tcb) changes)
+        all-stand laws.stand_on bytes image s after labels later (λ y. y == tcb) accepted all sound store
+        (rest-by-queue s after e (EndpointObject ep) (EndpointObject queued) (λ y. y == tcb) changes)
         (λ u among move.
         let same : t ≡ u = laws.own_blocks bytes image t u accepted listed among (sym (eqb-true (tcb_of image u) tcb move)) in
         subst (λ v. ThreadInvariant image v after later × WaitsAsAsked image v after) same (own-begins, asked))
@@ -183,7 +192,8 @@ module _ (laws : Laws) (bytes : List ℕ) (image : Image) (s : State) (labels la
     blocked-at =
         queued-there s r e all.sound.threads
         (subst (λ (o : Option Object). 1 ≤ times_in (waiting_at o) r) (sym was-ep)
-        (subst (λ (xs : List ℕ). 1 ≤ times_in (map (λ (y : Sender). y.thread) ep.senders ++ xs) r) (sym first) (receiver-times (map (λ (y : Sender). y.thread) ep.senders) r others)))
+        (subst (λ (xs : List ℕ). 1 ≤ times_in (map (λ (y : Sender). y.thread) ep.senders ++ xs) r) (sym first)
+        (receiver-times (map (λ (y : Sender). y.thread) ep.senders) r others)))
 
     abbrev receiver : ThreadState
     receiver = blocked-at.own
@@ -226,13 +236,18 @@ module _ (laws : Laws) (bytes : List ℕ) (image : Image) (s : State) (labels la
     queued-still : (thread : ℕ) → QueuesOn (EndpointObject ep) (EndpointObject fewer) thread
     queued-still thread = record {
       sends = λ f y is among mine. let same : fewer ≡ f = cc in (ep, refl, subst (λ (g : EndpointState). Contains g.senders y) (sym same) among);
-      receives = λ f is among. let same : fewer ≡ f = cc in
-          (ep, refl, subst (λ (xs : List ℕ). Contains xs thread) (sym first) (contains-more r thread others (subst (λ (g : EndpointState). Contains g.receivers thread) (sym same) among)));
+      receives = λ f is among. let same : fewer ≡ f = cc in (
+        ep,
+        refl,
+        subst (λ (xs : List ℕ). Contains xs thread) (sym first)
+            (contains-more r thread others (subst (λ (g : EndpointState). Contains g.receivers thread) (sym same) among)),
+      );
       waits = λ n is among. absurd cc;
     }
 
     own-sends : IsMessage (message_of (thread_at taken tcb))
-    own-sends = subst (λ (u : ThreadState). IsMessage (message_of u)) (sym (at-place taken tcb own taken-own)) (own-message own (all.sound.threads.threads tcb own at.there))
+    own-sends = subst (λ (u : ThreadState). IsMessage (message_of u)) (sym (at-place taken tcb own taken-own))
+        (own-message own (all.sound.threads.threads tcb own at.there))
 
     there-r : s.objects (tcb_of image waits-so.thread) ≡ Some (ThreadObject receiver)
     there-r = ap s.objects (sym waits-so.is) ∙ blocked-at.is
@@ -240,24 +255,32 @@ module _ (laws : Laws) (bytes : List ℕ) (image : Image) (s : State) (labels la
     count-r : open_count (tcb_of image waits-so.thread) later ≡ open_count (tcb_of image waits-so.thread) labels
     count-r = counts.others (tcb_of image waits-so.thread) (λ is. r-apart (waits-so.is ∙ is))
 
-    receiver-wakes : (gone : ThreadState) → after.objects r ≡ Some (ThreadObject gone) → gone.status ≡ Runnable → gone.registers ≡ advanced written → IsMessage message
+    receiver-wakes : (gone : ThreadState) → after.objects r ≡ Some (ThreadObject gone) → gone.status ≡ Runnable → gone.registers ≡ advanced written →
+        IsMessage message
         → ThreadInvariant image waits-so.thread after later × WaitsAsAsked image waits-so.thread after
     receiver-wakes gone is runs registers fine =
-        wakes-up laws bytes image s labels later accepted all after sound store waits-so.thread waits-so.listed count-r receiver there-r written gone (ap after.objects (sym waits-so.is) ∙ is) runs registers
+        wakes-up laws bytes image s labels later accepted all after sound store waits-so.thread waits-so.listed count-r receiver there-r written gone
+        (ap after.objects (sym waits-so.is) ∙ is) runs registers
         (λ at_state behind so fit_registers.
-        let among : Contains ep.receivers (tcb_of image waits-so.thread) = subst (λ (xs : List ℕ). Contains xs (tcb_of image waits-so.thread)) (sym first) (0, omega arith, waits-so.is) in
-        let behind_is : behind ≡ behind_receive at_state = (subst (WaitsSo image waits-so.thread s at_state behind) blocked-at.status so).receives ep was-ep among in
+        let among : Contains ep.receivers (tcb_of image waits-so.thread) =
+        subst (λ (xs : List ℕ). Contains xs (tcb_of image waits-so.thread)) (sym first) (0, omega arith, waits-so.is) in
+        let behind_is : behind ≡ behind_receive at_state = (subst (WaitsSo image waits-so.thread s at_state behind) blocked-at.status so).receives ep was-ep
+        among in
         let fit = laws.message receiver.registers at_state.ranges badge message fit_registers small fine in
-        subst (λ (l : AfterCall). FitsBehind at_state l receiver.registers written) (sym behind_is) (record { slots = refl; pc = delivered-pc receiver.registers badge message; only = fit.1; within = fit.0 }))
+        subst (λ (l : AfterCall). FitsBehind at_state l receiver.registers written) (sym behind_is)
+        (record { slots = refl; pc = delivered-pc receiver.registers badge message; only = fit.1; within = fit.0 }))
         (subst IsWaiting (sym blocked-at.status) tt)
 
     pair-stands : (next gone : ThreadState) → after.objects tcb ≡ Some (ThreadObject next) → after.objects r ≡ Some (ThreadObject gone)
         → ((y : ℕ) → y ≢ tcb → y ≢ r → after.objects y ≡ three.objects y) → ThreadInvariant image t after later × WaitsAsAsked image t after
         → ThreadInvariant image waits-so.thread after later × WaitsAsAsked image waits-so.thread after → AllStand image after later
     pair-stands next gone own_is r_is apart own_stands r_stands =
-        two-move laws bytes image s labels later accepted all after sound store t listed waits-so.thread waits-so.listed r waits-so.is counts.others e (EndpointObject ep) (EndpointObject fewer)
-        was-ep (apart e e-apart (λ is. r-queue (sym is)) ∙ three-there e (λ is. r-queue (sym is)) ∙ endpoint-here s e fewer) (λ u clash. absurd cc) (λ u clash. absurd cc) next gone own_is r_is
-        (λ y other own_apart r_apart. apart y own_apart r_apart ∙ three-there y r_apart ∙ endpoint-there s e fewer y other) (λ thread own_apart r_apart. queued-still thread) own_stands r_stands
+        two-move laws bytes image s labels later accepted all after sound store t listed waits-so.thread waits-so.listed r waits-so.is counts.others e
+        (EndpointObject ep) (EndpointObject fewer)
+        was-ep (apart e e-apart (λ is. r-queue (sym is)) ∙ three-there e (λ is. r-queue (sym is)) ∙ endpoint-here s e fewer) (λ u clash. absurd cc)
+        (λ u clash. absurd cc) next gone own_is r_is
+        (λ y other own_apart r_apart. apart y own_apart r_apart ∙ three-there y r_apart ∙ endpoint-there s e fewer y other)
+        (λ thread own_apart r_apart. queued-still thread) own_stands r_stands
 
     sent-by : (kind : Sent) → sent ≡ kind → (y : ℕ) → after.objects y ≡ (received three x kind r).objects y
     sent-by kind is y = objects y ∙ ap (λ k. (received three x k r).objects y) is
@@ -271,10 +294,12 @@ module _ (laws : Laws) (bytes : List ℕ) (image : Image) (s : State) (labels la
         let own_is : after.objects tcb ≡ Some (ThreadObject next) = sent-by BySend kind tcb ∙ went-here three tcb own three-own in
         let r_is : after.objects r ≡ Some (ThreadObject gone) = sent-by BySend kind r ∙ went-there three tcb r r-apart ∙ three-r in
         let fine : IsMessage message = subst (λ (k : Sent). IsMessage (message_sent taken x k)) (sym kind) own-sends in
-        let fit = subst (λ (l : AfterCall). FitsBehind state l own.registers own.registers) (sym asks) (record { slots = refl; pc = refl; only = λ k less none. refl; within = at.stands.registers }) in
+        let fit = subst (λ (l : AfterCall). FitsBehind state l own.registers own.registers) (sym asks)
+        (record { slots = refl; pc = refl; only = λ k less none. refl; within = at.stands.registers }) in
         pair-stands next gone own_is r_is (λ y own_apart r_apart. sent-by BySend kind y ∙ went-there three tcb y own_apart)
         (own-passes laws bytes image s labels later accepted all t listed own point state left at after sound store (ap (λ (l : AfterCall). l.slots) asks)
-        (record { next = next; is = own_is; runs = at.status; written = own.registers; registers = refl; pc = refl; only = fit.only; within = fit.within }) counts)
+        (record { next = next; is = own_is; runs = at.status; written = own.registers; registers = refl; pc = refl; only = fit.only; within = fit.within })
+        counts)
         (receiver-wakes gone r_is refl refl fine)
 
     -- ---- the thread waits for the reply
@@ -292,7 +317,8 @@ module _ (laws : Laws) (bytes : List ℕ) (image : Image) (s : State) (labels la
         granted r ∙ caller-here four r (Some tcb) (woken receiver (advanced written)) (blocked-there three tcb AwaitsReply r r-apart ∙ three-r) in
         let fine : IsMessage message = subst (λ (k : Sent). IsMessage (message_sent taken x k)) (sym kind) own-sends in
         let wait = ap (λ (l : AfterCall). l.is_wait) asks in
-        pair-stands next gone own_is r_is (λ y own_apart r_apart. granted y ∙ caller-there four r (Some tcb) y r_apart ∙ blocked-there three tcb AwaitsReply y own_apart) (
+        pair-stands next gone own_is r_is (λ y own_apart r_apart. granted y ∙ caller-there four r (Some tcb) y r_apart
+        ∙ blocked-there three tcb AwaitsReply y own_apart) (
           begins laws.stand_on image t s after own point state (touches-none bytes image t s after accepted listed all.sound sound store) at.stands next later
               (at.ecall, (left, at.call, wait)) own_is tt refl (counts.waits wait),
           asked-once image t after next own_is point state left at.stands.pc at.stands.known at.call asks,

@@ -18,7 +18,8 @@ use Rattle.model.specs.Kernel.Deliveries.{woken}
 use Rattle.model.specs.Kernel.Messages.{a0, deliver_word, signal, signals}
 use Rattle.model.specs.Kernel.Scheduling.{wake}
 use Rattle.model.specs.Kernel.Soundness.{IsSound, waiting_at}
-use Rattle.model.specs.Kernel.State.{State, Inactive, Blocked, Object, ThreadObject, EndpointObject, EndpointState, NotificationObject, NotificationState, ThreadState, as_notification, new_notification, notification_at, thread_at, with_notification}
+use Rattle.model.specs.Kernel.State.{State, Inactive, Blocked, Object, ThreadObject, EndpointObject, EndpointState, NotificationObject, NotificationState}
+use Rattle.model.specs.Kernel.State.{ThreadState, as_notification, new_notification, notification_at, thread_at, with_notification}
 use Rattle.model.specs.Kernel.Waits.{open_count}
 use Rattle.model.specs.Shared.Lists.{times_in}
 use Rattle.model.specs.Machine.Effects.{advanced}
@@ -38,7 +39,8 @@ use Rattle.headline.proofs.moves.Woken.{FitsBehind, wakes-up}
 -- The notification keeps its waiters but for the thread that moves, and all else stays.
 module _ (s after : State) (n : ℕ) (old new : NotificationState) (moves : ℕ → Bool) (was : s.objects n ≡ Some (NotificationObject old))
     (is : after.objects n ≡ Some (NotificationObject new)) (others : (y : ℕ) → y ≢ n → moves y ≡ false → after.objects y ≡ s.objects y)
-    (moved : (y : ℕ) (object : Object) → moves y ≡ true → ((t : ThreadState) → object ≡ ThreadObject t → ⊥) → after.objects y ≡ Some object → s.objects y ≡ Some object)
+    (moved : (y : ℕ) (object : Object) → moves y ≡ true → ((t : ThreadState) → object ≡ ThreadObject t → ⊥) → after.objects y ≡ Some object →
+    s.objects y ≡ Some object)
     (fewer : (thread : ℕ) → Contains new.waiters thread → Contains old.waiters thread) where
   apart-from : (y : ℕ) (t : ThreadState) (object : Option Object) → object ≡ Some (NotificationObject old) → object ≡ Some (ThreadObject t) → ⊥
   apart-from y t object one other = absurd (let clash : Some (NotificationObject old) ≡ Some (ThreadObject t) = sym one ∙ other in cc)
@@ -68,12 +70,14 @@ module _ (s after : State) (n : ℕ) (old new : NotificationState) (moves : ℕ 
       → (o : NotificationState) × (s.objects queue ≡ Some (NotificationObject o)) × Contains o.waiters thread
   waited-there queue thread m there among = elim (decided queue n) [
     | inl at ↦
-        let same : new ≡ m = ap (λ (o : Option Object). option_map_or (λ (x : NotificationState). x) (as_notification o) new_notification) (sym is ∙ ap after.objects (sym at) ∙ there) in
+        let same : new ≡ m = ap (λ (o : Option Object). option_map_or (λ (x : NotificationState). x) (as_notification o) new_notification)
+        (sym is ∙ ap after.objects (sym at) ∙ there) in
         (old, ap s.objects at ∙ was, fewer thread (subst (λ (x : NotificationState). Contains x.waiters thread) (sym same) among))
-    | inr other ↦ elim (moves queue) as (λ b. moves queue ≡ b → (o : NotificationState) × (s.objects queue ≡ Some (NotificationObject o)) × Contains o.waiters thread) [
-      | true ↦ λ move. (m, moved queue (NotificationObject m) move (λ t clash. absurd cc) there, among)
-      | false ↦ λ rests. (m, sym (others queue other rests) ∙ there, among)
-    ] refl
+    | inr other ↦ elim (moves queue) as (λ b. moves queue ≡ b → (o : NotificationState) × (s.objects queue ≡ Some (NotificationObject o))
+        × Contains o.waiters thread) [
+          | true ↦ λ move. (m, moved queue (NotificationObject m) move (λ t clash. absurd cc) there, among)
+          | false ↦ λ rests. (m, sym (others queue other rests) ∙ there, among)
+        ] refl
   ]
 
   pub rest-beside : OthersRest s after moves
@@ -89,7 +93,8 @@ module _ (s after : State) (n : ℕ) (old new : NotificationState) (moves : ℕ 
 
 -- ---- a signal
 
-module _ (laws : Laws) (bytes : List ℕ) (image : Image) (s : State) (labels later : List Label) (accepted : IsAccepted bytes image) (all : AllStand image s labels)
+module _ (laws : Laws) (bytes : List ℕ) (image : Image) (s : State) (labels later : List Label) (accepted : IsAccepted bytes image)
+    (all : AllStand image s labels)
     (counts : (t : Numbered) → Contains (numbered_threads image) t → open_count (tcb_of image t) later ≡ open_count (tcb_of image t) labels)
     (n badge : ℕ) (small : badge < 2 ^ 28) (old : NotificationState) (was : s.objects n ≡ Some (NotificationObject old))
     (after : State) (sound : IsSound after) (store : SameGround image s after) where
@@ -114,7 +119,8 @@ module _ (laws : Laws) (bytes : List ℕ) (image : Image) (s : State) (labels la
     blocked-at : IsBlockedAt s w n
     blocked-at =
         queued-there s w n all.sound.threads
-        (subst (λ (o : Option Object). 1 ≤ times_in (waiting_at o) w) (sym was) (subst (λ (xs : List ℕ). 1 ≤ times_in xs w) (sym first) (first-times others w w refl)))
+        (subst (λ (o : Option Object). 1 ≤ times_in (waiting_at o) w) (sym was)
+        (subst (λ (xs : List ℕ). 1 ≤ times_in xs w) (sym first) (first-times others w w refl)))
 
     abbrev own : ThreadState
     own = blocked-at.own
@@ -139,14 +145,17 @@ module _ (laws : Laws) (bytes : List ℕ) (image : Image) (s : State) (labels la
     after-others : (y : ℕ) → y ≢ n → (y == w) ≡ false → after.objects y ≡ s.objects y
     after-others y other rests =
         objects y ∙ woke-there (deliver_word one w badge) w y (eqb-false y w rests)
-        ∙ passed-there one w (write (thread_at one w).registers a0 badge) y (eqb-false y w rests) ∙ put-there s.objects n (Some (NotificationObject new)) y other
+        ∙ passed-there one w (write (thread_at one w).registers a0 badge) y (eqb-false y w rests)
+        ∙ put-there s.objects n (Some (NotificationObject new)) y other
 
     after-notification : after.objects n ≡ Some (NotificationObject new)
     after-notification =
         objects n ∙ woke-there (deliver_word one w badge) w n (λ at. w-apart (sym at))
-        ∙ passed-there one w (write (thread_at one w).registers a0 badge) n (λ at. w-apart (sym at)) ∙ put-here s.objects n (Some (NotificationObject new)) n refl
+        ∙ passed-there one w (write (thread_at one w).registers a0 badge) n (λ at. w-apart (sym at))
+        ∙ put-here s.objects n (Some (NotificationObject new)) n refl
 
-    no-other : (y : ℕ) (object : Object) → (y == w) ≡ true → ((t : ThreadState) → object ≡ ThreadObject t → ⊥) → after.objects y ≡ Some object → s.objects y ≡ Some object
+    no-other : (y : ℕ) (object : Object) → (y == w) ≡ true → ((t : ThreadState) → object ≡ ThreadObject t → ⊥) → after.objects y ≡ Some object →
+        s.objects y ≡ Some object
     no-other y object at other is =
         let same : Some object ≡ Some (ThreadObject (woken own (advanced written))) = sym is ∙ ap after.objects (eqb-true y w at) ∙ after-own in
         absurd (other (woken own (advanced written)) (let e : object ≡ ThreadObject (woken own (advanced written)) = cc in e))
@@ -161,7 +170,8 @@ module _ (laws : Laws) (bytes : List ℕ) (image : Image) (s : State) (labels la
       first-own : Contains old.waiters (tcb_of image t)
       first-own = subst (λ (xs : List ℕ). Contains xs (tcb_of image t)) (sym first) (0, omega arith, sym at)
 
-      fits : (state : PointState) (left : AfterCall) → WaitsSo image t s state left own.status → AreRegisters own.registers state.ranges → FitsBehind state left own.registers written
+      fits : (state : PointState) (left : AfterCall) → WaitsSo image t s state left own.status → AreRegisters own.registers state.ranges →
+          FitsBehind state left own.registers written
       fits state left so registers =
           let left_is : left ≡ behind_signal state = (subst (WaitsSo image t s state left) blocked-at.status so).waits old was first-own in
           let fit = laws.signal own.registers state.ranges badge registers small in
@@ -191,5 +201,6 @@ module _ (laws : Laws) (bytes : List ℕ) (image : Image) (s : State) (labels la
 
   pub signal-stands : ((y : ℕ) → after.objects y ≡ (signal s n badge).objects y) → AllStand image after later
   signal-stands objects =
-      let same : notification_at s n ≡ old = ap (λ (o : Option Object). option_map_or (λ (x : NotificationState). x) (as_notification o) new_notification) was in
+      let same : notification_at s n ≡ old = ap (λ (o : Option Object). option_map_or (λ (x : NotificationState). x) (as_notification o) new_notification)
+      was in
       by-waiters old.waiters refl (λ y. objects y ∙ ap (λ (o : NotificationState). (signals s n badge o o.waiters).objects y) same)

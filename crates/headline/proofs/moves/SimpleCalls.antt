@@ -53,15 +53,18 @@ module _ (laws : Laws) (bytes : List ℕ) (image : Image) (s : State) (labels : 
     status = status ∙ at.status;
     stands = laws.stand_on bytes image t s after own next point point state state accepted listed all.sound sound
         (touches-none bytes image t s after accepted listed all.sound sound store).untouched at.stands at.stands.inside at.stands.known
-        (ap (λ (r : RegisterFile). r.pc) registers ∙ at.stands.pc) (subst (λ (r : RegisterFile). LieWithin r state.ranges) (sym registers) at.stands.registers) refl;
-    budget = subst (λ (r : RegisterFile). (pos (open_count (tcb_of image t) labels) +ℤ measured state.measure r) ≤ℤ pos t.thread.header.budget) (sym registers) at.budget;
+        (ap (λ (r : RegisterFile). r.pc) registers ∙ at.stands.pc) (subst (λ (r : RegisterFile). LieWithin r state.ranges) (sym registers) at.stands.registers)
+        refl;
+    budget = subst (λ (r : RegisterFile). (pos (open_count (tcb_of image t) labels) +ℤ measured state.measure r) ≤ℤ pos t.thread.header.budget) (sym registers)
+        at.budget;
     ecall = at.ecall;
     call = at.call;
   }
 
 -- ---- the calls
 
-module _ (laws : Laws) (bytes : List ℕ) (image : Image) (s : State) (labels later : List Label) (accepted : IsAccepted bytes image) (all : AllStand image s labels)
+module _ (laws : Laws) (bytes : List ℕ) (image : Image) (s : State) (labels later : List Label) (accepted : IsAccepted bytes image)
+    (all : AllStand image s labels)
     (t : Numbered) (listed : Contains (numbered_threads image) t) (own : ThreadState) (point : ℕ) (state : PointState) (left : AfterCall)
     (at : CallsAt image t s labels own point state left) (counts : IsCounted image t labels later left.is_wait) where
   abbrev tcb : ℕ
@@ -91,7 +94,8 @@ module _ (laws : Laws) (bytes : List ℕ) (image : Image) (s : State) (labels la
 
     -- it passes as it is
     as-it-is : left ≡ changes_nothing state false → (next : ThreadState) → after.objects (tcb_of image t) ≡ Some (ThreadObject next)
-        → next.status ≡ own.status → next.registers ≡ advanced own.registers → ((y : ℕ) → y ≢ tcb_of image t → after.objects y ≡ s.objects y) → AllStand image after later
+        → next.status ≡ own.status → next.registers ≡ advanced own.registers → ((y : ℕ) → y ≢ tcb_of image t → after.objects y ≡ s.objects y) →
+        AllStand image after later
     as-it-is left_is next is status registers others =
         it-passes (ap (λ (l : AfterCall). l.slots) left_is)
         (subst (λ (l : AfterCall). PassesWith after tcb own state l) (sym left_is) (record {
@@ -115,16 +119,19 @@ module _ (laws : Laws) (bytes : List ℕ) (image : Image) (s : State) (labels la
       → AllStand image (yielded (passes s (tcb_of image t)) (tcb_of image t)) later
   yields-stand left_is sound =
       let one : ThreadState = record own { registers = advanced own.registers } in
-      as-it-is (yielded (passes s tcb) tcb) sound (record { memory_bits = refl; boot_radix = refl; slots = λ slot. refl; bytes = λ frame place code low high. refl }) left_is
+      as-it-is (yielded (passes s tcb) tcb) sound
+      (record { memory_bits = refl; boot_radix = refl; slots = λ slot. refl; bytes = λ frame place code low high. refl }) left_is
       (record one { slice = full_slice }) (yields-here (passes s tcb) tcb one (went-here s tcb own at.there)) refl refl
       (λ y other. yields-there (passes s tcb) tcb y other ∙ went-there s tcb y other)
 
   -- it passes with other registers, which fit after its call
   pub with-registers : (r : RegisterFile → RegisterFile) → left.slots ≡ state.slots
       → PassesWith (passes_with s (tcb_of image t) (r (registers_of s (tcb_of image t)))) (tcb_of image t) own state left
-      → IsSound (passes_with s (tcb_of image t) (r (registers_of s (tcb_of image t)))) → AllStand image (passes_with s (tcb_of image t) (r (registers_of s (tcb_of image t)))) later
+      → IsSound (passes_with s (tcb_of image t) (r (registers_of s (tcb_of image t)))) →
+      AllStand image (passes_with s (tcb_of image t) (r (registers_of s (tcb_of image t)))) later
   with-registers r slots passes sound =
-      it-passes (passes_with s tcb (r (registers_of s tcb))) sound (record { memory_bits = refl; boot_radix = refl; slots = λ slot. refl; bytes = λ frame place code low high. refl }) slots passes
+      it-passes (passes_with s tcb (r (registers_of s tcb))) sound
+      (record { memory_bits = refl; boot_radix = refl; slots = λ slot. refl; bytes = λ frame place code low high. refl }) slots passes
       (passed-there s tcb (r (registers_of s tcb)))
 
   pub result-stands : left ≡ known_behind state (with_answer state.ranges) false (a0 ∷ a1 ∷ [])
@@ -137,7 +144,8 @@ module _ (laws : Laws) (bytes : List ℕ) (image : Image) (s : State) (labels la
       (subst (λ (l : AfterCall). PassesWith (passes_with s tcb (write (write (registers_of s tcb) a0 0) a1 0)) tcb own state l) (sym left_is) (record {
         next = record own { registers = advanced written };
         is = passed s tcb (write (write (registers_of s tcb) a0 0) a1 0)
-            ∙ ap (λ (u : ThreadState). Some (ThreadObject (record u { registers = advanced (write (write u.registers a0 0) a1 0) }))) (at-place s tcb own at.there);
+            ∙ ap (λ (u : ThreadState). Some (ThreadObject (record u { registers = advanced (write (write u.registers a0 0) a1 0) })))
+            (at-place s tcb own at.there);
         runs = at.status;
         written = written;
         registers = refl;

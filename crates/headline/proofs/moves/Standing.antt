@@ -24,7 +24,8 @@ use Rattle.headline.specs.moves.Moving.{IsLeftAlone}
 use Rattle.headline.specs.moves.Resting.{OthersRest}
 use Rattle.headline.proofs.moves.LeftAlone.{stands-alone}
 
-maps-too : (slots others : Slots) → ((slot : ℕ) → others slot ≡ slots slot) → (root page frame : ℕ) (allowed : Rights) → Maps slots root page frame allowed → Maps others root page frame allowed
+maps-too : (slots others : Slots) → ((slot : ℕ) → others slot ≡ slots slot) → (root page frame : ℕ) (allowed : Rights) → Maps slots root page frame allowed →
+    Maps others root page frame allowed
 maps-too slots others same root page frame allowed maps = record {
   slot = maps.slot;
   frame_rights = maps.frame_rights;
@@ -44,23 +45,31 @@ touches-none bytes image t s after accepted listed sound still store = record {
     slots = λ slot own. store.slots slot;
     cspace = store.slots (cspace_slot (tcb_of image t));
     vspace = store.slots (vspace_slot (tcb_of image t));
-    maps = λ page frame allowed. (maps-too after.slots s.slots (λ slot. sym (store.slots slot)) (root_table_of image t) page frame allowed, maps-too s.slots after.slots store.slots (root_table_of image t) page frame allowed);
+    maps = λ page frame allowed. (
+      maps-too after.slots s.slots (λ slot. sym (store.slots slot)) (root_table_of image t) page frame allowed,
+      maps-too s.slots after.slots store.slots (root_table_of image t) page frame allowed,
+    );
     bytes = store.bytes;
   };
 }
 
-module _ (stand-on : StandsOn) (bytes : List ℕ) (image : Image) (s after : State) (labels later : List Label) (moves : ℕ → Bool) (accepted : IsAccepted bytes image)
+module _ (stand-on : StandsOn) (bytes : List ℕ) (image : Image) (s after : State) (labels later : List Label) (moves : ℕ → Bool)
+    (accepted : IsAccepted bytes image)
     (all : AllStand image s labels) (sound : IsSound after) (store : SameGround image s after) (rest : OthersRest s after moves)
-    (moved : (t : Numbered) → Contains (numbered_threads image) t → moves (tcb_of image t) ≡ true → ThreadInvariant image t after later × WaitsAsAsked image t after)
+    (moved : (t : Numbered) → Contains (numbered_threads image) t → moves (tcb_of image t) ≡ true → ThreadInvariant image t after later
+    × WaitsAsAsked image t after)
     (known : (offset : ℕ) (own : ThreadState) → moves offset ≡ true → after.objects offset ≡ Some (ThreadObject own) → IsControlBlock image offset)
-    (counts : (t : Numbered) → Contains (numbered_threads image) t → moves (tcb_of image t) ≡ false → open_count (tcb_of image t) later ≡ open_count (tcb_of image t) labels) where
-  each : (t : Numbered) → Contains (numbered_threads image) t → (b : Bool) → moves (tcb_of image t) ≡ b → ThreadInvariant image t after later × WaitsAsAsked image t after
+    (counts : (t : Numbered) → Contains (numbered_threads image) t → moves (tcb_of image t) ≡ false →
+    open_count (tcb_of image t) later ≡ open_count (tcb_of image t) labels) where
+  each : (t : Numbered) → Contains (numbered_threads image) t → (b : Bool) → moves (tcb_of image t) ≡ b → ThreadInvariant image t after later
+      × WaitsAsAsked image t after
   each t listed true is = moved t listed is
   each t listed false is =
       stands-alone stand-on image t s after labels later (touches-none bytes image t s after accepted listed all.sound sound store)
       (λ old there. rest.goes (tcb_of image t) old is there) (rest.queues (tcb_of image t) is) (counts t listed is) (all.stand t listed) (all.wait t listed)
 
-  other : (offset : ℕ) (own : ThreadState) → after.objects offset ≡ Some (ThreadObject own) → (b : Bool) → moves offset ≡ b → (own.status ≡ Inactive) ⊎ IsControlBlock image offset
+  other : (offset : ℕ) (own : ThreadState) → after.objects offset ≡ Some (ThreadObject own) → (b : Bool) → moves offset ≡ b →
+      (own.status ≡ Inactive) ⊎ IsControlBlock image offset
   other offset own there true is = inr (known offset own is there)
   other offset own there false is =
       let been = rest.been offset own is there in

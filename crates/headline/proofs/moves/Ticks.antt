@@ -13,7 +13,8 @@ use Rattle.model.specs.Acceptance.ThreadInvariants.{tcb_of}
 use Rattle.model.specs.Images.Image.{Image}
 use Rattle.model.specs.Kernel.Scheduling.{current, full_slice, tick, ticked, yielded}
 use Rattle.model.specs.Kernel.Soundness.{IsSound}
-use Rattle.model.specs.Kernel.State.{State, Object, ThreadObject, EndpointObject, NotificationObject, ThreadState, as_thread, new_thread, put, thread_at, with_thread}
+use Rattle.model.specs.Kernel.State.{State, Object, ThreadObject, EndpointObject, NotificationObject, ThreadState, as_thread, new_thread, put, thread_at}
+use Rattle.model.specs.Kernel.State.{with_thread}
 use Rattle.model.specs.Kernel.Steps.{state_after, step}
 use Rattle.soundness.specs.Laws.{EventsKeepSoundness}
 use Rattle.headline.specs.kept.Laws.{StandsOn}
@@ -56,7 +57,8 @@ module _ (s after : State) (x slice : ℕ) (own : ThreadState) (there : s.object
     | inr other ↦ record { old = later; was = sym (elsewhere thread other) ∙ is; status = refl }
   ]
 
-  no-thread : (queue : ℕ) (object : Object) → ((t : ThreadState) → Some (ThreadObject t) ≡ Some object → ⊥) → after.objects queue ≡ Some object → s.objects queue ≡ Some object
+  no-thread : (queue : ℕ) (object : Object) → ((t : ThreadState) → Some (ThreadObject t) ≡ Some object → ⊥) → after.objects queue ≡ Some object →
+      s.objects queue ≡ Some object
   no-thread queue object other is = elim (decided queue x) [
     | inl at ↦ absurd (other new (sym (here queue at) ∙ is))
     | inr apart ↦ sym (elsewhere queue apart) ∙ is
@@ -78,7 +80,8 @@ module _ (s after : State) (x slice : ℕ) (own : ThreadState) (there : s.object
 
 -- ---- all threads
 
-module _ (stand-on : StandsOn) (bytes : List ℕ) (image : Image) (s : State) (labels : List Label) (accepted : IsAccepted bytes image) (all : AllStand image s labels) where
+module _ (stand-on : StandsOn) (bytes : List ℕ) (image : Image) (s : State) (labels : List Label) (accepted : IsAccepted bytes image)
+    (all : AllStand image s labels) where
   stands-over : (after : State) → IsSound after → SameGround image s after → OthersRest s after (λ _. false) → AllStand image after (labels ++ Ticked ∷ [])
   stands-over after sound store rest =
       all-stand stand-on bytes image s after labels (labels ++ Ticked ∷ []) (λ _. false) accepted all sound store rest
@@ -92,14 +95,18 @@ module _ (stand-on : StandsOn) (bytes : List ℕ) (image : Image) (s : State) (l
   same-ground : (ready : ℕ → List ℕ) (objects : ℕ → Option Object) → SameGround image s (record s { ready = ready; objects = objects })
   same-ground ready objects = record { memory_bits = refl; boot_radix = refl; slots = λ slot. refl; bytes = λ frame place code low high. refl }
 
-  ticked-stands : (x : ℕ) (own : ThreadState) → s.objects x ≡ Some (ThreadObject own) → IsSound (ticked s x) → AllStand image (ticked s x) (labels ++ Ticked ∷ [])
+  ticked-stands : (x : ℕ) (own : ThreadState) → s.objects x ≡ Some (ThreadObject own) → IsSound (ticked s x) →
+      AllStand image (ticked s x) (labels ++ Ticked ∷ [])
   ticked-stands x own there =
       let slice = (thread_at s x).slice in
       let same : thread_at s x ≡ own = ap (λ (o : Option Object). option_map_or (λ (u : ThreadState). u) (as_thread o) new_thread) there in
-      elim (nat_le slice 1) as (λ b. let after = if b then yielded s x else with_thread s x (record (thread_at s x) { slice = slice - 1 }) in IsSound after → AllStand image after (labels ++ Ticked ∷ [])) [
-        | true ↦ λ sound. sliced x full_slice own there (yielded s x) sound (record { memory_bits = refl; boot_radix = refl; slots = λ slot. refl; bytes = λ frame place code low high. refl })
+      elim (nat_le slice 1) as (λ b. let after = if b then yielded s x else with_thread s x (record (thread_at s x) { slice = slice - 1 }) in IsSound after →
+      AllStand image after (labels ++ Ticked ∷ [])) [
+        | true ↦ λ sound. sliced x full_slice own there (yielded s x) sound
+            (record { memory_bits = refl; boot_radix = refl; slots = λ slot. refl; bytes = λ frame place code low high. refl })
             (λ y. ap (λ (u : ThreadState). put s.objects x (Some (ThreadObject (record u { slice = full_slice }))) y) same)
-        | false ↦ λ sound. sliced x (slice - 1) own there (with_thread s x (record (thread_at s x) { slice = slice - 1 })) sound (record { memory_bits = refl; boot_radix = refl; slots = λ slot. refl; bytes = λ frame place code low high. refl })
+        | false ↦ λ sound. sliced x (slice - 1) own there (with_thread s x (record (thread_at s x) { slice = slice - 1 })) sound
+            (record { memory_bits = refl; boot_radix = refl; slots = λ slot. refl; bytes = λ frame place code low high. refl })
             (λ y. ap (λ (u : ThreadState). put s.objects x (Some (ThreadObject (record u { slice = slice - 1 }))) y) same)
       ]
 
@@ -107,13 +114,19 @@ module _ (stand-on : StandsOn) (bytes : List ℕ) (image : Image) (s : State) (l
   rest-same = record {
     goes = λ thread old none was. stays-as s thread old was;
     been = λ thread later none is. record { old = later; was = is; status = refl };
-    queues = λ thread none. record { sends = λ queue e y is among own. (e, is, among); receives = λ queue e is among. (e, is, among); waits = λ queue n is among. (n, is, among) };
+    queues = λ thread none. record {
+      sends = λ queue e y is among own. (e, is, among);
+      receives = λ queue e is among. (e, is, among);
+      waits =
+          λ queue n is among. (n, is, among);
+    };
   }
 
   tick-stands : IsSound (tick s) → AllStand image (tick s) (labels ++ Ticked ∷ [])
   tick-stands =
       elim (current s) as (λ o. current s ≡ o → IsSound (option_map_or (ticked s) o s) → AllStand image (option_map_or (ticked s) o s) (labels ++ Ticked ∷ [])) [
-        | None ↦ λ none sound. stands-over s sound (record { memory_bits = refl; boot_radix = refl; slots = λ slot. refl; bytes = λ frame place code low high. refl }) rest-same
+        | None ↦ λ none sound.
+            stands-over s sound (record { memory_bits = refl; boot_radix = refl; slots = λ slot. refl; bytes = λ frame place code low high. refl }) rest-same
         | Some x ↦ λ some sound. ticked-stands x (thread_at s x) (thread-there (s.objects x) (current-runs s all.sound.threads x some).kind) sound
       ] refl
 
@@ -121,7 +134,8 @@ pub one-event : EventsKeepSoundness → (s : State) (event : Event) → IsSound 
 unfolding state_after
 one-event keeps s event sound = keeps s (event ∷ []) sound
 
-pub all-over-tick : StandsOn → EventsKeepSoundness → (bytes : List ℕ) (image : Image) (s : State) (labels : List Label) → IsAccepted bytes image → AllStand image s labels
+pub all-over-tick : StandsOn → EventsKeepSoundness → (bytes : List ℕ) (image : Image) (s : State) (labels : List Label) → IsAccepted bytes image →
+    AllStand image s labels
     → AllStand image (step s Tick).0 (labels ++ (step s Tick).1 ∷ [])
 unfolding step
 all-over-tick stand-on keeps bytes image s labels accepted all = tick-stands stand-on bytes image s labels accepted all (one-event keeps s Tick all.sound)

@@ -1,5 +1,6 @@
 -- A thread that waits, and the message that a thread sends.
-use Rattle.std.proofs.Common.{ℕ, zero, suc, ◌≡◌, ◌∙◌, ◌==◌, ◌^◌, ◌<◌, ◌≤◌, inl, inr, true, false, if◌then◌else◌, Some, Ok, List, [], ◌∷◌, length, take, map, All, refl, sym, ap, subst, arith}
+use Rattle.std.proofs.Common.{ℕ, zero, suc, ◌≡◌, ◌∙◌, ◌==◌, ◌^◌, ◌<◌, ◌≤◌, inl, inr, true, false, if◌then◌else◌, Some, Ok, List, [], ◌∷◌, length, take, map}
+use Rattle.std.proofs.Common.{All, refl, sym, ap, subst, arith}
 use Rattle.std.specs.Prelude.{Contains, slice_set}
 use Rattle.std.proofs.lemmas.List.Elements.{All-cons, All-nil}
 use Rattle.headline.specs.facts.Standing.{AllStand, IsControlBlock}
@@ -16,7 +17,8 @@ use Rattle.model.specs.Images.Described.{Numbered, numbered_threads}
 use Rattle.model.specs.Images.Image.{Image}
 use Rattle.model.specs.Kernel.Messages.{Message, a0, a1, delivered, info_word, label_of, length_of, message_of, word_registers, write_words}
 use Rattle.model.specs.Kernel.Soundness.{ThreadIsSound}
-use Rattle.model.specs.Kernel.State.{State, Status, Inactive, Runnable, Blocked, AwaitsReply, AwaitsHandler, Sender, BySend, ByCall, ByFault, FaultMessage, ThreadObject, ThreadState}
+use Rattle.model.specs.Kernel.State.{State, Status, Inactive, Runnable, Blocked, AwaitsReply, AwaitsHandler, Sender, BySend, ByCall, ByFault, FaultMessage}
+use Rattle.model.specs.Kernel.State.{ThreadObject, ThreadState}
 use Rattle.model.specs.Kernel.Waits.{open_count}
 use Rattle.model.specs.Machine.ProgramMemory.{RegisterFile, read, write}
 use Rattle.headline.specs.calls.Laws.{IsMessage}
@@ -47,7 +49,8 @@ no-inactive (Blocked queue) is waits = absurd cc
 no-inactive AwaitsReply is waits = absurd cc
 no-inactive AwaitsHandler is waits = waits
 
-module _ (image : Image) (s : State) (labels : List Label) (all : AllStand image s labels) (offset : ℕ) (own : ThreadState) (there : s.objects offset ≡ Some (ThreadObject own)) (waiting : IsWaiting own.status) where
+module _ (image : Image) (s : State) (labels : List Label) (all : AllStand image s labels) (offset : ℕ) (own : ThreadState)
+    (there : s.objects offset ≡ Some (ThreadObject own)) (waiting : IsWaiting own.status) where
   pub control-waiting : IsControlBlock image offset
   control-waiting = elim (all.others offset own there) [
     | inl rests ↦ absurd (no-inactive own.status rests waiting)
@@ -89,7 +92,8 @@ pub sent-so : (state : PointState) (left : AfterCall) (x : Sender) → SendsSo s
 sent-so state left x (SendsSo.by_send sent is) kind = is
 sent-so state left x (SendsSo.by_call sent grants is) kind = let clash : ByCall ≡ BySend = sym sent ∙ kind in absurd cc
 
-pub called-so : (state : PointState) (left : AfterCall) (x : Sender) → SendsSo state left x → x.sent ≡ ByCall → (x.grant_reply ≡ true) × (left ≡ behind_reply state)
+pub called-so : (state : PointState) (left : AfterCall) (x : Sender) → SendsSo state left x → x.sent ≡ ByCall → (x.grant_reply ≡ true)
+    × (left ≡ behind_reply state)
 called-so state left x (SendsSo.by_send sent is) kind = let clash : BySend ≡ ByCall = sym sent ∙ kind in absurd cc
 called-so state left x (SendsSo.by_call sent grants is) kind = (grants, is)
 
@@ -119,7 +123,8 @@ pub own-message : (t : ThreadState) → ThreadIsSound t → IsMessage (message_o
 own-message t sound =
     let r = t.registers in
     let count = length_of (read r a1) in
-    let few : length (map (read r) (take count word_registers)) ≤ 8 = subst (λ (n : ℕ). length (map (read r) (take count word_registers)) ≤ n) eight (taken-few r count word_registers) in
+    let few : length (map (read r) (take count word_registers)) ≤ 8 =
+    subst (λ (n : ℕ). length (map (read r) (take count word_registers)) ≤ n) eight (taken-few r count word_registers) in
     record {
       words = all-read r (take count word_registers) sound.words;
       few = few;

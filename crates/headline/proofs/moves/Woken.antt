@@ -33,7 +33,8 @@ pub record FitsBehind (state : PointState) (left : AfterCall) (registers written
   pub within : LieWithin written left.ranges
 
 -- a thread that runs waits for nothing
-pub runs-free : (image : Image) (t : Numbered) (after : State) (next : ThreadState) → after.objects (tcb_of image t) ≡ Some (ThreadObject next) → next.status ≡ Runnable → WaitsAsAsked image t after
+pub runs-free : (image : Image) (t : Numbered) (after : State) (next : ThreadState) → after.objects (tcb_of image t) ≡ Some (ThreadObject next) →
+    next.status ≡ Runnable → WaitsAsAsked image t after
 runs-free image t after next is runs own point state left there inside pc known call =
     subst (WaitsSo image t after state left) (sym runs ∙ ap (λ (u : ThreadState). u.status) (one-thread (after.objects (tcb_of image t)) next own is there)) tt
 
@@ -51,16 +52,26 @@ runs-status (Blocked queue) is = absurd (let clash : false ≡ true = is in cc)
 runs-status AwaitsReply is = absurd (let clash : false ≡ true = is in cc)
 runs-status AwaitsHandler is = absurd (let clash : false ≡ true = is in cc)
 
-module _ (laws : Laws) (bytes : List ℕ) (image : Image) (s : State) (labels later : List Label) (accepted : IsAccepted bytes image) (all : AllStand image s labels)
-    (after : State) (sound : IsSound after) (store : SameGround image s after) (t : Numbered) (listed : Contains (numbered_threads image) t) (count : open_count (tcb_of image t) later ≡ open_count (tcb_of image t) labels)
+module _ (laws : Laws) (bytes : List ℕ) (image : Image) (s : State) (labels later : List Label) (accepted : IsAccepted bytes image)
+    (all : AllStand image s labels)
+    (after : State) (sound : IsSound after) (store : SameGround image s after) (t : Numbered) (listed : Contains (numbered_threads image) t)
+    (count : open_count (tcb_of image t) later ≡ open_count (tcb_of image t) labels)
     (own : ThreadState) (there : s.objects (tcb_of image t) ≡ Some (ThreadObject own)) (written : RegisterFile)
-    (next : ThreadState) (is : after.objects (tcb_of image t) ≡ Some (ThreadObject next)) (runs : next.status ≡ Runnable) (goes : next.registers ≡ advanced written)
-    (fits : (state : PointState) (left : AfterCall) → WaitsSo image t s state left own.status → AreRegisters own.registers state.ranges → FitsBehind state left own.registers written) where
+    (next : ThreadState) (is : after.objects (tcb_of image t) ≡ Some (ThreadObject next)) (runs : next.status ≡ Runnable)
+    (goes : next.registers ≡ advanced written)
+    (fits : (state : PointState) (left : AfterCall) → WaitsSo image t s state left own.status → AreRegisters own.registers state.ranges →
+    FitsBehind state left own.registers written) where
   module _ (point : ℕ) (state : PointState) (stands : StandsAt image t s own point state) where
     registers-fine : AreRegisters own.registers state.ranges
     registers-fine =
         let fine : ThreadIsSound own = all.sound.threads.threads (tcb_of image t) own there in
-        record { count = fine.registers; words = fine.words; long = laws.is_long bytes image t point state accepted listed stands.known; within = stands.registers }
+        record {
+          count = fine.registers;
+          words = fine.words;
+          long = laws.is_long bytes image t point state accepted listed stands.known;
+          within =
+              stands.registers;
+        }
 
     wakes-at : WaitsThere image t point state → open_count (tcb_of image t) labels ≡ 0 → ThreadInvariant image t after later
     wakes-at waits none =
@@ -79,7 +90,8 @@ module _ (laws : Laws) (bytes : List ℕ) (image : Image) (s : State) (labels la
           only = fit.only;
           within = fit.within;
         } in
-        ends-wait laws.stand_on image t s after own point state (touches-none bytes image t s after accepted listed all.sound sound store) stands laws.lead laws.ends left ecall call fit.slots passes
+        ends-wait laws.stand_on image t s after own point state (touches-none bytes image t s after accepted listed all.sound sound store) stands laws.lead
+        laws.ends left ecall call fit.slots passes
         later wait (count ∙ none)
 
   woken-from : IsWaiting own.status → ThreadInvariant image t s labels → ThreadInvariant image t after later

@@ -17,7 +17,8 @@ use Rattle.headline.proofs.starts.ListFacts.{contained}
 
 -- ---- the rules of a thread, and of one of its points
 
-pub point-kept : (image : Image) (t : Numbered) (point : ℕ) → AreKept (rules_of_program image t) → point < t.thread.header.words → AreKept (point_rules image t point)
+pub point-kept : (image : Image) (t : Numbered) (point : ℕ) → AreKept (rules_of_program image t) → point < t.thread.header.words →
+    AreKept (point_rules image t point)
 unfolding rules_of_program
 point-kept image t point kept less =
     kept-of (point_rules image t) (range_with_len 0 t.thread.header.words)
@@ -26,7 +27,8 @@ point-kept image t point kept less =
 
 -- ---- a point
 
-pub none-stray : (image : Image) (t : Numbered) (point : ℕ) (state : PointState) → AreKept (point_rules image t point) → noted image t point ≡ Known state → has_stray_slots image t.thread point state ≡ false
+pub none-stray : (image : Image) (t : Numbered) (point : ℕ) (state : PointState) → AreKept (point_rules image t point) → noted image t point ≡ Known state →
+    has_stray_slots image t.thread point state ≡ false
 unfolding point_rules state_rules
 none-stray image t point state kept is =
     let rules : AreKept (state_rules image t point state) = subst (λ (n : Noted). AreKept (rules_of_noted image t point n)) is kept in
@@ -64,7 +66,9 @@ entry-kept image t kept =
 pub numbered-thread : (image : Image) (t : Numbered) → Contains (numbered_threads image) t → (k : ℕ) × (slice_get image.threads k ≡ Some t.thread)
 numbered-thread image t there = let place = contained (numbered_threads image) t there in (place.0, of-number 0 image.threads place.0 place.1)
   where
-    of-number : (from : ℕ) (ts : List Thread) (k : ℕ) → slice_get (map (λ u. let n : Numbered = record { number = u.0; thread = u.1 } in n) (enumerate_from from ts)) k ≡ Some t → slice_get ts k ≡ Some t.thread
+    of-number : (from : ℕ) (ts : List Thread) (k : ℕ) →
+        slice_get (map (λ u. let n : Numbered = record { number = u.0; thread = u.1 } in n) (enumerate_from from ts)) k ≡ Some t →
+        slice_get ts k ≡ Some t.thread
     of-number from [] k at = absurd (none-some t at)
     of-number from (u ∷ us) zero at = ap (λ (n : Numbered). Some n.thread) (same_Some _ t at)
     of-number from (u ∷ us) (suc k) at = of-number (from + 1) us k at

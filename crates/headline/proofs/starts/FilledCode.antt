@@ -1,5 +1,6 @@
 -- The frames of code hold the programs, and nothing else is filled into them.
-use Rattle.std.proofs.Common.{ℕ, zero, suc, ◌≡◌, ◌≢◌, ◌∙◌, ◌==◌, ◌+◌, ◌-◌, ◌*◌, ◌^◌, ◌<◌, ◌≤◌, ◌&&◌, inl, inr, Bool, true, false, not, take, drop, map, if◌then◌else◌, length, Option, Some, None, option_map, refl, sym, ap, subst, arith}
+use Rattle.std.proofs.Common.{ℕ, zero, suc, ◌≡◌, ◌≢◌, ◌∙◌, ◌==◌, ◌+◌, ◌-◌, ◌*◌, ◌^◌, ◌<◌, ◌≤◌, ◌&&◌, inl, inr, Bool, true, false, not, take, drop, map}
+use Rattle.std.proofs.Common.{if◌then◌else◌, length, Option, Some, None, option_map, refl, sym, ap, subst, arith}
 use Rattle.std.specs.Prelude.{flat_map, slice_get, slice_index}
 use Rattle.std.specs.Option.{option_map_or}
 use Rattle.std.specs.List.{All, list_any, range_with_len}
@@ -10,7 +11,8 @@ use Rattle.std.proofs.lemmas.List.Elements.{All-append, All-map}
 use Rattle.std.proofs.lemmas.Option.{none-some, same_Some}
 use Rattle.format_laws.specs.Fitting.{CertificateFits, FrameFits, IsFitting}
 use Rattle.format_laws.proofs.Laws.{certificates-fit, is-fitting}
-use Rattle.soundness.proofs.Laws.{AreFormed, FrameKept, ThreadKept, any-taken, are-formed, bytes-long, contents-fit, each-all, filtered-all, flat-all, numbered-at, objects-apart}
+use Rattle.soundness.proofs.Laws.{AreFormed, FrameKept, ThreadKept, any-taken, are-formed, bytes-long, contents-fit, each-all, filtered-all, flat-all}
+use Rattle.soundness.proofs.Laws.{numbered-at, objects-apart}
 use Rattle.model.specs.declared.entries.FrameEntry.{FrameEntry}
 use Rattle.model.specs.declared.entries.ObjectEntry.{ObjectEntry}
 use Rattle.model.specs.Acceptance.Accepted.{IsWellFormed}
@@ -18,11 +20,13 @@ use Rattle.model.specs.Acceptance.ThreadRules.{holds_other_root, shares_vspace}
 use Rattle.model.specs.Acceptance.WellFormed.{is_frame_type}
 use Rattle.model.specs.Capabilities.Slots.{is_within}
 use Rattle.model.specs.Images.Described.{described, numbered}
-use Rattle.model.specs.Images.Fills.{Fill, bytes_of, content_fill, described_bytes, filled_byte, fills, frame_at, is_filled, is_in_frame, page_bytes, page_fill, program_fills, program_pages}
+use Rattle.model.specs.Images.Fills.{Fill, bytes_of, content_fill, described_bytes, filled_byte, fills, frame_at, is_filled, is_in_frame, page_bytes, page_fill}
+use Rattle.model.specs.Images.Fills.{program_fills, program_pages}
 use Rattle.model.specs.Images.Image.{Image, ImageContent, Thread, whole_image}
 use Rattle.model.specs.Images.Places.{bits_of, object_at, offset_of, type_at}
 use Rattle.model.specs.Kernel.AddressSpaces.{page_size}
-use Rattle.model.specs.Kernel.Retype.{NewObject, NewUntyped, NewThread, NewEndpoint, NewNotification, NewCNode, NewFrame, NewPageTable, NewRootTable, is_frame, object_bits, type_of}
+use Rattle.model.specs.Kernel.Retype.{NewObject, NewUntyped, NewThread, NewEndpoint, NewNotification, NewCNode, NewFrame, NewPageTable, NewRootTable, is_frame}
+use Rattle.model.specs.Kernel.Retype.{object_bits, type_of}
 use Rattle.model.proofs.SlotChanges.{within-bounds, bounds-within}
 use Rattle.thread_spaces.specs.Given.{IsListed}
 use Rattle.thread_spaces.proofs.Laws.{find-passed}
@@ -47,12 +51,14 @@ frame-kind (Some NewRootTable) is = absurd (false≢true is)
 
 any-range : (test : ℕ → Bool) (from count n : ℕ) → n < count → test (from + n) ≡ true → list_any test (range_with_len from count) ≡ true
 any-range test from zero n less is = absurd (omega (arith, less))
-any-range test from (suc count) zero less is = let here : from + 0 ≡ from = omega arith in or_left (test from) (list_any test (range_with_len (from + 1) count)) (ap test (sym here) ∙ is)
+any-range test from (suc count) zero less is = let here : from + 0 ≡ from = omega arith in
+    or_left (test from) (list_any test (range_with_len (from + 1) count)) (ap test (sym here) ∙ is)
 any-range test from (suc count) (suc n) less is =
     let there : from + suc n ≡ from + 1 + n = omega arith in
     or_right (test from) (list_any test (range_with_len (from + 1) count)) (any-range test (from + 1) count n (omega (arith, less)) (ap test (sym there) ∙ is))
 
-module _ (image : Image) (fits : whole_image.fits image ≡ true) (well : IsWellFormed image) (t : Thread) (listed : IsListed image t) (page : ℕ) (code : IsPageOfCode image t page) where
+module _ (image : Image) (fits : whole_image.fits image ≡ true) (well : IsWellFormed image) (t : Thread) (listed : IsListed image t) (page : ℕ)
+    (code : IsPageOfCode image t page) where
   fitting : IsFitting image
   fitting = is-fitting image fits
 
@@ -78,7 +84,8 @@ module _ (image : Image) (fits : whole_image.fits image ≡ true) (well : IsWell
   size = ap (λ n. 2 ^ n) (frame-kind (type_at image f.frame) (FrameKept.frame kept)).1
 
   -- other frames are elsewhere
-  elsewhere : (number place : ℕ) → number < image.header.objects → is_frame_type (type_at image number) ≡ true → number ≢ f.frame → offset ≤ place → place < offset + page_size
+  elsewhere : (number place : ℕ) → number < image.header.objects → is_frame_type (type_at image number) ≡ true → number ≢ f.frame → offset ≤ place →
+      place < offset + page_size
       → offset_of image number ≤ place → place < offset_of image number + page_size → ⊥
   elsewhere number place there frame other low high first last =
       let wide : 2 ^ bits_of (object_at image number) ≡ page_size = ap (λ n. 2 ^ n) (frame-kind (type_at image number) frame).1 in
@@ -116,7 +123,8 @@ module _ (image : Image) (fits : whole_image.fits image ≡ true) (well : IsWell
         let short = contents-fit image fits k c at in
         absurd (elim (eqb_tells c.header.frame f.frame) [
           | inl same ↦ false≢true (sym (none-at (λ (d : ImageContent). d.header.frame == f.frame) image.contents k c only.unfilled at) ∙ same.0)
-          | inr other ↦ elsewhere c.header.frame place (content-inside k c at) (AreFormed.content formed k c at) other.1 (omega arith) (omega (arith, inside)) bounds.0 (omega (arith, bounds.1, short))
+          | inr other ↦ elsewhere c.header.frame place (content-inside k c at) (AreFormed.content formed k c at) other.1 (omega arith) (omega (arith, inside))
+              bounds.0 (omega (arith, bounds.1, short))
         ])
       where
         content-inside : (k : ℕ) (c : ImageContent) → slice_get image.contents k ≡ Some c → c.header.frame < image.header.objects
@@ -124,7 +132,8 @@ module _ (image : Image) (fits : whole_image.fits image ≡ true) (well : IsWell
           | inl below ↦ below
           | inr most ↦
               let many = fitting.objects in
-              let none : object_at image c.header.frame ≡ record { untyped = 0; kind = 0; size = 0 } = get_or_past image.objects c.header.frame _ (omega (arith, most, many)) in
+              let none : object_at image c.header.frame ≡ record { untyped = 0; kind = 0; size = 0 } =
+              get_or_past image.objects c.header.frame _ (omega (arith, most, many)) in
               absurd (false≢true (ap (λ (x : ObjectEntry). is_frame_type (type_of x.kind x.size)) (sym none) ∙ AreFormed.content formed k c at))
         ]
 
@@ -132,7 +141,8 @@ module _ (image : Image) (fits : whole_image.fits image ≡ true) (well : IsWell
     one-mapping : (k : ℕ) (g : FrameEntry) → slice_get image.frames k ≡ Some g → g.frame ≡ f.frame → g ≡ f
     one-mapping k g at same =
         let test : (not (k == code.place) && g.frame == f.frame) ≡ false =
-        none-at (λ (e : ℕ × FrameEntry). not (e.0 == code.place) && (e.1).frame == f.frame) (numbered image.frames) k (k, g) only.once (numbered-at image.frames k g at) in
+        none-at (λ (e : ℕ × FrameEntry). not (e.0 == code.place) && (e.1).frame == f.frame) (numbered image.frames) k (k, g) only.once
+        (numbered-at image.frames k g at) in
         elim (eqb_tells k code.place) [
           | inl here ↦ same_Some g f (sym at ∙ ap (slice_get image.frames) here.1 ∙ code.at)
           | inr other ↦
@@ -144,7 +154,8 @@ module _ (image : Image) (fits : whole_image.fits image ≡ true) (well : IsWell
     apart-by j k u v before one two same =
         let shares = ThreadKept.vspace (AreFormed.thread formed k v two) in
         let parts = or_parts (list_any (λ (w : Thread). w.header.root == v.header.root) (take k image.threads)) (holds_other_root image v) shares in
-        false≢true (sym parts.0 ∙ any-taken (λ (w : Thread). w.header.root == v.header.root) image.threads k j u before one (eq-eqb u.header.root v.header.root same))
+        false≢true (sym parts.0 ∙ any-taken (λ (w : Thread). w.header.root == v.header.root) image.threads k j u before one
+        (eq-eqb u.header.root v.header.root same))
 
     -- a root table has one thread
     one-thread : (j : ℕ) (u : Thread) → slice_get image.threads j ≡ Some u → u.header.root ≡ t.header.root → u ≡ t
@@ -170,7 +181,8 @@ module _ (image : Image) (fits : whole_image.fits image ≡ true) (well : IsWell
         let there = FrameFits.frame (IsFitting.frame fitting passed.place g passed.at) in
         elim (eqb_tells g.frame f.frame) [
           | inr other ↦
-              absurd (elsewhere g.frame place there (FrameKept.frame (AreFormed.frame formed passed.place g passed.at)) other.1 (omega arith) (omega (arith, inside)) bounds.0 (omega (arith, bounds.1, short)))
+              absurd (elsewhere g.frame place there (FrameKept.frame (AreFormed.frame formed passed.place g passed.at)) other.1 (omega arith)
+              (omega (arith, inside)) bounds.0 (omega (arith, bounds.1, short)))
           | inl same ↦
               let entry : g ≡ f = one-mapping passed.place g passed.at same.1 in
               let root : u.header.root ≡ t.header.root = sym (eqb-true g.root u.header.root parts.0) ∙ ap (λ (e : FrameEntry). e.root) entry ∙ code.root in
@@ -183,7 +195,8 @@ module _ (image : Image) (fits : whole_image.fits image ≡ true) (well : IsWell
     page-leaves : (j : ℕ) (u : Thread) (a : ℕ) (h : Fill) → slice_get image.threads j ≡ Some u → page_fill image u a ≡ Some h → Leaves place wanted h
     page-leaves j u a h at is =
         elim (frame_at image u.header.root a) as (λ found. frame_at image u.header.root a ≡ found
-        → option_map (λ (e : FrameEntry). let g : Fill = record { offset = offset_of image e.frame; bytes = page_bytes u a } in g) found ≡ Some h → Leaves place wanted h) [
+        → option_map (λ (e : FrameEntry). let g : Fill = record { offset = offset_of image e.frame; bytes = page_bytes u a } in g) found ≡ Some h →
+        Leaves place wanted h) [
           | None ↦ λ _ clash. absurd (none-some h clash)
           | Some g ↦ λ found same. subst (λ (x : Fill). Leaves place wanted x) (same_Some _ h same) (by-frame j u a g at found)
         ] refl is
@@ -192,7 +205,8 @@ module _ (image : Image) (fits : whole_image.fits image ≡ true) (well : IsWell
     unfolding fills
     all-leave =
         All-append (Leaves place wanted) (map (content_fill image) image.contents) (flat_map (program_fills image) image.threads)
-        (All-map (Leaves place wanted) (content_fill image) image.contents (each-all (λ c. Leaves place wanted (content_fill image c)) image.contents content-leaves))
+        (All-map (Leaves place wanted) (content_fill image) image.contents
+        (each-all (λ c. Leaves place wanted (content_fill image c)) image.contents content-leaves))
         (flat-all (Leaves place wanted) (program_fills image) image.threads
         (λ j u at. filtered-all (Leaves place wanted) (page_fill image u) (program_pages u) (λ a h is. page-leaves j u a h at is)))
 

@@ -1,5 +1,6 @@
 -- What is at a place that one fill alone reaches.
-use Rattle.std.proofs.Common.{ℕ, zero, suc, ◌≡◌, ◌∙◌, ◌-◌, ◌||◌, Bool, true, false, find, if◌then◌else◌, List, [], ◌∷◌, ◌++◌, Option, Some, None, refl, sym, ap, subst}
+use Rattle.std.proofs.Common.{ℕ, zero, suc, ◌≡◌, ◌∙◌, ◌-◌, ◌||◌, Bool, true, false, find, if◌then◌else◌, List, [], ◌∷◌, ◌++◌, Option, Some, None, refl, sym, ap}
+use Rattle.std.proofs.Common.{subst}
 use Rattle.std.specs.Prelude.{filter_map, flat_map, slice_get, slice_index, reverse}
 use Rattle.std.specs.Option.{option_map_or, option_or}
 use Rattle.std.specs.List.{All, cons_option, list_any}
@@ -18,12 +19,14 @@ any-behind test xs ys is = list_any-append test xs ys ∙ or_right (list_any tes
 any-before : {A : Type 0} (test : A → Bool) (xs ys : List A) → list_any test xs ≡ true → list_any test (xs ++ ys) ≡ true
 any-before test xs ys is = list_any-append test xs ys ∙ or_left (list_any test xs) (list_any test ys) is
 
-pub any-flat : {A B : Type 0} (test : B → Bool) (f : A → List B) (xs : List A) (k : ℕ) (x : A) → slice_get xs k ≡ Some x → list_any test (f x) ≡ true → list_any test (flat_map f xs) ≡ true
+pub any-flat : {A B : Type 0} (test : B → Bool) (f : A → List B) (xs : List A) (k : ℕ) (x : A) → slice_get xs k ≡ Some x → list_any test (f x) ≡ true →
+    list_any test (flat_map f xs) ≡ true
 any-flat test f [] k x at is = absurd (none-some x at)
 any-flat test f (y ∷ ys) zero x at is = any-before test (f y) (flat_map f ys) (ap (λ z. list_any test (f z)) (same_Some y x at) ∙ is)
 any-flat test f (y ∷ ys) (suc k) x at is = any-behind test (f y) (flat_map f ys) (any-flat test f ys k x at is)
 
-pub any-filtered : {A B : Type 0} (test : B → Bool) (f : A → Option B) (xs : List A) (k : ℕ) (x : A) (y : B) → slice_get xs k ≡ Some x → f x ≡ Some y → test y ≡ true
+pub any-filtered : {A B : Type 0} (test : B → Bool) (f : A → Option B) (xs : List A) (k : ℕ) (x : A) (y : B) → slice_get xs k ≡ Some x → f x ≡ Some y →
+    test y ≡ true
     → list_any test (filter_map f xs) ≡ true
 any-filtered test f [] k x y at gives is = absurd (none-some x at)
 any-filtered test f (z ∷ zs) zero x y at gives is =
@@ -50,7 +53,8 @@ module _ (place wanted : ℕ) where
   Last true o = value o ≡ wanted
   Last false o = o ≡ None
 
-  one-more : (f : Fill) (some : Bool) (later : Option Fill) → Last some later → Leaves f → (b : Bool) → is_filled place f ≡ b → Last (b || some) (option_or later (if b then Some f else None))
+  one-more : (f : Fill) (some : Bool) (later : Option Fill) → Last some later → Leaves f → (b : Bool) → is_filled place f ≡ b →
+      Last (b || some) (option_or later (if b then Some f else None))
   one-more f true None last leaves true is = leaves is
   one-more f true (Some g) last leaves true is = last
   one-more f false None last leaves true is = leaves is

@@ -6,7 +6,8 @@ use Rattle.std.proofs.lemmas.List.{get_or_past}
 use Rattle.std.proofs.lemmas.Option.{slice_get-get_or}
 use Rattle.format_laws.proofs.Laws.{field-parts, many-each}
 use Rattle.model.specs.Images.Format.{field}
-use Rattle.model.specs.Images.Image.{Image, Thread, anything, image_with, records_format, registers_format, sections_format, slots_format, thread_format, thread_header_format, whole_image, words_format}
+use Rattle.model.specs.Images.Image.{Image, Thread, anything, image_with, records_format, registers_format, sections_format, slots_format, thread_format}
+use Rattle.model.specs.Images.Image.{thread_header_format, whole_image, words_format}
 
 each-small : (count : ℕ) (words : List ℕ) → (words_format count).fits words ≡ true → (k w : ℕ) → slice_get words k ≡ Some w → w < 2 ^ 32
 unfolding words_format
@@ -23,10 +24,12 @@ unfolding thread_format
 thread-words objects t is k =
     let a = and_parts ((thread_header_format objects).fits t.header) _ is in
     let b = and_parts ((registers_format t.header.registers).fits t.registers) _ a.1 in
-    let c = and_parts ((words_format t.header.words).fits t.words) ((records_format (slots_format objects) t.header.words t.header.records).fits t.records) b.1 in
+    let c = and_parts ((words_format t.header.words).fits t.words) ((records_format (slots_format objects) t.header.words t.header.records).fits t.records)
+    b.1 in
     any-small t.words k (each-small t.header.words t.words c.0)
 
-pub words-small : (image : Image) (number : ℕ) (t : Thread) → whole_image.fits image ≡ true → slice_get image.threads number ≡ Some t → (k : ℕ) → slice_index t.words k < 2 ^ 32
+pub words-small : (image : Image) (number : ℕ) (t : Thread) → whole_image.fits image ≡ true → slice_get image.threads number ≡ Some t → (k : ℕ) →
+    slice_index t.words k < 2 ^ 32
 unfolding image_with sections_format
 words-small image number t is at k =
     let whole = and_parts _ _ is in

@@ -1,5 +1,6 @@
 -- Slots that are compared as the image's, and are no stray ones, are the image's.
-use Rattle.std.proofs.Common.{ℕ, suc, ◌≡◌, ◌∙◌, ◌&&◌, ◌||◌, Bool, true, false, not, List, [], ◌∷◌, length, filter, map, if◌then◌else◌, Option, Some, None, refl, sym, ap}
+use Rattle.std.proofs.Common.{ℕ, suc, ◌≡◌, ◌∙◌, ◌&&◌, ◌||◌, Bool, true, false, not, List, [], ◌∷◌, length, filter, map, if◌then◌else◌, Option, Some, None, refl}
+use Rattle.std.proofs.Common.{sym, ap}
 use Rattle.std.specs.Prelude.{slice_get}
 use Rattle.std.specs.Option.{option_map_or}
 use Rattle.std.specs.List.{list_any}
@@ -7,7 +8,8 @@ use Rattle.std.proofs.lemmas.Bool.{and_parts, eqb-true, false≢true, or_parts, 
 use Rattle.headline.proofs.facts.Laws.{capabilities-equal}
 use Rattle.model.specs.declared.entries.CapabilityEntry.{CapabilityEntry}
 use Rattle.model.specs.Acceptance.Accepted.{IsWellFormed}
-use Rattle.model.specs.Acceptance.NotedStates.{NotedSlot, PointState, SlotKey, are_same_slots, has_stray_slots, image_slots, is_foreign, is_own, is_same_key, is_same_parent, is_same_slot, is_stray, leads_to_boot, listed_slot, notes_outside, number_of, record_of}
+use Rattle.model.specs.Acceptance.NotedStates.{NotedSlot, PointState, SlotKey, are_same_slots, has_stray_slots, image_slots, is_foreign, is_own, is_same_key}
+use Rattle.model.specs.Acceptance.NotedStates.{is_same_parent, is_same_slot, is_stray, leads_to_boot, listed_slot, notes_outside, number_of, record_of}
 use Rattle.model.specs.Acceptance.ThreadRules.{is_member, reached}
 use Rattle.model.specs.Capabilities.CapabilityFields.{is_capability, same_words}
 use Rattle.model.specs.Capabilities.CapabilityWords.{IsCapability, words_of}
@@ -39,24 +41,29 @@ abbrev AllFirst : List NotedSlot → Type 0
 AllFirst [] = Unit {0}
 AllFirst (s ∷ rest) = (s.parent ≡ None) × AllFirst rest
 
-held-if : (image : Image) (t : Thread) (cnodes : List ℕ) (slots : List NotedSlot) (s : NotedSlot) → is_stray image t cnodes slots s ≡ false → IsHeld image cnodes s
+held-if : (image : Image) (t : Thread) (cnodes : List ℕ) (slots : List NotedSlot) (s : NotedSlot) → is_stray image t cnodes slots s ≡ false →
+    IsHeld image cnodes s
 held-if image t cnodes slots s is =
-    let a = or_parts (not (is_own image cnodes s.key) || is_foreign image t cnodes s.capability || not (is_capability s.capability)) (not (leads_to_boot (length slots) slots s.parent)) is in
+    let a = or_parts (not (is_own image cnodes s.key) || is_foreign image t cnodes s.capability || not (is_capability s.capability))
+    (not (leads_to_boot (length slots) slots s.parent)) is in
     let b = or_parts (not (is_own image cnodes s.key) || is_foreign image t cnodes s.capability) (not (is_capability s.capability)) a.0 in
     let c = or_parts (not (is_own image cnodes s.key)) (is_foreign image t cnodes s.capability) b.0 in
     record { own = not-false _ c.0; valid = test-decides s.capability (not-false _ b.1) }
 
-all-held : (image : Image) (t : Thread) (cnodes : List ℕ) (slots rest : List NotedSlot) → list_any (is_stray image t cnodes slots) rest ≡ false → AllHeld image cnodes rest
+all-held : (image : Image) (t : Thread) (cnodes : List ℕ) (slots rest : List NotedSlot) → list_any (is_stray image t cnodes slots) rest ≡ false →
+    AllHeld image cnodes rest
 all-held image t cnodes slots [] none = tt
 all-held image t cnodes slots (s ∷ rest) none =
     let parts = or_parts (is_stray image t cnodes slots s) (list_any (is_stray image t cnodes slots) rest) none in
     (held-if image t cnodes slots s parts.0, all-held image t cnodes slots rest parts.1)
 
-slots-held : (image : Image) (t : Thread) (point : ℕ) (state : PointState) → has_stray_slots image t point state ≡ false → AllHeld image (reached image t) state.slots
+slots-held : (image : Image) (t : Thread) (point : ℕ) (state : PointState) → has_stray_slots image t point state ≡ false →
+    AllHeld image (reached image t) state.slots
 unfolding has_stray_slots
 slots-held image t point state none =
     let cnodes = reached image t in
-    all-held image t cnodes state.slots state.slots (or_parts (list_any (is_stray image t cnodes state.slots) state.slots) (option_map_or (notes_outside image cnodes) (record_of t point) false) none).0
+    all-held image t cnodes state.slots state.slots
+    (or_parts (list_any (is_stray image t cnodes state.slots) state.slots) (option_map_or (notes_outside image cnodes) (record_of t point) false) none).0
 
 module _ (image : Image) (t : Thread) (fits : whole_image.fits image ≡ true) (well : IsWellFormed image) (listed : IsListed image t) where
   abbrev cnodes : List ℕ
@@ -70,7 +77,9 @@ module _ (image : Image) (t : Thread) (fits : whole_image.fits image ≡ true) (
   given-more c rest held others true = ((held, others.0), (refl, others.1))
   given-more c rest held others false = others
 
-  given-all : (rest : List CapabilityEntry) → ((k : ℕ) (c : CapabilityEntry) → slice_get rest k ≡ Some c → is_member c.cnode cnodes ≡ true → IsHeld image cnodes (listed_slot image c)) → Given (slots_in image cnodes rest)
+  given-all : (rest : List CapabilityEntry) →
+      ((k : ℕ) (c : CapabilityEntry) → slice_get rest k ≡ Some c → is_member c.cnode cnodes ≡ true → IsHeld image cnodes (listed_slot image c)) →
+      Given (slots_in image cnodes rest)
   given-all [] each = (tt, tt)
   given-all (c ∷ rest) each =
       let others = given-all rest (λ k d at. each (suc k) d at) in
@@ -91,7 +100,8 @@ module _ (image : Image) (t : Thread) (fits : whole_image.fits image ≡ true) (
   one-same a b held other first same =
       let outer = and_parts (is_same_key a.key b.key && same_words (words_of a.capability) (words_of b.capability)) (is_same_parent a.parent b.parent) same in
       let inner = and_parts (is_same_key a.key b.key) (same_words (words_of a.capability) (words_of b.capability)) outer.0 in
-      let key : a.key ≡ b.key = same-own-key image t (stand image t fits well listed) a.key b.key held.own other.own (eqb-true (number_of a.key) (number_of b.key) inner.0) in
+      let key : a.key ≡ b.key = same-own-key image t (stand image t fits well listed) a.key b.key held.own other.own
+      (eqb-true (number_of a.key) (number_of b.key) inner.0) in
       let capability : a.capability ≡ b.capability = capabilities-equal a.capability b.capability held.valid other.valid inner.1 in
       let none : is_same_parent a.parent None ≡ true = ap (is_same_parent a.parent) (sym first) ∙ outer.1 in
       let parent : a.parent ≡ b.parent = no-parent a.parent none ∙ sym first in
@@ -103,9 +113,11 @@ module _ (image : Image) (t : Thread) (fits : whole_image.fits image ≡ true) (
   all-same (a ∷ as_) [] held others first same = absurd (false≢true same)
   all-same (a ∷ as_) (b ∷ bs) held others first same =
       let parts = and_parts (is_same_slot a b) (are_same_slots as_ bs) same in
-      ap (λ (s : NotedSlot). s ∷ as_) (one-same a b held.0 others.0 first.0 parts.0) ∙ ap (λ (rest : List NotedSlot). b ∷ rest) (all-same as_ bs held.1 others.1 first.1 parts.1)
+      ap (λ (s : NotedSlot). s ∷ as_) (one-same a b held.0 others.0 first.0 parts.0)
+      ∙ ap (λ (rest : List NotedSlot). b ∷ rest) (all-same as_ bs held.1 others.1 first.1 parts.1)
 
-  pub slots-same : (point : ℕ) (state : PointState) → has_stray_slots image t point state ≡ false → are_same_slots state.slots (image_slots image t) ≡ true → state.slots ≡ image_slots image t
+  pub slots-same : (point : ℕ) (state : PointState) → has_stray_slots image t point state ≡ false → are_same_slots state.slots (image_slots image t) ≡ true →
+      state.slots ≡ image_slots image t
   slots-same point state none same =
       let given = image-given in
       all-same state.slots (image_slots image t) (slots-held image t point state none) given.0 given.1 same

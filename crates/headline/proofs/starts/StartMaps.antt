@@ -1,5 +1,6 @@
 -- The mappings under a thread's root table are the image's, and no slot of the thread names a frame of code.
-use Rattle.std.proofs.Common.{ℕ, zero, suc, ◌≡◌, ◌∙◌, ◌==◌, ◌-◌, ◌/◌, ◌%◌, ◌<◌, ◌&&◌, ◌||◌, inl, inr, true, false, filter, find, map, if◌then◌else◌, List, [], ◌∷◌, get_or, Option, Some, None, refl, sym, ap, subst, arith}
+use Rattle.std.proofs.Common.{ℕ, zero, suc, ◌≡◌, ◌∙◌, ◌==◌, ◌-◌, ◌/◌, ◌%◌, ◌<◌, ◌&&◌, ◌||◌, inl, inr, true, false, filter, find, map, if◌then◌else◌, List, []}
+use Rattle.std.proofs.Common.{◌∷◌, get_or, Option, Some, None, refl, sym, ap, subst, arith}
 use Rattle.std.specs.Prelude.{Contains, slice_get}
 use Rattle.std.specs.Option.{option_map_or}
 use Rattle.std.specs.List.{list_any}
@@ -7,9 +8,11 @@ use Rattle.std.proofs.lemmas.Bool.{and_parts, eq-eqb, eqb-true, cases_lt, false�
 use Rattle.std.proofs.lemmas.Option.{none-some, same_Some, slice_get_within, slice_get-get_or}
 use Rattle.format_laws.specs.Fitting.{CapabilityFits, FrameFits, IsFitting, ThreadFits}
 use Rattle.format_laws.proofs.Laws.{is-fitting}
-use Rattle.soundness.proofs.Laws.{AreFormed, FrameKept, ReadsBoot, are-formed, first_of_type, limited-frame, mapped_by, mapping_of, object-at, offsets-apart, payload-mapping}
+use Rattle.soundness.proofs.Laws.{AreFormed, FrameKept, ReadsBoot, are-formed, first_of_type, limited-frame, mapped_by, mapping_of, object-at, offsets-apart}
+use Rattle.soundness.proofs.Laws.{payload-mapping}
 use Rattle.model.specs.declared.capabilities.Cap.{Cap}
-use Rattle.model.specs.declared.capabilities.Cap.TheVariants.{Empty, Untyped, Endpoint, Notification, CNode, Frame, PageTable, Tcb, RootTable, InterruptControl, InterruptHandler}
+use Rattle.model.specs.declared.capabilities.Cap.TheVariants.{Empty, Untyped, Endpoint, Notification, CNode, Frame, PageTable, Tcb, RootTable, InterruptControl}
+use Rattle.model.specs.declared.capabilities.Cap.TheVariants.{InterruptHandler}
 use Rattle.model.specs.declared.capabilities.FrameMapping.{FrameMapping}
 use Rattle.model.specs.declared.entries.CapabilityEntry.{CapabilityEntry}
 use Rattle.model.specs.declared.entries.FrameEntry.{FrameEntry}
@@ -25,23 +28,27 @@ use Rattle.model.specs.Acceptance.WellFormed.{executes, has_writable_code, is_ma
 use Rattle.model.specs.Capabilities.CapabilityKinds.{frame_mapping, object_of, with_payload}
 use Rattle.model.specs.Capabilities.Rights.{frame_rights}
 use Rattle.model.specs.Capabilities.Slots.{capability_at}
-use Rattle.model.specs.Images.Described.{Numbered, binding_holding, described, handler_holding, limited, listed_capability, notification_holding, original, source_capability, untyped_holding}
+use Rattle.model.specs.Images.Described.{Numbered, binding_holding, described, handler_holding, limited, listed_capability, notification_holding, original}
+use Rattle.model.specs.Images.Described.{source_capability, untyped_holding}
 use Rattle.model.specs.Images.Image.{Image, Thread, whole_image}
 use Rattle.model.specs.Images.Places.{cnode_slot, frame_copy_slot, interrupt_of, is_handler, object_at, offset_of, type_at}
 use Rattle.model.specs.Kernel.AddressSpaces.{Maps, page_size}
 use Rattle.model.specs.Kernel.Retype.{NewObject, NewUntyped, NewThread, NewEndpoint, NewNotification, NewCNode, NewFrame, NewPageTable, NewRootTable}
 use Rattle.thread_spaces.specs.Given.{IsListed}
-use Rattle.thread_spaces.proofs.Laws.{OfSections, boot-holds, capability-shown, each-slot, each-two, from-loaded, listed-handler, listed-object, listed-shown, slots_in}
+use Rattle.thread_spaces.proofs.Laws.{OfSections, boot-holds, capability-shown, each-slot, each-two, from-loaded, listed-handler, listed-object, listed-shown}
+use Rattle.thread_spaces.proofs.Laws.{slots_in}
 use Rattle.headline.proofs.starts.GivenSlots.{IsListedSlot}
 use Rattle.headline.proofs.starts.ListFacts.{contained, contains, none-at}
 
 -- ---- a slot of the image's is listed
 
-pub at-listed : (image : Image) (cnodes : List ℕ) (capabilities : List CapabilityEntry) (k : ℕ) (s : NotedSlot) → slice_get (slots_in image cnodes capabilities) k ≡ Some s → IsListedSlot image cnodes capabilities s
+pub at-listed : (image : Image) (cnodes : List ℕ) (capabilities : List CapabilityEntry) (k : ℕ) (s : NotedSlot) →
+    slice_get (slots_in image cnodes capabilities) k ≡ Some s → IsListedSlot image cnodes capabilities s
 at-listed image cnodes [] k s at = absurd (none-some s at)
 at-listed image cnodes (c ∷ rest) k s at =
     elim (is_member c.cnode cnodes) as (λ b. is_member c.cnode cnodes ≡ b
-    → slice_get (map (listed_slot image) (if b then c ∷ filter (λ d. is_member d.cnode cnodes) rest else filter (λ d. is_member d.cnode cnodes) rest)) k ≡ Some s → IsListedSlot image cnodes (c ∷ rest) s) [
+    → slice_get (map (listed_slot image) (if b then c ∷ filter (λ d. is_member d.cnode cnodes) rest else filter (λ d. is_member d.cnode cnodes) rest)) k ≡ Some
+    s → IsListedSlot image cnodes (c ∷ rest) s) [
       | true ↦ λ among here. first k among (at-listed image cnodes rest) here
       | false ↦ λ _ behind. later (at-listed image cnodes rest k s behind)
     ] refl at
@@ -49,14 +56,16 @@ at-listed image cnodes (c ∷ rest) k s at =
     later : IsListedSlot image cnodes rest s → IsListedSlot image cnodes (c ∷ rest) s
     later of = record { place = suc of.place; entry = of.entry; at = of.at; member = of.member; is = of.is }
 
-    first : (j : ℕ) → is_member c.cnode cnodes ≡ true → ((i : ℕ) (r : NotedSlot) → slice_get (slots_in image cnodes rest) i ≡ Some r → IsListedSlot image cnodes rest r)
+    first : (j : ℕ) → is_member c.cnode cnodes ≡ true →
+        ((i : ℕ) (r : NotedSlot) → slice_get (slots_in image cnodes rest) i ≡ Some r → IsListedSlot image cnodes rest r)
         → slice_get (listed_slot image c ∷ slots_in image cnodes rest) j ≡ Some s → IsListedSlot image cnodes (c ∷ rest) s
     first zero among others here = record { place = 0; entry = c; at = refl; member = among; is = sym (same_Some (listed_slot image c) s here) }
     first (suc j) among others behind = later (others j s behind)
 
 pub given-listed : (image : Image) (t : Thread) (s : NotedSlot) → Contains (image_slots image t) s → IsListedSlot image (reached image t) image.capabilities s
 unfolding image_slots
-given-listed image t s there = let place = contained (slots_in image (reached image t) image.capabilities) s there in at-listed image (reached image t) image.capabilities place.0 s place.1
+given-listed image t s there = let place = contained (slots_in image (reached image t) image.capabilities) s there in
+    at-listed image (reached image t) image.capabilities place.0 s place.1
 
 -- ---- frames of code
 
@@ -71,7 +80,8 @@ unfolding has_writable_code
 only-code image k f kept runs =
     let outer = or_parts (f.rights == 7) (executes f && is_named_otherwise image k f.frame) kept in
     let named : is_named_otherwise image k f.frame ≡ false = sym (ap (λ b. b && is_named_otherwise image k f.frame) runs) ∙ outer.1 in
-    let a = or_parts (is_mapped_twice image k f.frame || list_any (λ c. c.source == f.frame) image.capabilities) (list_any (λ c. c.header.frame == f.frame) image.contents) named in
+    let a = or_parts (is_mapped_twice image k f.frame || list_any (λ c. c.source == f.frame) image.capabilities)
+    (list_any (λ c. c.header.frame == f.frame) image.contents) named in
     let b = or_parts (is_mapped_twice image k f.frame) (list_any (λ c. c.source == f.frame) image.capabilities) a.0 in
     record { once = b.0; unlisted = b.1; unfilled = a.1 }
 
@@ -104,7 +114,8 @@ first-frame (Some NewRootTable) offset = refl
 
 original-no-frame : (image : Image) (number : ℕ) → frame_mapping (original image number) ≡ None
 original-no-frame image number =
-    table-frame image (find (λ e. e.table == number) image.tables) (first_of_type (type_at image number) (offset_of image number)) ∙ first-frame (type_at image number) (offset_of image number)
+    table-frame image (find (λ e. e.table == number) image.tables) (first_of_type (type_at image number) (offset_of image number))
+    ∙ first-frame (type_at image number) (offset_of image number)
 
 handler-frame : (found : Option InterruptEntry) → frame_mapping (option_map_or (λ (i : InterruptEntry). InterruptHandler i.line) found Empty) ≡ None
 handler-frame None = refl
@@ -113,14 +124,17 @@ handler-frame (Some i) = refl
 listed-no-frame : (image : Image) (c : CapabilityEntry) → frame_mapping (listed_capability image c) ≡ None
 listed-no-frame image c =
     limited-frame (source_capability image c.source) c.rights c.payload
-    ∙ elim (is_handler image c.source) as (λ b. frame_mapping (if b then option_map_or (λ (i : InterruptEntry). InterruptHandler i.line) (slice_get image.interrupts (interrupt_of image c.source)) Empty else original image c.source) ≡ None) [
+    ∙ elim (is_handler image c.source)
+    as (λ b. frame_mapping (if b then option_map_or (λ (i : InterruptEntry). InterruptHandler i.line)
+    (slice_get image.interrupts (interrupt_of image c.source)) Empty else original image c.source) ≡ None) [
       | true ↦ handler-frame (slice_get image.interrupts (interrupt_of image c.source))
       | false ↦ original-no-frame image c.source
     ]
 
 -- ---- the object of a listed capability
 
-of-object : (kind : Option NewObject) (offset word payload frame : ℕ) → object_of (limited (first_of_type kind offset) word payload) ≡ Some frame → offset ≡ frame
+of-object : (kind : Option NewObject) (offset word payload frame : ℕ) → object_of (limited (first_of_type kind offset) word payload) ≡ Some frame →
+    offset ≡ frame
 of-object None offset word payload frame is = absurd (none-some frame is)
 of-object (Some (NewUntyped bits)) offset word payload frame is = absurd (none-some frame is)
 of-object (Some NewThread) offset word payload frame is = same_Some offset frame is
@@ -143,18 +157,21 @@ module _ (image : Image) (fits : whole_image.fits image ≡ true) (well : IsWell
   frame-source k c frame at names = elim (cases_lt c.source image.header.objects) [
     | inl less ↦
         let o = object_at image c.source in
-        let same = listed-object image c fits well (record { number = k; listed = at }) o (offset_of image c.source) less (object-at image c.source fitting less) refl in
+        let same = listed-object image c fits well (record { number = k; listed = at }) o (offset_of image c.source) less
+        (object-at image c.source fitting less) refl in
         (less, of-object _ (offset_of image c.source) c.rights c.payload frame (ap object_of same ∙ names))
     | inr most ↦
         let source = CapabilityFits.source (IsFitting.capability fitting k c at) in
         let many = fitting.interrupts in
         let place = c.source - image.header.objects in
         let nothing : InterruptEntry = record { line = 0; notification = 0; badge = 0 } in
-        let same = listed-handler image c (get_or image.interrupts place nothing) most (slice_get-get_or image.interrupts place nothing (omega (arith, source, many, most))) in
+        let same = listed-handler image c (get_or image.interrupts place nothing) most
+        (slice_get-get_or image.interrupts place nothing (omega (arith, source, many, most))) in
         absurd (none-some frame (ap object_of same ∙ names))
   ]
 
-  pub code-unnamed : (t : Thread) (s : NotedSlot) (frame : ℕ) (held : Rights) (mapping : Option FrameMapping) → Contains (image_slots image t) s → s.capability ≡ Frame frame held mapping → IsCode image frame → ⊥
+  pub code-unnamed : (t : Thread) (s : NotedSlot) (frame : ℕ) (held : Rights) (mapping : Option FrameMapping) → Contains (image_slots image t) s →
+      s.capability ≡ Frame frame held mapping → IsCode image frame → ⊥
   code-unnamed t s frame held mapping there is code =
       let of = given-listed image t s there in
       let c = of.entry in
@@ -191,7 +208,8 @@ module _ (image : Image) (fits : whole_image.fits image ≡ true) (well : IsWell
         record {
           entry = f;
           listed = contains image.frames k f at;
-          root = offsets-apart image f.root t.thread.header.root fitting formed (FrameFits.root (IsFitting.frame fitting k f at)) root-less (ap (λ (m : FrameMapping). m.root) same);
+          root = offsets-apart image f.root t.thread.header.root fitting formed (FrameFits.root (IsFitting.frame fitting k f at)) root-less
+              (ap (λ (m : FrameMapping). m.root) same);
           address = omega (arith, page_is, whole);
           object = sym object;
           rights = sym (ap (λ (m : FrameMapping). m.rights) same);
@@ -218,7 +236,8 @@ module _ (image : Image) (fits : whole_image.fits image ≡ true) (well : IsWell
         binding = λ k i at. no-frame (((binding_holding image (k, i)).1).capability) refl;
         listed = λ k c at. no-frame (listed_capability image c) (listed-no-frame image c);
         thread = λ k u at. each-two IsMapped _ _
-            (no-frame (with_payload (original image u.header.cnode) u.header.guard) (payload-mapping (original image u.header.cnode) u.header.guard ∙ original-no-frame image u.header.cnode))
+            (no-frame (with_payload (original image u.header.cnode) u.header.guard)
+            (payload-mapping (original image u.header.cnode) u.header.guard ∙ original-no-frame image u.header.cnode))
             (no-frame (original image u.header.root) (original-no-frame image u.header.root));
       }
 
@@ -261,10 +280,12 @@ module _ (image : Image) (fits : whole_image.fits image ≡ true) (well : IsWell
         record {
           slot = cnode_slot image c.cnode c.index;
           frame_rights = maps.held;
-          capability = capability-shown image (cnode_slot image c.cnode c.index) _ (listed-shown image fits well of.place c of.at) ∙ ap (λ (x : NotedSlot). x.capability) (sym of.is) ∙ maps.capability;
+          capability = capability-shown image (cnode_slot image c.cnode c.index) _ (listed-shown image fits well of.place c of.at)
+              ∙ ap (λ (x : NotedSlot). x.capability) (sym of.is) ∙ maps.capability;
         }
 
-pub maps-given : (image : Image) (t : Numbered) → whole_image.fits image ≡ true → IsWellFormed image → IsListed image t.thread → MapsAreNoted image t (described image) (image_slots image t.thread)
+pub maps-given : (image : Image) (t : Numbered) → whole_image.fits image ≡ true → IsWellFormed image → IsListed image t.thread →
+    MapsAreNoted image t (described image) (image_slots image t.thread)
 maps-given image t fits well listed page frame allowed = (
   λ maps. inl (maps-listed image fits well t listed page frame allowed maps),
   λ either. elim either [

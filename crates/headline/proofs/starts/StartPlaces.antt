@@ -1,5 +1,6 @@
 -- Where the addresses of a thread's program lie: in the frame that the image maps there, for fetching.
-use Rattle.std.proofs.Common.{ℕ, zero, suc, ◌≡◌, ◌∙◌, ◌==◌, ◌+◌, ◌-◌, ◌*◌, ◌/◌, ◌%◌, ◌^◌, ◌<◌, ◌≤◌, ◌&&◌, inl, inr, Bool, true, false, not, bit_and, if◌then◌else◌, List, [], ◌∷◌, Option, Some, None, option_and_then, option_map, refl, sym, ap, subst, arith}
+use Rattle.std.proofs.Common.{ℕ, zero, suc, ◌≡◌, ◌∙◌, ◌==◌, ◌+◌, ◌-◌, ◌*◌, ◌/◌, ◌%◌, ◌^◌, ◌<◌, ◌≤◌, ◌&&◌, inl, inr, Bool, true, false, not, bit_and}
+use Rattle.std.proofs.Common.{if◌then◌else◌, List, [], ◌∷◌, Option, Some, None, option_and_then, option_map, refl, sym, ap, subst, arith}
 use Rattle.std.specs.Prelude.{filter_map, slice_get}
 use Rattle.std.specs.Option.{option_map_or}
 use Rattle.std.specs.List.{cons_option, range_with_len}
@@ -11,7 +12,8 @@ use Rattle.format_laws.proofs.Laws.{is-fitting}
 use Rattle.soundness.specs.boot_laws.Loading.{all_loaded}
 use Rattle.soundness.proofs.Laws.{AreFormed, ReadsBoot, ThreadKept, are-formed, boot-slots-suffice, first_of_type, range-at, reads-vspace}
 use Rattle.model.specs.declared.capabilities.Cap.{Cap}
-use Rattle.model.specs.declared.capabilities.Cap.TheVariants.{Empty, Untyped, Endpoint, Notification, CNode, Frame, PageTable, Tcb, RootTable, InterruptControl, InterruptHandler}
+use Rattle.model.specs.declared.capabilities.Cap.TheVariants.{Empty, Untyped, Endpoint, Notification, CNode, Frame, PageTable, Tcb, RootTable, InterruptControl}
+use Rattle.model.specs.declared.capabilities.Cap.TheVariants.{InterruptHandler}
 use Rattle.model.specs.declared.capabilities.FrameMapping.{FrameMapping}
 use Rattle.model.specs.declared.entries.FrameEntry.{FrameEntry}
 use Rattle.model.specs.declared.instructions.Access.TheVariants.{Fetch}
@@ -43,7 +45,8 @@ behind-none g n ns v zero x at is none rest = absurd (none-some v (sym none ∙ 
 behind-none g n ns v (suc k) x at is none rest = rest k at
 
 -- whatever gives something gives this
-head-only : {A : Type 0} (g : ℕ → Option A) (xs : List ℕ) (v : A) → ((x : ℕ) (y : A) → g x ≡ Some y → y ≡ v) → (k x : ℕ) → slice_get xs k ≡ Some x → g x ≡ Some v → head_of (filter_map g xs) ≡ Some v
+head-only : {A : Type 0} (g : ℕ → Option A) (xs : List ℕ) (v : A) → ((x : ℕ) (y : A) → g x ≡ Some y → y ≡ v) → (k x : ℕ) → slice_get xs k ≡ Some x →
+    g x ≡ Some v → head_of (filter_map g xs) ≡ Some v
 head-only g [] v only k x at is = absurd (none-some x at)
 head-only g (n ∷ ns) v only k x at is =
     elim (g n) as (λ o. g n ≡ o → head_of (cons_option o (filter_map g ns)) ≡ Some v) [
@@ -64,7 +67,8 @@ record MapsFrame (root page : ℕ) (m : MappedFrame) (c : Cap) : Type 0 where
   is : c ≡ Frame m.frame held (Some (record { root = root; page = page; rights = m.allowed }))
 
 if-page : (root page offset : ℕ) (r : Rights) (mapping : FrameMapping) (m : MappedFrame) (b : Bool) → is_page root page mapping ≡ b
-    → (if b then Some (let f : MappedFrame = record { frame = offset; allowed = mapping.rights } in f) else None) ≡ Some m → MapsFrame root page m (Frame offset r (Some mapping))
+    → (if b then Some (let f : MappedFrame = record { frame = offset; allowed = mapping.rights } in f) else None) ≡ Some m →
+    MapsFrame root page m (Frame offset r (Some mapping))
 if-page root page offset r mapping m false test is = absurd (none-some m is)
 if-page root page offset r mapping m true test is =
     let parts = and_parts (mapping.root == root) (mapping.page == page) test in
@@ -143,12 +147,15 @@ module _ (image : Image) (fits : whole_image.fits image ≡ true) (well : IsWell
   formed = are-formed image well
 
   -- two entries of one root table and address are one
-  pub one-entry : (j k : ℕ) (e f : FrameEntry) → slice_get image.frames j ≡ Some e → slice_get image.frames k ≡ Some f → e.root ≡ f.root → e.address ≡ f.address → e ≡ f
+  pub one-entry : (j k : ℕ) (e f : FrameEntry) → slice_get image.frames j ≡ Some e → slice_get image.frames k ≡ Some f → e.root ≡ f.root →
+      e.address ≡ f.address → e ≡ f
   one-entry j k e f one two root address = elim (cases_lt j k) [
-    | inl less ↦ absurd (let rise : pair_key e.root e.address < pair_key f.root f.address = fitting.pages_rise j k e f less one two in omega (arith, rise, root, address))
+    | inl less ↦ absurd (let rise : pair_key e.root e.address < pair_key f.root f.address = fitting.pages_rise j k e f less one two in
+        omega (arith, rise, root, address))
     | inr most ↦ elim (eqb_tells k j) [
       | inl same ↦ same_Some e f (sym one ∙ ap (slice_get image.frames) (sym same.1) ∙ two)
-      | inr other ↦ absurd (let rise : pair_key f.root f.address < pair_key e.root e.address = fitting.pages_rise k j f e (omega (arith, most, other.1)) two one in omega (arith, rise, root, address))
+      | inr other ↦ absurd (let rise : pair_key f.root f.address < pair_key e.root e.address =
+          fitting.pages_rise k j f e (omega (arith, most, other.1)) two one in omega (arith, rise, root, address))
     ]
   ]
 
@@ -166,9 +173,11 @@ module _ (image : Image) (fits : whole_image.fits image ≡ true) (well : IsWell
 
     pub vspace-shown : capability_at (described image).slots (vspace_slot tcb) ≡ original image t.thread.header.root
     vspace-shown =
-        let less : listed.number < image.header.threads = subst (λ (n : ℕ). listed.number < n) (IsFitting.threads fitting) (slice_get_within image.threads listed.number t.thread listed.listed) in
+        let less : listed.number < image.header.threads = subst (λ (n : ℕ). listed.number < n) (IsFitting.threads fitting)
+        (slice_get_within image.threads listed.number t.thread listed.listed) in
         capability-shown image (vspace_slot tcb) _
-        (from-loaded image (vspace_slot tcb) _ fitting (reads-vspace image fitting formed (all_loaded image) (all-within image) refl listed.number t.thread less listed.listed))
+        (from-loaded image (vspace_slot tcb) _ fitting
+        (reads-vspace image fitting formed (all_loaded image) (all-within image) refl listed.number t.thread less listed.listed))
 
     original-root : original image t.thread.header.root ≡ RootTable root
     original-root =
@@ -195,18 +204,24 @@ module _ (image : Image) (fits : whole_image.fits image ≡ true) (well : IsWell
         let found = maps-listed image fits well t listed page m.frame m.allowed (record { slot = n; frame_rights = one.held; capability = one.is }) in
         let place = contained image.frames found.entry found.listed in
         let same : found.entry ≡ f = one-entry place.0 k found.entry f place.1 at (found.root ∙ sym same_root) (found.address ∙ sym same_address) in
-        λ i. record { frame = (found.object ∙ ap (λ (e : FrameEntry). offset_of image e.frame) same) i; allowed = (found.rights ∙ ap (λ (e : FrameEntry). mapping_rights frame_rights e.rights) same) i })
+        λ i. record {
+          frame = (found.object ∙ ap (λ (e : FrameEntry). offset_of image e.frame) same) i;
+          allowed =
+              (found.rights ∙ ap (λ (e : FrameEntry). mapping_rights frame_rights e.rights) same) i;
+        })
         slot slot (numbers-get image.header.memory_bits slot (omega (arith, less, enough, room))) there
       where
         copy-there : (k : ℕ) (f : FrameEntry) (page : ℕ) → slice_get image.frames k ≡ Some f → f.root ≡ t.thread.header.root → f.address ≡ page * page_size
-            → page_of root page (capability_at (described image).slots (frame_copy_slot image k)) ≡ Some (record { frame = offset_of image f.frame; allowed = mapping_rights frame_rights f.rights })
+            → page_of root page (capability_at (described image).slots (frame_copy_slot image k)) ≡ Some
+            (record { frame = offset_of image f.frame; allowed = mapping_rights frame_rights f.rights })
         copy-there k f page at same_root same_address =
             let less : k < image.header.frames = subst (λ (n : ℕ). k < n) (IsFitting.frames fitting) (slice_get_within image.frames k f at) in
             let shown = from-loaded image (frame_copy_slot image k) _ fitting (ReadsBoot.frame (boot-holds image fits well) k f less at) in
             let root_is : offset_of image f.root ≡ root = ap (offset_of image) same_root in
             let page_is : f.address / page_size ≡ page = omega (arith, same_address) in
             ap (page_of root page) (capability-shown image (frame_copy_slot image k) _ shown
-            ∙ (λ i. Frame (offset_of image f.frame) frame_rights (Some (record { root = root_is i; page = page_is i; rights = mapping_rights frame_rights f.rights }))))
+            ∙ (λ i. Frame (offset_of image f.frame) frame_rights
+            (Some (record { root = root_is i; page = page_is i; rights = mapping_rights frame_rights f.rights }))))
             ∙ maps-page root page (offset_of image f.frame) frame_rights (mapping_rights frame_rights f.rights)
 
     -- ---- pages of code
@@ -217,9 +232,11 @@ module _ (image : Image) (fits : whole_image.fits image ≡ true) (well : IsWell
     whole : base % page_size ≡ 0
     whole = eqb-true (base % page_size) 0 (ThreadKept.base kept)
 
-    code-there : (address : ℕ) → is_code image t.thread address ≡ true → (f : FrameEntry) × (frame_at image t.thread.header.root address ≡ Some f) × (executes f ≡ true)
+    code-there : (address : ℕ) → is_code image t.thread address ≡ true → (f : FrameEntry) × (frame_at image t.thread.header.root address ≡ Some f)
+        × (executes f ≡ true)
     code-there address is =
-        elim (frame_at image t.thread.header.root address) as (λ o. option_map_or executes o false ≡ true → (f : FrameEntry) × (o ≡ Some f) × (executes f ≡ true)) [
+        elim (frame_at image t.thread.header.root address) as (λ o. option_map_or executes o false ≡ true → (f : FrameEntry) × (o ≡ Some f)
+        × (executes f ≡ true)) [
           | None ↦ λ clash. absurd (false≢true clash)
           | Some f ↦ λ runs. (f, refl, runs)
         ] is
@@ -232,8 +249,11 @@ module _ (image : Image) (fits : whole_image.fits image ≡ true) (well : IsWell
         let even = whole in
         let address : base + q * page_size ≡ page * page_size = omega (arith, even) in
         let at : slice_get (program_pages t.thread) q ≡ Some (base + q * page_size) =
-        slice_get-map (λ (n : ℕ). base + n * page_size) (range_with_len 0 count) q ∙ ap (option_map (λ (n : ℕ). base + n * page_size)) (range-at count q (omega (arith, less))) in
-        let code = code-there (page * page_size) (subst (λ (n : ℕ). is_code image t.thread n ≡ true) address (all-at (is_code image t.thread) (program_pages t.thread) q (base + q * page_size) (ThreadKept.code kept) at)) in
+        slice_get-map (λ (n : ℕ). base + n * page_size) (range_with_len 0 count) q
+        ∙ ap (option_map (λ (n : ℕ). base + n * page_size)) (range-at count q (omega (arith, less))) in
+        let code = code-there (page * page_size)
+        (subst (λ (n : ℕ). is_code image t.thread n ≡ true) address
+        (all-at (is_code image t.thread) (program_pages t.thread) q (base + q * page_size) (ThreadKept.code kept) at)) in
         let f = code.0 in
         let passed = find-passed (λ (e : FrameEntry). e.root == t.thread.header.root && e.address == page * page_size) image.frames f code.1 in
         let parts = and_parts (f.root == t.thread.header.root) (f.address == page * page_size) passed.passes in
@@ -258,5 +278,6 @@ module _ (image : Image) (fits : whole_image.fits image ≡ true) (well : IsWell
         let s = described image in
         let few : f.rights ≤ 7 = FrameFits.rights (IsFitting.frame fitting page.place f page.at) in
         ap (λ (o : Option ℕ). option_and_then (λ r. place_under s r Fetch (base + b)) o) vspace-is
-        ∙ ap (λ (o : Option MappedFrame). option_and_then (place_in Fetch (base + b)) o) (mapped-frame page.place f ((base + b) / page_size) page.at page.root page.address)
+        ∙ ap (λ (o : Option MappedFrame). option_and_then (place_in Fetch (base + b)) o)
+        (mapped-frame page.place f ((base + b) / page_size) page.at page.root page.address)
         ∙ ap (λ c. if c then Some (offset_of image f.frame + (base + b) % page_size) else None) (fetches f.rights few page.executes)

@@ -90,7 +90,8 @@ module _ (image : Image) (fits : whole_image.fits image ≡ true) (well : IsWell
         holds = ap (λ (found : Option ℕ). option_map_or (λ byte. byte) found 0) there ∙ ap (λ (n : ℕ). slice_index (bytes_of t.thread.words) n) back;
       }
 
-  piece-at : (point i address : ℕ) → point < t.thread.header.words → i < 4 → address ≡ base + (4 * point + i) → Holds content address (slice_index (word_bytes (slice_index t.thread.words point)) i)
+  piece-at : (point i address : ℕ) → point < t.thread.header.words → i < 4 → address ≡ base + (4 * point + i) →
+      Holds content address (slice_index (word_bytes (slice_index t.thread.words point)) i)
   piece-at point i address less few is =
       let found = byte-at (4 * point + i) (omega (arith, less, few)) in
       record {
@@ -104,7 +105,8 @@ module _ (image : Image) (fits : whole_image.fits image ≡ true) (well : IsWell
   word-at point ends small less =
       let a = address_of t.thread point in
       let word = slice_index t.thread.words point in
-      four-bytes content a (slice_index (word_bytes word) 0) (slice_index (word_bytes word) 1) (slice_index (word_bytes word) 2) (slice_index (word_bytes word) 3)
+      four-bytes content a (slice_index (word_bytes word) 0) (slice_index (word_bytes word) 1) (slice_index (word_bytes word) 2)
+      (slice_index (word_bytes word) 3)
       (piece-at point 0 a less (omega arith) (omega arith))
       (piece-at point 1 (next_address a) less (omega arith) (omega (arith, ends, less)))
       (piece-at point 2 (next_address (next_address a)) less (omega arith) (omega (arith, ends, less)))
@@ -114,8 +116,10 @@ module _ (image : Image) (fits : whole_image.fits image ≡ true) (well : IsWell
   -- its entry is one of its words, and it ends below the limit of addresses
   ends : (base + 4 * t.thread.header.words ≤ 2 ^ 31) × (t.thread.header.entry < t.thread.header.words)
   ends =
-      let kept = AreFormed.thread (are-formed image well) listed.number t.thread listed.listed in
-      (not-above (base + 4 * t.thread.header.words) (2 ^ 31) (ThreadKept.end kept), is-below t.thread.header.entry t.thread.header.words (ThreadKept.entry kept))
+      let kept = AreFormed.thread (are-formed image well) listed.number t.thread listed.listed in (
+        not-above (base + 4 * t.thread.header.words) (2 ^ 31) (ThreadKept.end kept),
+        is-below t.thread.header.entry t.thread.header.words (ThreadKept.entry kept),
+      )
 
   pub program-stands : ProgramStands image t (described image)
   program-stands point less = word-at point ends.0 (words-small image listed.number t.thread fits listed.listed point) less

@@ -53,7 +53,8 @@ module _ (image : Image) (fits : whole_image.fits image ≡ true) (well : IsWell
   pub root-started : (t : Thread) → IsListed image t → capability_at (described image).slots (cspace_slot (offset_of image t.header.tcb)) ≡ noted_root image t
   root-started t listed = capability-shown image (cspace_slot (offset_of image t.header.tcb)) _ (root-shown image fits well listed.number t listed.listed)
 
-pub thread-starts : (image : Image) (t : Numbered) → whole_image.fits image ≡ true → IsWellFormed image → AreKept (program_rules image) → Contains (numbered_threads image) t
+pub thread-starts : (image : Image) (t : Numbered) → whole_image.fits image ≡ true → IsWellFormed image → AreKept (program_rules image) →
+    Contains (numbered_threads image) t
     → ThreadInvariant image t (described image) []
 thread-starts image t fits well programs there =
     let place = numbered-thread image t there in
@@ -79,4 +80,5 @@ thread-starts image t fits well programs there =
       vspace = vspace-shown image fits well t listed;
     } in
     runs (listed_thread t.thread) point state (object-started image t.thread fits well listed) refl stands
-    (within t.thread.header.budget (open_count (offset_of image t.thread.header.tcb) []) (measured state.measure (start_registers t.thread)) (none-open (offset_of image t.thread.header.tcb)) entry.budget)
+    (within t.thread.header.budget (open_count (offset_of image t.thread.header.tcb) []) (measured state.measure (start_registers t.thread))
+    (none-open (offset_of image t.thread.header.tcb)) entry.budget)

@@ -1,5 +1,6 @@
 -- A load or store reaches only bytes that its thread may read or write, where the rule on mapped pages is kept.
-use Rattle.std.proofs.Common.{ℕ, zero, suc, ◌≡◌, ◌∙◌, ◌==◌, ◌+◌, ◌-◌, ◌*◌, ◌/◌, ◌%◌, ◌^◌, ◌<◌, ◌≤◌, ◌&&◌, inl, inr, Bool, true, false, not, if◌then◌else◌, List, [], ◌∷◌, map, Some, None, Ok, ℤ, pos, negsuc, ◌+ℤ◌, nat_abs, int_lt, refl, sym, ap, subst, arith}
+use Rattle.std.proofs.Common.{ℕ, zero, suc, ◌≡◌, ◌∙◌, ◌==◌, ◌+◌, ◌-◌, ◌*◌, ◌/◌, ◌%◌, ◌^◌, ◌<◌, ◌≤◌, ◌&&◌, inl, inr, Bool, true, false, not, if◌then◌else◌, List}
+use Rattle.std.proofs.Common.{[], ◌∷◌, map, Some, None, Ok, ℤ, pos, negsuc, ◌+ℤ◌, nat_abs, int_lt, refl, sym, ap, subst, arith}
 use Rattle.std.specs.Prelude.{Contains, option_and_then}
 use Rattle.std.specs.Int.{byte_len, from_le_bytes, is_negative, to_le_bytes}
 use Rattle.std.specs.Option.{option_map_or}
@@ -47,7 +48,8 @@ any-among test (x ∷ xs) is = elim (or_cases (test x) (list_any test xs) is) [
 
 -- ---- rights of mappings
 
-mapping-allows : (access : Access) (bits : ℕ) → bits ≤ 7 → are_frame_rights bits ≡ true → allows access (rights bits) ≡ true → allows access (mapping_rights frame_rights bits) ≡ true
+mapping-allows : (access : Access) (bits : ℕ) → bits ≤ 7 → are_frame_rights bits ≡ true → allows access (rights bits) ≡ true →
+    allows access (mapping_rights frame_rights bits) ≡ true
 mapping-allows access zero fits is allowed = absurd (let clash : false ≡ true = is in cc)
 mapping-allows access (suc zero) fits is allowed = absurd (let clash : false ≡ true = is in cc)
 mapping-allows access (suc (suc zero)) fits is allowed = allowed
@@ -95,11 +97,14 @@ module _ (image : Image) (t : Numbered) (s : State) (slots : List NotedSlot) (ke
   slot-maps access page is =
       let found = any-among (holds_for access (root_table_of image t) page) slots is in
       let held = found.0 in
-      elim (page_of (root_table_of image t) page held.capability) as (λ o. page_of (root_table_of image t) page held.capability ≡ o → option_map_or (λ m. allows access m.allowed) o false ≡ true → MapsFor image t s access page) [
+      elim (page_of (root_table_of image t) page held.capability)
+      as (λ o. page_of (root_table_of image t) page held.capability ≡ o → option_map_or (λ m. allows access m.allowed) o false ≡ true →
+      MapsFor image t s access page) [
         | None ↦ λ _ clash. absurd (let no : false ≡ true = clash in cc)
         | Some m ↦ λ there permits.
             let capability = page-held (root_table_of image t) page held.capability m.frame m.allowed there in
-            let by_slot : NotedMaps image t slots page m.frame m.allowed = record { slot = held; held = capability.0; noted = found.1; capability = capability.1 } in
+            let by_slot : NotedMaps image t slots page m.frame m.allowed =
+            record { slot = held; held = capability.0; noted = found.1; capability = capability.1 } in
             record { frame = m.frame; allowed = m.allowed; maps = (maps page m.frame m.allowed).1 (inr by_slot); permits = permits }
       ] refl found.2
 
@@ -112,7 +117,8 @@ module _ (image : Image) (t : Numbered) (s : State) (slots : List NotedSlot) (ke
 
 -- ---- places
 
-pub place-there : (image : Image) (t : Numbered) (s : State) (access : Access) (address : ℕ) → IsSound s → vspace_of s (tcb_of image t) ≡ Some (root_table_of image t)
+pub place-there : (image : Image) (t : Numbered) (s : State) (access : Access) (address : ℕ) → IsSound s →
+    vspace_of s (tcb_of image t) ≡ Some (root_table_of image t)
     → (found : MapsFor image t s access (address / page_size)) → (content_of s (tcb_of image t)).place access address ≡ Some (found.frame + address % page_size)
 place-there image t s access address sound vspace found =
     ap (option_and_then (λ root. place_under s root access address)) vspace
@@ -123,7 +129,8 @@ record HasPlaces (c : Content) (access : Access) (address count : ℕ) : Type 0 
   places : List ℕ
   are : places_from c access address count ≡ Ok places
 
-places-reach : (c : Content) (access : Access) (count address : ℕ) → address + count ≤ 2 ^ 32 → ((k : ℕ) → k < count → (place : ℕ) × (c.place access (address + k) ≡ Some place))
+places-reach : (c : Content) (access : Access) (count address : ℕ) → address + count ≤ 2 ^ 32 →
+    ((k : ℕ) → k < count → (place : ℕ) × (c.place access (address + k) ≡ Some place))
     → HasPlaces c access address count
 places-reach c access zero address inside each = record { places = []; are = refl }
 places-reach c access (suc count) address inside each =
@@ -167,7 +174,8 @@ between-ends low high n width (negsuc m) fits small least most some positive les
     let first = down-is low m under in
     let last = down-is high m (omega (arith, under, least, most)) in
     let last_is : (pos high +ℤ negsuc m) +ℤ pos (width - 1) ≡ pos (high - suc m + (width - 1)) = ap (λ z. z +ℤ pos (width - 1)) last in
-    let inside : high - suc m + (width - 1) < 2 ^ 32 = ltb-true (high - suc m + (width - 1)) (2 ^ 32) (sym (ap (λ z. int_lt z (pos (2 ^ 32))) last_is) ∙ less) in
+    let inside : high - suc m + (width - 1) < 2 ^ 32 = ltb-true (high - suc m + (width - 1)) (2 ^ 32)
+    (sym (ap (λ z. int_lt z (pos (2 ^ 32))) last_is) ∙ less) in
     let here : LiesBetween (plus n (negsuc m)) width (low - suc m) (high - suc m + (width - 1)) = record {
       low = omega (arith, bound, inside, least, most, under, small);
       high = omega (arith, bound, inside, least, most, some, under, small);
@@ -183,7 +191,8 @@ widths Byte = omega arith
 widths Halfword = omega arith
 widths Word = omega arith
 
-module _ (image : Image) (t : Numbered) (s : State) (state : PointState) (kept : FramesAreKept image) (sound : IsSound s) (maps : MapsAreNoted image t s state.slots)
+module _ (image : Image) (t : Numbered) (s : State) (state : PointState) (kept : FramesAreKept image) (sound : IsSound s)
+    (maps : MapsAreNoted image t s state.slots)
     (vspace : vspace_of s (tcb_of image t) ≡ Some (root_table_of image t)) where
   abbrev content : Content
   content = content_of s (tcb_of image t)
@@ -192,7 +201,8 @@ module _ (image : Image) (t : Numbered) (s : State) (state : PointState) (kept :
       → (place : ℕ) × (content.place access address ≡ Some place)
   page-found access address first last all low high =
       let page = address / page_size in
-      let test = holds-at (is_mapped_for image t.thread state.slots access) (first / page_size) (last / page_size + 1 - first / page_size) page all (omega (arith, low)) (omega (arith, low, high)) in
+      let test = holds-at (is_mapped_for image t.thread state.slots access) (first / page_size) (last / page_size + 1 - first / page_size) page all
+      (omega (arith, low)) (omega (arith, low, high)) in
       let found = maps-for image t s state.slots kept maps access page test in
       (found.frame + address % page_size, place-there image t s access address sound vspace found)
 
@@ -202,7 +212,8 @@ module _ (image : Image) (t : Numbered) (s : State) (state : PointState) (kept :
       let width = byte_len (width_of size) in
       let first = pos r.low +ℤ offset in
       let last = (pos r.high +ℤ offset) +ℤ pos (width - 1) in
-      let outer = and_parts (not (is_negative first) && int_lt last (pos (2 ^ 32))) (are_mapped image t.thread state.slots access (nat_abs first) (nat_abs last)) reach in
+      let outer = and_parts (not (is_negative first) && int_lt last (pos (2 ^ 32)))
+      (are_mapped image t.thread state.slots access (nat_abs first) (nat_abs last)) reach in
       let inner = and_parts (not (is_negative first)) (int_lt last (pos (2 ^ 32))) outer.0 in
       let ends = between-ends r.low r.high n width offset fits small least most (widths size) (not-true (is_negative first) inner.0) inner.1 in
       let low = LiesBetween.low ends in
@@ -216,12 +227,18 @@ module _ (image : Image) (t : Numbered) (s : State) (state : PointState) (kept :
   unfolding is_unmapped
   reaches-mapped r (Load op rd rs1 offset) words lie fits mapped =
       let here = lie rs1.0 fits.1 in
-      let places = access-reaches accesses.Load (load_size op) (range_of state.ranges rs1) (read r rs1) offset fits.2 (words rs1) here.0 here.1 (not-false (reaches image t.thread state accesses.Load (load_size op) (range_of state.ranges rs1) offset) mapped) in
-      (from_le_bytes (width_of (load_size op)) (map content.byte (HasPlaces.places places)), ap (λ p. p >>= λ found. Ok (from_le_bytes (width_of (load_size op)) (map content.byte found))) (HasPlaces.are places))
+      let places = access-reaches accesses.Load (load_size op) (range_of state.ranges rs1) (read r rs1) offset fits.2 (words rs1) here.0 here.1
+      (not-false (reaches image t.thread state accesses.Load (load_size op) (range_of state.ranges rs1) offset) mapped) in (
+        from_le_bytes (width_of (load_size op)) (map content.byte (HasPlaces.places places)),
+        ap (λ p. p >>= λ found. Ok (from_le_bytes (width_of (load_size op)) (map content.byte found))) (HasPlaces.are places),
+      )
   reaches-mapped r (Store op rs1 rs2 offset) words lie fits mapped =
       let here = lie rs1.0 fits.0 in
-      let places = access-reaches accesses.Store (store_size op) (range_of state.ranges rs1) (read r rs1) offset fits.2 (words rs1) here.0 here.1 (not-false (reaches image t.thread state accesses.Store (store_size op) (range_of state.ranges rs1) offset) mapped) in
-      (put_bytes content (HasPlaces.places places) (to_le_bytes (width_of (store_size op)) (read r rs2)), ap (λ p. p >>= λ found. Ok (put_bytes content found (to_le_bytes (width_of (store_size op)) (read r rs2)))) (HasPlaces.are places))
+      let places = access-reaches accesses.Store (store_size op) (range_of state.ranges rs1) (read r rs1) offset fits.2 (words rs1) here.0 here.1
+      (not-false (reaches image t.thread state accesses.Store (store_size op) (range_of state.ranges rs1) offset) mapped) in (
+        put_bytes content (HasPlaces.places places) (to_le_bytes (width_of (store_size op)) (read r rs2)),
+        ap (λ p. p >>= λ found. Ok (put_bytes content found (to_le_bytes (width_of (store_size op)) (read r rs2)))) (HasPlaces.are places),
+      )
   reaches-mapped r (Upper op rd immediate) words lie fits mapped = tt
   reaches-mapped r (Jal rd offset) words lie fits mapped = tt
   reaches-mapped r (Jalr rd rs1 offset) words lie fits mapped = tt

@@ -1,6 +1,7 @@
 -- An instruction that is neither a system call nor a computed jump takes one of its edges: the registers lie in the ranges before it,
 -- it goes on if the edge leads to a multiple of 4, and then the registers lie in the ranges after it.
-use Rattle.std.proofs.Common.{ℕ, ◌≡◌, ◌∙◌, ◌==◌, ◌+◌, ◌%◌, ◌^◌, ◌++◌, Bool, true, false, if◌then◌else◌, List, ◌∷◌, length, Ok, Option, Some, None, refl, sym, ap, subst, arith}
+use Rattle.std.proofs.Common.{ℕ, ◌≡◌, ◌∙◌, ◌==◌, ◌+◌, ◌%◌, ◌^◌, ◌++◌, Bool, true, false, if◌then◌else◌, List, ◌∷◌, length, Ok, Option, Some, None, refl, sym}
+use Rattle.std.proofs.Common.{ap, subst, arith}
 use Rattle.std.specs.Prelude.{ℤ, Contains, option_to_list, slice_set}
 use Rattle.std.proofs.lemmas.Bool.{eq-eqb}
 use Rattle.model.specs.declared.instructions.Access.TheVariants as accesses
@@ -32,13 +33,15 @@ behind-written r x value = elim (x.0 == 0) as (λ b. ((if b then r else record r
 jump-leads : (r : RegisterFile) (content : Content) (written : RegisterFile) (target : ℕ) → (jumps r content written target).exec ≡ outcomes.Next
     → (jumps r content written target).registers.pc ≡ target
 jump-leads r content written target goes =
-    elim (target % 4 == 0) as (λ b. (if b then goes_on (record written { pc = target }) content else stays r content (outcomes.Trap Misaligned)).exec ≡ outcomes.Next
+    elim (target % 4 == 0) as (λ b. (if b then goes_on (record written { pc = target }) content else stays r content (outcomes.Trap Misaligned)).exec
+    ≡ outcomes.Next
     → (if b then goes_on (record written { pc = target }) content else stays r content (outcomes.Trap Misaligned)).registers.pc ≡ target) [
       | true ↦ λ h. refl
       | false ↦ λ h. absurd (let clash : ◌≡◌ {A = Exec} (outcomes.Trap Misaligned) outcomes.Next = h in cc)
     ] goes
 
-jump-goes : (r : RegisterFile) (content : Content) (written : RegisterFile) (target : ℕ) → target % 4 ≡ 0 → (jumps r content written target).exec ≡ outcomes.Next
+jump-goes : (r : RegisterFile) (content : Content) (written : RegisterFile) (target : ℕ) → target % 4 ≡ 0 →
+    (jumps r content written target).exec ≡ outcomes.Next
 jump-goes r content written target aligned =
     ap (λ b. (if b then goes_on (record written { pc = target }) content else stays r content (outcomes.Trap Misaligned)).exec) (eq-eqb (target % 4) 0 aligned)
 
@@ -71,7 +74,8 @@ module _ (r : RegisterFile) (content : Content) (ranges : List Range) (are : Are
     leads = λ goes_too. (there, instruction-keeps r content ranges instr are.count long are.words are.bytes fits lie goes_too);
   }
 
-  branch-takes : (op : BranchOp) (rs1 rs2 : Register) (offset : ℤ) (taken : Bool) → IsInstr (Branch op rs1 rs2 offset) → is_taken op (read r rs1) (read r rs2) ≡ taken
+  branch-takes : (op : BranchOp) (rs1 rs2 : Register) (offset : ℤ) (taken : Bool) → IsInstr (Branch op rs1 rs2 offset) →
+      is_taken op (read r rs1) (read r rs2) ≡ taken
       → MayTake r content ranges (Branch op rs1 rs2 offset)
   unfolding after effect
   branch-takes op rs1 rs2 offset true fits is =
@@ -116,15 +120,20 @@ module _ (r : RegisterFile) (content : Content) (ranges : List Range) (are : Are
         among = (0, omega arith, refl);
         before = lie;
         goes = jump-goes r content written target;
-        leads = λ goes. (jump-leads r content written target goes, instruction-keeps r content ranges (Jal rd offset) are.count long are.words are.bytes fits lie goes);
+        leads = λ goes. (
+          jump-leads r content written target goes,
+          instruction-keeps r content ranges (Jal rd offset) are.count long are.words are.bytes fits lie goes,
+        );
       }
   may-take (Jalr rd rs1 offset) fits plain reaches = absurd plain
   may-take (Branch op rs1 rs2 offset) fits plain reaches = branch-takes op rs1 rs2 offset (is_taken op (read r rs1) (read r rs2)) fits refl
   may-take (Load op rd rs1 offset) fits plain reaches =
-      let here : loads r content op rd (loaded content accesses.Load (load_size op) (plus (read r rs1) offset)) ≡ loads r content op rd (Ok reaches.0) = ap (loads r content op rd) reaches.1 in
+      let here : loads r content op rd (loaded content accesses.Load (load_size op) (plus (read r rs1) offset)) ≡ loads r content op rd (Ok reaches.0) =
+      ap (loads r content op rd) reaches.1 in
       behind-takes (Load op rd rs1 offset) fits refl (ap (λ e. e.exec) here) (ap (λ e. e.registers.pc) here ∙ behind-written r rd _)
   may-take (Store op rs1 rs2 offset) fits plain reaches =
-      let here : stores r content (stored content (store_size op) (plus (read r rs1) offset) (read r rs2)) ≡ stores r content (Ok reaches.0) = ap (stores r content) reaches.1 in
+      let here : stores r content (stored content (store_size op) (plus (read r rs1) offset) (read r rs2)) ≡ stores r content (Ok reaches.0) =
+      ap (stores r content) reaches.1 in
       behind-takes (Store op rs1 rs2 offset) fits refl (ap (λ e. e.exec) here) (ap (λ e. e.registers.pc) here)
   may-take (Immediate op rd rs1 immediate) fits plain reaches = behind-takes (Immediate op rd rs1 immediate) fits refl refl (behind-written r rd _)
   may-take (Shift op rd rs1 amount) fits plain reaches = behind-takes (Shift op rd rs1 amount) fits refl refl (behind-written r rd _)

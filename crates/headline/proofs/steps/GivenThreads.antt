@@ -59,7 +59,8 @@ frames-kept image fitting formed apart = record {
 
 -- ---- the whole
 
-pub given : (bytes : List ℕ) (image : Image) (t : Numbered) → ((k : ℕ) (point : ℕ) (state : PointState) → slice_get image.threads k ≡ Some t.thread → noted image t point ≡ Known state → NamesRegisters state.measure)
+pub given : (bytes : List ℕ) (image : Image) (t : Numbered) →
+    ((k : ℕ) (point : ℕ) (state : PointState) → slice_get image.threads k ≡ Some t.thread → noted image t point ≡ Known state → NamesRegisters state.measure)
     → IsAccepted bytes image → Contains (numbered_threads image) t → IsGiven image t
 given bytes image t names accepted listed =
     let fits = accepted.spelled.fits in

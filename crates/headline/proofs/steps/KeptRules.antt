@@ -1,16 +1,19 @@
 -- What the rules on programs say where they are kept: at each point with a state, and on each edge of such a point.
-use Rattle.std.proofs.Common.{◌≡◌, ℕ, suc, ◌+◌, ◌-◌, ◌*◌, ◌/◌, ◌%◌, ◌<◌, Bool, true, false, not, ◌&&◌, nat_le, nat_lt, ◌==◌, [], Option, Some, None, if◌then◌else◌, refl, ap, subst, ◌∙◌, arith}
+use Rattle.std.proofs.Common.{◌≡◌, ℕ, suc, ◌+◌, ◌-◌, ◌*◌, ◌/◌, ◌%◌, ◌<◌, Bool, true, false, not, ◌&&◌, nat_le, nat_lt, ◌==◌, [], Option, Some, None}
+use Rattle.std.proofs.Common.{if◌then◌else◌, refl, ap, subst, ◌∙◌, arith}
 use Rattle.std.specs.Prelude.{int_lt, pos, Contains}
 use Rattle.std.specs.Option.{option_map_or}
 use Rattle.std.proofs.lemmas.Bool.{and_parts, eqb-true, leb-true, ltb-true, not-false}
 use Rattle.std.proofs.lemmas.List.Elements.{All-head}
 use Rattle.headline.proofs.facts.Laws.{IsKeptRule, aligned-point, holds-where, kept-among, state-kept}
 use Rattle.model.specs.declared.refusals.Point.{Point}
-use Rattle.model.specs.declared.refusals.Refusal.TheVariants.{BadTarget, CapNotThere, ComputedJump, IllegalInstruction, MeasureNotFalling, NotMapped, OverBudget, RangeNotKept}
+use Rattle.model.specs.declared.refusals.Refusal.TheVariants.{BadTarget, CapNotThere, ComputedJump, IllegalInstruction, MeasureNotFalling, NotMapped}
+use Rattle.model.specs.declared.refusals.Refusal.TheVariants.{OverBudget, RangeNotKept}
 use Rattle.model.specs.Acceptance.Accepted.{AreKept}
 use Rattle.model.specs.Acceptance.Measures.{Measure, falls, least_value, stays_below}
 use Rattle.model.specs.Acceptance.NotedStates.{PointState, are_same_slots, has_stray_slots}
-use Rattle.model.specs.Acceptance.PointRules.{ProgramEdge, are_ranges_within, edge_rules, edges_at, is_computed_jump, is_illegal, is_unmapped, kept_at, noted_at, point_at, program_rules, rules_on_edges, state_rules}
+use Rattle.model.specs.Acceptance.PointRules.{ProgramEdge, are_ranges_within, edge_rules, edges_at, is_computed_jump, is_illegal, is_unmapped, kept_at}
+use Rattle.model.specs.Acceptance.PointRules.{noted_at, point_at, program_rules, rules_on_edges, state_rules}
 use Rattle.model.specs.Acceptance.PointStates.{Noted, Known, Missing, Unmeasured, address_of, instruction_at, noted, point_of}
 use Rattle.model.specs.Acceptance.Rules.{Rule}
 use Rattle.model.specs.Images.Described.{Numbered, numbered_threads}
@@ -36,7 +39,8 @@ point-found t address point base found =
           let ends = and_parts (nat_le t.header.base address) (nat_lt address (t.header.base + 4 * t.header.words)) parts.0 in
           let aligned : address % 4 ≡ 0 = eqb-true (address % 4) 0 parts.1 in
           let here : (address - t.header.base) / 4 ≡ point = let same : ◌≡◌ {A = Option ℕ} (Some ((address - t.header.base) / 4)) (Some point) = some in cc in
-          let at = aligned-point t.header.base t.header.words address base aligned (leb-true t.header.base address ends.0) (ltb-true address (t.header.base + 4 * t.header.words) ends.1) in
+          let at = aligned-point t.header.base t.header.words address base aligned (leb-true t.header.base address ends.0)
+          (ltb-true address (t.header.base + 4 * t.header.words) ends.1) in
           record { inside = subst (λ (n : ℕ). n < t.header.words) here at.0; is = at.1 ∙ ap (λ (n : ℕ). t.header.base + 4 * n) here; aligned = aligned }
     ] refl found
 
@@ -52,27 +56,36 @@ module _ (image : Image) (t : Numbered) (base : t.thread.header.base % 4 ≡ 0) 
         target = IsPointAt.is place;
         aligned = IsPointAt.aligned place;
         known = known;
-        within = not-false (are_ranges_within edge.ranges state.ranges) (not-refused (not (are_ranges_within edge.ranges state.ranges)) (RangeNotKept at) (kept 0 None (omega arith)));
-        slots = not-false (are_same_slots edge.slots state.slots) (not-refused (not (are_same_slots edge.slots state.slots)) (CapNotThere at) (kept 1 None (omega arith)));
-        falling = λ plain. holds-where (not edge.is_wait) (falls from state.measure edge.value_of edge.before edge.ranges) (not-refused (not edge.is_wait && not (falls from state.measure edge.value_of edge.before edge.ranges)) (MeasureNotFalling at) (kept 2 None (omega arith))) (ap (λ (c : Bool). not c) plain);
-        covered = λ wait. holds-where edge.is_wait (stays_below t.thread.header.budget state.measure edge.value_of edge.before edge.ranges) (not-refused (edge.is_wait && not (stays_below t.thread.header.budget state.measure edge.value_of edge.before edge.ranges)) (OverBudget at) (kept 3 None (omega arith))) wait;
+        within = not-false (are_ranges_within edge.ranges state.ranges)
+            (not-refused (not (are_ranges_within edge.ranges state.ranges)) (RangeNotKept at) (kept 0 None (omega arith)));
+        slots = not-false (are_same_slots edge.slots state.slots)
+            (not-refused (not (are_same_slots edge.slots state.slots)) (CapNotThere at) (kept 1 None (omega arith)));
+        falling = λ plain. holds-where (not edge.is_wait) (falls from state.measure edge.value_of edge.before edge.ranges)
+            (not-refused (not edge.is_wait && not (falls from state.measure edge.value_of edge.before edge.ranges)) (MeasureNotFalling at)
+            (kept 2 None (omega arith))) (ap (λ (c : Bool). not c) plain);
+        covered = λ wait. holds-where edge.is_wait (stays_below t.thread.header.budget state.measure edge.value_of edge.before edge.ranges)
+            (not-refused (edge.is_wait && not (stays_below t.thread.header.budget state.measure edge.value_of edge.before edge.ranges)) (OverBudget at)
+            (kept 3 None (omega arith))) wait;
       }
 
-  leads-noted : (point : ℕ) (n : Noted) → point_at t.thread edge.target ≡ Some point → noted image t point ≡ n → AreKept (edge_rules t.thread at from edge n) → LeadsOn image t from edge
+  leads-noted : (point : ℕ) (n : Noted) → point_at t.thread edge.target ≡ Some point → noted image t point ≡ n → AreKept (edge_rules t.thread at from edge n) →
+      LeadsOn image t from edge
   leads-noted point (Known state) found known kept = leads-known point state found known kept
   leads-noted point Missing found known kept =
       absurd (let clash : ◌≡◌ {A = Rule} (Some (BadTarget at)) None = All-head IsKeptRule (Some (BadTarget at)) [] kept in cc)
   leads-noted point Unmeasured found known kept =
       absurd (let clash : ◌≡◌ {A = Rule} (Some (MeasureNotFalling at)) None = All-head IsKeptRule (Some (MeasureNotFalling at)) [] kept in cc)
 
-  leads-at : (o : Option ℕ) → point_at t.thread edge.target ≡ o → AreKept (edge_rules t.thread at from edge (option_map_or (noted image t) o Missing)) → LeadsOn image t from edge
+  leads-at : (o : Option ℕ) → point_at t.thread edge.target ≡ o → AreKept (edge_rules t.thread at from edge (option_map_or (noted image t) o Missing)) →
+      LeadsOn image t from edge
   leads-at (Some point) found kept = leads-noted point (noted image t point) found refl kept
   leads-at None found kept =
       absurd (let clash : ◌≡◌ {A = Rule} (Some (BadTarget at)) None = All-head IsKeptRule (Some (BadTarget at)) [] kept in cc)
 
 -- ---- points
 
-by-rules : (image : Image) (t : Numbered) (point : ℕ) (state : PointState) → t.thread.header.base % 4 ≡ 0 → AreKept (state_rules image t point state) → IsPoint image t point state
+by-rules : (image : Image) (t : Numbered) (point : ℕ) (state : PointState) → t.thread.header.base % 4 ≡ 0 → AreKept (state_rules image t point state) →
+    IsPoint image t point state
 unfolding state_rules
 by-rules image t point state base kept =
     let at = point_of t point in
@@ -85,9 +98,11 @@ by-rules image t point state base kept =
       least = not-refused (int_lt (least_value state.measure state.ranges) (pos 1)) (MeasureNotFalling at) (kept 3 None (omega arith));
       mapped = not-refused (is_unmapped image t.thread state instr) (NotMapped at) (kept 4 None (omega arith));
       leads = λ edge among. leads-at image t base at state.measure edge (point_at t.thread edge.target) refl
-          (kept-among (λ (e : ProgramEdge). edge_rules t.thread at state.measure e (noted_at image t e.target)) (edges_at image t point state instr) edge among.0 edges among.1 among.2);
+          (kept-among (λ (e : ProgramEdge). edge_rules t.thread at state.measure e (noted_at image t e.target)) (edges_at image t point state instr) edge
+          among.0 edges among.1 among.2);
     }
 
-pub point-kept : (image : Image) (t : Numbered) (point : ℕ) (state : PointState) → AreKept (program_rules image) → Contains (numbered_threads image) t → t.thread.header.base % 4 ≡ 0
+pub point-kept : (image : Image) (t : Numbered) (point : ℕ) (state : PointState) → AreKept (program_rules image) → Contains (numbered_threads image) t →
+    t.thread.header.base % 4 ≡ 0
     → point < t.thread.header.words → noted image t point ≡ Known state → IsPoint image t point state
 point-kept image t point state h listed base inside known = by-rules image t point state base (state-kept image t point state h listed inside known)

@@ -1,5 +1,6 @@
 -- What notes are made of has its form: parents with indices of 32 bits, and 31 ranges.
-use Rattle.std.proofs.Common.{ℕ, ◌≡◌, ◌∙◌, ◌==◌, ◌+◌, ◌-◌, ◌^◌, ◌≤◌, ◌&&◌, Bool, true, false, not, nat_le, nat_lt, if◌then◌else◌, find, filter, filter_map, map, Option, Some, None, option_map, option_and_then, List, [], ◌∷◌, length, refl, sym, ap, arith}
+use Rattle.std.proofs.Common.{ℕ, ◌≡◌, ◌∙◌, ◌==◌, ◌+◌, ◌-◌, ◌^◌, ◌≤◌, ◌&&◌, Bool, true, false, not, nat_le, nat_lt, if◌then◌else◌, find, filter, filter_map, map}
+use Rattle.std.proofs.Common.{Option, Some, None, option_map, option_and_then, List, [], ◌∷◌, length, refl, sym, ap, arith}
 use Rattle.std.specs.Prelude.{fold, slice_set}
 use Rattle.std.specs.Option.{option_map_or}
 use Rattle.std.specs.List.{cons_option, list_all}
@@ -78,10 +79,11 @@ find-passes test (y ∷ ys) x is = elim (test y) as (λ b. test y ≡ b → (if 
 ] refl is
 
 few-slots : (image : Image) → IsFitting image → (cnode : ℕ) → slots_of_cnode image cnode ≤ 2 ^ 14
-few-slots image fitting cnode = elim (radix_of (type_at image cnode)) as (λ o. radix_of (type_at image cnode) ≡ o → option_map_or (λ radix. 2 ^ radix) o 0 ≤ 2 ^ 14) [
-  | None ↦ λ _. omega arith
-  | Some radix ↦ λ is. let small : radix ≤ 14 = radix-small image fitting cnode radix is in pow_mono small
-] refl
+few-slots image fitting cnode = elim (radix_of (type_at image cnode))
+    as (λ o. radix_of (type_at image cnode) ≡ o → option_map_or (λ radix. 2 ^ radix) o 0 ≤ 2 ^ 14) [
+      | None ↦ λ _. omega arith
+      | Some radix ↦ λ is. let small : radix ≤ 14 = radix-small image fitting cnode radix is in pow_mono small
+    ] refl
 
 low-index : (first count slot : ℕ) → count ≤ 2 ^ 14 → (nat_le first slot && nat_lt slot (first + count)) ≡ true → nat_lt (slot - first) (2 ^ 32) ≡ true
 low-index first count slot few inside =
@@ -92,9 +94,11 @@ low-index first count slot few inside =
 module _ (image : Image) (fitting : IsFitting image) (cnodes : List ℕ) (slots : Slots) where
   key-low : (slot : ℕ) → option_map_or (λ (key : SlotKey). nat_lt key.index (2 ^ 32)) (key_of image cnodes slot) true ≡ true
   key-low slot = elim (find (stands_in image slot) cnodes) as (λ o. find (stands_in image slot) cnodes ≡ o
-      → option_map_or (λ (key : SlotKey). nat_lt key.index (2 ^ 32)) (option_map (λ cnode. let k : SlotKey = record { cnode = cnode; index = slot - cnode_slot image cnode 0 } in k) o) true ≡ true) [
+      → option_map_or (λ (key : SlotKey). nat_lt key.index (2 ^ 32))
+      (option_map (λ cnode. let k : SlotKey = record { cnode = cnode; index = slot - cnode_slot image cnode 0 } in k) o) true ≡ true) [
         | None ↦ λ _. refl
-        | Some cnode ↦ λ is. low-index (cnode_slot image cnode 0) (slots_of_cnode image cnode) slot (few-slots image fitting cnode) (find-passes (stands_in image slot) cnodes cnode is)
+        | Some cnode ↦ λ is. low-index (cnode_slot image cnode 0) (slots_of_cnode image cnode) slot (few-slots image fitting cnode)
+            (find-passes (stands_in image slot) cnodes cnode is)
       ] refl
 
   parent-low : (parent : Option ℕ) → option_map_or (λ (key : SlotKey). nat_lt key.index (2 ^ 32)) (option_and_then (key_of image cnodes) parent) true ≡ true
@@ -104,9 +108,15 @@ module _ (image : Image) (fitting : IsFitting image) (cnodes : List ℕ) (slots 
   left-low : (keys : List SlotKey) → AreLow (filter_map (noted_of image cnodes slots) keys)
   left-low [] = refl
   left-low (key ∷ rest) =
-      let held : NotedSlot = record { key = key; capability = capability_at slots (slot_of_key image key); parent = option_and_then (key_of image cnodes) (parent_at slots (slot_of_key image key)) } in
+      let held : NotedSlot = record {
+        key = key;
+        capability = capability_at slots (slot_of_key image key);
+        parent =
+            option_and_then (key_of image cnodes) (parent_at slots (slot_of_key image key));
+      } in
       let behind = left-low rest in
-      elim (is_full slots (slot_of_key image key)) as (λ b. list_all is_low (cons_option (if b then Some held else None) (filter_map (noted_of image cnodes slots) rest)) ≡ true) [
+      elim (is_full slots (slot_of_key image key))
+      as (λ b. list_all is_low (cons_option (if b then Some held else None) (filter_map (noted_of image cnodes slots) rest)) ≡ true) [
         | true ↦ ap (λ b. b && list_all is_low (filter_map (noted_of image cnodes slots) rest)) (parent-low (parent_at slots (slot_of_key image key))) ∙ behind
         | false ↦ behind
       ]
@@ -127,9 +137,11 @@ pub all-long : (xs : List Register) (ranges : List Range) (r : Range) → length
 all-long [] ranges r = refl
 all-long (x ∷ xs) ranges r = all-long xs (with_range ranges x r) r ∙ with-long ranges x r
 
-pub entries-long : (es : List RangeEntry) (ranges : List Range) → length (fold (λ known e. with_range known (register_numbered e.register) (range e.low e.high)) ranges es) ≡ length ranges
+pub entries-long : (es : List RangeEntry) (ranges : List Range) →
+    length (fold (λ known e. with_range known (register_numbered e.register) (range e.low e.high)) ranges es) ≡ length ranges
 entries-long [] ranges = refl
-entries-long (e ∷ es) ranges = entries-long es (with_range ranges (register_numbered e.register) (range e.low e.high)) ∙ with-long ranges (register_numbered e.register) (range e.low e.high)
+entries-long (e ∷ es) ranges = entries-long es (with_range ranges (register_numbered e.register) (range e.low e.high))
+    ∙ with-long ranges (register_numbered e.register) (range e.low e.high)
 
 pub behind-long : (pc : ℕ) (instr : Instr) (ranges : List Range) → length (ranges_after pc instr ranges) ≡ length ranges
 unfolding ranges_after

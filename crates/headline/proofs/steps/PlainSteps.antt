@@ -1,5 +1,6 @@
 -- A step of a thread that reaches no system call does not fault, and leaves the thread at a point of its certificate.
-use Rattle.std.proofs.Common.{ℕ, zero, suc, ◌≡◌, ◌∙◌, ◌+◌, ◌<◌, ◌++◌, Bool, true, false, if◌then◌else◌, List, [], ◌∷◌, length, get_or, map, Option, Some, None, Ok, pos, ◌+ℤ◌, ◌≤ℤ◌, ◌<ℤ◌, refl, sym, ap, subst, arith}
+use Rattle.std.proofs.Common.{ℕ, zero, suc, ◌≡◌, ◌∙◌, ◌+◌, ◌<◌, ◌++◌, Bool, true, false, if◌then◌else◌, List, [], ◌∷◌, length, get_or, map, Option, Some, None}
+use Rattle.std.proofs.Common.{Ok, pos, ◌+ℤ◌, ◌≤ℤ◌, ◌<ℤ◌, refl, sym, ap, subst, arith}
 use Rattle.std.specs.Prelude.{Contains, slice_index}
 use Rattle.std.specs.Option.{option_map_or}
 use Rattle.std.proofs.lemmas.Bool.{eq-eqb}
@@ -21,7 +22,8 @@ use Rattle.model.specs.Acceptance.Measures.{measured}
 use Rattle.model.specs.Acceptance.NotedStates.{NotedSlot, PointState}
 use Rattle.model.specs.Acceptance.PointRules.{ProgramEdge, edges_at, is_computed_jump, is_illegal, is_unmapped, program_edge}
 use Rattle.model.specs.Acceptance.PointStates.{address_of, instruction_at}
-use Rattle.model.specs.Acceptance.ThreadInvariants.{IsWaiting, IsWithinBudget, LieWithin, MapsAreNoted, NamesNoCode, StandsAt, ThreadInvariant, runs as runs_so, waits, root_table_of, tcb_of}
+use Rattle.model.specs.Acceptance.ThreadInvariants.{IsWaiting, IsWithinBudget, LieWithin, MapsAreNoted, NamesNoCode, StandsAt, ThreadInvariant, runs as runs_so}
+use Rattle.model.specs.Acceptance.ThreadInvariants.{waits, root_table_of, tcb_of}
 use Rattle.model.specs.Capabilities.CapabilityKinds.{root_of}
 use Rattle.model.specs.Images.Described.{Numbered}
 use Rattle.model.specs.Images.Image.{Image}
@@ -92,7 +94,8 @@ not-waiting (Blocked queue) runs waiting = let clash : false ≡ true = runs in 
 not-waiting AwaitsReply runs waiting = let clash : false ≡ true = runs in absurd cc
 not-waiting AwaitsHandler runs waiting = waiting
 
-module _ (image : Image) (t : Numbered) (g : IsGiven image t) (s : State) (labels : List Label) (sound : IsSound s) (now : current s ≡ Some (tcb_of image t)) (free : ReachesNoCall s (tcb_of image t))
+module _ (image : Image) (t : Numbered) (g : IsGiven image t) (s : State) (labels : List Label) (sound : IsSound s) (now : current s ≡ Some (tcb_of image t))
+    (free : ReachesNoCall s (tcb_of image t))
     (own : ThreadState) (point : ℕ) (state : PointState) (there : s.objects (tcb_of image t) ≡ Some (ThreadObject own)) (status : own.status ≡ Runnable)
     (stands : StandsAt image t s own point state) (budget : IsWithinBudget image t labels own state) where
   abbrev tcb : ℕ
@@ -133,7 +136,8 @@ module _ (image : Image) (t : Numbered) (g : IsGiven image t) (s : State) (label
 
   module _ (instr : Instr) (is : instruction_at t.thread point ≡ Some instr) where
     plain : IsPlain instr
-    plain = plain-of instr (subst (λ (o : Option Instr). is_illegal o ≡ false) is at.legal) (subst (λ (o : Option Instr). is_computed_jump o ≡ false) is at.straight) (λ e. free word fetch (is ∙ e))
+    plain = plain-of instr (subst (λ (o : Option Instr). is_illegal o ≡ false) is at.legal)
+        (subst (λ (o : Option Instr). is_computed_jump o ≡ false) is at.straight) (λ e. free word fetch (is ∙ e))
 
     fits : IsInstr instr
     fits = decoded-instr word instr is
@@ -141,7 +145,8 @@ module _ (image : Image) (t : Numbered) (g : IsGiven image t) (s : State) (label
     may : MayTake r content state.ranges instr
     may =
         let mapped = subst (λ (o : Option Instr). is_unmapped image t.thread state o ≡ false) is at.mapped in
-        may-take r content state.ranges are (g.forms point state stands.known).long lie instr fits plain (reaches-mapped image t s state g.frames sound stands.maps vspace r instr are.words lie fits mapped)
+        may-take r content state.ranges are (g.forms point state stands.known).long lie instr fits plain
+        (reaches-mapped image t s state g.frames sound stands.maps vspace r instr are.words lie fits mapped)
 
     abbrev edge : ProgramEdge
     edge = program_edge instr state.slots may.edge
@@ -179,7 +184,8 @@ module _ (image : Image) (t : Numbered) (g : IsGiven image t) (s : State) (label
 
     stepped : step s Step ≡ (next, label)
     unfolding step
-    stepped = ap (λ (o : Option ℕ). option_map_or (ran s) o (s, Idle)) now ∙ ap (λ (d : Done). let x : State × Label = (d.0, Ran (memory_base + tcb) r.pc d.1) in x) runs-so
+    stepped = ap (λ (o : Option ℕ). option_map_or (ran s) o (s, Idle)) now
+        ∙ ap (λ (d : Done). let x : State × Label = (d.0, Ran (memory_base + tcb) r.pc d.1) in x) runs-so
 
     abbrev next_own : ThreadState
     next_own = record (thread_at s tcb) { registers = left }
@@ -234,13 +240,16 @@ module _ (image : Image) (t : Numbered) (g : IsGiven image t) (s : State) (label
   running-keeps : (is_fault (step s Step).1 ≡ false) × ThreadInvariant image t (step s Step).0 (labels ++ (step s Step).1 ∷ [])
   running-keeps = by-instr (instruction_at t.thread point) refl
     where
-      by-instr : (o : Option Instr) → instruction_at t.thread point ≡ o → (is_fault (step s Step).1 ≡ false) × ThreadInvariant image t (step s Step).0 (labels ++ (step s Step).1 ∷ [])
+      by-instr : (o : Option Instr) → instruction_at t.thread point ≡ o → (is_fault (step s Step).1 ≡ false)
+          × ThreadInvariant image t (step s Step).0 (labels ++ (step s Step).1 ∷ [])
       by-instr None is = absurd (let clash : true ≡ false = subst (λ (o : Option Instr). is_illegal o ≡ false) is at.legal in cc)
       by-instr (Some instr) is = instr-keeps instr is
 
-pub plain-keeps : (image : Image) (t : Numbered) (s : State) (labels : List Label) → IsGiven image t → IsSound s → current s ≡ Some (tcb_of image t) → ReachesNoCall s (tcb_of image t)
+pub plain-keeps : (image : Image) (t : Numbered) (s : State) (labels : List Label) → IsGiven image t → IsSound s → current s ≡ Some (tcb_of image t) →
+    ReachesNoCall s (tcb_of image t)
     → ThreadInvariant image t s labels → (is_fault (step s Step).1 ≡ false) × ThreadInvariant image t (step s Step).0 (labels ++ (step s Step).1 ∷ [])
-plain-keeps image t s labels g sound now free (runs_so own point state there status stands budget) = running-keeps image t g s labels sound now free own point state there status stands budget
+plain-keeps image t s labels g sound now free (runs_so own point state there status stands budget) =
+    running-keeps image t g s labels sound now free own point state there status stands budget
 plain-keeps image t s labels g sound now free (waits own point state there waiting stands waits_there none) =
     let running = current-runs s sound.threads (tcb_of image t) now in
     absurd (not-waiting own.status (subst (λ (u : ThreadState). is_runnable u.status ≡ true) (at-place s (tcb_of image t) own there) running.runs) waiting)

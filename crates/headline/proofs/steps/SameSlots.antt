@@ -1,5 +1,6 @@
 -- Slots that the rules compare as the same are the same.
-use Rattle.std.proofs.Common.{ℕ, zero, suc, ◌≡◌, ◌∙◌, ◌^◌, ◌<◌, ◌≤◌, ◌&&◌, ◌||◌, inl, inr, true, false, not, nat_lt, Option, Some, None, List, [], ◌∷◌, length, get_or, refl, sym, ap, arith}
+use Rattle.std.proofs.Common.{ℕ, zero, suc, ◌≡◌, ◌∙◌, ◌^◌, ◌<◌, ◌≤◌, ◌&&◌, ◌||◌, inl, inr, true, false, not, nat_lt, Option, Some, None, List, [], ◌∷◌, length}
+use Rattle.std.proofs.Common.{get_or, refl, sym, ap, arith}
 use Rattle.std.specs.Option.{option_map_or}
 use Rattle.std.specs.List.{list_all, list_any}
 use Rattle.std.proofs.Math.Pow.{pow_mono}
@@ -10,7 +11,8 @@ use Rattle.format_laws.specs.Fitting.{IsFitting}
 use Rattle.format_laws.proofs.Laws.{between-bounds}
 use Rattle.image_reading.proofs.Laws.{test-decides}
 use Rattle.model.specs.declared.entries.ObjectEntry.{ObjectEntry}
-use Rattle.model.specs.Acceptance.NotedStates.{NotedSlot, PointState, SlotKey, are_same_slots, has_stray_slots, is_foreign, is_own, is_same_key, is_same_parent, is_same_slot, is_stray, leads_to_boot, notes_outside, number_of, record_of}
+use Rattle.model.specs.Acceptance.NotedStates.{NotedSlot, PointState, SlotKey, are_same_slots, has_stray_slots, is_foreign, is_own, is_same_key, is_same_parent}
+use Rattle.model.specs.Acceptance.NotedStates.{is_same_slot, is_stray, leads_to_boot, notes_outside, number_of, record_of}
 use Rattle.model.specs.Acceptance.ThreadRules.{is_member, reached}
 use Rattle.model.specs.Acceptance.WellFormed.{has_slot, radix_of}
 use Rattle.model.specs.Capabilities.CapabilityFields.{is_capability, same_words}
@@ -22,7 +24,8 @@ use Rattle.headline.specs.steps.Formed.{AreFormed, IsFormed, is_low}
 
 -- ---- keys, capabilities, parents
 
-parent-back : (a b : Option SlotKey) → option_map_or (λ key. nat_lt key.index (2 ^ 32)) a true ≡ true → option_map_or (λ key. nat_lt key.index (2 ^ 32)) b true ≡ true → is_same_parent a b ≡ true → a ≡ b
+parent-back : (a b : Option SlotKey) → option_map_or (λ key. nat_lt key.index (2 ^ 32)) a true ≡ true →
+    option_map_or (λ key. nat_lt key.index (2 ^ 32)) b true ≡ true → is_same_parent a b ≡ true → a ≡ b
 parent-back None None low few same = refl
 parent-back None (Some b) low few same = absurd (let clash : false ≡ true = same in cc)
 parent-back (Some a) None low few same = absurd (let clash : false ≡ true = same in cc)
@@ -90,7 +93,8 @@ radix-small image fitting number radix is = elim (cases_lt number (length image.
 own-index : (image : Image) (cnodes : List ℕ) (key : SlotKey) → IsFitting image → is_own image cnodes key ≡ true → key.index < 2 ^ 32
 own-index image cnodes key fitting own =
     let parts = and_parts (is_member key.cnode cnodes) (has_slot image key.cnode key.index) own in
-    elim (radix_of (type_at image key.cnode)) as (λ o. radix_of (type_at image key.cnode) ≡ o → option_map_or (λ radix. nat_lt key.index (2 ^ radix)) o false ≡ true → key.index < 2 ^ 32) [
+    elim (radix_of (type_at image key.cnode)) as (λ o. radix_of (type_at image key.cnode) ≡ o →
+    option_map_or (λ radix. nat_lt key.index (2 ^ radix)) o false ≡ true → key.index < 2 ^ 32) [
       | None ↦ λ _ clash. absurd (let no : false ≡ true = clash in cc)
       | Some radix ↦ λ is inside.
           let small : radix ≤ 14 = radix-small image fitting key.cnode radix is in
@@ -107,8 +111,10 @@ module _ (image : Image) (t : Thread) (fitting : IsFitting image) (all : List No
   formed-each (s ∷ rest) none low =
       let now = or_parts (is_stray image t (reached image t) all s) (list_any (is_stray image t (reached image t) all) rest) none in
       let held = and_parts (is_low s) (list_all is_low rest) low in
-      let outer = or_parts (not (is_own image (reached image t) s.key) || is_foreign image t (reached image t) s.capability || not (is_capability s.capability)) (not (leads_to_boot (length all) all s.parent)) now.0 in
-      let valid = or_parts (not (is_own image (reached image t) s.key) || is_foreign image t (reached image t) s.capability) (not (is_capability s.capability)) outer.0 in
+      let outer = or_parts (not (is_own image (reached image t) s.key) || is_foreign image t (reached image t) s.capability || not (is_capability s.capability))
+      (not (leads_to_boot (length all) all s.parent)) now.0 in
+      let valid = or_parts (not (is_own image (reached image t) s.key) || is_foreign image t (reached image t) s.capability) (not (is_capability s.capability))
+      outer.0 in
       let inner = or_parts (not (is_own image (reached image t) s.key)) (is_foreign image t (reached image t) s.capability) valid.0 in
       let one : IsFormed s = record {
         index = own-index image (reached image t) s.key fitting (not-false (is_own image (reached image t) s.key) inner.0);
@@ -122,4 +128,5 @@ pub not-stray-formed : (image : Image) (t : Thread) (point : ℕ) (state : Point
 unfolding has_stray_slots
 not-stray-formed image t point state fitting low none =
     formed-each image t fitting state.slots state.slots
-    (or_parts (list_any (is_stray image t (reached image t) state.slots) state.slots) (option_map_or (notes_outside image (reached image t)) (record_of t point) false) none).0 low
+    (or_parts (list_any (is_stray image t (reached image t) state.slots) state.slots)
+    (option_map_or (notes_outside image (reached image t)) (record_of t point) false) none).0 low

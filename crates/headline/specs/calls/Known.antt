@@ -29,7 +29,8 @@ pub record CallsSo (image : Image) (t : Thread) (at : Point) (state : PointState
   pub rule : by_call image t at state call ≡ Ok left
 
 -- The register with the address of a capability leads to a slot, and what is known after the call is by the rule on what that holds.
-pub record NamesSo (image : Image) (t : Thread) (state : PointState) (rules : ℕ → Cap → Result AfterCall Refusal) (left : AfterCall) (registers : RegisterFile) : Type 0 where
+pub record NamesSo (image : Image) (t : Thread) (state : PointState) (rules : ℕ → Cap → Result AfterCall Refusal) (left : AfterCall)
+    (registers : RegisterFile) : Type 0 where
   pub slot : ℕ
   pub found : called_slot (noted_kernel image t state.slots).slots (noted_root image t) (read registers a0) ≡ Ok slot
   pub rule : rules slot (capability_at (noted_kernel image t state.slots).slots slot) ≡ Ok left

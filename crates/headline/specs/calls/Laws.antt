@@ -7,7 +7,8 @@ use Rattle.model.specs.declared.ranges.Range.{Range}
 use Rattle.model.specs.declared.refusals.Point.{Point}
 use Rattle.model.specs.declared.refusals.Refusal.{Refusal}
 use Rattle.model.specs.Acceptance.Accepted.{IsAccepted}
-use Rattle.model.specs.Acceptance.CallRules.{AfterCall, after_call, badges, by_call, by_capability, changes_nothing, message_registers, receive_rule, send_rule, with_answer, with_message, all_known, known}
+use Rattle.model.specs.Acceptance.CallRules.{AfterCall, after_call, badges, by_call, by_capability, changes_nothing, message_registers, receive_rule, send_rule}
+use Rattle.model.specs.Acceptance.CallRules.{with_answer, with_message, all_known, known}
 use Rattle.model.specs.Acceptance.NotedStates.{PointState}
 use Rattle.model.specs.Acceptance.PointStates.{Known, call_at, instruction_at, noted}
 use Rattle.model.specs.Acceptance.Ranges.{single, with_range}

@@ -1,10 +1,12 @@
 -- What the rules on receives, on Call, Send and NBSend, and on the calls that need nothing say of those that they allow.
 use Rattle.std.specs.Prelude.{ℕ, ◌≡◌, true, false, Bool, if◌then◌else◌, ⊤, Ok, [], ◌∷◌}
 use Rattle.model.specs.declared.capabilities.Cap.{Cap}
-use Rattle.model.specs.declared.capabilities.Cap.TheVariants.{Empty, Untyped, Endpoint, Notification, CNode, Frame, PageTable, Tcb, RootTable, InterruptControl, InterruptHandler}
+use Rattle.model.specs.declared.capabilities.Cap.TheVariants.{Empty, Untyped, Endpoint, Notification, CNode, Frame, PageTable, Tcb, RootTable, InterruptControl}
+use Rattle.model.specs.declared.capabilities.Cap.TheVariants.{InterruptHandler}
 use Rattle.model.specs.declared.refusals.Point.{Point}
 use Rattle.model.specs.declared.rights.Rights.{Rights}
-use Rattle.model.specs.Acceptance.CallRules.{AfterCall, answers, badges, changes_nothing, invocation, known_behind, message_registers, with_answer, with_message}
+use Rattle.model.specs.Acceptance.CallRules.{AfterCall, answers, badges, changes_nothing, invocation, known_behind, message_registers, with_answer}
+use Rattle.model.specs.Acceptance.CallRules.{with_message}
 use Rattle.model.specs.Acceptance.NotedStates.{PointState}
 use Rattle.model.specs.Acceptance.Ranges.{single, with_range}
 use Rattle.model.specs.Capabilities.Rights.{may_grant_reply, may_read, may_write}
@@ -42,7 +44,8 @@ IsInvoked InterruptControl = ⊤
 IsInvoked (InterruptHandler irq_line) = ⊤
 
 -- a message or a signal, by a capability that may write, or an invocation
-pub data SendsBy (image : Image) (t : Thread) (at : Point) (state : PointState) (kind : SendCall) (slot : ℕ) (capability : Cap) (left : AfterCall) : Type 0 where
+pub data SendsBy (image : Image) (t : Thread) (at : Point) (state : PointState) (kind : SendCall) (slot : ℕ) (capability : Cap) (left : AfterCall) : Type
+    0 where
   calls : (offset : ℕ) (r : Rights) (badge : ℕ) → kind ≡ Calling → capability ≡ Endpoint offset r badge → may_write r ≡ true → may_grant_reply r ≡ true
       → left ≡ known_behind state (with_message state.ranges (single 0)) true message_registers → SendsBy image t at state kind slot capability left
   sends : (offset : ℕ) (r : Rights) (badge : ℕ) → kind ≡ Sending → capability ≡ Endpoint offset r badge → may_write r ≡ true

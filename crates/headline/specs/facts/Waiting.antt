@@ -12,7 +12,8 @@ use Rattle.model.specs.Images.Image.{Image}
 use Rattle.model.specs.Kernel.Kinds.{Names}
 use Rattle.model.specs.Kernel.Messages.{a0}
 use Rattle.model.specs.Kernel.Retype.{NewEndpoint, NewNotification}
-use Rattle.model.specs.Kernel.State.{State, Status, Inactive, Runnable, Blocked, AwaitsReply, AwaitsHandler, Sender, BySend, ByCall, EndpointObject, EndpointState, NotificationObject, NotificationState, ThreadObject, ThreadState}
+use Rattle.model.specs.Kernel.State.{State, Status, Inactive, Runnable, Blocked, AwaitsReply, AwaitsHandler, Sender, BySend, ByCall, EndpointObject}
+use Rattle.model.specs.Kernel.State.{EndpointState, NotificationObject, NotificationState, ThreadObject, ThreadState}
 
 -- ---- what is known after a call that waits
 

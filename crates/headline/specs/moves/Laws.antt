@@ -16,7 +16,8 @@ use Rattle.model.specs.Kernel.Soundness.{IsSound}
 use Rattle.model.specs.Kernel.State.{State, ThreadObject, ThreadState}
 use Rattle.model.specs.Kernel.Steps.{step}
 use Rattle.model.specs.Kernel.Waits.{open_count}
-use Rattle.headline.specs.calls.Laws.{LeadsOn, AreAllowed, AreNumbered, AreNamed, Receives, Sends, NeedNothing, MessageFits, AnswerFits, SignalFits, ResultFits, NothingFits}
+use Rattle.headline.specs.calls.Laws.{LeadsOn, AreAllowed, AreNumbered, AreNamed, Receives, Sends, NeedNothing, MessageFits, AnswerFits, SignalFits, ResultFits}
+use Rattle.headline.specs.calls.Laws.{NothingFits}
 use Rattle.headline.specs.kept.Laws.{StandsOn, HaveOwnBlocks, IsLong}
 use Rattle.soundness.specs.Laws.{EventsKeepSoundness, ReplyKeepsSoundness, SignalKeepsSoundness}
 use Rattle.headline.specs.facts.Laws.{Ends}

@@ -84,7 +84,8 @@ WritesWhereStoresMay =
 
 abbrev pub ProgramsStayWhereTheyStand : Type 0
 ProgramsStayWhereTheyStand =
-    (image : Image) (t : Numbered) (s : State) (slots : List NotedSlot) → FramesAreKept image → IsSound s → MapsAreNoted image t s slots → NamesNoCode image slots
+    (image : Image) (t : Numbered) (s : State) (slots : List NotedSlot) → FramesAreKept image → IsSound s → MapsAreNoted image t s slots →
+    NamesNoCode image slots
     → vspace_of s (tcb_of image t) ≡ Some (root_table_of image t) → (registers : RegisterFile) (left : Content)
     → list_all (is_code image t.thread) (program_pages t.thread) ≡ true → t.thread.header.base % page_size ≡ 0
     → t.thread.header.base + 4 * t.thread.header.words ≤ 2 ^ 31

@@ -33,4 +33,5 @@ pub record MayTake (r : RegisterFile) (content : Content) (ranges : List Range) 
   pub among : Contains (edges_among (after r.pc instr ranges)) edge
   pub before : LieWithin r edge.before
   pub goes : edge.target % 4 ≡ 0 → (effect r content instr).exec ≡ Next
-  pub leads : (effect r content instr).exec ≡ Next → ((effect r content instr).registers.pc ≡ edge.target) × LieWithin (effect r content instr).registers edge.ranges
+  pub leads : (effect r content instr).exec ≡ Next → ((effect r content instr).registers.pc ≡ edge.target)
+      × LieWithin (effect r content instr).registers edge.ranges

@@ -50,9 +50,11 @@ module _ (image : Image) (fits : IsFitting image) where
   pub mapped-other : (root address place : ℕ) (f : FrameEntry) → address < 2 ^ 32 → IsPlaceOf (pair_key root address) (frame_keys image) place
       → slice_get image.frames place ≡ Some f → is_at root address f ≡ false → frame_at image root address ≡ None
   mapped-other root address place f small is at fails =
-      find-no (is_at root address) image.frames (none-from frame_key (is_at root address) image.frames _ _ place (at-address root address small) is frames-rise f at fails)
+      find-no (is_at root address) image.frames
+      (none-from frame_key (is_at root address) image.frames _ _ place (at-address root address small) is frames-rise f at fails)
 
   pub mapped-here : (root address place : ℕ) (f : FrameEntry) → address < 2 ^ 32 → IsPlaceOf (pair_key root address) (frame_keys image) place
       → slice_get image.frames place ≡ Some f → is_at root address f ≡ true → frame_at image root address ≡ Some f
   mapped-here root address place f small is at holds =
-      find-first (is_at root address) image.frames place f at holds (before-place frame_key (is_at root address) image.frames _ _ place (at-address root address small) is)
+      find-first (is_at root address) image.frames place f at holds
+      (before-place frame_key (is_at root address) image.frames _ _ place (at-address root address small) is)

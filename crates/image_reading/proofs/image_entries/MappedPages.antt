@@ -44,12 +44,13 @@ module _ (root address : ℕ) (allowed : FrameEntry → Bool) where
 
   found-open : (frames : List FrameEntry) → DoFramesRise frames → option_map_or allowed (find is_at frames) false ≡ list_any is_open frames
   found-open [] rise = refl
-  found-open (f ∷ rest) rise = elim (is_at f) as (λ b. is_at f ≡ b → option_map_or allowed (if b then Some f else find is_at rest) false ≡ ((b && allowed f) || list_any is_open rest)) [
-    | true ↦ λ here.
-        let none = none-open rest (λ k g at. apart f g here (rise 0 (suc k) f g (omega arith) refl at)) in
-        or-none (allowed f) (list_any is_open rest) none
-    | false ↦ λ _. found-open rest (behind f rest rise)
-  ] refl
+  found-open (f ∷ rest) rise = elim (is_at f) as (λ b. is_at f ≡ b →
+      option_map_or allowed (if b then Some f else find is_at rest) false ≡ ((b && allowed f) || list_any is_open rest)) [
+        | true ↦ λ here.
+            let none = none-open rest (λ k g at. apart f g here (rise 0 (suc k) f g (omega arith) refl at)) in
+            or-none (allowed f) (list_any is_open rest) none
+        | false ↦ λ _. found-open rest (behind f rest rise)
+      ] refl
 
   pub one-open : (frames : List FrameEntry) (found : Option FrameEntry) → DoFramesRise frames → found ≡ find is_at frames
       → list_any is_open frames ≡ option_map_or allowed found false

@@ -1,5 +1,6 @@
 -- The place of a number among keys that rise, and what it says of the entries.
-use Rattle.std.proofs.Common.{◌≡◌, ◌∙◌, inl, inr, ℕ, zero, suc, ◌<◌, ◌≤◌, ◌||◌, Bool, true, false, List, [], ◌∷◌, None, Option, Some, length, map, refl, sym, ap, arith}
+use Rattle.std.proofs.Common.{◌≡◌, ◌∙◌, inl, inr, ℕ, zero, suc, ◌<◌, ◌≤◌, ◌||◌, Bool, true, false, List, [], ◌∷◌, None, Option, Some, length, map, refl, sym}
+use Rattle.std.proofs.Common.{ap, arith}
 use Rattle.std.specs.Prelude.{find, if◌then◌else◌, option_map, slice_get}
 use Rattle.std.specs.List.{list_any}
 use Rattle.std.proofs.lemmas.Bool.{cases_lt, false≢true}
@@ -48,7 +49,8 @@ pub record IsWithinKeys {A : Type 0} (key : A → ℕ) (test : A → Bool) (xs :
 
 module _ {A : Type 0} (key : A → ℕ) (test : A → Bool) (xs : List A) (low high place : ℕ) where
   -- none before the place passes
-  pub before-place : IsWithinKeys key test xs low high → IsPlaceOf low (map key xs) place → (k : ℕ) (x : A) → k < place → slice_get xs k ≡ Some x → test x ≡ false
+  pub before-place : IsWithinKeys key test xs low high → IsPlaceOf low (map key xs) place → (k : ℕ) (x : A) → k < place → slice_get xs k ≡ Some x →
+      test x ≡ false
   before-place within is k x less at =
       is-false (test x) (λ holds.
       let lowest = within.lowest k x at holds in
@@ -56,12 +58,14 @@ module _ {A : Type 0} (key : A → ℕ) (test : A → Bool) (xs : List A) (low h
       omega (arith, lowest, lower))
 
   -- none passes if there is none from the place on
-  pub none-behind : IsWithinKeys key test xs low high → IsPlaceOf low (map key xs) place → length xs ≤ place → (k : ℕ) (x : A) → slice_get xs k ≡ Some x → test x ≡ false
+  pub none-behind : IsWithinKeys key test xs low high → IsPlaceOf low (map key xs) place → length xs ≤ place → (k : ℕ) (x : A) → slice_get xs k ≡ Some x →
+      test x ≡ false
   none-behind within is past k x at =
       let inside = slice_get_within xs k x at in before-place within is k x (omega (arith, inside, past)) at
 
   -- nor if the one at the place does not
-  pub none-from : IsWithinKeys key test xs low high → IsPlaceOf low (map key xs) place → DoRise (map key xs) → (y : A) → slice_get xs place ≡ Some y → test y ≡ false
+  pub none-from : IsWithinKeys key test xs low high → IsPlaceOf low (map key xs) place → DoRise (map key xs) → (y : A) → slice_get xs place ≡ Some y →
+      test y ≡ false
       → (k : ℕ) (x : A) → slice_get xs k ≡ Some x → test x ≡ false
   none-from within is rise y here fails k x at = elim (cases_lt k place) [
     | inl less ↦ before-place within is k x less at

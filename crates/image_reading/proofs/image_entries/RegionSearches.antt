@@ -12,7 +12,8 @@ use Rattle.image_reading.specs.image_entries.Keys.{DoRise, IsPlaceOf, frame_keys
 use Rattle.image_reading.proofs.image_entries.FrameSearches.{frame_key, frames-rise}
 use Rattle.image_reading.proofs.image_entries.Places.{IsWithinKeys, any-here, any-no, keys-rise, none-behind, none-from}
 
-module _ {A : Type 0} (key : A → ℕ) (test : A → Bool) (xs : List A) (low high place : ℕ) (within : IsWithinKeys key test xs low high) (is : IsPlaceOf low (map key xs) place) where
+module _ {A : Type 0} (key : A → ℕ) (test : A → Bool) (xs : List A) (low high place : ℕ) (within : IsWithinKeys key test xs low high)
+    (is : IsPlaceOf low (map key xs) place) where
   pub any-none : length xs ≤ place → list_any test xs ≡ false
   any-none past = any-no test xs (none-behind key test xs low high place within is past)
 
@@ -58,7 +59,8 @@ module _ (image : Image) (fits : IsFitting image) (root region : ℕ) (small : r
         omega (arith, first, second);
   }
 
-  pub region-none : (place : ℕ) → IsPlaceOf (pair_key root (region * 4194304)) (table_keys image) place → length image.tables ≤ place → list_any (is_for root region) image.tables ≡ false
+  pub region-none : (place : ℕ) → IsPlaceOf (pair_key root (region * 4194304)) (table_keys image) place → length image.tables ≤ place →
+      list_any (is_for root region) image.tables ≡ false
   region-none place is past = any-none table_key (is_for root region) image.tables _ _ place within-region is past
 
   pub region-by : (place : ℕ) (t : TableEntry) → IsPlaceOf (pair_key root (region * 4194304)) (table_keys image) place → slice_get image.tables place ≡ Some t
@@ -95,7 +97,8 @@ module _ (image : Image) (fits : IsFitting image) (root page : ℕ) (small : pag
         omega (arith, first, second);
   }
 
-  pub page-none : (place : ℕ) → IsPlaceOf (pair_key root (page * 4096)) (frame_keys image) place → length image.frames ≤ place → list_any (is_on root page) image.frames ≡ false
+  pub page-none : (place : ℕ) → IsPlaceOf (pair_key root (page * 4096)) (frame_keys image) place → length image.frames ≤ place →
+      list_any (is_on root page) image.frames ≡ false
   page-none place is past = any-none frame_key (is_on root page) image.frames _ _ place within-page is past
 
   pub page-by : (place : ℕ) (f : FrameEntry) → IsPlaceOf (pair_key root (page * 4096)) (frame_keys image) place → slice_get image.frames place ≡ Some f

@@ -21,7 +21,9 @@ use Rattle.model.specs.declared.errors.KError.TheVariants.{IllegalOperation, Ran
 use Rattle.model.specs.declared.invocations.SlotName.{SlotName}
 use Rattle.model.specs.declared.slot_entries.Entry.{Entry}
 use Rattle.objects.specs.Tables.{Tables, state_of}
-use Rattle.soundness.proofs.Laws.{AreNamed, alike-both, are-named, check-passes, copied-alike, copied-badge_fits, copied-guard_fits, copied-unmapped, copied-valid, copies-shared, copy-sound, empty-open, mint-sound, move-sound, mutate-sound, no-badge, passes-both, payload-alike, payload-mapping, payload-valid, plain-open}
+use Rattle.soundness.proofs.Laws.{AreNamed, alike-both, are-named, check-passes, copied-alike, copied-badge_fits, copied-guard_fits, copied-unmapped}
+use Rattle.soundness.proofs.Laws.{copied-valid, copies-shared, copy-sound, empty-open, mint-sound, move-sound, mutate-sound, no-badge, passes-both}
+use Rattle.soundness.proofs.Laws.{payload-alike, payload-mapping, payload-valid, plain-open}
 use Rattle.soundness.specs.Calls.{IsCall}
 
 -- ---- what is left
@@ -40,7 +42,8 @@ full-held slots slot full = elim (slots slot) as (λ h. slots slot ≡ h → (e 
   | Some e ↦ λ some. (e, some)
 ] refl
 
-module _ (o : Tables) (slots now : Slots) (old new : List ℕ) (call : Call) (to from : SlotName) (sound : IsSound (state_of o slots old)) (agreed : Agreed o slots old)
+module _ (o : Tables) (slots now : Slots) (old new : List ℕ) (call : Call) (to from : SlotName) (sound : IsSound (state_of o slots old))
+    (agreed : Agreed o slots old)
     (same : SameOutside slots old new) (is_call : IsCall (state_of o slots old) call) where
   abbrev s : State
   s = state_of o slots old
@@ -63,7 +66,8 @@ module _ (o : Tables) (slots now : Slots) (old new : List ℕ) (call : Call) (to
       let empty = empty-at one.value two.value named in
       left-subst o slots (inserted slots one.value (copied capability word) (Some two.value)) now old new (ap (λ (t : State). t.slots) after) (record {
         closes = put-closes slots one.value (copied capability word) (Some two.value) (subst (λ (x : Option Entry). IsSome x) (sym empty) refl);
-        agreed = copy-agrees o slots old new one.value two.value (copied capability word) agreed same empty (copied-valid capability word (sound.slots.derivation.valid two.value))
+        agreed = copy-agrees o slots old new one.value two.value (copied capability word) agreed same empty
+            (copied-valid capability word (sound.slots.derivation.valid two.value))
             ((copied-alike capability word).single ∙ copies-shared capability may) (copied-unmapped capability word) (copied-alike capability word).object;
         sound = subst IsSound (sym after) (copy-sound s (with_slots s now) call to from word sound is_call is);
       })
@@ -90,7 +94,8 @@ module _ (o : Tables) (slots now : Slots) (old new : List ℕ) (call : Call) (to
       left-subst o slots (inserted slots one.value minted (Some two.value)) now old new (ap (λ (t : State). t.slots) after) (record {
         closes = put-closes slots one.value minted (Some two.value) (subst (λ (x : Option Entry). IsSome x) (sym empty) refl);
         agreed = copy-agrees o slots old new one.value two.value minted agreed same empty
-            (payload-valid (copied capability word) payload (copied-valid capability word (sound.slots.derivation.valid two.value)) (copied-badge_fits capability word payload ∙ badge) (copied-guard_fits capability word payload ∙ guard))
+            (payload-valid (copied capability word) payload (copied-valid capability word (sound.slots.derivation.valid two.value))
+            (copied-badge_fits capability word payload ∙ badge) (copied-guard_fits capability word payload ∙ guard))
             (alike.single ∙ copies-shared capability may) (payload-mapping (copied capability word) payload ∙ copied-unmapped capability word) alike.object;
         sound = subst IsSound (sym after) (mint-sound s (with_slots s now) call to from word payload sound is_call is);
       })
@@ -136,8 +141,10 @@ module _ (o : Tables) (slots now : Slots) (old new : List ℕ) (call : Call) (to
 
 -- ---- the answer
 
-given : {A : Type 0} (o : Tables) (slots : Slots) (memory : List ℕ) (defined : State → Call → Result State KError) (on : NodeCall) (now : Slots) (result : Result A KError)
-    → GivesOn defined on slots now result → (call : Call) → call.root ≡ on.root → call.capability ≡ on.node → Gives (defined (state_of o slots memory) call) (state_of o slots memory) now result
+given : {A : Type 0} (o : Tables) (slots : Slots) (memory : List ℕ) (defined : State → Call → Result State KError) (on : NodeCall) (now : Slots)
+    (result : Result A KError)
+    → GivesOn defined on slots now result → (call : Call) → call.root ≡ on.root → call.capability ≡ on.node →
+    Gives (defined (state_of o slots memory) call) (state_of o slots memory) now result
 unfolding state_of
 given o slots memory defined on now (Ok x) gives call root node = gives (state_of o slots memory) call root node
 given o slots memory defined on now (Err e) gives call root node = gives (state_of o slots memory) call root node
@@ -146,7 +153,8 @@ module _ (o : Tables) (slots now : Slots) (old new : List ℕ) (agreed : Agreed 
   after-state : Left o slots now old new → state_of o now new ≡ with_slots (state_of o slots old) now
   after-state left = follows-law o slots now old new agreed same left.closes
 
-  gives-after : {A : Type 0} (defined : Result State KError) (result : Result A KError) → (defined ≡ Ok (with_slots (state_of o slots old) now) → Left o slots now old new)
+  gives-after : {A : Type 0} (defined : Result State KError) (result : Result A KError) →
+      (defined ≡ Ok (with_slots (state_of o slots old) now) → Left o slots now old new)
       → Gives defined (state_of o slots old) now result → GivesState defined result (state_of o now new)
   gives-after defined (Ok x) leaves gives = gives ∙ ap (λ (t : State). Ok t) (sym (after-state (leaves gives)))
   gives-after defined (Err e) leaves gives = gives
@@ -155,12 +163,14 @@ module _ (o : Tables) (slots now : Slots) (old new : List ℕ) (agreed : Agreed 
   whole-after left = record { sound = subst IsSound (sym (after-state left)) left.sound; agrees = left.agreed.0; stands = left.agreed.1 }
 
 -- what a call leaves is what its definition says, and whole
-called : {A S : Type 0} (slots_in : S → Slots) (memory_in : S → List ℕ) (o : Tables) (store now : S) (defined : State → Call → Result State KError) (on : NodeCall) (call : Call)
+called : {A S : Type 0} (slots_in : S → Slots) (memory_in : S → List ℕ) (o : Tables) (store now : S) (defined : State → Call → Result State KError)
+    (on : NodeCall) (call : Call)
     (result : Result A KError) → Whole slots_in memory_in o store → SameOutside (slots_in store) (memory_in store) (memory_in now)
     → (defined (state_of o (slots_in store) (memory_in store)) call ≡ Ok (with_slots (state_of o (slots_in store) (memory_in store)) (slots_in now))
     → Left o (slots_in store) (slots_in now) (memory_in store) (memory_in now))
     → GivesOn defined on (slots_in store) (slots_in now) result → call.root ≡ on.root → call.capability ≡ on.node → OnErr result (now ≡ store)
-    → GivesState (defined (state_of o (slots_in store) (memory_in store)) call) result (state_of o (slots_in now) (memory_in now)) × Whole slots_in memory_in o now
+    → GivesState (defined (state_of o (slots_in store) (memory_in store)) call) result (state_of o (slots_in now) (memory_in now))
+    × Whole slots_in memory_in o now
 called slots_in memory_in o store now defined on call result whole same leaves gives root node unchanged =
     let s : State = state_of o (slots_in store) (memory_in store) in
     let known = given o (slots_in store) (memory_in store) defined on (slots_in now) result gives call root node in (
@@ -170,38 +180,49 @@ called slots_in memory_in o store now defined on call result whole same leaves g
           (leaves (subst (λ r. Gives (defined s call) s (slots_in now) r) is known))),
     )
 
-pub copy-made : {A S : Type 0} (slots_in : S → Slots) (memory_in : S → List ℕ) (o : Tables) (store now : S) (on : NodeCall) (call : Call) (to from : SlotName) (word : ℕ)
+pub copy-made : {A S : Type 0} (slots_in : S → Slots) (memory_in : S → List ℕ) (o : Tables) (store now : S) (on : NodeCall) (call : Call) (to from : SlotName)
+    (word : ℕ)
     (result : Result A KError) → Whole slots_in memory_in o store → IsCall (state_of o (slots_in store) (memory_in store)) call
     → SameOutside (slots_in store) (memory_in store) (memory_in now) → GivesCopy on to from word (slots_in store) (slots_in now) result
     → call.root ≡ on.root → call.capability ≡ on.node → OnErr result (now ≡ store)
-    → GivesState (copy (state_of o (slots_in store) (memory_in store)) call to from word) result (state_of o (slots_in now) (memory_in now)) × Whole slots_in memory_in o now
+    → GivesState (copy (state_of o (slots_in store) (memory_in store)) call to from word) result (state_of o (slots_in now) (memory_in now))
+    × Whole slots_in memory_in o now
 copy-made slots_in memory_in o store now on call to from word result whole is_call same gives root node unchanged =
     called slots_in memory_in o store now (λ s made. copy s made to from word) on call result whole same
-    (copy-left o (slots_in store) (slots_in now) (memory_in store) (memory_in now) call to from whole.sound (whole.agrees, whole.stands) same is_call word) gives root node unchanged
+    (copy-left o (slots_in store) (slots_in now) (memory_in store) (memory_in now) call to from whole.sound (whole.agrees, whole.stands) same is_call word)
+    gives root node unchanged
 
-pub mint-made : {A S : Type 0} (slots_in : S → Slots) (memory_in : S → List ℕ) (o : Tables) (store now : S) (on : NodeCall) (call : Call) (to from : SlotName) (word payload : ℕ)
+pub mint-made : {A S : Type 0} (slots_in : S → Slots) (memory_in : S → List ℕ) (o : Tables) (store now : S) (on : NodeCall) (call : Call) (to from : SlotName)
+    (word payload : ℕ)
     (result : Result A KError) → Whole slots_in memory_in o store → IsCall (state_of o (slots_in store) (memory_in store)) call
     → SameOutside (slots_in store) (memory_in store) (memory_in now) → GivesMint on to from word payload (slots_in store) (slots_in now) result
     → call.root ≡ on.root → call.capability ≡ on.node → OnErr result (now ≡ store)
-    → GivesState (mint (state_of o (slots_in store) (memory_in store)) call to from word payload) result (state_of o (slots_in now) (memory_in now)) × Whole slots_in memory_in o now
+    → GivesState (mint (state_of o (slots_in store) (memory_in store)) call to from word payload) result (state_of o (slots_in now) (memory_in now))
+    × Whole slots_in memory_in o now
 mint-made slots_in memory_in o store now on call to from word payload result whole is_call same gives root node unchanged =
     called slots_in memory_in o store now (λ s made. mint s made to from word payload) on call result whole same
-    (mint-left o (slots_in store) (slots_in now) (memory_in store) (memory_in now) call to from whole.sound (whole.agrees, whole.stands) same is_call word payload) gives root node unchanged
+    (mint-left o (slots_in store) (slots_in now) (memory_in store) (memory_in now) call to from whole.sound (whole.agrees, whole.stands) same is_call word
+    payload) gives root node unchanged
 
 pub move-made : {A S : Type 0} (slots_in : S → Slots) (memory_in : S → List ℕ) (o : Tables) (store now : S) (on : NodeCall) (call : Call) (to from : SlotName)
     (result : Result A KError) → Whole slots_in memory_in o store → IsCall (state_of o (slots_in store) (memory_in store)) call
     → SameOutside (slots_in store) (memory_in store) (memory_in now) → GivesMove on to from (slots_in store) (slots_in now) result
     → call.root ≡ on.root → call.capability ≡ on.node → OnErr result (now ≡ store)
-    → GivesState (move (state_of o (slots_in store) (memory_in store)) call to from) result (state_of o (slots_in now) (memory_in now)) × Whole slots_in memory_in o now
+    → GivesState (move (state_of o (slots_in store) (memory_in store)) call to from) result (state_of o (slots_in now) (memory_in now))
+    × Whole slots_in memory_in o now
 move-made slots_in memory_in o store now on call to from result whole is_call same gives root node unchanged =
     called slots_in memory_in o store now (λ s made. move s made to from) on call result whole same
-    (move-left o (slots_in store) (slots_in now) (memory_in store) (memory_in now) call to from whole.sound (whole.agrees, whole.stands) same is_call) gives root node unchanged
+    (move-left o (slots_in store) (slots_in now) (memory_in store) (memory_in now) call to from whole.sound (whole.agrees, whole.stands) same is_call) gives
+    root node unchanged
 
-pub mutate-made : {A S : Type 0} (slots_in : S → Slots) (memory_in : S → List ℕ) (o : Tables) (store now : S) (on : NodeCall) (call : Call) (to from : SlotName) (payload : ℕ)
+pub mutate-made : {A S : Type 0} (slots_in : S → Slots) (memory_in : S → List ℕ) (o : Tables) (store now : S) (on : NodeCall) (call : Call) (to from : SlotName)
+    (payload : ℕ)
     (result : Result A KError) → Whole slots_in memory_in o store → IsCall (state_of o (slots_in store) (memory_in store)) call
     → SameOutside (slots_in store) (memory_in store) (memory_in now) → GivesMutate on to from payload (slots_in store) (slots_in now) result
     → call.root ≡ on.root → call.capability ≡ on.node → OnErr result (now ≡ store)
-    → GivesState (mutate (state_of o (slots_in store) (memory_in store)) call to from payload) result (state_of o (slots_in now) (memory_in now)) × Whole slots_in memory_in o now
+    → GivesState (mutate (state_of o (slots_in store) (memory_in store)) call to from payload) result (state_of o (slots_in now) (memory_in now))
+    × Whole slots_in memory_in o now
 mutate-made slots_in memory_in o store now on call to from payload result whole is_call same gives root node unchanged =
     called slots_in memory_in o store now (λ s made. mutate s made to from payload) on call result whole same
-    (mutate-left o (slots_in store) (slots_in now) (memory_in store) (memory_in now) call to from whole.sound (whole.agrees, whole.stands) same is_call payload) gives root node unchanged
+    (mutate-left o (slots_in store) (slots_in now) (memory_in store) (memory_in now) call to from whole.sound (whole.agrees, whole.stands) same is_call payload)
+    gives root node unchanged

@@ -2,11 +2,15 @@
 use Rattle.std.proofs.Common.{ℕ, ◌≡◌, ◌∙◌, ◌==◌, Bool, true, false, nat_le, if◌then◌else◌, List, length, Option, Some, None, Result, Ok, refl, sym, ap, subst}
 use Rattle.kernel_machine.specs.perform_calls.Calls.{AppliesTo}
 use Rattle.model.specs.Kernel.Arguments.{◌>>=◌, Call, check, wanted}
-use Rattle.model.specs.Kernel.CallForms.{CallForm, acknowledge_label, clear_label, cnode_form, configure_label, copy_label, decode, delete_label, form_called, form_of, get_handler_label, handler_form, map_frame_label, map_table_label, mint_label, move_label, mutate_label, resume_label, retype_label, revoke_label, set_notification_label, set_priority_label, set_register_label, suspend_label, thread_form, unmap_frame_label, unmap_table_label}
+use Rattle.model.specs.Kernel.CallForms.{CallForm, acknowledge_label, clear_label, cnode_form, configure_label, copy_label, decode, delete_label, form_called}
+use Rattle.model.specs.Kernel.CallForms.{form_of, get_handler_label, handler_form, map_frame_label, map_table_label, mint_label, move_label, mutate_label}
+use Rattle.model.specs.Kernel.CallForms.{resume_label, retype_label, revoke_label, set_notification_label, set_priority_label, set_register_label}
+use Rattle.model.specs.Kernel.CallForms.{suspend_label, thread_form, unmap_frame_label, unmap_table_label}
 use Rattle.model.specs.Kernel.Invocations.{invoke, perform}
 use Rattle.model.specs.Kernel.State.{State}
 use Rattle.model.specs.declared.capabilities.Cap.{Cap}
-use Rattle.model.specs.declared.capabilities.Cap.TheVariants.{Empty, Untyped, Endpoint, Notification, CNode, Frame, PageTable, Tcb, RootTable, InterruptControl, InterruptHandler}
+use Rattle.model.specs.declared.capabilities.Cap.TheVariants.{Empty, Untyped, Endpoint, Notification, CNode, Frame, PageTable, Tcb, RootTable, InterruptControl}
+use Rattle.model.specs.declared.capabilities.Cap.TheVariants.{InterruptHandler}
 use Rattle.model.specs.declared.errors.KError.{KError}
 use Rattle.model.specs.declared.errors.KError.TheVariants.{IllegalOperation, TruncatedMessage}
 use Rattle.model.specs.declared.invocations.Invocation.{Invocation}
@@ -51,7 +55,8 @@ module _ (words : List ℕ) where
       (chosen (Applies (InterruptHandler line)) (label == clear_label) _ _ form refl (none-left (InterruptHandler line) form)))
 
   form-applies : (c : Cap) (label : ℕ) (form : CallForm) → form_of c label ≡ Some form → Applies c form
-  form-applies (Untyped offset bits watermark) label form = chosen (Applies (Untyped offset bits watermark)) (label == retype_label) _ _ form refl (none-left (Untyped offset bits watermark) form)
+  form-applies (Untyped offset bits watermark) label form = chosen (Applies (Untyped offset bits watermark)) (label == retype_label) _ _ form refl
+      (none-left (Untyped offset bits watermark) form)
   form-applies (Tcb thread) label form = thread-applies thread label form
   form-applies (CNode offset radix guard) label form = cnode-applies offset radix guard label form
   form-applies (Frame offset held mapping) label form =
@@ -78,7 +83,8 @@ module _ (words : List ℕ) where
       let made : four.value.call words ≡ invocation = ap (λ (f : CallForm). f.call words) same ∙ cc two.rest in
       subst (AppliesTo c) made (form-applies c label four.value (wanted-some (form_of c label) IllegalOperation four.value four.first))
 
-pub invoked-by : (s : State) (call : Call) (label extra : ℕ) (words : List ℕ) (decoded : Result Invocation KError) → decoded ≡ decode call.capability label extra words
+pub invoked-by : (s : State) (call : Call) (label extra : ℕ) (words : List ℕ) (decoded : Result Invocation KError) →
+    decoded ≡ decode call.capability label extra words
     → invoke s call label extra words ≡ (decoded >>= perform s call)
 unfolding invoke
 invoked-by s call label extra words decoded is = ap (λ (d : Result Invocation KError). d >>= perform s call) (sym is)

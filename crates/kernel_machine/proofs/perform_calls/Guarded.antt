@@ -8,7 +8,8 @@ use Rattle.model.specs.Kernel.Invocations.{configure_with_guard}
 use Rattle.model.specs.Kernel.State.{State}
 use Rattle.model.specs.Kernel.ThreadCalls.{configure}
 use Rattle.model.specs.declared.capabilities.Cap.{Cap}
-use Rattle.model.specs.declared.capabilities.Cap.TheVariants.{Empty, Untyped, Endpoint, Notification, CNode, Frame, PageTable, Tcb, RootTable, InterruptControl, InterruptHandler}
+use Rattle.model.specs.declared.capabilities.Cap.TheVariants.{Empty, Untyped, Endpoint, Notification, CNode, Frame, PageTable, Tcb, RootTable, InterruptControl}
+use Rattle.model.specs.declared.capabilities.Cap.TheVariants.{InterruptHandler}
 use Rattle.model.specs.declared.errors.KError.{KError}
 use Rattle.model.specs.declared.errors.KError.TheVariants.{IllegalOperation, TruncatedMessage}
 use Rattle.model.specs.declared.invocations.SlotName.{SlotName}
@@ -41,12 +42,14 @@ module _ (s : State) (call : Call) (words : List ℕ) where
   pub guarded-none : (found : Option ℕ) → found ≡ thread_of call.capability → found ≡ None → configure_with_guard s call words ≡ Err IllegalOperation
   guarded-none found is none = guarded-is found is ∙ ap (λ (o : Option ℕ). guarded o (nat_le 6 (length words))) none
 
-  pub guarded-short : (found : Option ℕ) (thread : ℕ) → found ≡ thread_of call.capability → found ≡ Some thread → length words < 6 → configure_with_guard s call words ≡ Err TruncatedMessage
+  pub guarded-short : (found : Option ℕ) (thread : ℕ) → found ≡ thread_of call.capability → found ≡ Some thread → length words < 6 →
+      configure_with_guard s call words ≡ Err TruncatedMessage
   guarded-short found thread is some short =
       guarded-is found is ∙ ap (λ (o : Option ℕ). guarded o (nat_le 6 (length words))) some ∙ ap (guarded (Some thread)) (lt-leb 6 (length words) short)
 
   pub guarded-long : (found : Option ℕ) (thread : ℕ) → found ≡ thread_of call.capability → found ≡ Some thread → 6 ≤ length words
-      → (guard : Option ℕ) (address : ℕ) (cspace vspace : SlotName) → guard ≡ Some (word words 5) → address ≡ word words 0 → cspace ≡ slot_name words 1 → vspace ≡ slot_name words 3
+      → (guard : Option ℕ) (address : ℕ) (cspace vspace : SlotName) → guard ≡ Some (word words 5) → address ≡ word words 0 → cspace ≡ slot_name words 1 →
+      vspace ≡ slot_name words 3
       → configure_with_guard s call words ≡ configure s call.root thread guard address cspace vspace
   guarded-long found thread is some long guard address cspace vspace sixth first second fourth =
       guarded-is found is ∙ ap (λ (o : Option ℕ). guarded o (nat_le 6 (length words))) some ∙ ap (guarded (Some thread)) (le-leb 6 (length words) long)

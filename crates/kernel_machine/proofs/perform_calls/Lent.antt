@@ -8,10 +8,12 @@ use Rattle.model.specs.Kernel.State.{State}
 use Rattle.model.specs.declared.errors.KError.{KError}
 use Rattle.soundness.specs.Calls.{IsCall}
 
-pub asked : {S : Type 0} (slots : S → Slots) (memory : S → List ℕ) (call : Call) {parts kernel : Parts S} → parts ≡ kernel → IsCall (state_in slots memory kernel) call
+pub asked : {S : Type 0} (slots : S → Slots) (memory : S → List ℕ) (call : Call) {parts kernel : Parts S} → parts ≡ kernel →
+    IsCall (state_in slots memory kernel) call
     → IsCall (state_in slots memory parts) call
 asked slots memory call is whole = subst (λ k. IsCall (state_in slots memory k) call) (sym is) whole
 
-pub given : {A S : Type 0} (slots : S → Slots) (memory : S → List ℕ) (defined : State → Result State KError) (result : Result A KError) (left : State) {parts kernel : Parts S}
+pub given : {A S : Type 0} (slots : S → Slots) (memory : S → List ℕ) (defined : State → Result State KError) (result : Result A KError) (left : State)
+    {parts kernel : Parts S}
     → parts ≡ kernel → GivesState (defined (state_in slots memory parts)) result left → GivesState (defined (state_in slots memory kernel)) result left
 given slots memory defined result left is gives = subst (λ k. GivesState (defined (state_in slots memory k)) result left) is gives

@@ -1,5 +1,6 @@
 -- What calls on frames and page tables leave is what their definitions say, and whole.
-use Rattle.std.proofs.Common.{ℕ, ◌≡◌, ◌∙◌, ◌||◌, ◌+◌, ◌/◌, ◌%◌, ◌^◌, ◌≤◌, ◌==◌, inl, inr, true, false, not, nat_lt, if◌then◌else◌, Option, Some, None, IsSome, List, length, Result, Ok, Err, refl, sym, ap, subst}
+use Rattle.std.proofs.Common.{ℕ, ◌≡◌, ◌∙◌, ◌||◌, ◌+◌, ◌/◌, ◌%◌, ◌^◌, ◌≤◌, ◌==◌, inl, inr, true, false, not, nat_lt, if◌then◌else◌, Option, Some, None, IsSome}
+use Rattle.std.proofs.Common.{List, length, Result, Ok, Err, refl, sym, ap, subst}
 use Rattle.std.specs.Option.{option_map_or}
 use Rattle.std.specs.Prelude.{OnErr}
 use Rattle.std.proofs.lemmas.Bool.Decides.{eqb_tells}
@@ -51,7 +52,8 @@ pub all-near : (o : Tables) (slots : Slots) (memory : List ℕ) → IsSound (sta
 unfolding state_of
 all-near o slots memory sound = λ slot full. full-near (state_of o slots memory) sound.shape sound.slots sound.memory slot full
 
-module _ (o : Tables) (slots now : Slots) (old new : List ℕ) (whole : IsWhole o slots old) (same : SameBesideTables slots old new) (tables : TablesAgree now new)
+module _ (o : Tables) (slots now : Slots) (old new : List ℕ) (whole : IsWhole o slots old) (same : SameBesideTables slots old new)
+    (tables : TablesAgree now new)
     (sound : IsSound (with_slots (state_of o slots old) now)) where
   open-before : ((slot : ℕ) → slots slot ≡ None → now slot ≡ None) → (slot : ℕ) → IsOpen now slot → IsOpen slots slot
   open-before closes slot is_open = elim (slots slot) as (λ e. slots slot ≡ e → IsOpen slots slot) [
@@ -84,10 +86,12 @@ pub frame-within : (o : Tables) (slots : Slots) (memory : List ℕ) (slot offset
     → capability_at slots slot ≡ Frame offset held mapping → offset + 2 ^ 12 ≤ length memory
 unfolding state_of
 frame-within o slots memory slot offset held mapping whole is =
-    let inside : offset + 2 ^ 12 ≤ 2 ^ (state_of o slots memory).memory_bits = (whole.sound.memory.inside slot (record { first = offset; size = 2 ^ 12 }) (ap piece_of is)).1 in
+    let inside : offset + 2 ^ 12 ≤ 2 ^ (state_of o slots memory).memory_bits =
+    (whole.sound.memory.inside slot (record { first = offset; size = 2 ^ 12 }) (ap piece_of is)).1 in
     subst (λ (n : ℕ). offset + 2 ^ 12 ≤ n) whole.agrees.size inside
 
-names-none : (c : Cap) (offset : ℕ) (r : Rights) (before after : Option FrameMapping) (table : ℕ) → c ≡ Frame offset r before → NamesTable (with_frame_mapping c after) table → ⊥
+names-none : (c : Cap) (offset : ℕ) (r : Rights) (before after : Option FrameMapping) (table : ℕ) → c ≡ Frame offset r before →
+    NamesTable (with_frame_mapping c after) table → ⊥
 names-none c offset r before after table is names = subst (λ (k : Cap). NamesTable (with_frame_mapping k after) table) is names
 
 module _ (o : Tables) (slots now : Slots) (old new : List ℕ) (call : Call) (offset : ℕ) (held : Rights) (mapping : Option FrameMapping)
@@ -115,7 +119,8 @@ module _ (o : Tables) (slots now : Slots) (old new : List ℕ) (call : Call) (of
       let slots_are : recapped slots call.slot made ≡ now = ap (λ (t : State). t.slots) e in
       mapped-whole o slots now old new whole same tables
       (frame-sound s (with_slots s now) call offset held mapping (MapFrame name address word) whole.sound is_call is done)
-      (subst (λ (n : Slots). (slot : ℕ) → slots slot ≡ None → n slot ≡ None) slots_are (put-closes slots call.slot made (parent_at slots call.slot) (full-open slots call.slot at.full)))
+      (subst (λ (n : Slots). (slot : ℕ) → slots slot ≡ None → n slot ≡ None) slots_are
+      (put-closes slots call.slot made (parent_at slots call.slot) (full-open slots call.slot at.full)))
       (subst (λ (n : Slots). (table : ℕ) → IsNamedTable n table → IsNamedTable slots table) slots_are
       (λ table named. put-named slots call.slot made (parent_at slots call.slot) table
       (λ names. absurd (names-none call.capability offset held mapping (Some m) table is names)) named))
@@ -127,31 +132,43 @@ module _ (o : Tables) (slots now : Slots) (old new : List ℕ) (call : Call) (of
       subst (λ (c : Cap). Gives (map_frame s (record call { capability = c }) held name address word) s now result) (sym is)
       (gives s call.caller (all-near o slots old whole.sound))
 
-mapped-at : {A S : Type 0} (slots_in : S → Slots) (memory_in : S → List ℕ) (o : Tables) (store now : S) (call : Call) (offset : ℕ) (held : Rights) (mapping : Option FrameMapping)
-    (name : SlotName) (address word : ℕ) (result : Result A KError) → Whole slots_in memory_in o store → IsCall (state_of o (slots_in store) (memory_in store)) call
-    → call.capability ≡ Frame offset held mapping → SameBesideTables (slots_in store) (memory_in store) (memory_in now) → TablesAgree (slots_in now) (memory_in now)
+mapped-at : {A S : Type 0} (slots_in : S → Slots) (memory_in : S → List ℕ) (o : Tables) (store now : S) (call : Call) (offset : ℕ) (held : Rights)
+    (mapping : Option FrameMapping)
+    (name : SlotName) (address word : ℕ) (result : Result A KError) → Whole slots_in memory_in o store →
+    IsCall (state_of o (slots_in store) (memory_in store)) call
+    → call.capability ≡ Frame offset held mapping → SameBesideTables (slots_in store) (memory_in store) (memory_in now) →
+    TablesAgree (slots_in now) (memory_in now)
     → OnErr result (now ≡ store) → GivesMapped (slots_in store) call.root call.slot offset held mapping name address word (slots_in now) result
     → GivesState (map_frame (state_of o (slots_in store) (memory_in store)) call held name address word) result (state_of o (slots_in now) (memory_in now))
     × Whole slots_in memory_in o now
 mapped-at slots_in memory_in o store now call offset held mapping name address word (Ok x) whole is_call is same tables unchanged gives =
-    let done = frame-given o (slots_in store) (slots_in now) (memory_in store) (memory_in now) call offset held mapping whole is_call is same tables name address word (Ok x) gives in (
-      done ∙ ap (λ (t : State). Ok t) (sym (unmapped-state o (slots_in store) (slots_in now) (memory_in store) (memory_in now) (whole.agrees, whole.stands) same)),
-      frame-whole o (slots_in store) (slots_in now) (memory_in store) (memory_in now) call offset held mapping whole is_call is same tables name address word done,
+    let done = frame-given o (slots_in store) (slots_in now) (memory_in store) (memory_in now) call offset held mapping whole is_call is same tables name
+    address word (Ok x) gives in (
+      done ∙ ap (λ (t : State). Ok t)
+          (sym (unmapped-state o (slots_in store) (slots_in now) (memory_in store) (memory_in now) (whole.agrees, whole.stands) same)),
+      frame-whole o (slots_in store) (slots_in now) (memory_in store) (memory_in now) call offset held mapping whole is_call is same tables name address word
+          done,
     )
 mapped-at {A} {S} slots_in memory_in o store now call offset held mapping name address word (Err e) whole is_call is same tables unchanged gives = (
-  frame-given o (slots_in store) (slots_in now) (memory_in store) (memory_in now) call offset held mapping whole is_call is same tables {A = A} name address word (Err e) gives,
+  frame-given o (slots_in store) (slots_in now) (memory_in store) (memory_in now) call offset held mapping whole is_call is same tables {A = A} name address
+      word (Err e) gives,
   subst (λ x. Whole slots_in memory_in o x) (sym unchanged) whole,
 )
 
 -- what the call that maps a frame leaves
-pub frame-mapped : {A S : Type 0} (slots_in : S → Slots) (memory_in : S → List ℕ) (o : Tables) (store now : S) (call : Call) (slot offset : ℕ) (r held : Rights) (mapping : Option FrameMapping)
-    (name : SlotName) (address word : ℕ) (result : Result A KError) → slot ≡ call.slot → r ≡ held → Whole slots_in memory_in o store → IsCall (state_of o (slots_in store) (memory_in store)) call
-    → call.capability ≡ Frame offset r mapping → SameBesideTables (slots_in store) (memory_in store) (memory_in now) → TablesAgree (slots_in now) (memory_in now)
+pub frame-mapped : {A S : Type 0} (slots_in : S → Slots) (memory_in : S → List ℕ) (o : Tables) (store now : S) (call : Call) (slot offset : ℕ) (r held : Rights)
+    (mapping : Option FrameMapping)
+    (name : SlotName) (address word : ℕ) (result : Result A KError) → slot ≡ call.slot → r ≡ held → Whole slots_in memory_in o store →
+    IsCall (state_of o (slots_in store) (memory_in store)) call
+    → call.capability ≡ Frame offset r mapping → SameBesideTables (slots_in store) (memory_in store) (memory_in now) →
+    TablesAgree (slots_in now) (memory_in now)
     → OnErr result (now ≡ store) → GivesMapped (slots_in store) call.root slot offset r mapping name address word (slots_in now) result
     → GivesState (map_frame (state_of o (slots_in store) (memory_in store)) call held name address word) result (state_of o (slots_in now) (memory_in now))
     × Whole slots_in memory_in o now
-frame-mapped slots_in memory_in o store now call slot offset r held mapping name address word result at same_rights whole is_call is same tables unchanged gives =
-    mapped-at slots_in memory_in o store now call offset held mapping name address word result whole is_call (is ∙ ap (λ (x : Rights). Frame offset x mapping) same_rights) same tables unchanged
+frame-mapped slots_in memory_in o store now call slot offset r held mapping name address word result at same_rights whole is_call is same tables unchanged
+    gives =
+    mapped-at slots_in memory_in o store now call offset held mapping name address word result whole is_call
+    (is ∙ ap (λ (x : Rights). Frame offset x mapping) same_rights) same tables unchanged
     (subst (λ (x : Rights). GivesMapped (slots_in store) call.root call.slot offset x mapping name address word (slots_in now) result) same_rights
     (subst (λ (n : ℕ). GivesMapped (slots_in store) call.root n offset r mapping name address word (slots_in now) result) at gives))
 
@@ -159,16 +176,20 @@ frame-without : (offset : ℕ) (r : Rights) (mapping : Option FrameMapping) → 
 frame-without offset r None = refl
 frame-without offset r (Some m) = refl
 
-frame-taken : (o : Tables) (slots now : Slots) (memory : List ℕ) (call : Call) (offset : ℕ) (held : Rights) (mapping : Option FrameMapping) → capability_at slots call.slot ≡ Frame offset held mapping
-    → call.capability ≡ Frame offset held mapping → now ≡ unmapped_at slots call.slot → unmap_frame (state_of o slots memory) call ≡ with_slots (state_of o slots memory) now
+frame-taken : (o : Tables) (slots now : Slots) (memory : List ℕ) (call : Call) (offset : ℕ) (held : Rights) (mapping : Option FrameMapping) →
+    capability_at slots call.slot ≡ Frame offset held mapping
+    → call.capability ≡ Frame offset held mapping → now ≡ unmapped_at slots call.slot →
+    unmap_frame (state_of o slots memory) call ≡ with_slots (state_of o slots memory) now
 unfolding state_of
 frame-taken o slots now memory call offset held mapping at is removed =
     let s : State = state_of o slots memory in
-    ap (λ (c : Cap). with_slots s (recapped slots call.slot (unmapped c))) is ∙ ap (λ (c : Cap). with_slots s (recapped slots call.slot c)) (frame-without offset held mapping)
+    ap (λ (c : Cap). with_slots s (recapped slots call.slot (unmapped c))) is
+    ∙ ap (λ (c : Cap). with_slots s (recapped slots call.slot c)) (frame-without offset held mapping)
     ∙ ap (λ (n : Slots). with_slots s n) (sym (removed ∙ ap (λ (c : Cap). slots_unmapped slots call.slot c) at))
 
 -- what the call that unmaps a frame leaves
-pub frame-unmapped : {S : Type 0} (slots_in : S → Slots) (memory_in : S → List ℕ) (o left : Tables) (store now : S) (call : Call) (offset : ℕ) (held : Rights) (mapping : Option FrameMapping)
+pub frame-unmapped : {S : Type 0} (slots_in : S → Slots) (memory_in : S → List ℕ) (o left : Tables) (store now : S) (call : Call) (offset : ℕ) (held : Rights)
+    (mapping : Option FrameMapping)
     → Whole slots_in memory_in o store → IsCall (state_of o (slots_in store) (memory_in store)) call → call.capability ≡ Frame offset held mapping
     → slots_in now ≡ unmapped_at (slots_in store) call.slot
     → state_of left (slots_in now) (memory_in now) ≡ with_slots (state_of o (slots_in store) (memory_in store)) (slots_in now)
@@ -180,7 +201,8 @@ frame-unmapped slots_in memory_in o left store now call offset held mapping whol
     let done = frame-taken o (slots_in store) (slots_in now) (memory_in store) call offset held mapping at is removed in (
       done ∙ sym state,
       record {
-        sound = subst IsSound (sym state) (frame-sound s (with_slots s (slots_in now)) call offset held mapping UnmapFrame whole.sound is_call is (ap (λ (t : State). Ok t) done));
+        sound = subst IsSound (sym state) (frame-sound s (with_slots s (slots_in now)) call offset held mapping UnmapFrame whole.sound is_call is
+            (ap (λ (t : State). Ok t) done));
         agrees = agreed.0;
         stands = agreed.1;
       },
@@ -190,7 +212,8 @@ frame-unmapped slots_in memory_in o left store now call offset held mapping whol
 
 recapped-here : (slots : Slots) (slot : ℕ) (c : Cap) → capability_at (recapped slots slot c) slot ≡ c
 recapped-here slots slot c = elim (eqb_tells slot slot) [
-  | inl here ↦ ap (λ b. option_map_or (λ (h : Entry). h.capability) (if b then Some (record { capability = c; parent = parent_at slots slot }) else slots slot) Empty) here.0
+  | inl here ↦ ap (λ b. option_map_or (λ (h : Entry). h.capability) (if b then Some (record { capability = c; parent = parent_at slots slot }) else slots slot)
+      Empty) here.0
   | inr apart ↦ absurd (apart.1 refl)
 ]
 
@@ -199,7 +222,8 @@ own-table offset None = refl
 own-table offset (Some m) = inl refl
 
 -- a page table that is mapped under a root table names what was named already
-table-names : (slots : Slots) (slot offset root : ℕ) (before : Option TableMapping) (m : TableMapping) (c : Cap) → capability_at slots slot ≡ PageTable offset before
+table-names : (slots : Slots) (slot offset root : ℕ) (before : Option TableMapping) (m : TableMapping) (c : Cap) →
+    capability_at slots slot ≡ PageTable offset before
     → c ≡ PageTable offset before → IsNamedTable slots m.root → (table : ℕ) → NamesTable (with_table_mapping c (Some m)) table → IsNamedTable slots table
 table-names slots slot offset root before m c at is rooted table names =
     elim (subst (λ (k : Cap). NamesTable (with_table_mapping k (Some m)) table) is names) [
@@ -236,12 +260,15 @@ module _ (o : Tables) (slots now : Slots) (old new : List ℕ) (call : Call) (of
       let slots_are : recapped slots call.slot made ≡ now = ap (λ (t : State). t.slots) e in
       let sound = table-sound before (with_slots before now) call offset mapping (MapTable name address) whole.sound is_call is done in
       let here : capability_at now call.slot ≡ made = ap (λ (n : Slots). capability_at n call.slot) (sym slots_are) ∙ recapped-here slots call.slot made in
-      let mapped : table_mapping (capability_at now call.slot) ≡ Some m = ap table_mapping here ∙ ap (λ (c : Cap). table_mapping (with_table_mapping c (Some m))) is in
+      let mapped : table_mapping (capability_at now call.slot) ≡ Some m = ap table_mapping here
+      ∙ ap (λ (c : Cap). table_mapping (with_table_mapping c (Some m))) is in
       let rooted = root-named root (sound.mappings.table_root call.slot m mapped) in
       mapped-whole o slots now old new whole same tables sound
-      (subst (λ (n : Slots). (slot : ℕ) → slots slot ≡ None → n slot ≡ None) slots_are (put-closes slots call.slot made (parent_at slots call.slot) (full-open slots call.slot at.full)))
+      (subst (λ (n : Slots). (slot : ℕ) → slots slot ≡ None → n slot ≡ None) slots_are
+      (put-closes slots call.slot made (parent_at slots call.slot) (full-open slots call.slot at.full)))
       (subst (λ (n : Slots). (table : ℕ) → IsNamedTable n table → IsNamedTable slots table) slots_are
-      (λ table named. put-named slots call.slot made (parent_at slots call.slot) table (table-names slots call.slot offset root mapping m call.capability at.at is rooted table) named))
+      (λ table named. put-named slots call.slot made (parent_at slots call.slot) table
+      (table-names slots call.slot offset root mapping m call.capability at.at is rooted table) named))
 
   table-given : {A : Type 0} (name : SlotName) (address : ℕ) (result : Result A KError)
       → GivesTableMapped slots call.root call.slot offset mapping name address now result → Gives (map_table before call name address) before now result
@@ -251,16 +278,21 @@ module _ (o : Tables) (slots now : Slots) (old new : List ℕ) (call : Call) (of
       (gives before call.caller (all-near o slots old whole.sound))
 
 -- what the call that maps a page table leaves
-pub table-mapped : {A S : Type 0} (slots_in : S → Slots) (memory_in : S → List ℕ) (o : Tables) (store now : S) (call : Call) (slot offset : ℕ) (mapping : Option TableMapping)
-    (name : SlotName) (address : ℕ) (result : Result A KError) → slot ≡ call.slot → Whole slots_in memory_in o store → IsCall (state_of o (slots_in store) (memory_in store)) call
-    → call.capability ≡ PageTable offset mapping → SameBesideTables (slots_in store) (memory_in store) (memory_in now) → TablesAgree (slots_in now) (memory_in now)
+pub table-mapped : {A S : Type 0} (slots_in : S → Slots) (memory_in : S → List ℕ) (o : Tables) (store now : S) (call : Call) (slot offset : ℕ)
+    (mapping : Option TableMapping)
+    (name : SlotName) (address : ℕ) (result : Result A KError) → slot ≡ call.slot → Whole slots_in memory_in o store →
+    IsCall (state_of o (slots_in store) (memory_in store)) call
+    → call.capability ≡ PageTable offset mapping → SameBesideTables (slots_in store) (memory_in store) (memory_in now) →
+    TablesAgree (slots_in now) (memory_in now)
     → OnErr result (now ≡ store) → GivesTableMapped (slots_in store) call.root slot offset mapping name address (slots_in now) result
     → GivesState (map_table (state_of o (slots_in store) (memory_in store)) call name address) result (state_of o (slots_in now) (memory_in now))
     × Whole slots_in memory_in o now
 table-mapped slots_in memory_in o store now call slot offset mapping name address (Ok x) at whole is_call is same tables unchanged gives =
-    let done = table-given o (slots_in store) (slots_in now) (memory_in store) (memory_in now) call offset mapping whole is_call is same tables name address (Ok x)
+    let done = table-given o (slots_in store) (slots_in now) (memory_in store) (memory_in now) call offset mapping whole is_call is same tables name address
+    (Ok x)
     (subst (λ (n : ℕ). GivesTableMapped (slots_in store) call.root n offset mapping name address (slots_in now) (Ok x)) at gives) in (
-      done ∙ ap (λ (t : State). Ok t) (sym (unmapped-state o (slots_in store) (slots_in now) (memory_in store) (memory_in now) (whole.agrees, whole.stands) same)),
+      done ∙ ap (λ (t : State). Ok t)
+          (sym (unmapped-state o (slots_in store) (slots_in now) (memory_in store) (memory_in now) (whole.agrees, whole.stands) same)),
       table-whole o (slots_in store) (slots_in now) (memory_in store) (memory_in now) call offset mapping whole is_call is same tables name address done,
     )
 table-mapped {A} {S} slots_in memory_in o store now call slot offset mapping name address (Err e) at whole is_call is same tables unchanged gives = (
@@ -269,18 +301,23 @@ table-mapped {A} {S} slots_in memory_in o store now call slot offset mapping nam
   subst (λ x. Whole slots_in memory_in o x) (sym unchanged) whole,
 )
 
-table-taken : (o : Tables) (slots now : Slots) (memory : List ℕ) (call : Call) (offset : ℕ) (mapping : Option TableMapping) → capability_at slots call.slot ≡ PageTable offset mapping
-    → call.capability ≡ PageTable offset mapping → now ≡ unmapped_at slots call.slot → unmap_table (state_of o slots memory) call ≡ with_slots (state_of o slots memory) now
+table-taken : (o : Tables) (slots now : Slots) (memory : List ℕ) (call : Call) (offset : ℕ) (mapping : Option TableMapping) →
+    capability_at slots call.slot ≡ PageTable offset mapping
+    → call.capability ≡ PageTable offset mapping → now ≡ unmapped_at slots call.slot →
+    unmap_table (state_of o slots memory) call ≡ with_slots (state_of o slots memory) now
 unfolding state_of
 table-taken o slots now memory call offset None at is removed =
     let s : State = state_of o slots memory in
-    ap (λ (c : Cap). unmap_table s (record call { capability = c })) is ∙ ap (λ (n : Slots). with_slots s n) (sym (removed ∙ ap (λ (c : Cap). slots_unmapped slots call.slot c) at))
+    ap (λ (c : Cap). unmap_table s (record call { capability = c })) is
+    ∙ ap (λ (n : Slots). with_slots s n) (sym (removed ∙ ap (λ (c : Cap). slots_unmapped slots call.slot c) at))
 table-taken o slots now memory call offset (Some m) at is removed =
     let s : State = state_of o slots memory in
-    ap (λ (c : Cap). unmap_table s (record call { capability = c })) is ∙ ap (λ (n : Slots). with_slots s n) (sym (removed ∙ ap (λ (c : Cap). slots_unmapped slots call.slot c) at))
+    ap (λ (c : Cap). unmap_table s (record call { capability = c })) is
+    ∙ ap (λ (n : Slots). with_slots s n) (sym (removed ∙ ap (λ (c : Cap). slots_unmapped slots call.slot c) at))
 
 -- what the call that unmaps a page table leaves
-pub table-unmapped : {S : Type 0} (slots_in : S → Slots) (memory_in : S → List ℕ) (o left : Tables) (store now : S) (call : Call) (offset : ℕ) (mapping : Option TableMapping)
+pub table-unmapped : {S : Type 0} (slots_in : S → Slots) (memory_in : S → List ℕ) (o left : Tables) (store now : S) (call : Call) (offset : ℕ)
+    (mapping : Option TableMapping)
     → Whole slots_in memory_in o store → IsCall (state_of o (slots_in store) (memory_in store)) call → call.capability ≡ PageTable offset mapping
     → slots_in now ≡ unmapped_at (slots_in store) call.slot
     → state_of left (slots_in now) (memory_in now) ≡ with_slots (state_of o (slots_in store) (memory_in store)) (slots_in now)
@@ -292,7 +329,8 @@ table-unmapped slots_in memory_in o left store now call offset mapping whole is_
     let done = table-taken o (slots_in store) (slots_in now) (memory_in store) call offset mapping at is removed in (
       done ∙ sym state,
       record {
-        sound = subst IsSound (sym state) (table-sound s (with_slots s (slots_in now)) call offset mapping UnmapTable whole.sound is_call is (ap (λ (t : State). Ok t) done));
+        sound = subst IsSound (sym state) (table-sound s (with_slots s (slots_in now)) call offset mapping UnmapTable whole.sound is_call is
+            (ap (λ (t : State). Ok t) done));
         agrees = agreed.0;
         stands = agreed.1;
       },

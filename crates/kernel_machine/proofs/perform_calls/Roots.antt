@@ -41,7 +41,8 @@ pub record MayCall (slots : Slots) (call : Call) : Type 0 where
   pub node : HasOpenSlots slots call.capability
   pub nodes : CNodesAreOpen slots
 
-pub may-call : (o : Tables) (slots : Slots) (memory : List ℕ) (call : Call) → IsWhole o slots memory → IsCall (state_of o slots memory) call → MayCall slots call
+pub may-call : (o : Tables) (slots : Slots) (memory : List ℕ) (call : Call) → IsWhole o slots memory → IsCall (state_of o slots memory) call →
+    MayCall slots call
 unfolding state_of
 may-call o slots memory call whole is_call =
     let s : State = state_of o slots memory in
@@ -55,7 +56,8 @@ may-call o slots memory call whole is_call =
     }
 
 -- what is no CNode is in the slot of the call
-pub held-at : (o : Tables) (slots : Slots) (memory : List ℕ) (call : Call) (c : Cap) → IsCall (state_of o slots memory) call → call.capability ≡ c → cnode_of c ≡ None
+pub held-at : (o : Tables) (slots : Slots) (memory : List ℕ) (call : Call) (c : Cap) → IsCall (state_of o slots memory) call → call.capability ≡ c →
+    cnode_of c ≡ None
     → capability_at slots call.slot ≡ c
 unfolding state_of
 held-at o slots memory call c is_call is none = IsAt.at (invoked-at (state_of o slots memory) call c is_call.invoked is none)

@@ -13,7 +13,8 @@ use Rattle.objects.specs.Tables.{Tables, state_of}
 abbrev pub Whole : {S : Type 0} → (S → Slots) → (S → List ℕ) → Tables → S → Type 0
 Whole slots memory o store = IsWhole o (slots store) (memory store)
 
-pub still-whole : {A S : Type 0} (slots : S → Slots) (memory : S → List ℕ) (defined : Result State KError) (result : Result A KError) (store now : S) (o then : Tables)
+pub still-whole : {A S : Type 0} (slots : S → Slots) (memory : S → List ℕ) (defined : Result State KError) (result : Result A KError) (store now : S)
+    (o then : Tables)
     → Whole slots memory o store → GivesState defined result (state_of then (slots now) (memory now)) → OnErr result (now ≡ store) → OnErr result (then ≡ o)
     → ((t : State) → defined ≡ Ok t → IsSound t) → Agreed then (slots now) (memory now) → Whole slots memory then now
 still-whole slots memory defined (Ok x) store now o then whole gives same others keeps agreed = record {

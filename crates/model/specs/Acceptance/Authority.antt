@@ -1,7 +1,8 @@
 -- Authority: what an event may change. A thread holds what the slots of the CNodes that the image gives it hold, before
 -- its step.
 -- seL4 Reference Manual, "Capability-based Access Control"; the clauses are our own.
-use Rattle.std.specs.Prelude.{ℕ, ◌≡◌, ◌≢◌, ◌+◌, ◌^◌, ◌<◌, ◌≤◌, ◌⊎◌, Bool, true, false, IsSome, IsTrue, bit_and, bit_or, Contains, Option, Some, None, Ok, List, [], ◌∷◌, ◌++◌}
+use Rattle.std.specs.Prelude.{ℕ, ◌≡◌, ◌≢◌, ◌+◌, ◌^◌, ◌<◌, ◌≤◌, ◌⊎◌, Bool, true, false, IsSome, IsTrue, bit_and, bit_or, Contains, Option, Some, None, Ok, List}
+use Rattle.std.specs.Prelude.{[], ◌∷◌, ◌++◌}
 use Rattle.std.specs.List.{list_any}
 use Rattle.model.specs.declared.capabilities.Cap.{Cap}
 use Rattle.model.specs.declared.capabilities.Cap.TheVariants.{Empty, Untyped, Endpoint, Notification, Frame, InterruptControl, InterruptHandler}
@@ -26,7 +27,8 @@ use Rattle.model.specs.Kernel.Kinds.{Names, frame_around, kind_at}
 use Rattle.model.specs.Kernel.Messages.{a0}
 use Rattle.model.specs.Kernel.Retype.{NewObject, NewFrame, object, object_bits}
 use Rattle.model.specs.Kernel.Scheduling.{current, head_of, is_runnable}
-use Rattle.model.specs.Kernel.State.{State, Runnable, ThreadObject, EndpointObject, NotificationObject, EndpointState, NotificationState, Sender, Sent, BySend, ByCall, ByFault, ThreadState, endpoint_at, notification_at}
+use Rattle.model.specs.Kernel.State.{State, Runnable, ThreadObject, EndpointObject, NotificationObject, EndpointState, NotificationState, Sender, Sent, BySend}
+use Rattle.model.specs.Kernel.State.{ByCall, ByFault, ThreadState, endpoint_at, notification_at}
 use Rattle.model.specs.Kernel.Steps.{named_slot}
 use Rattle.model.specs.Machine.Effects.{advanced}
 use Rattle.model.specs.Machine.ProgramMemory.{write}
@@ -124,7 +126,8 @@ gives_right sender BySend = false
 gives_right sender ByCall = sender.grant_reply
 gives_right sender (ByFault fault) = true
 
--- What becomes of the thread's own right to reply: it stays, and who waits for the answer waits on; it goes, or the thread's call receives from the first sender of an
+-- What becomes of the thread's own right to reply: it stays, and who waits for the answer waits on; it goes, or the thread's call receives from the first
+-- sender of an
 -- endpoint, and gets the right to reply to that one.
 pub data RightChange (image : Image) (t : Thread) (s behind : State) (before after : Option ℕ) : Type 0 where
   kept : after ≡ before → ((caller : ℕ) → before ≡ Some caller → behind.objects caller ≡ s.objects caller) → RightChange image t s behind before after

@@ -1,6 +1,7 @@
 -- The system calls that a program may make: what has to be known of each, and what is known after it.
 -- seL4 Reference Manual, "System Calls", for the calls; which of them are accepted is this project's own.
-use Rattle.std.specs.Prelude.{ℕ, ◌==◌, ◌-◌, ◌/◌, ◌%◌, ◌^◌, Bool, true, false, not, ◌&&◌, Option, Some, None, Result, Ok, Err, List, [], ◌∷◌, fold, take, if◌then◌else◌}
+use Rattle.std.specs.Prelude.{ℕ, ◌==◌, ◌-◌, ◌/◌, ◌%◌, ◌^◌, Bool, true, false, not, ◌&&◌, Option, Some, None, Result, Ok, Err, List, [], ◌∷◌, fold, take}
+use Rattle.std.specs.Prelude.{if◌then◌else◌}
 use Rattle.model.specs.declared.capabilities.Cap.{Cap}
 use Rattle.model.specs.declared.capabilities.Cap.TheVariants.{Endpoint, Notification, Frame}
 use Rattle.model.specs.declared.errors.KError.{KError}
@@ -34,7 +35,8 @@ use Rattle.model.specs.Acceptance.RangeRules.{is_single, range}
 use Rattle.model.specs.Acceptance.Ranges.{full, single, range_of, with_range}
 use Rattle.model.specs.Capabilities.Rights.{may_grant_reply, may_read, may_write}
 use Rattle.model.specs.Capabilities.Slots.{Slots, capability_at}
-use Rattle.model.specs.Kernel.Steps.{SendCall, Calling, Sending, Trying, Receiving, Polling, SystemCall, Sends, Receives, RepliesAndReceives, Replies, Yields, PutsCharacter, call_of}
+use Rattle.model.specs.Kernel.Steps.{SendCall, Calling, Sending, Trying, Receiving, Polling, SystemCall, Sends, Receives, RepliesAndReceives, Replies, Yields}
+use Rattle.model.specs.Kernel.Steps.{PutsCharacter, call_of}
 
 -- ---- what is known after a call
 

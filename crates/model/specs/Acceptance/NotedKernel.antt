@@ -1,6 +1,7 @@
 -- The noted slots of a point as slots of the kernel, and back: the described state with the slots of the thread's CNodes
 -- replaced by the noted ones.
-use Rattle.std.specs.Prelude.{ℕ, ◌==◌, ◌-◌, ◌^◌, Bool, not, ◌&&◌, Option, Some, None, option_map, option_and_then, List, map, filter, filter_map, find, flat_map, if◌then◌else◌}
+use Rattle.std.specs.Prelude.{ℕ, ◌==◌, ◌-◌, ◌^◌, Bool, not, ◌&&◌, Option, Some, None, option_map, option_and_then, List, map, filter, filter_map, find}
+use Rattle.std.specs.Prelude.{flat_map, if◌then◌else◌}
 use Rattle.std.specs.Option.{option_map_or}
 use Rattle.std.specs.List.{range_with_len}
 use Rattle.model.specs.declared.capabilities.Cap.{Cap}

@@ -1,6 +1,7 @@
 -- What a certificate notes of a point of a program: the ranges of the registers, the slots of the thread's CNodes, and the
 -- measure.
-use Rattle.std.specs.Prelude.{ℕ, zero, suc, ◌==◌, Bool, true, false, not, ◌&&◌, ◌||◌, nat_lt, Option, Some, None, List, [], ◌∷◌, filter, find, fold, length, map, replicate, if◌then◌else◌}
+use Rattle.std.specs.Prelude.{ℕ, zero, suc, ◌==◌, Bool, true, false, not, ◌&&◌, ◌||◌, nat_lt, Option, Some, None, List, [], ◌∷◌, filter, find, fold, length}
+use Rattle.std.specs.Prelude.{map, replicate, if◌then◌else◌}
 use Rattle.std.specs.Option.{option_map_or}
 use Rattle.std.specs.List.{list_any}
 use Rattle.model.specs.declared.capabilities.Cap.{Cap}

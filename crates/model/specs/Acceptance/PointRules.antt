@@ -1,6 +1,7 @@
 -- The rules on programs: what has to hold at the entry of a thread and at each point that has a state, in the order in which
 -- breaches count.
-use Rattle.std.specs.Prelude.{ℕ, ◌==◌, ◌+◌, ◌-◌, ◌*◌, ◌/◌, ◌%◌, ◌^◌, Bool, true, false, not, ◌&&◌, ◌||◌, nat_le, nat_lt, int_lt, ℤ, pos, ◌+ℤ◌, nat_abs, Option, Some, None, option_to_list, Result, Ok, Err, List, [], ◌∷◌, ◌++◌, map, flat_map, slice_index, slice_index_or, if◌then◌else◌}
+use Rattle.std.specs.Prelude.{ℕ, ◌==◌, ◌+◌, ◌-◌, ◌*◌, ◌/◌, ◌%◌, ◌^◌, Bool, true, false, not, ◌&&◌, ◌||◌, nat_le, nat_lt, int_lt, ℤ, pos, ◌+ℤ◌, nat_abs, Option}
+use Rattle.std.specs.Prelude.{Some, None, option_to_list, Result, Ok, Err, List, [], ◌∷◌, ◌++◌, map, flat_map, slice_index, slice_index_or, if◌then◌else◌}
 use Rattle.std.specs.Option.{option_map_or}
 use Rattle.std.specs.Int.{byte_len, is_negative}
 use Rattle.std.specs.List.{list_all, list_any, range_with_len}
@@ -12,7 +13,8 @@ use Rattle.model.specs.declared.instructions.Instr.TheVariants.{Jalr, Load, Stor
 use Rattle.model.specs.declared.ranges.Range.{Range}
 use Rattle.model.specs.declared.refusals.Point.{Point}
 use Rattle.model.specs.declared.refusals.Refusal.{Refusal}
-use Rattle.model.specs.declared.refusals.Refusal.TheVariants.{BadTarget, CapNotThere, ComputedJump, IllegalInstruction, MeasureNotFalling, NotMapped, OverBudget, RangeNotKept}
+use Rattle.model.specs.declared.refusals.Refusal.TheVariants.{BadTarget, CapNotThere, ComputedJump, IllegalInstruction, MeasureNotFalling, NotMapped}
+use Rattle.model.specs.declared.refusals.Refusal.TheVariants.{OverBudget, RangeNotKept}
 use Rattle.model.specs.Kernel.AddressSpaces.{allows, page_of, page_size}
 use Rattle.model.specs.Acceptance.CallRules.{AfterCall}
 use Rattle.model.specs.Images.Described.{Numbered, listed_registers, numbered_threads, start_registers}

@@ -1,6 +1,7 @@
 -- What an instruction makes of the ranges of registers: the range of its result, and the ranges on each way on.
 -- RISC-V Unprivileged ISA, 2.4 to 2.6, for the results that have to lie in them.
-use Rattle.std.specs.Prelude.{ℕ, zero, suc, ◌==◌, ◌+◌, ◌-◌, ◌*◌, ◌/◌, ◌%◌, ◌^◌, min, max, Bool, ◌&&◌, nat_le, nat_lt, ℤ, List, Option, Some, None, if◌then◌else◌}
+use Rattle.std.specs.Prelude.{ℕ, zero, suc, ◌==◌, ◌+◌, ◌-◌, ◌*◌, ◌/◌, ◌%◌, ◌^◌, min, max, Bool, ◌&&◌, nat_le, nat_lt, ℤ, List, Option, Some, None}
+use Rattle.std.specs.Prelude.{if◌then◌else◌}
 use Rattle.model.specs.declared.ranges.Range.{Range}
 use Rattle.model.specs.declared.instructions.Register.{Register}
 use Rattle.model.specs.declared.instructions.LoadOp.{LoadOp}

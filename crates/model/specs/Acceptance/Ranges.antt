@@ -1,5 +1,6 @@
 -- The ranges that a certificate keeps registers in.
-use Rattle.std.specs.Prelude.{ℕ, ◌+◌, ◌-◌, ◌^◌, ◌<◌, ◌≤◌, ◌==◌, ◌&&◌, nat_le, nat_lt, if◌then◌else◌, List, slice_index_or, slice_set, ℤ, pos, negsuc}
+use Rattle.std.specs.Prelude.{ℕ, ◌+◌, ◌-◌, ◌^◌, ◌<◌, ◌≤◌, ◌==◌, ◌&&◌, nat_le, nat_lt, if◌then◌else◌, List, slice_index_or, slice_set, ℤ, pos}
+use Rattle.std.specs.Prelude.{negsuc}
 use Rattle.model.specs.declared.instructions.Register.{Register}
 use Rattle.model.specs.declared.ranges.Range.{Range}
 

@@ -24,7 +24,8 @@ use Rattle.model.specs.Acceptance.Ranges.{range_of}
 use Rattle.model.specs.Capabilities.Rights.{mapping_rights, frame_rights}
 use Rattle.model.specs.Acceptance.WellFormed.{executes}
 use Rattle.model.specs.Capabilities.Slots.{capability_at, parent_at}
-use Rattle.model.specs.Kernel.State.{State, Status, Inactive, Runnable, Blocked, AwaitsReply, AwaitsHandler, ThreadObject, ThreadState, cspace_slot, vspace_slot}
+use Rattle.model.specs.Kernel.State.{State, Status, Inactive, Runnable, Blocked, AwaitsReply, AwaitsHandler, ThreadObject, ThreadState, cspace_slot}
+use Rattle.model.specs.Kernel.State.{vspace_slot}
 use Rattle.model.specs.Kernel.Waits.{open_count}
 
 abbrev pub tcb_of : Image → Numbered → ℕ

@@ -1,11 +1,13 @@
 -- The capability that two words represent, if they are the words of one.
 -- seL4 Reference Manual, "Capability Spaces", for the kinds; the layout is this project's own.
-use Rattle.std.specs.Prelude.{ℕ, ◌==◌, ◌+◌, ◌*◌, ◌/◌, ◌%◌, ◌^◌, bit_and, Bool, true, ◌&&◌, nat_eq, nat_le, nat_lt, Option, Some, None, List, [], ◌∷◌, if◌then◌else◌}
+use Rattle.std.specs.Prelude.{ℕ, ◌==◌, ◌+◌, ◌*◌, ◌/◌, ◌%◌, ◌^◌, bit_and, Bool, true, ◌&&◌, nat_eq, nat_le, nat_lt, Option, Some, None, List, [], ◌∷◌}
+use Rattle.std.specs.Prelude.{if◌then◌else◌}
 use Rattle.std.specs.Option.{option_map_or}
 use Rattle.std.specs.List.{list_any}
 use lib.Pointwise.{pointwise}
 use Rattle.model.specs.declared.capabilities.Cap.{Cap}
-use Rattle.model.specs.declared.capabilities.Cap.TheVariants.{Empty, Untyped, Endpoint, Notification, CNode, Frame, PageTable, Tcb, RootTable, InterruptControl, InterruptHandler}
+use Rattle.model.specs.declared.capabilities.Cap.TheVariants.{Empty, Untyped, Endpoint, Notification, CNode, Frame, PageTable, Tcb, RootTable, InterruptControl}
+use Rattle.model.specs.declared.capabilities.Cap.TheVariants.{InterruptHandler}
 use Rattle.model.specs.declared.capabilities.FrameMapping.{FrameMapping}
 use Rattle.model.specs.declared.capabilities.TableMapping.{TableMapping}
 use Rattle.model.specs.Capabilities.CapabilityKinds.{is_guard_word}

@@ -38,7 +38,8 @@ boot_call s address =
     let root = boot_root s.boot_radix in
     if address == boot_cnode
     then Ok (record { root = root; caller = None; slot = 0; capability = root })
-    else (or_failed (called_slot s.slots root address) >>= λ slot. Ok (record { root = root; caller = None; slot = slot; capability = capability_at s.slots slot }))
+    else (or_failed (called_slot s.slots root address) >>= λ slot.
+    Ok (record { root = root; caller = None; slot = slot; capability = capability_at s.slots slot }))
 
 -- Configure has a sixth word, the guard word of the thread's CNode.
 abbrev pub performed : State → ℕ → List ℕ → Call → Result State KError

@@ -11,7 +11,8 @@ use Rattle.model.specs.Kernel.AddressSpaces.{page_size}
 use Rattle.model.specs.Images.Described.{Numbered, numbered, numbered_threads, start_of}
 use Rattle.model.specs.Images.Fills.{Fill, content_fill, frame_at, program_fills, program_pages}
 use Rattle.model.specs.Images.Image.{Image, Thread, ImageContent}
-use Rattle.model.specs.Kernel.CallForms.{configure_label, copy_label, get_handler_label, map_frame_label, map_table_label, mint_label, move_label, resume_label, retype_label, set_notification_label, set_priority_label, set_register_label}
+use Rattle.model.specs.Kernel.CallForms.{configure_label, copy_label, get_handler_label, map_frame_label, map_table_label, mint_label, move_label, resume_label}
+use Rattle.model.specs.Kernel.CallForms.{retype_label, set_notification_label, set_priority_label, set_register_label}
 use Rattle.model.specs.Images.Places.{control_slot, frame_copy_slot, handler_slot, notification_copy_slot, object_at, original_slot, source_slot, type_at}
 use Rattle.model.specs.Acceptance.WellFormed.{is_frame_type, is_root_type, is_untyped_type, source_type}
 
@@ -122,7 +123,8 @@ last_calls image = flat_map (signal_calls image) (numbered image.interrupts) ++ 
 
 unfoldable pub operations : Image → List Operation
 operations image =
-    map (λ u. PutsUntyped u.0 u.1) (numbered image.untypeds) ++ PutsControl (control_slot image) ∷ map Calls (first_calls image) ++ map (content_operation image) image.contents
+    map (λ u. PutsUntyped u.0 u.1) (numbered image.untypeds) ++ PutsControl (control_slot image) ∷ map Calls (first_calls image)
+    ++ map (content_operation image) image.contents
     ++ map (program_operation image) (numbered_threads image) ++ map Calls (last_calls image)
 
 -- all calls, numbered from 0 in this order

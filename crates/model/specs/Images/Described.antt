@@ -1,6 +1,7 @@
 -- The state that an image describes, written outright: what its memory, slots and threads are once it is loaded.
 -- seL4 Reference Manual, "System Bootstrapping", for what a loader sets up; the boot slots are this project's own.
-use Rattle.std.specs.Prelude.{ℕ, ◌==◌, ◌+◌, ◌*◌, ◌/◌, ◌%◌, ◌^◌, Bool, false, not, ◌||◌, ◌&&◌, nat_lt, Option, Some, None, option_map, option_and_then, List, [], ◌∷◌, ◌++◌, map, filter, find, flat_map, fold, replicate, slice_get, slice_set, if◌then◌else◌}
+use Rattle.std.specs.Prelude.{ℕ, ◌==◌, ◌+◌, ◌*◌, ◌/◌, ◌%◌, ◌^◌, Bool, false, not, ◌||◌, ◌&&◌, nat_lt, Option, Some, None, option_map, option_and_then, List, []}
+use Rattle.std.specs.Prelude.{◌∷◌, ◌++◌, map, filter, find, flat_map, fold, replicate, slice_get, slice_set, if◌then◌else◌}
 use Rattle.std.specs.Option.{option_map_or}
 use Rattle.std.specs.List.{enumerate_from, list_any, range_with_len}
 use Rattle.model.specs.declared.capabilities.Cap.{Cap}
@@ -15,7 +16,8 @@ use Rattle.model.specs.Kernel.AddressSpaces.{page_size, region_pages}
 use Rattle.model.specs.Capabilities.CapabilityKinds.{is_untyped, with_payload, with_table_mapping}
 use Rattle.model.specs.Images.Fills.{described_bytes}
 use Rattle.model.specs.Images.Image.{Image, Thread}
-use Rattle.model.specs.Images.Places.{control_slot, cnode_slot, frame_copy_slot, handler_slot, interrupt_of, is_handler, notification_copy_slot, object_at, offset_of, original_slot, source_slot, type_at, watermark_of}
+use Rattle.model.specs.Images.Places.{control_slot, cnode_slot, frame_copy_slot, handler_slot, interrupt_of, is_handler, notification_copy_slot, object_at}
+use Rattle.model.specs.Images.Places.{offset_of, original_slot, source_slot, type_at, watermark_of}
 use Rattle.model.specs.Kernel.Removal.{slot_count}
 use Rattle.model.specs.Kernel.Retype.{first_capability, object}
 use Rattle.model.specs.Capabilities.Rights.{rights, endpoint_rights, frame_rights, mapping_rights}
@@ -79,7 +81,12 @@ handler_holding image i = holding (handler_slot image i.0) (InterruptHandler (i.
 
 abbrev pub frame_holding : Image → ℕ × FrameEntry → Holding
 frame_holding image f =
-    let mapping : FrameMapping = record { root = offset_of image (f.1).root; page = (f.1).address / page_size; rights = mapping_rights frame_rights (f.1).rights } in
+    let mapping : FrameMapping = record {
+      root = offset_of image (f.1).root;
+      page = (f.1).address / page_size;
+      rights =
+          mapping_rights frame_rights (f.1).rights;
+    } in
     holding (frame_copy_slot image f.0) (Frame (offset_of image (f.1).frame) frame_rights (Some mapping)) (Some (original_slot image (f.1).frame))
 
 -- what signals an interrupt's notification, with its badge

@@ -1,5 +1,6 @@
 -- What the frames of a loaded image hold: its contents, and its threads' programs.
-use Rattle.std.specs.Prelude.{ℕ, ◌==◌, ◌+◌, ◌-◌, ◌*◌, ◌/◌, Bool, false, ◌&&◌, Option, Some, None, option_map, List, ◌++◌, map, filter_map, find, flat_map, take, drop, length, reverse, slice_index, if◌then◌else◌}
+use Rattle.std.specs.Prelude.{ℕ, ◌==◌, ◌+◌, ◌-◌, ◌*◌, ◌/◌, Bool, false, ◌&&◌, Option, Some, None, option_map, List, ◌++◌, map, filter_map, find, flat_map, take}
+use Rattle.std.specs.Prelude.{drop, length, reverse, slice_index, if◌then◌else◌}
 use Rattle.std.specs.List.{list_any, range_with_len}
 use Rattle.std.specs.Option.{option_map_or}
 use Rattle.model.specs.declared.entries.FrameEntry.{FrameEntry}

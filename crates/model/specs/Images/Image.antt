@@ -76,7 +76,10 @@ abbrev pub HeaderFields : Type 0
 HeaderFields = ℕ × (ℕ × (ℕ × (ℕ × (ℕ × (ℕ × (ℕ × (ℕ × (ℕ × (ℕ × (ℕ × ℕ))))))))))
 
 abbrev pub header_fields : ImageHeader → HeaderFields
-header_fields h = (magic, (h.version, (h.memory_bits, (h.boot_radix, (h.untypeds, (h.objects, (h.capabilities, (h.interrupts, (h.tables, (h.frames, (h.contents, h.threads)))))))))))
+header_fields h = (
+  magic,
+  (h.version, (h.memory_bits, (h.boot_radix, (h.untypeds, (h.objects, (h.capabilities, (h.interrupts, (h.tables, (h.frames, (h.contents, h.threads)))))))))),
+)
 
 abbrev pub header_of : HeaderFields → ImageHeader
 header_of (_, (version, (memory_bits, (boot_radix, (untypeds, (objects, (capabilities, (interrupts, (tables, (frames, (contents, threads))))))))))) = record {
@@ -156,7 +159,8 @@ table_format objects least =
 
 unfoldable pub frame_format : ℕ → ℕ → Format FrameEntry
 frame_format objects least =
-    named (λ (root, (address, (frame, rights))). record { root = root; address = address; frame = frame; rights = rights }) (λ e. (e.root, (e.address, (e.frame, e.rights))))
+    named (λ (root, (address, (frame, rights))). record { root = root; address = address; frame = frame; rights = rights })
+    (λ e. (e.root, (e.address, (e.frame, e.rights))))
     (both (field (below objects)) (λ root.
     both (field (λ address. nat_le least (pair_key root address))) (λ _.
     both (field (below objects)) (λ _.
@@ -164,7 +168,8 @@ frame_format objects least =
 
 unfoldable pub content_format : ℕ → ℕ → Format ImageContent
 content_format objects least =
-    named (λ (frame, (count, words)). record { header = record { frame = frame; words = count }; words = words }) (λ c. (c.header.frame, (c.header.words, c.words)))
+    named (λ (frame, (count, words)). record { header = record { frame = frame; words = count }; words = words })
+    (λ c. (c.header.frame, (c.header.words, c.words)))
     (both (field (λ frame. nat_le least frame && nat_lt frame objects)) (λ _.
     both (field (between 1 1024)) (λ count.
     many count (field anything))))
@@ -256,7 +261,8 @@ names_parent is_empty parent index =
 -- A slot of a CNode: its key, the two words of what it holds, and the key of its parent.
 unfoldable pub slot_format : ℕ → ℕ → Format SlotEntry
 slot_format objects least =
-    named (λ (cnode, (index, (word0, (word1, (parent_cnode, parent_index))))). record { cnode = cnode; index = index; word0 = word0; word1 = word1; parent_cnode = parent_cnode; parent_index = parent_index })
+    named (λ (cnode, (index, (word0, (word1, (parent_cnode, parent_index))))).
+    record { cnode = cnode; index = index; word0 = word0; word1 = word1; parent_cnode = parent_cnode; parent_index = parent_index })
     (λ e. (e.cnode, (e.index, (e.word0, (e.word1, (e.parent_cnode, e.parent_index))))))
     (both (field (below objects)) (λ cnode.
     both (field (λ index. nat_le least (pair_key cnode index) && nat_lt index (2 ^ 14))) (λ _.
@@ -291,7 +297,8 @@ terms_format count = ordered 1 term_format (λ e. e.register + 1) count
 
 unfoldable pub record_format : SlotFormat → ℕ → ℕ → Format StateRecord
 record_format slots words least =
-    named (λ (header, (ranges, (slots, terms))). record { header = header; ranges = ranges; slots = slots; terms = terms }) (λ r. (r.header, (r.ranges, (r.slots, r.terms))))
+    named (λ (header, (ranges, (slots, terms))). record { header = header; ranges = ranges; slots = slots; terms = terms })
+    (λ r. (r.header, (r.ranges, (r.slots, r.terms))))
     (both (record_header_format slots words least) (λ header.
     both (ranges_format header.ranges) (λ _.
     both (slots.entries header.slots) (λ _.
@@ -308,7 +315,8 @@ records_format slots words count = ordered 0 (record_format slots words) (λ r. 
 
 unfoldable pub thread_format : SlotFormat → ℕ → Format Thread
 thread_format slots objects =
-    named (λ (header, (registers, (words, records))). record { header = header; registers = registers; words = words; records = records }) (λ t. (t.header, (t.registers, (t.words, t.records))))
+    named (λ (header, (registers, (words, records))). record { header = header; registers = registers; words = words; records = records })
+    (λ t. (t.header, (t.registers, (t.words, t.records))))
     (both (thread_header_format objects) (λ header.
     both (registers_format header.registers) (λ _.
     both (words_format header.words) (λ _.
@@ -318,7 +326,8 @@ thread_format slots objects =
 
 -- the sections before the threads, as one value
 abbrev pub Sections : Type 0
-Sections = ImageHeader × (List UntypedEntry × (List ObjectEntry × (List CapabilityEntry × (List InterruptEntry × (List TableEntry × (List FrameEntry × List ImageContent))))))
+Sections = ImageHeader
+    × (List UntypedEntry × (List ObjectEntry × (List CapabilityEntry × (List InterruptEntry × (List TableEntry × (List FrameEntry × List ImageContent))))))
 
 abbrev pub sections_of : Image → Sections
 sections_of i = (i.header, (i.untypeds, (i.objects, (i.capabilities, (i.interrupts, (i.tables, (i.frames, i.contents)))))))

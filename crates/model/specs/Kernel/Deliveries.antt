@@ -10,7 +10,8 @@ use Rattle.model.specs.Capabilities.Rights.{may_read, may_write}
 use Rattle.model.specs.Kernel.Interrupts.{binding}
 use Rattle.model.specs.Kernel.Messages.{a0, delivered, message_of, resumption}
 use Rattle.model.specs.Kernel.Scheduling.{full_slice, head_of}
-use Rattle.model.specs.Kernel.State.{State, Inactive, Runnable, Blocked, AwaitsReply, AwaitsHandler, Sender, Sent, BySend, ByCall, ByFault, ThreadState, endpoint_at, notification_at, thread_at}
+use Rattle.model.specs.Kernel.State.{State, Inactive, Runnable, Blocked, AwaitsReply, AwaitsHandler, Sender, Sent, BySend, ByCall, ByFault, ThreadState}
+use Rattle.model.specs.Kernel.State.{endpoint_at, notification_at, thread_at}
 use Rattle.model.specs.Machine.Effects.{advanced}
 use Rattle.model.specs.Machine.ProgramMemory.{RegisterFile, write}
 

@@ -3,7 +3,8 @@
 use Rattle.std.specs.Prelude.{ℕ, ◌==◌, ◌&&◌, if◌then◌else◌, true, Option, Some, None, Result, Ok, Err, [], ◌∷◌}
 use Rattle.std.specs.Option.{option_map_or}
 use Rattle.model.specs.declared.capabilities.Cap.{Cap}
-use Rattle.model.specs.declared.capabilities.Cap.TheVariants.{Empty, Untyped, Endpoint, Notification, CNode, Frame, PageTable, Tcb, RootTable, InterruptControl, InterruptHandler}
+use Rattle.model.specs.declared.capabilities.Cap.TheVariants.{Empty, Untyped, Endpoint, Notification, CNode, Frame, PageTable, Tcb, RootTable, InterruptControl}
+use Rattle.model.specs.declared.capabilities.Cap.TheVariants.{InterruptHandler}
 use Rattle.model.specs.declared.faults.FaultKind.TheVariants.{Capability, UnknownCall, Instruction, Memory}
 use Rattle.model.specs.declared.instructions.Cause.{Cause}
 use Rattle.model.specs.declared.instructions.MemoryFault.{MemoryFault}

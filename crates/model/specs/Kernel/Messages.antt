@@ -7,7 +7,8 @@ use Rattle.model.specs.declared.instructions.Register.{Register}
 use Rattle.model.specs.Machine.ProgramMemory.{RegisterFile, read, write}
 use Rattle.model.specs.Machine.Effects.{advanced}
 use Rattle.model.specs.Shared.Labels.{fault_number}
-use Rattle.model.specs.Kernel.State.{State, Status, Inactive, Runnable, Blocked, AwaitsReply, AwaitsHandler, ThreadState, Sender, Sent, BySend, ByCall, ByFault, NotificationState, thread_at, with_thread, endpoint_at, with_endpoint, notification_at, with_notification}
+use Rattle.model.specs.Kernel.State.{State, Status, Inactive, Runnable, Blocked, AwaitsReply, AwaitsHandler, ThreadState, Sender, Sent, BySend, ByCall, ByFault}
+use Rattle.model.specs.Kernel.State.{NotificationState, thread_at, with_thread, endpoint_at, with_endpoint, notification_at, with_notification}
 use Rattle.model.specs.Kernel.Scheduling.{block, wake}
 
 -- ---- registers of a call, in the names of the RISC-V calling convention

@@ -1,6 +1,7 @@
 -- Removal: what a kernel call leaves that takes a whole set of slots away at once.
 -- seL4 Reference Manual, "Deletion, Revocation, and Recycling"; ours refuses to end what still holds capabilities.
-use Rattle.std.specs.Prelude.{ℕ, zero, suc, ◌==◌, ◌-◌, ◌*◌, ◌/◌, ◌%◌, ◌^◌, ◌&&◌, ◌||◌, Bool, false, not, if◌then◌else◌, Option, Some, None, option_map, List, map, filter, fold, Result, Ok, Err}
+use Rattle.std.specs.Prelude.{ℕ, zero, suc, ◌==◌, ◌-◌, ◌*◌, ◌/◌, ◌%◌, ◌^◌, ◌&&◌, ◌||◌, Bool, false, not, if◌then◌else◌, Option, Some, None, option_map, List}
+use Rattle.std.specs.Prelude.{map, filter, fold, Result, Ok, Err}
 use Rattle.std.specs.Option.{option_map_or}
 use Rattle.std.specs.List.{list_any, range_with_len}
 use Rattle.model.specs.declared.capabilities.Cap.{Cap}
@@ -14,7 +15,9 @@ use Rattle.model.specs.Kernel.AddressSpaces.{maps_region, page_size, region_page
 use Rattle.model.specs.Capabilities.CapabilityKinds.{is_handler_of, names_object, object_of}
 use Rattle.model.specs.Kernel.Scheduling.{all_leave, wake}
 use Rattle.model.specs.Capabilities.Slots.{Slots, capability_at, empty_entry, is_descendant, is_full, is_within, parent_at}
-use Rattle.model.specs.Kernel.State.{State, Status, Inactive, Runnable, Blocked, AwaitsReply, AwaitsHandler, Object, ThreadObject, EndpointObject, NotificationObject, CNodeObject, FrameObject, PageTableObject, RootTableObject, as_thread, binding_slot, slots_of, with_slots}
+use Rattle.model.specs.Kernel.State.{State, Status, Inactive, Runnable, Blocked, AwaitsReply, AwaitsHandler, Object, ThreadObject, EndpointObject}
+use Rattle.model.specs.Kernel.State.{NotificationObject, CNodeObject, FrameObject, PageTableObject, RootTableObject, as_thread, binding_slot, slots_of}
+use Rattle.model.specs.Kernel.State.{with_slots}
 
 -- a set of slots, as a test
 abbrev pub SlotSet : Type 0

@@ -16,7 +16,8 @@ use Rattle.model.specs.Capabilities.Placement.{placement}
 use Rattle.model.specs.Kernel.Removal.{slot_count}
 use Rattle.model.specs.Capabilities.Rights.{endpoint_rights, frame_rights}
 use Rattle.model.specs.Capabilities.Slots.{Slots, capability_at, empty_entry, is_full, is_within, recapped}
-use Rattle.model.specs.Kernel.State.{State, Object, ThreadObject, EndpointObject, NotificationObject, CNodeObject, FrameObject, PageTableObject, RootTableObject, new_endpoint, new_notification, new_thread, slot_of, with_slots}
+use Rattle.model.specs.Kernel.State.{State, Object, ThreadObject, EndpointObject, NotificationObject, CNodeObject, FrameObject, PageTableObject}
+use Rattle.model.specs.Kernel.State.{RootTableObject, new_endpoint, new_notification, new_thread, slot_of, with_slots}
 
 -- ---- the types of objects
 

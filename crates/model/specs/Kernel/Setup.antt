@@ -1,14 +1,16 @@
 -- Setting the system up: the empty machine, and what is put into it apart from calls. Nothing is what an operation answers that
 -- cannot be done.
 -- seL4 Reference Manual, "System Bootstrapping".
-use Rattle.std.specs.Prelude.{ℕ, ◌==◌, ◌+◌, ◌-◌, ◌%◌, ◌^◌, Bool, false, true, not, ◌&&◌, nat_le, nat_lt, if◌then◌else◌, Option, Some, None, option_map, List, [], length, slice_index}
+use Rattle.std.specs.Prelude.{ℕ, ◌==◌, ◌+◌, ◌-◌, ◌%◌, ◌^◌, Bool, false, true, not, ◌&&◌, nat_le, nat_lt, if◌then◌else◌, Option, Some, None, option_map, List}
+use Rattle.std.specs.Prelude.{[], length, slice_index}
 use Rattle.std.specs.Option.{option_map_or}
 use Rattle.model.specs.declared.capabilities.Cap.{Cap}
 use Rattle.model.specs.declared.capabilities.Cap.TheVariants.{InterruptControl, Untyped}
 use Rattle.model.specs.Capabilities.Slots.{empty_entry, inserted, is_full, is_within}
 use Rattle.model.specs.Kernel.AddressSpaces.{page_size}
 use Rattle.model.specs.Kernel.Kinds.{Piece, piece_of}
-use Rattle.model.specs.Kernel.State.{State, Object, ThreadObject, EndpointObject, NotificationObject, CNodeObject, FrameObject, PageTableObject, RootTableObject, boot_area_end, boot_area_slots, holds_some, with_slots}
+use Rattle.model.specs.Kernel.State.{State, Object, ThreadObject, EndpointObject, NotificationObject, CNodeObject, FrameObject, PageTableObject}
+use Rattle.model.specs.Kernel.State.{RootTableObject, boot_area_end, boot_area_slots, holds_some, with_slots}
 
 -- ---- the empty machine
 

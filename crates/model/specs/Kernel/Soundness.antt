@@ -1,6 +1,7 @@
 -- What is true of every state that the kernel reaches: what each call may rely on, and leaves true.
 -- seL4's proofs have such a record of invariants too; the clauses are our own.
-use Rattle.std.specs.Prelude.{ℕ, ◌≡◌, ◌≢◌, ◌==◌, ◌+◌, ◌/◌, ◌^◌, ◌<◌, ◌≤◌, ◌⊎◌, ◌&&◌, ◌↔◌, ⊤, Bool, true, false, if◌then◌else◌, IsSome, IsTrue, Option, Some, None, List, [], ◌++◌, All, length, map}
+use Rattle.std.specs.Prelude.{ℕ, ◌≡◌, ◌≢◌, ◌==◌, ◌+◌, ◌/◌, ◌^◌, ◌<◌, ◌≤◌, ◌⊎◌, ◌&&◌, ◌↔◌, ⊤, Bool, true, false, if◌then◌else◌, IsSome, IsTrue, Option, Some}
+use Rattle.std.specs.Prelude.{None, List, [], ◌++◌, All, length, map}
 use Rattle.std.specs.Option.{option_map_or}
 use Rattle.model.specs.declared.capabilities.Cap.TheVariants.{PageTable}
 use Rattle.model.specs.declared.capabilities.FrameMapping.{FrameMapping}
@@ -14,7 +15,10 @@ use Rattle.model.specs.Kernel.Kinds.{AreApart, IsInside, Names, Piece, frame_aro
 use Rattle.model.specs.Kernel.Removal.{is_slot_of}
 use Rattle.model.specs.Kernel.Retype.{NewObject, NewFrame, NewRootTable}
 use Rattle.model.specs.Kernel.Scheduling.{full_slice, is_runnable}
-use Rattle.model.specs.Kernel.State.{State, Status, Inactive, Runnable, Blocked, AwaitsReply, AwaitsHandler, Object, ThreadObject, EndpointObject, NotificationObject, CNodeObject, FrameObject, PageTableObject, RootTableObject, EndpointState, NotificationState, Sender, Sent, BySend, ByCall, ByFault, ThreadState, as_thread, binding_slot, boot_area_end, boot_area_slots, cspace_slot, thread_at, vspace_slot}
+use Rattle.model.specs.Kernel.State.{State, Status, Inactive, Runnable, Blocked, AwaitsReply, AwaitsHandler, Object, ThreadObject, EndpointObject}
+use Rattle.model.specs.Kernel.State.{NotificationObject, CNodeObject, FrameObject, PageTableObject, RootTableObject, EndpointState, NotificationState, Sender}
+use Rattle.model.specs.Kernel.State.{Sent, BySend, ByCall, ByFault, ThreadState, as_thread, binding_slot, boot_area_end, boot_area_slots, cspace_slot}
+use Rattle.model.specs.Kernel.State.{thread_at, vspace_slot}
 
 -- ---- the machine
 

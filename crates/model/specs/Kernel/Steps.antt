@@ -37,7 +37,8 @@ use Rattle.model.specs.Kernel.Arguments.{Call}
 use Rattle.model.specs.Kernel.Invocations.{invoke}
 use Rattle.model.specs.Shared.Labels.{error_number}
 use Rattle.model.specs.Capabilities.Lookup.{called_slot}
-use Rattle.model.specs.Kernel.Messages.{a0, a1, a7, extra_capabilities_of, info_word, message_of, passes, passes_with, poll, receive, reply, send, signal, try_to_receive, try_to_send, wait, with_registers}
+use Rattle.model.specs.Kernel.Messages.{a0, a1, a7, extra_capabilities_of, info_word, message_of, passes, passes_with, poll, receive, reply, send, signal}
+use Rattle.model.specs.Kernel.Messages.{try_to_receive, try_to_send, wait, with_registers}
 use Rattle.model.specs.Capabilities.Rights.{may_grant_reply, may_read, may_write}
 use Rattle.model.specs.Kernel.Scheduling.{current, is_runnable, tick, yielded}
 use Rattle.model.specs.Capabilities.Slots.{capability_at}

@@ -1,7 +1,8 @@
 -- Sv32: the place in memory that a virtual address names through two levels of page tables.
 -- RISC-V Privileged Architecture, "Sv32: Page-Based 32-bit Virtual-Memory Systems", "Virtual Address Translation
 -- Process". Physical memory starts at 2^31. A walk never sets a bit: it fails where A, or D at a store, is 0.
-use Rattle.std.specs.Prelude.{ℕ, ◌==◌, ◌+◌, ◌-◌, ◌*◌, ◌/◌, ◌%◌, ◌^◌, ◌&&◌, ◌||◌, Bool, not, nat_le, nat_lt, if◌then◌else◌, Option, Some, None, option_and_then, List, length}
+use Rattle.std.specs.Prelude.{ℕ, ◌==◌, ◌+◌, ◌-◌, ◌*◌, ◌/◌, ◌%◌, ◌^◌, ◌&&◌, ◌||◌, Bool, not, nat_le, nat_lt, if◌then◌else◌, Option, Some, None, option_and_then}
+use Rattle.std.specs.Prelude.{List, length}
 use Rattle.model.specs.Shared.Bytes.{word_at}
 use Rattle.model.specs.declared.instructions.Access.{Access}
 use Rattle.model.specs.declared.instructions.Access.TheVariants.{Load, Store, Fetch}

@@ -1,7 +1,8 @@
 -- The numbers of errors and faults.
 use Rattle.std.specs.Prelude.{ℕ}
 use Rattle.model.specs.declared.errors.KError.{KError}
-use Rattle.model.specs.declared.errors.KError.TheVariants.{InvalidArgument, InvalidCapability, IllegalOperation, RangeError, AlignmentError, FailedLookup, TruncatedMessage, DeleteFirst, RevokeFirst, NotEnoughMemory}
+use Rattle.model.specs.declared.errors.KError.TheVariants.{InvalidArgument, InvalidCapability, IllegalOperation, RangeError, AlignmentError, FailedLookup}
+use Rattle.model.specs.declared.errors.KError.TheVariants.{TruncatedMessage, DeleteFirst, RevokeFirst, NotEnoughMemory}
 use Rattle.model.specs.declared.faults.FaultKind.{FaultKind}
 use Rattle.model.specs.declared.faults.FaultKind.TheVariants.{Capability, UnknownCall, Instruction, Memory}
 

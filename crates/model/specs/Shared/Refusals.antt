@@ -1,7 +1,10 @@
 -- The numbers, names and items of refusals.
 use Rattle.std.specs.Prelude.{ℕ, List, codes}
 use Rattle.model.specs.declared.refusals.Refusal.{Refusal}
-use Rattle.model.specs.declared.refusals.Refusal.TheVariants.{Magic, Version, Truncated, Trailing, Limit, UntypedOverlap, NoRoom, BadObject, BadCap, SharedCSpace, SharedVSpace, BadMapping, WritableCode, BadThread, IllegalInstruction, ComputedJump, BadTarget, RangeNotKept, NotMapped, MeasureNotFalling, OverBudget, CallNotConstant, CapNotThere, CallRefused, PoolLost, OutOfMemory}
+use Rattle.model.specs.declared.refusals.Refusal.TheVariants.{Magic, Version, Truncated, Trailing, Limit, UntypedOverlap, NoRoom, BadObject, BadCap}
+use Rattle.model.specs.declared.refusals.Refusal.TheVariants.{SharedCSpace, SharedVSpace, BadMapping, WritableCode, BadThread, IllegalInstruction, ComputedJump}
+use Rattle.model.specs.declared.refusals.Refusal.TheVariants.{BadTarget, RangeNotKept, NotMapped, MeasureNotFalling, OverBudget, CallNotConstant, CapNotThere}
+use Rattle.model.specs.declared.refusals.Refusal.TheVariants.{CallRefused, PoolLost, OutOfMemory}
 
 abbrev pub refusal_number : Refusal → ℕ
 refusal_number Magic = 1

@@ -1,5 +1,6 @@
 -- What a thread's fields are after a change of some bytes of its record.
-use Rattle.std.proofs.Common.{ℕ, zero, suc, ◌≡◌, ◌∙◌, ◌+◌, ◌*◌, ◌<◌, ◌≤◌, ◌⊎◌, inl, inr, Bool, true, false, Option, Some, None, List, [], ◌∷◌, length, slice_index, replicate, refl, ap, arith}
+use Rattle.std.proofs.Common.{ℕ, zero, suc, ◌≡◌, ◌∙◌, ◌+◌, ◌*◌, ◌<◌, ◌≤◌, ◌⊎◌, inl, inr, Bool, true, false, Option, Some, None, List, [], ◌∷◌, length}
+use Rattle.std.proofs.Common.{slice_index, replicate, refl, ap, arith}
 use Rattle.std.proofs.lemmas.Bool.{cases_lt}
 use Rattle.model.proofs.BytesLemmas.{word_at-same}
 use Rattle.model.specs.Machine.Effects.{access_number}
@@ -10,7 +11,9 @@ use Rattle.model.specs.declared.instructions.Cause.TheVariants as causes
 use Rattle.model.specs.declared.lookup_failures.LookupFailure.TheVariants as failures
 use Rattle.objects.specs.thread_records.Laws.{RecordStays}
 use Rattle.pmem.specs.Words.{words_at}
-use Rattle.objects.specs.thread_records.Records.{IsRecordByte, SameBeside, SameBesideRecord, access_from, blank_thread, caller_from, caller_words, fault_from, flag, is_set, sending_from, sending_with, sending_words, sent_from, sent_words, status_from, status_words, thread_at}
+use Rattle.objects.specs.thread_records.Records.{IsRecordByte, SameBeside, SameBesideRecord, access_from, blank_thread, caller_from, caller_words, fault_from}
+use Rattle.objects.specs.thread_records.Records.{flag, is_set, sending_from, sending_with, sending_words, sent_from, sent_words, status_from, status_words}
+use Rattle.objects.specs.thread_records.Records.{thread_at}
 use Rattle.objects.specs.declared.thread_records.records.Fault.TheVariants as faults
 use Rattle.objects.specs.declared.thread_records.records.Sending.{Sending}
 use Rattle.objects.specs.declared.thread_records.records.Sent.{Sent}
@@ -33,7 +36,8 @@ caller-back : (caller : Option ℕ) → caller_from (slice_index (caller_words c
 caller-back None = refl
 caller-back (Some caller) = refl
 
-access-back : (pc address : ℕ) (access : Access) → Some (sents.Fault (faults.Memory pc (record { address = address; access = access_from (access_number access) })))
+access-back : (pc address : ℕ) (access : Access) →
+    Some (sents.Fault (faults.Memory pc (record { address = address; access = access_from (access_number access) })))
     ≡ Some (sents.Fault (faults.Memory pc (record { address = address; access = access })))
 access-back pc address accesses.Load = refl
 access-back pc address accesses.Store = refl
@@ -300,11 +304,13 @@ word-zero n at zeros =
     let fourth = zeros (at + 3) (omega arith) (omega arith) in
     omega (arith, first, second, third, fourth)
 
-words-zero : (n : List ℕ) (at count : ℕ) → ((place : ℕ) → at ≤ place → place < at + 4 * count → slice_index n place ≡ 0) → words_at n at count ≡ replicate count 0
+words-zero : (n : List ℕ) (at count : ℕ) → ((place : ℕ) → at ≤ place → place < at + 4 * count → slice_index n place ≡ 0) →
+    words_at n at count ≡ replicate count 0
 words-zero n at zero zeros = refl
 words-zero n at (suc count) zeros =
     let first : word_at n at ≡ 0 = word-zero n at (λ place least less. zeros place least (omega (arith, less))) in
-    let rest : words_at n (at + 4) count ≡ replicate count 0 = words-zero n (at + 4) count (λ place least less. zeros place (omega (arith, least)) (omega (arith, less))) in
+    let rest : words_at n (at + 4) count ≡ replicate count 0 =
+    words-zero n (at + 4) count (λ place least less. zeros place (omega (arith, least)) (omega (arith, less))) in
     ap (λ (w : ℕ). w ∷ words_at n (at + 4) count) first ∙ ap (λ (ws : List ℕ). 0 ∷ ws) rest
 
 pub blank-zero : (n : List ℕ) (t : ℕ) → ((place : ℕ) → IsRecordByte t place → slice_index n place ≡ 0) → thread_at n t ≡ blank_thread

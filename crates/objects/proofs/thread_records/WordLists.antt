@@ -22,14 +22,16 @@ word-stays from to old new at same apart =
       | inr behind ↦ inr (omega (arith, behind, least))
     ]))
 
-pub words-stay : (from to : ℕ) (old new : List ℕ) (at n : ℕ) → SameBeside from to old new → (at + 4 * n ≤ from) ⊎ (to ≤ at) → words_at new at n ≡ words_at old at n
+pub words-stay : (from to : ℕ) (old new : List ℕ) (at n : ℕ) → SameBeside from to old new → (at + 4 * n ≤ from) ⊎ (to ≤ at) →
+    words_at new at n ≡ words_at old at n
 words-stay from to old new at n same apart =
     words-same old new at n (λ place least less. same.bytes place (elim apart [
       | inl before ↦ inl (omega (arith, before, less))
       | inr behind ↦ inr (omega (arith, behind, least))
     ]))
 
-pub beside-words : (m : List ℕ) (at : ℕ) (words : List ℕ) (to : ℕ) → at + 4 * length words ≡ to → to ≤ length m → SameBeside at to m (written m at (words_bytes words))
+pub beside-words : (m : List ℕ) (at : ℕ) (words : List ℕ) (to : ℕ) → at + 4 * length words ≡ to → to ≤ length m →
+    SameBeside at to m (written m at (words_bytes words))
 beside-words m at words to is inside =
     let long = length-words_bytes words in
     written-beside m at (words_bytes words) to (omega (arith, long, is)) inside

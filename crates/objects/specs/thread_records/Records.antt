@@ -1,5 +1,7 @@
--- A thread's record in bytes 48 to 243 of its 512. Each field is a little-endian word, priority and slice are bytes. All zero is a new thread, and any bytes read as some thread.
-use Rattle.std.specs.Prelude.{ℕ, ◌≡◌, ◌==◌, ◌+◌, ◌^◌, ◌<◌, ◌≤◌, ◌⊎◌, Bool, not, Option, Some, None, option_map, List, [], ◌∷◌, if◌then◌else◌, length, replicate, slice_index}
+-- A thread's record in bytes 48 to 243 of its 512. Each field is a little-endian word, priority and slice are bytes. All zero is a new thread, and any bytes
+-- read as some thread.
+use Rattle.std.specs.Prelude.{ℕ, ◌≡◌, ◌==◌, ◌+◌, ◌^◌, ◌<◌, ◌≤◌, ◌⊎◌, Bool, not, Option, Some, None, option_map, List, [], ◌∷◌, if◌then◌else◌, length, replicate}
+use Rattle.std.specs.Prelude.{slice_index}
 use Rattle.model.specs.Capabilities.LookupNumbers.{failure_number}
 use Rattle.model.specs.Capabilities.Slots.{OutsideSlots, Slots}
 use Rattle.model.specs.Machine.Effects.{access_number, cause_number}

@@ -1,6 +1,7 @@
 -- What the leaf of a page says of walks, and what leaves it as it is.
 use Rattle.std.proofs.lemmas.Bool.Decides.{nat_tests}
-use Rattle.std.proofs.Common.{ℕ, ◌≡◌, ◌∙◌, ◌+◌, ◌-◌, ◌<◌, ◌≤◌, ◌==◌, nat_lt, ◌*◌, ◌/◌, ◌%◌, ◌^◌, ◌&&◌, true, false, nat_le, if◌then◌else◌, Option, Some, None, List, length, refl, sym, ap, arith}
+use Rattle.std.proofs.Common.{ℕ, ◌≡◌, ◌∙◌, ◌+◌, ◌-◌, ◌<◌, ◌≤◌, ◌==◌, nat_lt, ◌*◌, ◌/◌, ◌%◌, ◌^◌, ◌&&◌, true, false, nat_le, if◌then◌else◌, Option, Some, None}
+use Rattle.std.proofs.Common.{List, length, refl, sym, ap, arith}
 use Rattle.model.specs.Machine.Sv32.{◌>>=◌, entry_at, is_leaf, is_valid, leaf_place, page_address, permits, place_of, walk}
 use Rattle.model.specs.Shared.Bytes.{word_at}
 use Rattle.model.specs.declared.instructions.Access.{Access}
@@ -70,7 +71,8 @@ walk_leaf memory root address leaf access is =
 -- ---- the place that an address has in the page that a leaf names
 
 pub near_leaf : (memory : List ℕ) (entry address place : ℕ) (access : Access) → entry < 2 ^ 32 → length memory ≤ 2 ^ 24 → permits entry access ≡ true
-    → place ≡ (entry + 3758096384) % 2 ^ 32 / 2 ^ 10 * 2 ^ 12 + address % 2 ^ 12 → place < length memory → leaf_place memory entry 12 address access ≡ Some place
+    → place ≡ (entry + 3758096384) % 2 ^ 32 / 2 ^ 10 * 2 ^ 12 + address % 2 ^ 12 → place < length memory →
+    leaf_place memory entry 12 address access ≡ Some place
 unfolding leaf_place
 near_leaf memory entry address place access fits few allowed is inside =
     let small : (entry + 3758096384) % 2 ^ 32 < 2 ^ 22 = omega (arith, is, inside, few) in
@@ -84,7 +86,8 @@ near_leaf memory entry address place access fits few allowed is inside =
 
 -- ---- the same entries have the same leaf
 
-entry-same : (old new : List ℕ) (table number : ℕ) → length new ≡ length old → IsSameWord old new (table + 4 * number) → entry_at new table number ≡ entry_at old table number
+entry-same : (old new : List ℕ) (table number : ℕ) → length new ≡ length old → IsSameWord old new (table + 4 * number) →
+    entry_at new table number ≡ entry_at old table number
 unfolding entry_at
 entry-same old new table number size same =
     let at = table + 4 * number in
@@ -94,7 +97,8 @@ entry-same old new table number size same =
 below-same : (old new : List ℕ) (number top : ℕ) → length new ≡ length old
     → ((table : ℕ) → place_of (page_address top) ≡ Some table → IsSameWord old new (table + 4 * number)) → leaf_below new number top ≡ leaf_below old number top
 below-same old new number top size same =
-    elim (is_leaf top) as (λ b. (if b then None else (place_of (page_address top) >>= leaf_in new number)) ≡ (if b then None else (place_of (page_address top) >>= leaf_in old number))) [
+    elim (is_leaf top) as (λ b. (if b then None else (place_of (page_address top) >>= leaf_in new number))
+    ≡ (if b then None else (place_of (page_address top) >>= leaf_in old number))) [
       | true ↦ refl
       | false ↦ elim (place_of (page_address top)) as (λ o. place_of (page_address top) ≡ o
           → (place_of (page_address top) >>= leaf_in new number) ≡ (place_of (page_address top) >>= leaf_in old number)) [

@@ -35,7 +35,12 @@ module _ (entries : List (Option TlbEntry)) (root page leaf place : ℕ) (kept :
   own-leaf : Some more ≡ Some kept → IsLeafMore root page (Some leaf) kept
   own-leaf is =
       let same : more ≡ kept = cc in
-      record { at_root = sym (ap (λ (k : TlbEntry). k.root) same); at_page = sym (ap (λ (k : TlbEntry). k.page) same); finds = ap (λ (k : TlbEntry). Some k.leaf) same }
+      record {
+        at_root = sym (ap (λ (k : TlbEntry). k.root) same);
+        at_page = sym (ap (λ (k : TlbEntry). k.page) same);
+        finds =
+            ap (λ (k : TlbEntry). Some k.leaf) same;
+      }
 
   at-place : place ≡ at → slice_index_or (slice_set entries at (Some more)) place None ≡ Some kept → IsLeafMore root page (Some leaf) kept
   at-place here is = elim (cases_lt at (length entries)) [

@@ -3,8 +3,10 @@ use Rattle.std.proofs.Common.{ℕ, ◌≡◌, ◌≢◌, ◌∙◌, ◌+◌, ◌
 use Rattle.std.proofs.Math.Logic.{∥∥₁_map}
 use Rattle.std.proofs.lemmas.Bool.Decides.{eqb_tells}
 use Rattle.packed_slots.specs.cached_slots.Mappings.{AreMapped, AreMappedBeside, IsMapped}
-use Rattle.model.proofs.SlotChanges.{capability-adopted, capability-closed, capability-opened, capability_of, entry-other, entry-same, full-not-empty, within-bounds}
-use Rattle.model.specs.Capabilities.Slots.{IsFull, Slots, capability_at, closed, empty_entry, inserted, is_empty, opened, parent_at, recapped, relocated, spliced, with_entry, with_parent}
+use Rattle.model.proofs.SlotChanges.{capability-adopted, capability-closed, capability-opened, capability_of, entry-other, entry-same, full-not-empty}
+use Rattle.model.proofs.SlotChanges.{within-bounds}
+use Rattle.model.specs.Capabilities.Slots.{IsFull, Slots, capability_at, closed, empty_entry, inserted, is_empty, opened, parent_at, recapped, relocated}
+use Rattle.model.specs.Capabilities.Slots.{spliced, with_entry, with_parent}
 use Rattle.model.specs.declared.capabilities.Cap.{Cap}
 use Rattle.model.specs.declared.slot_entries.Entry.{Entry}
 use Rattle.packed_slots.specs.declared.cached_slots.caches.TlbEntry.{TlbEntry}
@@ -16,7 +18,8 @@ mapped-full : (slots : Slots) (root page leaf : ℕ) (m : IsMapped slots root pa
 mapped-full slots root page leaf m = ap (λ (c : Cap). not (is_empty c)) m.maps.capability
 
 -- the same capability is in this slot
-mapped-in : (old new : Slots) (root page leaf slot : ℕ) (m : IsMapped old root page leaf) → capability_at new slot ≡ capability_at old m.maps.slot → IsMapped new root page leaf
+mapped-in : (old new : Slots) (root page leaf slot : ℕ) (m : IsMapped old root page leaf) → capability_at new slot ≡ capability_at old m.maps.slot →
+    IsMapped new root page leaf
 mapped-in old new root page leaf slot m same = record {
   frame = m.frame;
   allowed = m.allowed;
@@ -41,7 +44,8 @@ mapped-opened slots entries first count none mapped =
     are-mapped slots (opened slots first count) entries
     (λ s full. (s, (capability-opened slots first count s (λ t is. let within = within-bounds first count t is in none t within.0 within.1)).0)) mapped
 
-pub mapped-closed : (slots : Slots) (entries : List (Option TlbEntry)) (first count : ℕ) → ((s : ℕ) → first ≤ s → s < first + count → slots s ≡ Some empty_entry)
+pub mapped-closed : (slots : Slots) (entries : List (Option TlbEntry)) (first count : ℕ) →
+    ((s : ℕ) → first ≤ s → s < first + count → slots s ≡ Some empty_entry)
     → AreMapped slots entries → AreMapped (closed slots first count) entries
 mapped-closed slots entries first count empty mapped =
     are-mapped slots (closed slots first count) entries

@@ -1,6 +1,7 @@
 -- The leaves that a cache of walks keeps. RISC-V Privileged Architecture, "Sv32: Page-Based 32-bit Virtual-Memory Systems"
 -- and "Supervisor Memory-Management Fence Instruction".
-use Rattle.std.specs.Prelude.{ℕ, ◌≡◌, ◌+◌, ◌*◌, ◌/◌, ◌%◌, ◌^◌, ◌<◌, ◌≤◌, if◌then◌else◌, Option, Some, None, List, length, slice_index, slice_index_or, slice_set}
+use Rattle.std.specs.Prelude.{ℕ, ◌≡◌, ◌+◌, ◌*◌, ◌/◌, ◌%◌, ◌^◌, ◌<◌, ◌≤◌, if◌then◌else◌, Option, Some, None, List, length, slice_index, slice_index_or}
+use Rattle.std.specs.Prelude.{slice_set}
 use Rattle.model.specs.Machine.Sv32.{◌>>=◌, entry_at, is_leaf, page_address, place_of}
 use Rattle.packed_slots.specs.declared.cached_slots.caches.TlbEntry.{TlbEntry}
 
@@ -40,4 +41,5 @@ IsSameWord old new at = (place : ℕ) → at ≤ place → place < at + 4 → sl
 pub record AreSameEntries (old new : List ℕ) (root page : ℕ) : Type 0 where
   pub size : length new ≡ length old
   pub top : IsSameWord old new (root + 4 * (page / 2 ^ 10))
-  pub last : (top table : ℕ) → entry_at old root (page / 2 ^ 10) ≡ Some top → place_of (page_address top) ≡ Some table → IsSameWord old new (table + 4 * (page % 2 ^ 10))
+  pub last : (top table : ℕ) → entry_at old root (page / 2 ^ 10) ≡ Some top → place_of (page_address top) ≡ Some table →
+      IsSameWord old new (table + 4 * (page % 2 ^ 10))

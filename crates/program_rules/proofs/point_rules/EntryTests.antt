@@ -31,16 +31,20 @@ entry-first image t state at within same over place inside slots above =
     ∙ ap (λ (a : Point). by_tests a within same over) (sym place)
 
 -- the tests of the code: the values and the header are the thread's, and the slots are the image's
-pub entry-by : (image : Image) (t : Numbered) (u : Thread) (state : PointState) (at : Point) (start : List NotedSlot) (words : List ℕ) (h : ThreadHeader) (within same over : Bool)
+pub entry-by : (image : Image) (t : Numbered) (u : Thread) (state : PointState) (at : Point) (start : List NotedSlot) (words : List ℕ) (h : ThreadHeader)
+    (within same over : Bool)
     → t.thread ≡ u → at ≡ point_of t t.thread.header.entry → start ≡ image_slots image t.thread → words ≡ listed_registers u → h ≡ u.header
-    → list_all (λ k. lies_in (slice_index words (k + 1)) (slice_index_or state.ranges k full)) (range_with_len 0 31) ≡ within → are_same_slots state.slots start ≡ same
+    → list_all (λ k. lies_in (slice_index words (k + 1)) (slice_index_or state.ranges k full)) (range_with_len 0 31) ≡ within →
+    are_same_slots state.slots start ≡ same
     → int_lt (pos h.budget) (measured state.measure (record { pc = 0; words = words })) ≡ over
     → by_tests at within same over ≡ first_broken (entry_rules image t (Known state))
 entry-by image t u state at start words h within same over is place slots listed header inside held above =
     let tests : List ℕ → Bool = λ ws. list_all (λ k. lies_in (slice_index ws (k + 1)) (slice_index_or state.ranges k full)) (range_with_len 0 31) in
     let worth : ThreadHeader → List ℕ → Bool = λ h ws. int_lt (pos h.budget) (measured state.measure (record { pc = 0; words = ws })) in
     let first : starts_within t.thread state ≡ within = ap (λ (v : Thread). tests (listed_registers v)) is ∙ ap tests (sym listed) ∙ inside in
-    let second : are_same_slots state.slots (image_slots image t.thread) ≡ same = ap (λ (l : List NotedSlot). are_same_slots state.slots l) (sym slots) ∙ held in
+    let second : are_same_slots state.slots (image_slots image t.thread) ≡ same = ap (λ (l : List NotedSlot). are_same_slots state.slots l) (sym slots)
+    ∙ held in
     let third : int_lt (pos t.thread.header.budget) (measured state.measure (start_registers t.thread)) ≡ over =
-    ap (λ (v : Thread). worth v.header (listed_registers v)) is ∙ ap (λ (ws : List ℕ). worth u.header ws) (sym listed) ∙ ap (λ (x : ThreadHeader). worth x words) (sym header) ∙ above in
+    ap (λ (v : Thread). worth v.header (listed_registers v)) is ∙ ap (λ (ws : List ℕ). worth u.header ws) (sym listed)
+    ∙ ap (λ (x : ThreadHeader). worth x words) (sym header) ∙ above in
     sym (entry-first image t state at within same over place first second third)

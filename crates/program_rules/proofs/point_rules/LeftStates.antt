@@ -1,6 +1,7 @@
 -- A way to the state that its instruction or system call leaves: ranges lie within themselves, slots are the same, and the measure is
 -- lowered by 1, or is the whole budget.
-use Rattle.std.proofs.Common.{ℕ, ◌≡◌, ◌∙◌, ◌==◌, Bool, true, false, not, ◌&&◌, inl, inr, if◌then◌else◌, Option, Some, None, List, [], ◌∷◌, pos, ap, refl, sym, subst, arith}
+use Rattle.std.proofs.Common.{ℕ, ◌≡◌, ◌∙◌, ◌==◌, Bool, true, false, not, ◌&&◌, inl, inr, if◌then◌else◌, Option, Some, None, List, [], ◌∷◌, pos, ap, refl, sym}
+use Rattle.std.proofs.Common.{subst, arith}
 use Rattle.std.proofs.lemmas.Bool.Decides.{eqb_tells}
 use Rattle.std.specs.List.{list_any}
 use Rattle.std.specs.Option.{option_map_or}
@@ -66,7 +67,8 @@ no-rule-broken a b c d false w x y z one two three four =
     ∙ ap (λ (c : Bool). first_broken (refuse_if (not c) y ∷ None ∷ [])) (three refl)
 
 -- a way to a state with its own ranges and slots keeps the rules that its measure keeps
-kept-own : (t : Thread) (at : Point) (m after : Measure) (edge : ProgramEdge) → (edge.is_wait ≡ false → falls m after edge.value_of edge.before edge.ranges ≡ true)
+kept-own : (t : Thread) (at : Point) (m after : Measure) (edge : ProgramEdge) →
+    (edge.is_wait ≡ false → falls m after edge.value_of edge.before edge.ranges ≡ true)
     → (edge.is_wait ≡ true → stays_below t.header.budget after edge.value_of edge.before edge.ranges ≡ true)
     → first_broken (kept_at t at m edge (record { ranges = edge.ranges; slots = edge.slots; measure = after })) ≡ None
 kept-own t at m after edge fall stay =
@@ -96,7 +98,8 @@ module _ (fall : (m : Measure) (instr : Instr) (before behind : List Range) → 
 
 module _ (fall : (m : Measure) (written : List Register) (before behind : List Range) → list_any (λ x. has_term m x.0) written ≡ false
     → falls m (lowered m (pos 1)) (call_form written) before behind ≡ true)
-    (stay : (budget : ℕ) (value_of : ℕ → Form) (before behind : List Range) → stays_below budget (record { constant = pos budget; terms = [] }) value_of before behind ≡ true) where
+    (stay : (budget : ℕ) (value_of : ℕ → Form) (before behind : List Range) →
+    stays_below budget (record { constant = pos budget; terms = [] }) value_of before behind ≡ true) where
   pub call-kept : (t : Thread) (at : Point) (pc : ℕ) (state next : PointState) (a : AfterCall) → behind_call t state.measure a ≡ Known next
       → first_broken (edge_rules t at state.measure (call_edge pc state.ranges a) (Known next)) ≡ None
   call-kept t at pc state next a left =

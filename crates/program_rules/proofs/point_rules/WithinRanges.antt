@@ -53,7 +53,8 @@ decides a b x is = elim (are_ranges_within a b) as (λ y. are_ranges_within a b 
 pub all-true : (test : ℕ → Bool) (first count : ℕ) → ((i : ℕ) → i < count → test (first + i) ≡ true) → list_all test (range_with_len first count) ≡ true
 all-true test first count each =
     all_from test first count
-    (λ k from below. let here : first + (k - first) ≡ k = omega (arith, from) in subst (λ (n : ℕ). test n ≡ true) here (each (k - first) (omega (arith, from, below))))
+    (λ k from below. let here : first + (k - first) ≡ k = omega (arith, from) in
+    subst (λ (n : ℕ). test n ≡ true) here (each (k - first) (omega (arith, from, below))))
 
 pub one-false : (test : ℕ → Bool) (first count i : ℕ) → i < count → test (first + i) ≡ false → list_all test (range_with_len first count) ≡ false
 one-false test first count i less isnt = elim (list_all test (range_with_len first count)) as (λ b. list_all test (range_with_len first count) ≡ b → b ≡ false) [

@@ -1,5 +1,6 @@
 -- Chains of threads, and the ends of lists.
-use Rattle.std.proofs.Common.{ℕ, ◌≡◌, ◌≢◌, ◌∙◌, ◌+◌, ◌<◌, ◌≤◌, ◌⊎◌, inl, inr, if◌then◌else◌, not, cond, Option, Some, None, List, [], ◌∷◌, ◌++◌, refl, sym, ap, arith}
+use Rattle.std.proofs.Common.{ℕ, ◌≡◌, ◌≢◌, ◌∙◌, ◌+◌, ◌<◌, ◌≤◌, ◌⊎◌, inl, inr, if◌then◌else◌, not, cond, Option, Some, None, List, [], ◌∷◌, ◌++◌, refl, sym, ap}
+use Rattle.std.proofs.Common.{arith}
 use Rattle.std.proofs.lemmas.Bool.Decides.{eqb_tells, nat_tests}
 use Rattle.std.proofs.lemmas.Bool.{eq-eqb, ne_eqb}
 use Rattle.model.specs.Capabilities.Orders.{first_of}
@@ -97,7 +98,8 @@ chain-joined (x ∷ rest) next previous before t chain once off none =
     let new : x ≢ t = λ same. absurd (omega (arith, none, ap (times_in (x ∷ rest)) same, times-first x rest)) in (
       put-off previous t (last_or (Some x) rest) x new ∙ chain.0,
       joined-link rest next x t chain.1 new (head-once x rest once),
-      chain-joined rest next previous (Some x) t chain.2 (rest-once x rest once) (λ same. new (let e : x ≡ t = cc in e)) (omega (arith, none, times-tail x rest t)),
+      chain-joined rest next previous (Some x) t chain.2 (rest-once x rest once) (λ same. new (let e : x ≡ t = cc in e))
+          (omega (arith, none, times-tail x rest t)),
     )
 
 -- ---- a list without one of its threads

@@ -1,5 +1,6 @@
 -- A thread is put after all others of a queue.
-use Rattle.std.proofs.Common.{ℕ, ◌≡◌, ◌≢◌, ◌∙◌, ◌==◌, ◌+◌, ◌<◌, ◌≤◌, inl, inr, true, false, if◌then◌else◌, Option, Some, None, List, [], ◌∷◌, ◌++◌, sym, ap, subst, arith}
+use Rattle.std.proofs.Common.{ℕ, ◌≡◌, ◌≢◌, ◌∙◌, ◌==◌, ◌+◌, ◌<◌, ◌≤◌, inl, inr, true, false, if◌then◌else◌, Option, Some, None, List, [], ◌∷◌, ◌++◌, sym, ap}
+use Rattle.std.proofs.Common.{subst, arith}
 use Rattle.std.proofs.lemmas.Bool.Decides.{eqb_tells}
 use Rattle.std.proofs.lemmas.Bool.{eq-eqb}
 use Rattle.model.specs.Capabilities.Orders.{first_of}
@@ -44,7 +45,8 @@ module _ (w : Threaded) (lists : ℕ → List ℕ) (queue thread : ℕ) (known :
   own-chain : IsChain new.next new.previous None long
   own-chain =
       subst (λ (l : Option ℕ). IsChain (put_at (put w.next thread None) l (Some thread)) (put w.previous thread l) None long) (sym (known.last queue))
-      (chain-joined (lists queue) w.next w.previous None thread (known.chain queue) (known.once queue) (λ same. absurd (let clash : None ≡ Some thread = same in cc)) (absent queue))
+      (chain-joined (lists queue) w.next w.previous None thread (known.chain queue) (known.once queue)
+      (λ same. absurd (let clash : None ≡ Some thread = same in cc)) (absent queue))
 
   other-chain : (other : ℕ) → other ≢ queue → IsChain new.next new.previous None (lists other)
   other-chain other off =
@@ -115,7 +117,13 @@ module _ (w : Threaded) (lists : ℕ → List ℕ) (queue thread : ℕ) (known :
         let stands : 0 < times_in (lists other) x = known.stands other x (sym (put-off w.owner thread (Some queue) x apart.1) ∙ is) in
         elim (eqb_tells other queue) [
           | inl here ↦
-              omega (arith, stands, ap (λ o. times_in (lists o) x) here.1, ap (λ l. times_in l x) (here-list other here.0), joined-other lists queue thread x apart.1)
+              omega (
+                arith,
+                stands,
+                ap (λ o. times_in (lists o) x) here.1,
+                ap (λ l. times_in l x) (here-list other here.0),
+                joined-other lists queue thread x apart.1,
+              )
           | inr off ↦ omega (arith, stands, ap (λ l. times_in l x) (off-list other off.0))
         ]
   ]

@@ -26,17 +26,21 @@ near-left w size queue thread known other x is = elim (eqb_tells x thread) [
 pub pushing : PushingJoins
 pushing = record {
   linked = λ w size queue thread known none near.
-      linked-as (pushed w queue thread) (more (listed w size) queue thread) size (pushed-as w (listed w size) queue thread known.queues none) (near-pushed w size queue thread known near);
+      linked-as (pushed w queue thread) (more (listed w size) queue thread) size (pushed-as w (listed w size) queue thread known.queues none)
+      (near-pushed w size queue thread known near);
   queues = λ w size queue thread known none near.
-      found (pushed w queue thread) (more (listed w size) queue thread) size (pushed-as w (listed w size) queue thread known.queues none) (near-pushed w size queue thread known near);
+      found (pushed w queue thread) (more (listed w size) queue thread) size (pushed-as w (listed w size) queue thread known.queues none)
+      (near-pushed w size queue thread known near);
 }
 
 pub leaving : LeavingTakesOut
 leaving = record {
   linked = λ w size queue thread known is.
-      linked-as (left w queue thread) (less (listed w size) thread) size (left-as w (listed w size) queue thread known.queues is) (near-left w size queue thread known);
+      linked-as (left w queue thread) (less (listed w size) thread) size (left-as w (listed w size) queue thread known.queues is)
+      (near-left w size queue thread known);
   queues = λ w size queue thread known is.
-      found (left w queue thread) (less (listed w size) thread) size (left-as w (listed w size) queue thread known.queues is) (near-left w size queue thread known);
+      found (left w queue thread) (less (listed w size) thread) size (left-as w (listed w size) queue thread known.queues is)
+      (near-left w size queue thread known);
 }
 
 pub unowned : NoOwnerNoQueue

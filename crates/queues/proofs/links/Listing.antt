@@ -1,5 +1,6 @@
 -- The queues that links lead through are those of which they speak.
-use Rattle.std.proofs.Common.{ℕ, zero, suc, ◌≡◌, ◌≢◌, ◌∙◌, ◌<◌, ◌≤◌, inl, inr, if◌then◌else◌, Option, Some, None, List, [], ◌∷◌, drop, length, refl, sym, ap, subst, arith}
+use Rattle.std.proofs.Common.{ℕ, zero, suc, ◌≡◌, ◌≢◌, ◌∙◌, ◌<◌, ◌≤◌, inl, inr, if◌then◌else◌, Option, Some, None, List, [], ◌∷◌, drop, length, refl, sym, ap}
+use Rattle.std.proofs.Common.{subst, arith}
 use Rattle.std.proofs.lemmas.Bool.Decides.{eqb_tells}
 use Rattle.std.proofs.lemmas.Bool.{cases_lt}
 use Rattle.model.specs.Capabilities.Orders.{first_of}
@@ -13,7 +14,8 @@ use Rattle.slots.proofs.Laws.{IsIn, few-rows, next-in, previous-in}
 use Rattle.queues.proofs.links.Chains.{last-in}
 use Rattle.queues.specs.links.Threaded.{AreLinked, AreLinkedAs, Threaded, linked, listed}
 
-linked-list : (xs : List ℕ) (next previous : Links) (before : Option ℕ) (n : ℕ) → IsChain next previous before xs → length xs ≤ n → linked next n (first_of xs) ≡ xs
+linked-list : (xs : List ℕ) (next previous : Links) (before : Option ℕ) (n : ℕ) → IsChain next previous before xs → length xs ≤ n →
+    linked next n (first_of xs) ≡ xs
 linked-list [] next previous before zero chain few = refl
 linked-list [] next previous before (suc n) chain few = refl
 linked-list (x ∷ rest) next previous before zero chain few = absurd (omega (arith, few))
@@ -45,7 +47,8 @@ found w lists n known near queue =
     ∙ linked-list (lists queue) w.next w.previous None (suc n) (known.chain queue)
     (omega (arith, few (lists queue) n (known.once queue) (λ t is. near queue t (known.owned queue t is))))
 
-pub linked-as : (w : Threaded) (lists : ℕ → List ℕ) (n : ℕ) → AreLinkedAs w lists → ((queue thread : ℕ) → w.owner thread ≡ Some queue → thread < n) → AreLinked w n
+pub linked-as : (w : Threaded) (lists : ℕ → List ℕ) (n : ℕ) → AreLinkedAs w lists → ((queue thread : ℕ) → w.owner thread ≡ Some queue → thread < n) →
+    AreLinked w n
 linked-as w lists n known near =
     let path : listed w n ≡ lists = λ i queue. found w lists n known near queue i in
     record { queues = subst (AreLinkedAs w) (sym path) known; near = near }
@@ -66,7 +69,8 @@ none-as w lists thread known out =
     ] refl
 
 -- a thread that is in one queue is in no other
-pub elsewhere : (w : Threaded) (lists : ℕ → List ℕ) (queue thread other : ℕ) → AreLinkedAs w lists → w.owner thread ≡ Some queue → other ≢ queue → times_in (lists other) thread ≡ 0
+pub elsewhere : (w : Threaded) (lists : ℕ → List ℕ) (queue thread other : ℕ) → AreLinkedAs w lists → w.owner thread ≡ Some queue → other ≢ queue →
+    times_in (lists other) thread ≡ 0
 elsewhere w lists queue thread other known is off = elim (cases_lt 0 (times_in (lists other) thread)) [
   | inl some ↦ absurd (let e : Some queue ≡ Some other = sym is ∙ known.owned other thread some in let f : other ≡ queue = cc in off f)
   | inr least ↦ omega (arith, least)
@@ -119,7 +123,8 @@ next-named w lists queue thread other known is named =
       | inr some ↦ known.owned queue other (in-stands (lists queue) (w.next thread) other some named)
     ]
 
-pub previous-named : (w : Threaded) (lists : ℕ → List ℕ) (queue thread other : ℕ) → AreLinkedAs w lists → w.owner thread ≡ Some queue → w.previous thread ≡ Some other
+pub previous-named : (w : Threaded) (lists : ℕ → List ℕ) (queue thread other : ℕ) → AreLinkedAs w lists → w.owner thread ≡ Some queue →
+    w.previous thread ≡ Some other
     → w.owner other ≡ Some queue
 previous-named w lists queue thread other known is named =
     elim (previous-in (lists queue) w.next w.previous None thread (known.chain queue) (known.stands queue thread is)) [

@@ -31,8 +31,10 @@ FirstIsDropped = (w : Threaded) (size queue thread : ℕ) → AreLinked w size �
 pub record NamedStandThere : Type 0 where
   pub first : (w : Threaded) (size queue thread : ℕ) → AreLinked w size → w.first queue ≡ Some thread → w.owner thread ≡ Some queue
   pub last : (w : Threaded) (size queue thread : ℕ) → AreLinked w size → w.last queue ≡ Some thread → w.owner thread ≡ Some queue
-  pub next : (w : Threaded) (size queue thread other : ℕ) → AreLinked w size → w.owner thread ≡ Some queue → w.next thread ≡ Some other → w.owner other ≡ Some queue
-  pub previous : (w : Threaded) (size queue thread other : ℕ) → AreLinked w size → w.owner thread ≡ Some queue → w.previous thread ≡ Some other → w.owner other ≡ Some queue
+  pub next : (w : Threaded) (size queue thread other : ℕ) → AreLinked w size → w.owner thread ≡ Some queue → w.next thread ≡ Some other →
+      w.owner other ≡ Some queue
+  pub previous : (w : Threaded) (size queue thread other : ℕ) → AreLinked w size → w.owner thread ≡ Some queue → w.previous thread ≡ Some other →
+      w.owner other ≡ Some queue
 
 -- the links of those who are in no queue do not matter
 pub record OnlyOwnedCount : Type 0 where

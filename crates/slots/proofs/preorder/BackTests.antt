@@ -1,5 +1,6 @@
 -- Whether a slot descends from another, by a walk back to the other's depth.
-use Rattle.std.proofs.Common.{ℕ, zero, suc, ◌≡◌, ◌≢◌, ◌∙◌, ◌==◌, ◌&&◌, ◌||◌, ◌+◌, ◌<◌, ◌≤◌, nat_lt, inl, inr, Bool, false, Option, Some, None, List, [], ◌∷◌, length, refl, sym, ap, arith}
+use Rattle.std.proofs.Common.{ℕ, zero, suc, ◌≡◌, ◌≢◌, ◌∙◌, ◌==◌, ◌&&◌, ◌||◌, ◌+◌, ◌<◌, ◌≤◌, nat_lt, inl, inr, Bool, false, Option, Some, None, List, [], ◌∷◌}
+use Rattle.std.proofs.Common.{length, refl, sym, ap, arith}
 use Rattle.std.specs.Option.{option_map_or}
 use Rattle.std.proofs.lemmas.Bool.Decides.{eqb_tells}
 use Rattle.std.proofs.lemmas.Bool.{cases_lt, ne_eqb, lt-ltb, le-ltb}
@@ -51,7 +52,8 @@ test-from all (r ∷ rest) next previous depths p bound seen before root s n ris
       let k = depths root in
       ap (descends_by (parents_of all) root) (sym here.1)
       ∙ own-test all depths bound p r rest root rises deep shallow left
-      ∙ on-depth (parents_of all) depths p root r.depth (λ i under. left.live i (omega (arith, under, left.rises.0))) (λ i x under. levels i x (omega (arith, under, left.rises.0)))
+      ∙ on-depth (parents_of all) depths p root r.depth (λ i under. left.live i (omega (arith, under, left.rises.0)))
+      (λ i x under. levels i x (omega (arith, under, left.rises.0)))
       ∙ ap (λ d. nat_lt k d && is_one root (p k)) (sym left.deep.0 ∙ ap depths here.1)
       ∙ elim (cases_lt k (depths s)) [
         | inl less ↦
@@ -67,14 +69,16 @@ test-from all (r ∷ rest) next previous depths p bound seen before root s n ris
       test-from all rest next previous depths (put p r.depth (Some r.slot)) (r.depth + 1) (seen + 1) (Some r.slot) root s n rises deep shallow
       (rest-left all depths bound p r rest left) chain.2 (tells-more previous depths p bound seen before r tells left.rises.0 left.deep.0 chain.0)
       (λ i x under is. elim (eqb_tells i r.depth) [
-        | inl at ↦ (let e : Some r.slot ≡ Some x = sym (put-here p r.depth i (Some r.slot) at.1) ∙ is in let f : r.slot ≡ x = cc in ap depths (sym f) ∙ left.deep.0 ∙ sym at.1)
+        | inl at ↦ (let e : Some r.slot ≡ Some x = sym (put-here p r.depth i (Some r.slot) at.1) ∙ is in let f : r.slot ≡ x = cc in ap depths (sym f)
+            ∙ left.deep.0 ∙ sym at.1)
         | inr off ↦ levels i x (omega (arith, under, off.1, left.rises.0)) (sym (put-other p r.depth i (Some r.slot) off.1) ∙ is)
       ])
       (omega (arith, there, rows-rest r rest s other.1)) (omega (arith, few))
 ]
 
 pub descends-back : (rows : List Row) (next previous : Links) (depths : ℕ → ℕ) (root s n : ℕ) → Rises 0 rows → AreDeep depths rows
-    → ((x : ℕ) → rows_of rows x ≤ 1) → ((x : ℕ) → 0 < rows_of rows x → depths x ≤ 256) → IsChain next previous None (slots_of rows) → 0 < rows_of rows s → length rows ≤ n
+    → ((x : ℕ) → rows_of rows x ≤ 1) → ((x : ℕ) → 0 < rows_of rows x → depths x ≤ 256) → IsChain next previous None (slots_of rows) → 0 < rows_of rows s →
+    length rows ≤ n
     → descends_by (parents_of rows) root s ≡ (nat_lt (depths root) (depths s) && is_one root (back_above previous depths n (depths root + 1) (previous s)))
 descends-back rows next previous depths root s n rises deep once shallow chain there few =
     test-from rows rows next previous depths no_path 0 0 None root s n rises deep shallow

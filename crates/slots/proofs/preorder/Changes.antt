@@ -1,5 +1,6 @@
 -- What changes of the rows leave of their slots, of how they rise, and of parents.
-use Rattle.std.proofs.Common.{ℕ, zero, suc, ◌≡◌, ◌≢◌, ◌∙◌, ◌==◌, ◌+◌, ◌-◌, ◌<◌, ◌≤◌, nat_lt, not, inl, inr, true, false, if◌then◌else◌, cond, Some, None, List, [], ◌∷◌, refl, sym, ap, subst, arith}
+use Rattle.std.proofs.Common.{ℕ, zero, suc, ◌≡◌, ◌≢◌, ◌∙◌, ◌==◌, ◌+◌, ◌-◌, ◌<◌, ◌≤◌, nat_lt, not, inl, inr, true, false, if◌then◌else◌, cond, Some, None, List}
+use Rattle.std.proofs.Common.{[], ◌∷◌, refl, sym, ap, subst, arith}
 use Rattle.std.proofs.lemmas.Bool.Decides.{eqb_tells}
 use Rattle.std.proofs.lemmas.Bool.{cases_lt, eq-eqb, ne_eqb}
 use Rattle.model.specs.Kernel.State.{put}
@@ -7,7 +8,8 @@ use Rattle.model.specs.Shared.Lists.{times_in, without}
 use Rattle.model.proofs.Depths.{adopted_parent}
 use Rattle.model.proofs.Orders.{without-absent}
 use Rattle.slots.specs.preorder.Chains.{put_after}
-use Rattle.slots.specs.preorder.Preorder.{Path, Rises, Row, above, lowered, no_path, parent_from, parents_of, put_behind, renamed, renamed_slot, rows_of, slots_of, taken_out}
+use Rattle.slots.specs.preorder.Preorder.{Path, Rises, Row, above, lowered, no_path, parent_from, parents_of, put_behind, renamed, renamed_slot, rows_of}
+use Rattle.slots.specs.preorder.Preorder.{slots_of, taken_out}
 use Rattle.slots.proofs.preorder.Paths.{from-here, from-rest, put-here, put-other, rows-here, rows-rest, same-paths}
 use Rattle.slots.proofs.preorder.Splices.{lowered-end, lowered-run, taken-here, taken-rest}
 
@@ -26,7 +28,8 @@ slots-put_behind (r ∷ rest) parent slot =
 pub slots-lowered : (rows : List Row) (d : ℕ) → slots_of (lowered d rows) ≡ slots_of rows
 slots-lowered [] d = refl
 slots-lowered (r ∷ rest) d =
-    elim (nat_lt d r.depth) as (λ b. slots_of (if b then (record { slot = r.slot; depth = r.depth - 1 }) ∷ lowered d rest else r ∷ rest) ≡ r.slot ∷ slots_of rest) [
+    elim (nat_lt d r.depth) as (λ b. slots_of (if b then (record { slot = r.slot; depth = r.depth - 1 }) ∷ lowered d rest else r ∷ rest) ≡ r.slot ∷ slots_of
+    rest) [
       | true ↦ ap (λ l. r.slot ∷ l) (slots-lowered rest d)
       | false ↦ refl
     ]
@@ -60,9 +63,12 @@ times-put_after (x ∷ rest) before slot s apart =
 pub times-put_after_own : (xs : List ℕ) (before slot : ℕ) → 0 < times_in xs before → times_in (put_after before slot xs) slot ≡ times_in xs slot + 1
 times-put_after_own [] before slot there = absurd (omega (arith, there))
 times-put_after_own (x ∷ rest) before slot there =
-    let own : times_in (slot ∷ rest) slot ≡ times_in rest slot + 1 = ap (λ b. if b then times_in rest slot + 1 else times_in rest slot) (eq-eqb slot slot refl) in
-    let more : (n : ℕ) → n ≡ times_in rest slot + 1 → (if x == slot then n + 1 else n) ≡ (if x == slot then times_in rest slot + 1 else times_in rest slot) + 1 =
-    λ n is. elim (x == slot) as (λ b. (if b then n + 1 else n) ≡ (if b then times_in rest slot + 1 else times_in rest slot) + 1) [ true ↦ ap (λ m. m + 1) is | false ↦ is ] in
+    let own : times_in (slot ∷ rest) slot ≡ times_in rest slot + 1 =
+    ap (λ b. if b then times_in rest slot + 1 else times_in rest slot) (eq-eqb slot slot refl) in
+    let more : (n : ℕ) → n ≡ times_in rest slot + 1 → (if x == slot then n + 1 else n) ≡ (if x == slot then times_in rest slot + 1 else times_in rest slot)
+    + 1 =
+    λ n is. elim (x == slot) as (λ b. (if b then n + 1 else n) ≡ (if b then times_in rest slot + 1 else times_in rest slot) + 1)
+    [ true ↦ ap (λ m. m + 1) is | false ↦ is ] in
     elim (eqb_tells x before) [
       | inl here ↦
           ap (λ b. times_in (if b then x ∷ slot ∷ rest else x ∷ put_after before slot rest) slot) here.0 ∙ more (times_in (slot ∷ rest) slot) own
@@ -118,7 +124,8 @@ pub none-without : (rows : List Row) (p : Path) (s : ℕ) → rows_of rows s ≡
 none-without [] p s none = refl
 none-without (r ∷ rest) p s none =
     let apart : r.slot ≢ s = λ same. absurd (omega (arith, none, rows-here r rest s same)) in
-    from-rest p r rest s apart ∙ none-without rest (put p r.depth (Some r.slot)) s (let less : rows_of rest s ≡ 0 = omega (arith, none, rows-rest r rest s apart) in less)
+    from-rest p r rest s apart ∙ none-without rest (put p r.depth (Some r.slot)) s
+    (let less : rows_of rest s ≡ 0 = omega (arith, none, rows-rest r rest s apart) in less)
 
 -- a new row in front, at depth 0
 pub first-own : (rows : List Row) (slot : ℕ) → parents_of ((record { slot = slot; depth = 0 }) ∷ rows) slot ≡ None
@@ -171,7 +178,8 @@ renamed-parents (r ∷ rest) p q from to s none apart paths =
           (λ i. elim (eqb_tells i r.depth) [
             | inl at ↦ put-here q r.depth i (Some row.slot) at.1 ∙ sym (adopted-renamed from to r.slot)
                 ∙ ap (adopted_parent from (Some to)) (sym (put-here p r.depth i (Some r.slot) at.1))
-            | inr off ↦ put-other q r.depth i (Some row.slot) off.1 ∙ paths i ∙ ap (adopted_parent from (Some to)) (sym (put-other p r.depth i (Some r.slot) off.1))
+            | inr off ↦ put-other q r.depth i (Some row.slot) off.1 ∙ paths i
+                ∙ ap (adopted_parent from (Some to)) (sym (put-other p r.depth i (Some r.slot) off.1))
           ])
           ∙ ap (adopted_parent from (Some to)) (sym (from-rest p r rest s other.1))
     ]
@@ -188,7 +196,8 @@ renamed-absent (r ∷ rest) from to none =
     ap (λ s. s ∷ slots_of (renamed from to rest)) (renamed-other from to r.slot apart)
     ∙ ap (λ l. r.slot ∷ l) (renamed-absent rest from to (let less : rows_of rest from ≡ 0 = omega (arith, none, rows-rest r rest from apart) in less))
 
-pub slots-renamed : (rows : List Row) (from to : ℕ) → rows_of rows from ≤ 1 → from ≢ to → slots_of (renamed from to rows) ≡ without from (put_after from to (slots_of rows))
+pub slots-renamed : (rows : List Row) (from to : ℕ) → rows_of rows from ≤ 1 → from ≢ to →
+    slots_of (renamed from to rows) ≡ without from (put_after from to (slots_of rows))
 slots-renamed [] from to once apart = refl
 slots-renamed (r ∷ rest) from to once apart = elim (eqb_tells r.slot from) [
   | inl here ↦

@@ -1,5 +1,6 @@
 -- Distinct slots below a number are at most as many.
-use Rattle.std.proofs.Common.{ℕ, suc, ◌≡◌, ◌≢◌, ◌∙◌, ◌==◌, ◌+◌, ◌<◌, ◌≤◌, inl, inr, true, false, if◌then◌else◌, ◌||◌, List, [], ◌∷◌, length, refl, sym, ap, arith}
+use Rattle.std.proofs.Common.{ℕ, suc, ◌≡◌, ◌≢◌, ◌∙◌, ◌==◌, ◌+◌, ◌<◌, ◌≤◌, inl, inr, true, false, if◌then◌else◌, ◌||◌, List, [], ◌∷◌, length, refl, sym, ap}
+use Rattle.std.proofs.Common.{arith}
 use Rattle.std.proofs.lemmas.Bool.Decides.{eqb_tells}
 use Rattle.std.proofs.lemmas.Bool.{eq-eqb, ne_eqb}
 use Rattle.std.proofs.lemmas.Map.Steps.{length-le_from_distinct_below}
@@ -43,4 +44,9 @@ length-slots (r ∷ rest) = ap suc (length-slots rest)
 
 pub few-rows : (rows : List Row) (n : ℕ) → ((s : ℕ) → rows_of rows s ≤ 1) → ((s : ℕ) → 0 < rows_of rows s → s < n) → length rows ≤ n
 few-rows rows n once near =
-    omega (arith, length-slots rows, length-le_from_distinct_below (slots_of rows) n (distinct (slots_of rows) once) (λ q found. near q (any-times (slots_of rows) q found)))
+    omega (
+      arith,
+      length-slots rows,
+      length-le_from_distinct_below (slots_of rows) n (distinct (slots_of rows) once)
+          (λ q found. near q (any-times (slots_of rows) q found)),
+    )

@@ -1,5 +1,6 @@
 -- What changes of depths make of the depths of rows.
-use Rattle.std.proofs.Common.{ℕ, zero, suc, ◌≡◌, ◌≢◌, ◌∙◌, ◌+◌, ◌-◌, ◌<◌, ◌≤◌, nat_lt, inl, inr, true, false, if◌then◌else◌, Option, Some, List, [], ◌∷◌, length, refl, sym, ap, subst, arith}
+use Rattle.std.proofs.Common.{ℕ, zero, suc, ◌≡◌, ◌≢◌, ◌∙◌, ◌+◌, ◌-◌, ◌<◌, ◌≤◌, nat_lt, inl, inr, true, false, if◌then◌else◌, Option, Some, List, [], ◌∷◌}
+use Rattle.std.proofs.Common.{length, refl, sym, ap, subst, arith}
 use Rattle.std.proofs.lemmas.Bool.Decides.{eqb_tells}
 use Rattle.std.proofs.lemmas.Bool.{cases_lt, eq-eqb, ne_eqb, lt-ltb, le-ltb}
 use Rattle.model.specs.Capabilities.Orders.{first_of}
@@ -16,8 +17,10 @@ rest-more r rest s = elim (eqb_tells r.slot s) [ inl here ↦ omega (arith, rows
 -- depths that are the same at the rows serve too
 pub deep-same : (rows : List Row) (old new : ℕ → ℕ) → AreDeep old rows → ((s : ℕ) → 0 < rows_of rows s → new s ≡ old s) → AreDeep new rows
 deep-same [] old new deep same = tt
-deep-same (r ∷ rest) old new deep same =
-    (same r.slot (omega (arith, rows-here r rest r.slot refl)) ∙ deep.0, deep-same rest old new deep.1 (λ s there. same s (omega (arith, there, rest-more r rest s))))
+deep-same (r ∷ rest) old new deep same = (
+  same r.slot (omega (arith, rows-here r rest r.slot refl)) ∙ deep.0,
+  deep-same rest old new deep.1 (λ s there. same s (omega (arith, there, rest-more r rest s))),
+)
 
 -- ---- a new row
 
@@ -73,7 +76,8 @@ low-outside (r ∷ rest) next previous before depths d (suc n) x chain none =
     ]
 
 low-deep : (rest : List Row) (next previous : Links) (before : Option ℕ) (depths : ℕ → ℕ) (d n : ℕ) → IsChain next previous before (slots_of rest)
-    → AreDeep depths rest → ((s : ℕ) → rows_of rest s ≤ 1) → length rest ≤ n → AreDeep (lowered_depths next d n (first_of (slots_of rest)) depths) (lowered d rest)
+    → AreDeep depths rest → ((s : ℕ) → rows_of rest s ≤ 1) → length rest ≤ n →
+    AreDeep (lowered_depths next d n (first_of (slots_of rest)) depths) (lowered d rest)
 low-deep [] next previous before depths d n chain deep once few = tt
 low-deep (r ∷ rest) next previous before depths d zero chain deep once few = absurd (omega (arith, few))
 low-deep (r ∷ rest) next previous before depths d (suc n) chain deep once few =
@@ -95,7 +99,8 @@ low-deep (r ∷ rest) next previous before depths d (suc n) chain deep once few 
                 (λ s. omega (arith, once s, rest-more r rest s)) (omega (arith, few)),
           ))
       | inr end ↦
-          let is : lowered_depths next d (suc n) (Some r.slot) depths ≡ depths = ap (λ b. if b then on else depths) (ap (nat_lt d) deep.0 ∙ le-ltb d r.depth end) in
+          let is : lowered_depths next d (suc n) (Some r.slot) depths ≡ depths =
+          ap (λ b. if b then on else depths) (ap (nat_lt d) deep.0 ∙ le-ltb d r.depth end) in
           subst (AreDeep (lowered_depths next d (suc n) (Some r.slot) depths)) (sym (lowered-end d r rest end))
           (subst (λ (f : ℕ → ℕ). AreDeep f (r ∷ rest)) (sym is) deep)
     ]
@@ -108,7 +113,8 @@ low-beside (r ∷ rest) next previous before depths d n gone x chain there none 
     let none' : rows_of rest x ≡ 0 = omega (arith, none, rest-more r rest x) in
     elim (eqb_tells r.slot gone) [
       | inl here ↦
-          ap (λ o. lowered_depths next d n o depths x) (ap next (sym here.1) ∙ chain.1) ∙ low-outside rest next previous (Some r.slot) depths d n x chain.2 none'
+          ap (λ o. lowered_depths next d n o depths x) (ap next (sym here.1) ∙ chain.1)
+          ∙ low-outside rest next previous (Some r.slot) depths d n x chain.2 none'
       | inr other ↦ low-beside rest next previous (Some r.slot) depths d n gone x chain.2 (omega (arith, there, rows-rest r rest gone other.1)) none'
     ]
 
@@ -119,9 +125,11 @@ low-own [] next previous before depths d n gone chain once there = absurd (omega
 low-own (r ∷ rest) next previous before depths d n gone chain once there = elim (eqb_tells r.slot gone) [
   | inl here ↦
       ap (λ o. lowered_depths next d n o depths gone) (ap next (sym here.1) ∙ chain.1)
-      ∙ low-outside rest next previous (Some r.slot) depths d n gone chain.2 (let none : rows_of rest gone ≡ 0 = omega (arith, once gone, rows-here r rest gone here.1) in none)
+      ∙ low-outside rest next previous (Some r.slot) depths d n gone chain.2
+      (let none : rows_of rest gone ≡ 0 = omega (arith, once gone, rows-here r rest gone here.1) in none)
   | inr other ↦
-      low-own rest next previous (Some r.slot) depths d n gone chain.2 (λ s. omega (arith, once s, rest-more r rest s)) (omega (arith, there, rows-rest r rest gone other.1))
+      low-own rest next previous (Some r.slot) depths d n gone chain.2 (λ s. omega (arith, once s, rest-more r rest s))
+      (omega (arith, there, rows-rest r rest gone other.1))
 ]
 
 pub deep-taken_out : (rows : List Row) (next previous : Links) (before : Option ℕ) (depths : ℕ → ℕ) (gone n : ℕ) → IsChain next previous before (slots_of rows)

@@ -1,5 +1,6 @@
 -- The descendants of a slot are the run of rows after its own.
-use Rattle.std.proofs.Common.{ℕ, zero, suc, ◌≡◌, ◌≢◌, ◌∙◌, ◌==◌, ◌||◌, ◌+◌, ◌<◌, ◌≤◌, inl, inr, Bool, true, false, if◌then◌else◌, cond, filter, Option, Some, None, List, [], ◌∷◌, refl, sym, ap, arith}
+use Rattle.std.proofs.Common.{ℕ, zero, suc, ◌≡◌, ◌≢◌, ◌∙◌, ◌==◌, ◌||◌, ◌+◌, ◌<◌, ◌≤◌, inl, inr, Bool, true, false, if◌then◌else◌, cond, filter, Option, Some}
+use Rattle.std.proofs.Common.{None, List, [], ◌∷◌, refl, sym, ap, arith}
 use Rattle.std.proofs.lemmas.Bool.Decides.{eqb_tells}
 use Rattle.std.proofs.lemmas.Bool.{cases_lt, eq-eqb, ne_eqb, lt-ltb, le-ltb}
 use Rattle.std.proofs.Math.Bool.{or-true}
@@ -116,7 +117,8 @@ pub own-test : (all : List Row) (depths : ℕ → ℕ) (bound : ℕ) (p : Path) 
 own-test all depths bound p r rest root rises deep shallow left =
     let there : 0 < rows_of all r.slot = left.among r.slot (omega (arith, rows-here r rest r.slot refl)) in
     ap (λ n. descends_within n (parents_of all) root r.slot) (depth-rows 256 all depths r.slot rises deep there (shallow r.slot there) ∙ left.deep.0)
-    ∙ path-ancestors (parents_of all) p root r.depth r.slot (λ i under. left.live i (omega (arith, under, left.rises.0))) (own-up all depths bound p r rest left)
+    ∙ path-ancestors (parents_of all) p root r.depth r.slot (λ i under. left.live i (omega (arith, under, left.rises.0)))
+    (own-up all depths bound p r rest left)
 
 off-put : (p : Path) (r : Row) (root i : ℕ) → r.slot ≢ root → (i ≢ r.depth → p i ≢ Some root) → put p r.depth (Some r.slot) i ≢ Some root
 off-put p r root i off others same = elim (eqb_tells i r.depth) [
@@ -171,13 +173,15 @@ module _ (all : List Row) (depths : ℕ → ℕ) (root : ℕ) (rises : Rises 0 a
         | inl run ↦
             take r rest (own-test all depths bound p r rest root rises deep shallow left
             ∙ at-path p root k r.depth (parents_of all) run at (λ i under. left.live i (omega (arith, under, left.rises.0))))
-            ∙ ap (λ l. r.slot ∷ l) (run-left rest (r.depth + 1) k next more none' (put-other p r.depth k (Some r.slot) (λ same. absurd (omega (arith, same, run))) ∙ at)
+            ∙ ap (λ l. r.slot ∷ l) (run-left rest (r.depth + 1) k next more none'
+            (put-other p r.depth k (Some r.slot) (λ same. absurd (omega (arith, same, run))) ∙ at)
             (λ i other under. off-put p r root i off (λ beside. apart i other (omega (arith, under, beside, left.rises.0)))))
             ∙ sym (ap slots_of (run-more k r rest run))
         | inr end ↦
             passed r rest bound p left (λ i under. apart i (λ same. absurd (omega (arith, same, under, end))) (omega (arith, under, left.rises.0)))
             ∙ none-left rest (r.depth + 1) next more none'
-            (λ i under. off-put p r root i off (λ other. apart i (λ same. absurd (omega (arith, same, under, other, end))) (omega (arith, under, other, left.rises.0))))
+            (λ i under. off-put p r root i off
+            (λ other. apart i (λ same. absurd (omega (arith, same, under, other, end))) (omega (arith, under, other, left.rises.0))))
             ∙ sym (ap slots_of (run-end k r rest end))
       ]
 
@@ -191,7 +195,8 @@ module _ (all : List Row) (depths : ℕ → ℕ) (root : ℕ) (rises : Rises 0 a
       passed r rest bound p left (λ i under. apart i (omega (arith, under, left.rises.0)))
       ∙ elim (eqb_tells r.slot root) [
         | inl here ↦
-            run-left rest (r.depth + 1) r.depth next more (let none : rows_of rest root ≡ 0 = omega (arith, left.once root, rows-here r rest root here.1) in none)
+            run-left rest (r.depth + 1) r.depth next more (let none : rows_of rest root ≡ 0 = omega (arith, left.once root, rows-here r rest root here.1) in
+            none)
             (put-here p r.depth r.depth (Some r.slot) refl ∙ ap Some here.1)
             (λ i other under same. apart i (omega (arith, under, other, left.rises.0)) (sym (put-other p r.depth i (Some r.slot) other) ∙ same))
             ∙ sym (ap slots_of (ap (λ b. if b then run r.depth rest else run_behind root rest) here.0))

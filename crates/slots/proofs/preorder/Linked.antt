@@ -1,5 +1,6 @@
 -- What changes of links leave of a chain of slots.
-use Rattle.std.proofs.Common.{ℕ, ◌≡◌, ◌≢◌, ◌∙◌, ◌==◌, ◌+◌, ◌<◌, ◌≤◌, ◌⊎◌, inl, inr, if◌then◌else◌, not, cond, Option, Some, None, List, [], ◌∷◌, true, false, refl, sym, ap, subst, arith}
+use Rattle.std.proofs.Common.{ℕ, ◌≡◌, ◌≢◌, ◌∙◌, ◌==◌, ◌+◌, ◌<◌, ◌≤◌, ◌⊎◌, inl, inr, if◌then◌else◌, not, cond, Option, Some, None, List, [], ◌∷◌, true, false}
+use Rattle.std.proofs.Common.{refl, sym, ap, subst, arith}
 use Rattle.std.proofs.lemmas.Bool.Decides.{eqb_tells, nat_tests}
 use Rattle.std.proofs.lemmas.Bool.{eq-eqb, ne_eqb}
 use Rattle.model.specs.Capabilities.Orders.{first_of}
@@ -43,7 +44,8 @@ chain-same [] next previous next' previous' before chain same same' = tt
 chain-same (x ∷ rest) next previous next' previous' before chain same same' = (
   same' x (omega (arith, times-first x rest)) ∙ chain.0,
   same x (omega (arith, times-first x rest)) ∙ chain.1,
-  chain-same rest next previous next' previous' (Some x) chain.2 (λ z is. same z (omega (arith, is, times-tail x rest z))) (λ z is. same' z (omega (arith, is, times-tail x rest z))),
+  chain-same rest next previous next' previous' (Some x) chain.2 (λ z is. same z (omega (arith, is, times-tail x rest z)))
+      (λ z is. same' z (omega (arith, is, times-tail x rest z))),
 )
 
 -- the neighbours of an element are elements, or the ends
@@ -91,14 +93,16 @@ not-next : (xs : List ℕ) (next previous : Links) (before : Option ℕ) (x y : 
     → next x ≢ Some y
 not-next xs next previous before x y chain is none same = elim (next-in xs next previous before x chain is) [
   | inl end ↦ absurd (let clash : None ≡ Some y = sym end ∙ same in cc)
-  | inr some ↦ absurd (let here : some.slot ≡ y = (let e : Some some.slot ≡ Some y = sym some.is ∙ same in cc) in apart-in xs y some.slot none some.there (sym here))
+  | inr some ↦ absurd (let here : some.slot ≡ y = (let e : Some some.slot ≡ Some y = sym some.is ∙ same in cc) in
+      apart-in xs y some.slot none some.there (sym here))
 ]
 
 not-previous : (xs : List ℕ) (next previous : Links) (before : Option ℕ) (x y : ℕ) → IsChain next previous before xs → 0 < times_in xs x → times_in xs y ≡ 0
     → before ≢ Some y → previous x ≢ Some y
 not-previous xs next previous before x y chain is none off same = elim (previous-in xs next previous before x chain is) [
   | inl front ↦ off (sym front ∙ same)
-  | inr some ↦ absurd (let here : some.slot ≡ y = (let e : Some some.slot ≡ Some y = sym some.is ∙ same in cc) in apart-in xs y some.slot none some.there (sym here))
+  | inr some ↦ absurd (let here : some.slot ≡ y = (let e : Some some.slot ≡ Some y = sym some.is ∙ same in cc) in
+      apart-in xs y some.slot none some.there (sym here))
 ]
 
 -- ---- an element is taken out
@@ -139,7 +143,8 @@ kept-next (z ∷ rest) next previous y gone link chain once is =
           put_at-own next y (previous gone) (next gone) back ∙ ap next (sym here.1) ∙ chain.1
           ∙ sym (ap first_of (ap (λ b. cond (not b) (z ∷ few) few) here.0 ∙ without-absent gone rest none))
       | inr other ↦
-          put_at-beside next (previous gone) (next gone) y (λ same. elim (previous-in rest next previous (Some z) gone chain.2 (omega (arith, is, times-rest z rest gone other.1))) [
+          put_at-beside next (previous gone) (next gone) y
+          (λ same. elim (previous-in rest next previous (Some z) gone chain.2 (omega (arith, is, times-rest z rest gone other.1))) [
             | inl front ↦ absurd (apart-in (z ∷ rest) y z (head-once y (z ∷ rest) once) (omega (arith, times-first z rest))
                 (let e : Some y ≡ Some z = sym same ∙ front in let f : y ≡ z = cc in f))
             | inr some ↦ absurd (apart-in (z ∷ rest) y some.slot (head-once y (z ∷ rest) once) (omega (arith, some.there, times-tail z rest some.slot))
@@ -194,7 +199,8 @@ chain-put_after (x ∷ rest) next previous before at slot chain once off out non
             put-beside (put_at previous (next at) (Some slot)) slot (Some at) x new
                 ∙ put_at-beside previous (next at) (Some slot) x (λ same. elim (first-in rest) [
                   | inl end ↦ absurd (let clash : None ≡ Some x = sym end ∙ sym link ∙ same in cc)
-                  | inr some ↦ absurd (apart-in rest x some.slot (head-once x rest once) some.there (let e : Some x ≡ Some some.slot = sym same ∙ link ∙ some.is in let f : x ≡ some.slot = cc in f))
+                  | inr some ↦ absurd (apart-in rest x some.slot (head-once x rest once) some.there
+                      (let e : Some x ≡ Some some.slot = sym same ∙ link ∙ some.is in let f : x ≡ some.slot = cc in f))
                 ]) ∙ chain.0,
             ap next' here.1 ∙ put-beside (put next at (Some slot)) slot (next at) at apart ∙ put-own next at (Some slot),
             (
@@ -208,7 +214,8 @@ chain-put_after (x ∷ rest) next previous before at slot chain once off out non
           subst (IsChain next' previous' before) (sym (ap (λ b. if b then x ∷ slot ∷ rest else x ∷ put_after at slot rest) other.0)) (
             put-beside (put_at previous (next at) (Some slot)) slot (Some at) x new
                 ∙ put_at-beside previous (next at) (Some slot) x (not-next rest next previous (Some x) at x chain.2 inside (head-once x rest once)) ∙ chain.0,
-            put-beside (put next at (Some slot)) slot (next at) x new ∙ put-beside next at (Some slot) x other.1 ∙ chain.1 ∙ sym (first-put rest at slot inside),
+            put-beside (put next at (Some slot)) slot (next at) x new ∙ put-beside next at (Some slot) x other.1 ∙ chain.1
+                ∙ sym (first-put rest at slot inside),
             chain-put_after rest next previous (Some x) at slot chain.2 tail (λ same. new (let e : x ≡ slot = cc in e))
                 (λ b same. ap (times_in rest) (let e : b ≡ x = cc in e) ∙ head-once x rest once) absent inside,
           )

@@ -10,7 +10,8 @@ use Rattle.slots.specs.preorder.Preorder.{Path, Rises, Row, above, parent_from, 
 pub from-here : (path : Path) (r : Row) (rest : List Row) (s : ℕ) → r.slot ≡ s → parent_from path (r ∷ rest) s ≡ above path r.depth
 from-here path r rest s here = ap (λ b. if b then above path r.depth else parent_from (put path r.depth (Some r.slot)) rest s) (eq-eqb r.slot s here)
 
-pub from-rest : (path : Path) (r : Row) (rest : List Row) (s : ℕ) → r.slot ≢ s → parent_from path (r ∷ rest) s ≡ parent_from (put path r.depth (Some r.slot)) rest s
+pub from-rest : (path : Path) (r : Row) (rest : List Row) (s : ℕ) → r.slot ≢ s →
+    parent_from path (r ∷ rest) s ≡ parent_from (put path r.depth (Some r.slot)) rest s
 from-rest path r rest s other = ap (λ b. if b then above path r.depth else parent_from (put path r.depth (Some r.slot)) rest s) (ne_eqb r.slot s other)
 
 pub put-here : (p : Path) (d i : ℕ) (x : Option ℕ) → i ≡ d → put p d x i ≡ x
@@ -49,7 +50,8 @@ same-paths (r ∷ rest) bound k p q s le same rises = elim (eqb_tells r.slot s) 
 
 -- ---- a new row right after its parent's
 
-behind-here : (parent slot : ℕ) (r : Row) (rest : List Row) → r.slot ≡ parent → put_behind parent slot (r ∷ rest) ≡ r ∷ (record { slot = slot; depth = r.depth + 1 }) ∷ rest
+behind-here : (parent slot : ℕ) (r : Row) (rest : List Row) → r.slot ≡ parent →
+    put_behind parent slot (r ∷ rest) ≡ r ∷ (record { slot = slot; depth = r.depth + 1 }) ∷ rest
 behind-here parent slot r rest here =
     ap (λ b. if b then r ∷ (record { slot = slot; depth = r.depth + 1 }) ∷ rest else r ∷ put_behind parent slot rest) (eq-eqb r.slot parent here)
 
@@ -111,7 +113,8 @@ put-own (r ∷ rest) p parent slot there none =
       | inr other ↦
           ap (λ rows. parent_from p rows slot) (behind-rest parent slot r rest other.1)
           ∙ from-rest p r (put_behind parent slot rest) slot apart
-          ∙ put-own rest (put p r.depth (Some r.slot)) parent slot (omega (arith, there, rows-rest r rest parent other.1)) (omega (arith, none, rows-rest r rest slot apart))
+          ∙ put-own rest (put p r.depth (Some r.slot)) parent slot (omega (arith, there, rows-rest r rest parent other.1))
+          (omega (arith, none, rows-rest r rest slot apart))
     ]
   where
     above-next : (path : Path) (d : ℕ) → above path (d + 1) ≡ path d

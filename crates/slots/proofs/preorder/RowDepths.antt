@@ -48,12 +48,22 @@ own-parent (r ∷ rest) all depths bound p s rises deep live within there = elim
       let from = from-rest p r rest s other.1 in
       let more = own-parent rest all depths (r.depth + 1) next s rises.1 deep.1
       (λ i under. elim (eqb_tells i r.depth) [
-        | inl at ↦ record { slot = r.slot; is = put-here p r.depth i (Some r.slot) at.1; deep = deep.0 ∙ sym at.1; among = within r.slot (omega (arith, rows-here r rest r.slot refl)) }
+        | inl at ↦ record {
+          slot = r.slot;
+          is = put-here p r.depth i (Some r.slot) at.1;
+          deep = deep.0 ∙ sym at.1;
+          among =
+              within r.slot (omega (arith, rows-here r rest r.slot refl));
+        }
         | inr off ↦
             let up = live i (omega (arith, off.1, under, rises.0)) in
             record { slot = up.slot; is = put-other p r.depth i (Some r.slot) off.1 ∙ up.is; deep = up.deep; among = up.among }
       ])
-      (λ x is. within x (elim (eqb_tells r.slot x) [ inl same ↦ omega (arith, rows-here r rest x same.1) | inr apart ↦ omega (arith, is, rows-rest r rest x apart.1) ]))
+      (λ x is. within x (elim (eqb_tells r.slot x) [
+        | inl same ↦ omega (arith, rows-here r rest x same.1)
+        | inr apart ↦
+            omega (arith, is, rows-rest r rest x apart.1)
+      ]))
       (omega (arith, there, rows-rest r rest s other.1)) in
       elim more [
         | inl root ↦ inl (record { none = from ∙ root.none; top = root.top })

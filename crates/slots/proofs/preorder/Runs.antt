@@ -1,5 +1,6 @@
 -- What changes of a list leave of its runs, and what the neighbours of a slot show.
-use Rattle.std.proofs.Common.{ℕ, ◌≡◌, ◌≢◌, ◌∙◌, ◌==◌, ◌+◌, ◌<◌, ◌≤◌, ◌⊎◌, inl, inr, if◌then◌else◌, not, cond, Option, Some, None, List, [], ◌∷◌, true, false, refl, sym, ap, subst, arith}
+use Rattle.std.proofs.Common.{ℕ, ◌≡◌, ◌≢◌, ◌∙◌, ◌==◌, ◌+◌, ◌<◌, ◌≤◌, ◌⊎◌, inl, inr, if◌then◌else◌, not, cond, Option, Some, None, List, [], ◌∷◌, true, false}
+use Rattle.std.proofs.Common.{refl, sym, ap, subst, arith}
 use Rattle.std.proofs.lemmas.Bool.Decides.{eqb_tells, nat_tests}
 use Rattle.std.proofs.lemmas.Bool.{cases_lt, eq-eqb, le-ltb, lt-ltb, ne_eqb}
 use Rattle.model.specs.Capabilities.Orders.{first_of, next_after}
@@ -23,7 +24,8 @@ none-empty : {K : Type 0} (keys : Keys K) (key : K) → NoneHas keys key []
 none-empty keys key s there same = absurd (omega (arith, there))
 
 -- keys that are the same at the slots serve too
-at-once-same : {K : Type 0} (keys keys' : Keys K) (key : K) (xs : List ℕ) → ((s : ℕ) → 0 < times_in xs s → keys' s ≡ keys s) → IsAtOnce keys key xs → IsAtOnce keys' key xs
+at-once-same : {K : Type 0} (keys keys' : Keys K) (key : K) (xs : List ℕ) → ((s : ℕ) → 0 < times_in xs s → keys' s ≡ keys s) → IsAtOnce keys key xs →
+    IsAtOnce keys' key xs
 at-once-same keys keys' key [] same once = inr (none-empty keys' key)
 at-once-same keys keys' key (x ∷ rest) same once = elim once [
   | inl first ↦ inl (same x (omega (arith, times-first x rest)) ∙ first)
@@ -58,13 +60,15 @@ in-put (x ∷ rest) at slot s there = elim (eqb_tells x s) [
   | inl own ↦ inl (subst (λ y. 0 < times_in (x ∷ rest) y) own.1 (omega (arith, times-first x rest)))
   | inr other ↦ elim (eqb_tells x at) [
     | inl here ↦
-        let inside : 0 < times_in (slot ∷ rest) s = omega (arith, ap (λ l. times_in l s) (put-here x at slot rest here.1), times-rest x (slot ∷ rest) s other.1, there) in
+        let inside : 0 < times_in (slot ∷ rest) s =
+        omega (arith, ap (λ l. times_in l s) (put-here x at slot rest here.1), times-rest x (slot ∷ rest) s other.1, there) in
         elim (eqb_tells slot s) [
           | inl new ↦ inr (sym new.1, subst (λ y. 0 < times_in (x ∷ rest) y) here.1 (omega (arith, times-first x rest)))
           | inr old ↦ inl (omega (arith, inside, times-rest slot rest s old.1, times-tail x rest s))
         ]
     | inr off ↦
-        let inside : 0 < times_in (put_after at slot rest) s = omega (arith, ap (λ l. times_in l s) (put-later x at slot rest off.1), times-rest x (put_after at slot rest) s other.1, there) in
+        let inside : 0 < times_in (put_after at slot rest) s =
+        omega (arith, ap (λ l. times_in l s) (put-later x at slot rest off.1), times-rest x (put_after at slot rest) s other.1, there) in
         elim (in-put rest at slot s inside) [
           | inl old ↦ inl (omega (arith, old, times-tail x rest s))
           | inr new ↦ inr (new.0, omega (arith, new.1, times-tail x rest at))
@@ -73,7 +77,8 @@ in-put (x ∷ rest) at slot s there = elim (eqb_tells x s) [
 ]
 
 -- the key of a slot before that goes on as it did
-at-once-put : {K : Type 0} (keys : Keys K) (key : K) (at slot : ℕ) (xs : List ℕ) → (keys slot ≡ Some key → 0 < times_in xs at → (s : ℕ) × (0 < times_in xs s) × (keys s ≡ Some key))
+at-once-put : {K : Type 0} (keys : Keys K) (key : K) (at slot : ℕ) (xs : List ℕ) →
+    (keys slot ≡ Some key → 0 < times_in xs at → (s : ℕ) × (0 < times_in xs s) × (keys s ≡ Some key))
     → IsAtOnce keys key xs → IsAtOnce keys key (put_after at slot xs)
 at-once-put keys key at slot xs known once = elim once [
   | inl first ↦ inl (subst (HasKey keys key) (sym (first-put xs at slot)) first)
@@ -120,7 +125,8 @@ runs-put keys at slot xs may runs = elim may [
   | inr new ↦ runs-put-new keys at slot xs new.0 new.1 runs
 ]
 
-pub runs-first : {K : Type 0} (keys : Keys K) (slot : ℕ) (xs : List ℕ) → ((key : K) → keys slot ≡ Some key → NoneHas keys key xs) → AreRuns keys xs → AreRuns keys (slot ∷ xs)
+pub runs-first : {K : Type 0} (keys : Keys K) (slot : ℕ) (xs : List ℕ) → ((key : K) → keys slot ≡ Some key → NoneHas keys key xs) → AreRuns keys xs →
+    AreRuns keys (slot ∷ xs)
 runs-first keys slot xs new runs = (λ key is. inr (new key is), runs)
 
 -- ---- a slot is taken out
@@ -140,7 +146,8 @@ in-without (x ∷ rest) gone s there = elim (eqb_tells x gone) [
   | inr off ↦ elim (eqb_tells x s) [
     | inl own ↦ subst (λ y. 0 < times_in (x ∷ rest) y) own.1 (omega (arith, times-first x rest))
     | inr other ↦
-        let inside : 0 < times_in (without gone rest) s = omega (arith, ap (λ l. times_in l s) (without-other x gone rest off.1), times-rest x (without gone rest) s other.1, there) in
+        let inside : 0 < times_in (without gone rest) s =
+        omega (arith, ap (λ l. times_in l s) (without-other x gone rest off.1), times-rest x (without gone rest) s other.1, there) in
         omega (arith, in-without rest gone s inside, times-tail x rest s)
   ]
 ]
@@ -187,7 +194,8 @@ before-has keys key (x ∷ rest) next previous before s chain runs has once ther
 ]
 
 -- another slot with the key of a slot: then one of its neighbours has it
-pub another-beside : {K : Type 0} (keys : Keys K) (key : K) (xs : List ℕ) (next previous : Links) (before : Option ℕ) (s other : ℕ) → IsChain next previous before xs
+pub another-beside : {K : Type 0} (keys : Keys K) (key : K) (xs : List ℕ) (next previous : Links) (before : Option ℕ) (s other : ℕ) →
+    IsChain next previous before xs
     → AreRuns keys xs → 0 < times_in xs s → keys s ≡ Some key → 0 < times_in xs other → other ≢ s → keys other ≡ Some key
     → HasKey keys key (previous s) ⊎ HasKey keys key (next s)
 another-beside keys key [] next previous before s other chain runs there is found apart has = absurd (omega (arith, there))
@@ -205,7 +213,8 @@ another-beside keys key (x ∷ rest) next previous before s other chain runs the
             let own : keys x ≡ Some key = ap keys at.1 ∙ has in
             inl (before-has keys key rest next previous (Some x) s chain.2 runs.1 own (runs.0 key own) later is)
         | inr beside ↦
-            another-beside keys key rest next previous (Some x) s other chain.2 runs.1 later is (omega (arith, found, times-rest x rest other beside.1)) apart has
+            another-beside keys key rest next previous (Some x) s other chain.2 runs.1 later is (omega (arith, found, times-rest x rest other beside.1)) apart
+            has
       ]
 ]
 
@@ -220,7 +229,8 @@ next-another (x ∷ rest) next previous before s o chain once there is = elim (e
       let none : times_in rest s ≡ 0 = omega (arith, once s, subst (λ y. times_in (x ∷ rest) y ≡ times_in rest y + 1) here.1 (times-first x rest)) in
       (omega (arith, found, times-tail x rest o), λ same. absurd (omega (arith, none, subst (λ y. 0 < times_in rest y) same found)))
   | inr off ↦
-      let later = next-another rest next previous (Some x) s o chain.2 (λ y. omega (arith, once y, times-tail x rest y)) (omega (arith, there, times-rest x rest s off.1)) is in
+      let later = next-another rest next previous (Some x) s o chain.2 (λ y. omega (arith, once y, times-tail x rest y))
+      (omega (arith, there, times-rest x rest s off.1)) is in
       (omega (arith, later.0, times-tail x rest o), later.1)
 ]
   where
@@ -262,10 +272,15 @@ in-run : (rows : List Row) (d s : ℕ) → 0 < times_in (slots_of (run d rows)) 
 in-run [] d s there = there
 in-run (r ∷ rest) d s there = elim (cases_lt d r.depth) [
   | inl deep ↦
-      let inside : 0 < times_in (r.slot ∷ slots_of (run d rest)) s = subst (λ l. 0 < times_in (slots_of l) s) (ap (λ b. if b then r ∷ run d rest else []) (lt-ltb d r.depth deep)) there in
+      let inside : 0 < times_in (r.slot ∷ slots_of (run d rest)) s =
+      subst (λ l. 0 < times_in (slots_of l) s) (ap (λ b. if b then r ∷ run d rest else []) (lt-ltb d r.depth deep)) there in
       elim (eqb_tells r.slot s) [
         | inl own ↦ subst (λ y. 0 < times_in (slots_of (r ∷ rest)) y) own.1 (omega (arith, times-first r.slot (slots_of rest)))
-        | inr other ↦ omega (arith, in-run rest d s (omega (arith, inside, times-rest r.slot (slots_of (run d rest)) s other.1)), times-tail r.slot (slots_of rest) s)
+        | inr other ↦ omega (
+          arith,
+          in-run rest d s (omega (arith, inside, times-rest r.slot (slots_of (run d rest)) s other.1)),
+          times-tail r.slot (slots_of rest) s,
+        )
       ]
   | inr end ↦
       let none : 0 < times_in [] s = subst (λ l. 0 < times_in (slots_of l) s) (ap (λ b. if b then r ∷ run d rest else []) (le-ltb d r.depth end)) there in
@@ -276,9 +291,19 @@ pub in-behind : (rows : List Row) (root s : ℕ) → 0 < times_in (slots_of (run
 in-behind [] root s there = there
 in-behind (r ∷ rest) root s there = elim (eqb_tells r.slot root) [
   | inl here ↦
-      omega (arith, in-run rest r.depth s (subst (λ l. 0 < times_in (slots_of l) s) (ap (λ b. if b then run r.depth rest else run_behind root rest) here.0) there), times-tail r.slot (slots_of rest) s)
+      omega (
+        arith,
+        in-run rest r.depth s (subst (λ l. 0 < times_in (slots_of l) s) (ap (λ b. if b then run r.depth rest else run_behind root rest) here.0)
+            there),
+        times-tail r.slot (slots_of rest) s,
+      )
   | inr off ↦
-      omega (arith, in-behind rest root s (subst (λ l. 0 < times_in (slots_of l) s) (ap (λ b. if b then run r.depth rest else run_behind root rest) off.0) there), times-tail r.slot (slots_of rest) s)
+      omega (
+        arith,
+        in-behind rest root s (subst (λ l. 0 < times_in (slots_of l) s) (ap (λ b. if b then run r.depth rest else run_behind root rest) off.0)
+            there),
+        times-tail r.slot (slots_of rest) s,
+      )
 ]
 
 -- from a slot before the root on, the root has the key
@@ -304,8 +329,14 @@ past-has keys key (r ∷ rest) d other runs once there out has =
     let own : keys r.slot ≡ Some key = elim once [ inl first ↦ first | inr none ↦ absurd (none other there has) ] in
     elim (cases_lt d r.depth) [
       | inl deep ↦
-          let is : times_in (r.slot ∷ slots_of (run d rest)) other ≡ 0 = sym (ap (λ b. times_in (slots_of (if b then r ∷ run d rest else [])) other) (lt-ltb d r.depth deep)) ∙ out in
-          let apart : r.slot ≢ other = λ same. absurd (omega (arith, subst (λ y. times_in (r.slot ∷ slots_of (run d rest)) y ≡ 0) (sym same) is, times-first r.slot (slots_of (run d rest)))) in
+          let is : times_in (r.slot ∷ slots_of (run d rest)) other ≡ 0 =
+          sym (ap (λ b. times_in (slots_of (if b then r ∷ run d rest else [])) other) (lt-ltb d r.depth deep)) ∙ out in
+          let apart : r.slot ≢ other = λ same.
+          absurd (omega (
+            arith,
+            subst (λ y. times_in (r.slot ∷ slots_of (run d rest)) y ≡ 0) (sym same) is,
+            times-first r.slot (slots_of (run d rest)),
+          )) in
           subst (λ l. HasKey keys key (first_of (slots_of l))) (sym (ap (λ b. if b then past d rest else r ∷ rest) (lt-ltb d r.depth deep)))
           (past-has keys key rest d other runs.1 (runs.0 key own) (omega (arith, there, times-rest r.slot (slots_of rest) other apart))
           (omega (arith, is, times-rest r.slot (slots_of (run d rest)) other apart)) has)
@@ -313,15 +344,18 @@ past-has keys key (r ∷ rest) d other runs once there out has =
     ]
 
 -- in a run, and after it
-run-past : {K : Type 0} (keys : Keys K) (key : K) (rows : List Row) (d s other : ℕ) → AreRuns keys (slots_of rows) → 0 < times_in (slots_of (run d rows)) s → keys s ≡ Some key
+run-past : {K : Type 0} (keys : Keys K) (key : K) (rows : List Row) (d s other : ℕ) → AreRuns keys (slots_of rows) → 0 < times_in (slots_of (run d rows)) s →
+    keys s ≡ Some key
     → 0 < times_in (slots_of rows) other → times_in (slots_of (run d rows)) other ≡ 0 → keys other ≡ Some key
     → HasKey keys key (first_of (slots_of (past d rows)))
 run-past keys key [] d s other runs inside is there out has = absurd (omega (arith, there))
 run-past keys key (r ∷ rest) d s other runs inside is there out has = elim (cases_lt d r.depth) [
   | inl deep ↦
       let more = slots_of (run d rest) in
-      let within : 0 < times_in (r.slot ∷ more) s = subst (λ l. 0 < times_in (slots_of l) s) (ap (λ b. if b then r ∷ run d rest else []) (lt-ltb d r.depth deep)) inside in
-      let off : times_in (r.slot ∷ more) other ≡ 0 = sym (ap (λ b. times_in (slots_of (if b then r ∷ run d rest else [])) other) (lt-ltb d r.depth deep)) ∙ out in
+      let within : 0 < times_in (r.slot ∷ more) s = subst (λ l. 0 < times_in (slots_of l) s)
+      (ap (λ b. if b then r ∷ run d rest else []) (lt-ltb d r.depth deep)) inside in
+      let off : times_in (r.slot ∷ more) other ≡ 0 = sym (ap (λ b. times_in (slots_of (if b then r ∷ run d rest else [])) other) (lt-ltb d r.depth deep))
+      ∙ out in
       let apart : r.slot ≢ other = λ same. absurd (omega (arith, subst (λ y. times_in (r.slot ∷ more) y ≡ 0) (sym same) off, times-first r.slot more)) in
       let later : 0 < times_in (slots_of rest) other = omega (arith, there, times-rest r.slot (slots_of rest) other apart) in
       let beside : times_in more other ≡ 0 = omega (arith, off, times-rest r.slot more other apart) in
@@ -342,8 +376,10 @@ pub runs-end : {K : Type 0} (rows : List Row) (keys : Keys K) (key : K) (root s 
 runs-end [] keys key root s other runs inside is there out has = absurd (omega (arith, there))
 runs-end (r ∷ rest) keys key root s other runs inside is there out has = elim (eqb_tells r.slot root) [
   | inl here ↦
-      let within : 0 < times_in (slots_of (run r.depth rest)) s = subst (λ l. 0 < times_in (slots_of l) s) (ap (λ b. if b then run r.depth rest else run_behind root rest) here.0) inside in
-      let beside : times_in (slots_of (run r.depth rest)) other ≡ 0 = sym (ap (λ b. times_in (slots_of (if b then run r.depth rest else run_behind root rest)) other) here.0) ∙ out in
+      let within : 0 < times_in (slots_of (run r.depth rest)) s =
+      subst (λ l. 0 < times_in (slots_of l) s) (ap (λ b. if b then run r.depth rest else run_behind root rest) here.0) inside in
+      let beside : times_in (slots_of (run r.depth rest)) other ≡ 0 =
+      sym (ap (λ b. times_in (slots_of (if b then run r.depth rest else run_behind root rest)) other) here.0) ∙ out in
       elim (eqb_tells r.slot other) [
         | inl own ↦ inl (sym (ap keys here.1) ∙ ap keys own.1 ∙ has)
         | inr apart ↦
@@ -351,12 +387,15 @@ runs-end (r ∷ rest) keys key root s other runs inside is there out has = elim 
             (run-past keys key rest r.depth s other runs.1 within is (omega (arith, there, times-rest r.slot (slots_of rest) other apart.1)) beside has))
       ]
   | inr off ↦
-      let within : 0 < times_in (slots_of (run_behind root rest)) s = subst (λ l. 0 < times_in (slots_of l) s) (ap (λ b. if b then run r.depth rest else run_behind root rest) off.0) inside in
-      let beside : times_in (slots_of (run_behind root rest)) other ≡ 0 = sym (ap (λ b. times_in (slots_of (if b then run r.depth rest else run_behind root rest)) other) off.0) ∙ out in
+      let within : 0 < times_in (slots_of (run_behind root rest)) s =
+      subst (λ l. 0 < times_in (slots_of l) s) (ap (λ b. if b then run r.depth rest else run_behind root rest) off.0) inside in
+      let beside : times_in (slots_of (run_behind root rest)) other ≡ 0 =
+      sym (ap (λ b. times_in (slots_of (if b then run r.depth rest else run_behind root rest)) other) off.0) ∙ out in
       elim (eqb_tells r.slot other) [
         | inl own ↦ inl (root-has keys key rest root s runs.1 (runs.0 key (ap keys own.1 ∙ has)) within is)
         | inr apart ↦
-            subst (λ l. (keys root ≡ Some key) ⊎ HasKey keys key (first_of (slots_of l))) (sym (ap (λ b. if b then past r.depth rest else behind_run root rest) off.0))
+            subst (λ l. (keys root ≡ Some key) ⊎ HasKey keys key (first_of (slots_of l)))
+            (sym (ap (λ b. if b then past r.depth rest else behind_run root rest) off.0))
             (runs-end rest keys key root s other runs.1 within is (omega (arith, there, times-rest r.slot (slots_of rest) other apart.1)) beside has)
       ]
 ]
@@ -421,19 +460,31 @@ run-ends (r ∷ rest) root s once there none = elim (eqb_tells r.slot root) [
 ]
   where
     apart : 0 < times_in (slots_of rest) s → r.slot ≢ s
-    apart later same = absurd (omega (arith, later, once s, ap (λ y. times_in (r.slot ∷ slots_of rest) y) (sym same), times-first r.slot (slots_of rest), ap (times_in (slots_of rest)) same))
+    apart later same = absurd
+        (omega (
+          arith,
+          later,
+          once s,
+          ap (λ y. times_in (r.slot ∷ slots_of rest) y) (sym same),
+          times-first r.slot (slots_of rest),
+          ap (times_in (slots_of rest)) same,
+        ))
 
 -- ---- the same of rows
 
-pub runs-put_behind : {K : Type 0} (rows : List Row) (keys : Keys K) (parent slot : ℕ) → MayFollow keys parent slot (slots_of rows) → AreRuns keys (slots_of rows)
+pub runs-put_behind : {K : Type 0} (rows : List Row) (keys : Keys K) (parent slot : ℕ) → MayFollow keys parent slot (slots_of rows) →
+    AreRuns keys (slots_of rows)
     → AreRuns keys (slots_of (put_behind parent slot rows))
-runs-put_behind rows keys parent slot may runs = subst (AreRuns keys) (sym (slots-put_behind rows parent slot)) (runs-put keys parent slot (slots_of rows) may runs)
+runs-put_behind rows keys parent slot may runs = subst (AreRuns keys) (sym (slots-put_behind rows parent slot))
+    (runs-put keys parent slot (slots_of rows) may runs)
 
 pub runs-taken_out : {K : Type 0} (rows : List Row) (keys : Keys K) (gone : ℕ) → rows_of rows gone ≤ 1 → AreRuns keys (slots_of rows)
     → AreRuns keys (slots_of (taken_out gone rows))
 runs-taken_out rows keys gone once runs = subst (AreRuns keys) (sym (slots-taken_out rows gone once)) (runs-without keys gone (slots_of rows) runs)
 
-pub runs-renamed : {K : Type 0} (rows : List Row) (keys : Keys K) (from to : ℕ) → rows_of rows from ≤ 1 → from ≢ to → keys to ≡ keys from → AreRuns keys (slots_of rows)
+pub runs-renamed : {K : Type 0} (rows : List Row) (keys : Keys K) (from to : ℕ) → rows_of rows from ≤ 1 → from ≢ to → keys to ≡ keys from →
+    AreRuns keys (slots_of rows)
     → AreRuns keys (slots_of (renamed from to rows))
 runs-renamed rows keys from to once apart same runs =
-    subst (AreRuns keys) (sym (slots-renamed rows from to once apart)) (runs-without keys from (put_after from to (slots_of rows)) (runs-put-same keys from to (slots_of rows) same runs))
+    subst (AreRuns keys) (sym (slots-renamed rows from to once apart))
+    (runs-without keys from (put_after from to (slots_of rows)) (runs-put-same keys from to (slots_of rows) same runs))

@@ -101,7 +101,8 @@ run-parents (r ∷ rest) bound d x p q u s deep low shifted own apart up none ri
             ])
             (put-other p e d (Some r.slot) (λ same. absurd (omega (arith, same, run))) ∙ own)
             (λ i there. put-never p e i r.slot x (none-first r rest x none) (λ off. apart i there))
-            (above-same (put p e (Some r.slot)) p d d (omega arith) (λ i under. put-other p e i (Some r.slot) (λ same. absurd (omega (arith, same, under, run)))) ∙ up)
+            (above-same (put p e (Some r.slot)) p d d (omega arith)
+            (λ i under. put-other p e i (Some r.slot) (λ same. absurd (omega (arith, same, under, run)))) ∙ up)
             (rest-none r rest x none) rises.1
             ∙ ap (adopted_parent x u) (sym (from-rest p r rest s other.1))
       ]

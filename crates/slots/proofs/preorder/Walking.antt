@@ -1,5 +1,6 @@
 -- What walks along the links of a chain find.
-use Rattle.std.proofs.Common.{ℕ, zero, suc, ◌≡◌, ◌∙◌, ◌+◌, ◌<◌, ◌≤◌, nat_lt, inl, inr, if◌then◌else◌, Option, Some, None, List, [], ◌∷◌, length, refl, sym, ap, arith}
+use Rattle.std.proofs.Common.{ℕ, zero, suc, ◌≡◌, ◌∙◌, ◌+◌, ◌<◌, ◌≤◌, nat_lt, inl, inr, if◌then◌else◌, Option, Some, None, List, [], ◌∷◌, length, refl, sym, ap}
+use Rattle.std.proofs.Common.{arith}
 use Rattle.std.proofs.lemmas.Bool.Decides.{eqb_tells}
 use Rattle.std.proofs.lemmas.Bool.{cases_lt, lt-ltb, le-ltb}
 use Rattle.model.specs.Capabilities.Orders.{first_of, next_after}
@@ -23,7 +24,8 @@ linked-rows (r ∷ rest) next previous depths before (suc n) chain deep few =
 
 -- ---- the next one
 
-pub linked-next : (xs : List ℕ) (next previous : Links) (before : Option ℕ) (s : ℕ) → IsChain next previous before xs → 0 < times_in xs s → next_after xs s ≡ next s
+pub linked-next : (xs : List ℕ) (next previous : Links) (before : Option ℕ) (s : ℕ) → IsChain next previous before xs → 0 < times_in xs s →
+    next_after xs s ≡ next s
 linked-next [] next previous before s chain there = absurd (omega (arith, there))
 linked-next (x ∷ rest) next previous before s chain there = elim (eqb_tells x s) [
   | inl here ↦ ap (λ b. if b then first_of rest else next_after rest s) here.0 ∙ sym chain.1 ∙ ap next here.1
@@ -128,7 +130,8 @@ tells-more previous depths p bound seen before r tells low deep link (suc n) e s
           ap (above next) (let is : e ≡ suc r.depth = omega (arith, less, deep, under) in is) ∙ put-here p r.depth r.depth (Some r.slot) refl
           ∙ sym (ap (λ b. if b then Some r.slot else on) (lt-ltb (depths r.slot) e less))
       | inr least ↦
-          above-same next p e r.depth (omega (arith, least, deep)) (λ i below. put-other p r.depth i (Some r.slot) (λ same. absurd (omega (arith, same, below))))
+          above-same next p e r.depth (omega (arith, least, deep))
+          (λ i below. put-other p r.depth i (Some r.slot) (λ same. absurd (omega (arith, same, below))))
           ∙ tells n e (omega (arith, size)) (omega (arith, least, deep, low)) ∙ ap (back_above previous depths n e) (sym link)
           ∙ sym (ap (λ b. if b then Some r.slot else on) (le-ltb (depths r.slot) e least))
     ]

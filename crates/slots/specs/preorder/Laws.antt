@@ -7,7 +7,8 @@ use Rattle.model.specs.Capabilities.Slots.{depth_within}
 use Rattle.model.specs.Kernel.State.{put}
 use Rattle.model.specs.Shared.Lists.{times_in, without}
 use Rattle.slots.specs.preorder.Chains.{IsChain, IsLinked, Links, back_above, if_deeper, lowered_depths, put_after, put_at, rows_linked}
-use Rattle.slots.specs.preorder.Preorder.{AreDeep, Rises, Row, descends_by, first_row, first_row, parents_of, put_behind, renamed, renamed_slot, rows_of, run_behind, slots_of, taken_out}
+use Rattle.slots.specs.preorder.Preorder.{AreDeep, Rises, Row, descends_by, first_row, first_row, parents_of, put_behind, renamed, renamed_slot, rows_of}
+use Rattle.slots.specs.preorder.Preorder.{run_behind, slots_of, taken_out}
 use Rattle.slots.specs.preorder.Runs.{AreRuns, HasKey, Keys, MayFollow, NoneHas, behind_run}
 
 -- ---- parents
@@ -59,7 +60,8 @@ pub record ChangesKeepRising : Type 0 where
 pub record ChangesOrderSlots : Type 0 where
   pub put : (rows : List Row) (parent slot : ℕ) → slots_of (put_behind parent slot rows) ≡ put_after parent slot (slots_of rows)
   pub taken : (rows : List Row) (gone : ℕ) → rows_of rows gone ≤ 1 → slots_of (taken_out gone rows) ≡ without gone (slots_of rows)
-  pub moved : (rows : List Row) (from to : ℕ) → rows_of rows from ≤ 1 → from ≢ to → slots_of (renamed from to rows) ≡ without from (put_after from to (slots_of rows))
+  pub moved : (rows : List Row) (from to : ℕ) → rows_of rows from ≤ 1 → from ≢ to →
+      slots_of (renamed from to rows) ≡ without from (put_after from to (slots_of rows))
 
 -- a slot that is put after one of a list occurs in it once more, and the others as often as before
 pub record PutAfterAddsOne : Type 0 where
@@ -144,9 +146,11 @@ pub record ChangesKeepRuns (K : Type 0) : Type 0 where
   pub same : (rows : List Row) (old new : Keys K) → ((s : ℕ) → 0 < rows_of rows s → new s ≡ old s) → AreRuns old (slots_of rows) → AreRuns new (slots_of rows)
   pub put : (rows : List Row) (keys : Keys K) (parent slot : ℕ) → MayFollow keys parent slot (slots_of rows) → AreRuns keys (slots_of rows)
       → AreRuns keys (slots_of (put_behind parent slot rows))
-  pub first : (rows : List Row) (keys : Keys K) (slot : ℕ) → ((key : K) → keys slot ≡ Some key → NoneHas keys key (slots_of rows)) → AreRuns keys (slots_of rows)
+  pub first : (rows : List Row) (keys : Keys K) (slot : ℕ) → ((key : K) → keys slot ≡ Some key → NoneHas keys key (slots_of rows)) →
+      AreRuns keys (slots_of rows)
       → AreRuns keys (slots_of (first_row slot ∷ rows))
-  pub taken : (rows : List Row) (keys : Keys K) (gone : ℕ) → rows_of rows gone ≤ 1 → AreRuns keys (slots_of rows) → AreRuns keys (slots_of (taken_out gone rows))
+  pub taken : (rows : List Row) (keys : Keys K) (gone : ℕ) → rows_of rows gone ≤ 1 → AreRuns keys (slots_of rows) →
+      AreRuns keys (slots_of (taken_out gone rows))
   pub moved : (rows : List Row) (keys : Keys K) (from to : ℕ) → rows_of rows from ≤ 1 → from ≢ to → keys to ≡ keys from → AreRuns keys (slots_of rows)
       → AreRuns keys (slots_of (renamed from to rows))
 

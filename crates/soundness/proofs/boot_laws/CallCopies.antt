@@ -17,11 +17,13 @@ use Rattle.model.specs.declared.capabilities.Cap.TheVariants.{CNode, InterruptCo
 use Rattle.model.specs.declared.errors.KError.{KError}
 use Rattle.model.specs.declared.errors.KError.TheVariants.{IllegalOperation, RangeError, RevokeFirst}
 use Rattle.model.specs.declared.invocations.SlotName.{SlotName}
-use Rattle.soundness.proofs.boot_laws.CallLookups.{boot-destination, boot-source, boot_cnode_call, boot_name, goes, index-destination, made-at_cnode, made-there, passes, slot_call}
+use Rattle.soundness.proofs.boot_laws.CallLookups.{boot-destination, boot-source, boot_cnode_call, boot_name, goes, index-destination, made-at_cnode}
+use Rattle.soundness.proofs.boot_laws.CallLookups.{made-there, passes, slot_call}
 
 -- what each call comes to
 get-called : (s : State) (control number slot : ℕ)
-    → performed s get_handler_label (number ∷ slot ∷ 32 ∷ []) (slot_call s control InterruptControl) ≡ get_handler s (slot_call s control InterruptControl) number (boot_name slot)
+    → performed s get_handler_label (number ∷ slot ∷ 32 ∷ []) (slot_call s control InterruptControl) ≡ get_handler s (slot_call s control InterruptControl)
+    number (boot_name slot)
 unfolding invoke decode
 get-called s control number slot = refl
 
@@ -55,7 +57,8 @@ pub record Gets (s : State) (control number slot : ℕ) : Type 0 where
   pub free : is_full s.slots slot ≡ false
 
 pub get-made : (s : State) (control number slot : ℕ) → HasShape s → Gets s control number slot
-    → made s (loader_call control get_handler_label (number ∷ slot ∷ 32 ∷ [])) ≡ Ok (with_slots s (inserted s.slots slot (InterruptHandler number) (Some control)))
+    → made s (loader_call control get_handler_label (number ∷ slot ∷ 32 ∷ [])) ≡ Ok
+    (with_slots s (inserted s.slots slot (InterruptHandler number) (Some control)))
 get-made s control number slot shape asked =
     let end : Result State KError = Ok (with_slots s (inserted s.slots slot (InterruptHandler number) (Some control))) in
     made-there s shape control asked.inside get_handler_label (number ∷ slot ∷ 32 ∷ []) InterruptControl asked.holds refl
@@ -81,10 +84,12 @@ pub record MayBeMinted (capability : Cap) (payload : ℕ) : Type 0 where
   pub badge : badge_fits capability payload ≡ true
   pub guard : guard_fits capability payload ≡ true
 
-full-source : (s : State) (source : ℕ) (capability : Cap) → capability_at s.slots source ≡ capability → is_empty capability ≡ false → is_full s.slots source ≡ true
+full-source : (s : State) (source : ℕ) (capability : Cap) → capability_at s.slots source ≡ capability → is_empty capability ≡ false →
+    is_full s.slots source ≡ true
 full-source s source capability holds some = ap (λ c. not (is_empty c)) holds ∙ ap not some
 
-module _ (s : State) (call : Call) (name : SlotName) (slot source : ℕ) (capability : Cap) (bits : ℕ) (shape : HasShape s) (root : call.root ≡ boot_root s.boot_radix)
+module _ (s : State) (call : Call) (name : SlotName) (slot source : ℕ) (capability : Cap) (bits : ℕ) (shape : HasShape s)
+    (root : call.root ≡ boot_root s.boot_radix)
     (destination : destination_slot s.slots call.capability name ≡ Ok slot) (from : IsSource s source capability) where
   source-found : is_empty capability ≡ false → source_slot s.slots call.root (boot_name source) ≡ Ok source
   source-found some =
@@ -92,7 +97,8 @@ module _ (s : State) (call : Call) (name : SlotName) (slot source : ℕ) (capabi
       ∙ boot-source s shape source from.inside (full-source s source capability from.holds some)
 
   minted : (payload : ℕ) → MayBeMinted capability payload
-      → mint s call name (boot_name source) bits payload ≡ Ok (with_slots s (inserted s.slots slot (with_payload (copied capability bits) payload) (Some source)))
+      → mint s call name (boot_name source) bits payload ≡ Ok
+      (with_slots s (inserted s.slots slot (with_payload (copied capability bits) payload) (Some source)))
   minted payload may =
       let held = capability_at s.slots source in
       let end : Result State KError = Ok (with_slots s (inserted s.slots slot (with_payload (copied capability bits) payload) (Some source))) in
@@ -158,7 +164,8 @@ module _ (s : State) (cnode offset radix index source : ℕ) (capability : Cap) 
       ∙ moved s node_call index_name (slot_of offset index) source capability 0 shape refl found from some
 
 -- into another boot slot, by the boot CNode itself
-module _ (s : State) (slot source : ℕ) (capability : Cap) (bits : ℕ) (shape : HasShape s) (inside : slot < 2 ^ s.boot_radix) (free : is_full s.slots slot ≡ false)
+module _ (s : State) (slot source : ℕ) (capability : Cap) (bits : ℕ) (shape : HasShape s) (inside : slot < 2 ^ s.boot_radix)
+    (free : is_full s.slots slot ≡ false)
     (from : IsSource s source capability) where
   there : destination_slot s.slots (boot_root s.boot_radix) (boot_name slot) ≡ Ok slot
   there = boot-destination s shape slot inside free

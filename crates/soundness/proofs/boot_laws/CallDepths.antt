@@ -8,7 +8,8 @@ unfolding depth_within
 depth-root zero parents slot is = refl
 depth-root (suc n) parents slot is = ap (λ o. option_map_or (λ parent. depth_within n parents parent + 1) o 0) is
 
-depth-child : (n : ℕ) (parents : ℕ → Option ℕ) (slot parent : ℕ) → parents slot ≡ Some parent → depth_within (suc n) parents slot ≡ depth_within n parents parent + 1
+depth-child : (n : ℕ) (parents : ℕ → Option ℕ) (slot parent : ℕ) → parents slot ≡ Some parent →
+    depth_within (suc n) parents slot ≡ depth_within n parents parent + 1
 unfolding depth_within
 depth-child n parents slot parent is = ap (λ o. option_map_or (λ p. depth_within n parents p + 1) o 0) is
 

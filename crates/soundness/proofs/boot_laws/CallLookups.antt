@@ -1,5 +1,6 @@
 -- What the loader's names lead to: a boot slot by its number at 32 bits, and a slot of a CNode by an index of as many bits as it takes.
-use Rattle.std.proofs.Common.{ℕ, ◌≡◌, ◌∙◌, ◌==◌, ◌+◌, ◌-◌, ◌/◌, ◌%◌, ◌^◌, ◌<◌, ◌≤◌, ◌&&◌, Bool, true, false, not, nat_le, nat_lt, if◌then◌else◌, List, None, Result, Ok, Err, refl, sym, ap, arith}
+use Rattle.std.proofs.Common.{ℕ, ◌≡◌, ◌∙◌, ◌==◌, ◌+◌, ◌-◌, ◌/◌, ◌%◌, ◌^◌, ◌<◌, ◌≤◌, ◌&&◌, Bool, true, false, not, nat_le, nat_lt, if◌then◌else◌, List, None}
+use Rattle.std.proofs.Common.{Result, Ok, Err, refl, sym, ap, arith}
 use Rattle.std.proofs.Math.Nat.{div-eq_of_lt, div-one, mod-eq_of_lt, zero-mod}
 use Rattle.std.proofs.Math.Pow.{pow_mono}
 use Rattle.std.proofs.lemmas.Bool.{and_from, eq-eqb, le-leb, le-ltb, lt-ltb, ne_eqb}
@@ -69,7 +70,8 @@ pub resolves : (radix size address left : ℕ) → size < 32 → size + radix �
 resolves radix size address left small all below =
     let low : size % 32 ≡ size = omega (arith, small) in
     let none : size / 32 ≡ 0 = omega (arith, small) in
-    ap (λ (n : ℕ). tested left (nat_lt left n) (not (address / 2 ^ (left - n) % 2 ^ n == size / 32)) (nat_lt left (n + radix)) (address / 2 ^ (left - (n + radix)) % 2 ^ radix, left - (n + radix))) low
+    ap (λ (n : ℕ). tested left (nat_lt left n) (not (address / 2 ^ (left - n) % 2 ^ n == size / 32)) (nat_lt left (n + radix))
+    (address / 2 ^ (left - (n + radix)) % 2 ^ radix, left - (n + radix))) low
     ∙ by-size radix size (size / 32) address left none all below
 
 -- ---- lookups
@@ -134,11 +136,13 @@ module _ (s : State) (shape : HasShape s) (slot : ℕ) (below : slot < 2 ^ s.boo
   boot-called : is_full s.slots slot ≡ true → called_slot s.slots (boot_root s.boot_radix) slot ≡ Ok slot
   boot-called full = ap (called s.slots) boot-found ∙ ap (λ b. if b then Ok slot else Err MissingCapability) full
 
-  pub boot-call : (capability : Cap) → capability_at s.slots slot ≡ capability → is_empty capability ≡ false → boot_call s slot ≡ Ok (slot_call s slot capability)
+  pub boot-call : (capability : Cap) → capability_at s.slots slot ≡ capability → is_empty capability ≡ false →
+      boot_call s slot ≡ Ok (slot_call s slot capability)
   boot-call capability holds some =
       let root = boot_root s.boot_radix in
       let itself : Call = record { root = root; caller = None; slot = 0; capability = root } in
-      let other : Result Call KError = or_failed (called_slot s.slots root slot) >>= λ found. Ok (record { root = root; caller = None; slot = found; capability = capability_at s.slots found }) in
+      let other : Result Call KError = or_failed (called_slot s.slots root slot) >>= λ found.
+      Ok (record { root = root; caller = None; slot = found; capability = capability_at s.slots found }) in
       ap (λ b. if b then Ok itself else other) no-cnode
       ∙ ap (λ r. or_failed r >>= λ found. Ok (record { root = root; caller = None; slot = found; capability = capability_at s.slots found }))
       (boot-called (ap (λ c. not (is_empty c)) holds ∙ ap not some))

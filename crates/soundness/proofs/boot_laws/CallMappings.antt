@@ -20,7 +20,8 @@ use Rattle.model.specs.declared.rights.Rights.{Rights}
 use Rattle.soundness.proofs.boot_laws.CallLookups.{boot-source, boot_name, goes, made-there, passes, slot_call}
 
 table-called : (s : State) (slot table root address : ℕ)
-    → performed s map_table_label (root ∷ 32 ∷ address ∷ []) (slot_call s slot (PageTable table None)) ≡ map_table s (slot_call s slot (PageTable table None)) (boot_name root) address
+    → performed s map_table_label (root ∷ 32 ∷ address ∷ []) (slot_call s slot (PageTable table None)) ≡ map_table s (slot_call s slot (PageTable table None))
+    (boot_name root) address
 unfolding invoke decode
 table-called s slot table root address = refl
 
@@ -55,7 +56,8 @@ pub table-made : (s : State) (slot table root_slot root address : ℕ) → HasSh
     → made s (loader_call slot map_table_label (root_slot ∷ 32 ∷ address ∷ []))
     ≡ Ok (with_slots s (recapped s.slots slot (PageTable table (Some (record { root = root; region = address / region_size })))))
 table-made s slot table root_slot root address shape asked =
-    let end : Result State KError = Ok (with_slots s (recapped s.slots slot (PageTable table (Some (record { root = root; region = address / region_size }))))) in
+    let end : Result State KError =
+    Ok (with_slots s (recapped s.slots slot (PageTable table (Some (record { root = root; region = address / region_size }))))) in
     made-there s shape slot asked.inside map_table_label (root_slot ∷ 32 ∷ address ∷ []) (PageTable table None) asked.holds refl
     ∙ table-called s slot table root_slot address
     ∙ goes (root_named s.slots (boot_root s.boot_radix) (boot_name root_slot)) _ root end (root-found s root_slot root shape asked.under)
@@ -75,12 +77,15 @@ pub record MapsFrame (s : State) (slot frame : ℕ) (held : Rights) (root_slot r
   pub free : is_page_taken s root (address / page_size) ≡ false
   pub allowed : (may_read (mapping_rights held bits) || may_execute (mapping_rights held bits)) ≡ true
 
-pub frame-made : (s : State) (slot frame : ℕ) (held : Rights) (root_slot root address bits : ℕ) → HasShape s → MapsFrame s slot frame held root_slot root address bits
+pub frame-made : (s : State) (slot frame : ℕ) (held : Rights) (root_slot root address bits : ℕ) → HasShape s →
+    MapsFrame s slot frame held root_slot root address bits
     → made s (loader_call slot map_frame_label (root_slot ∷ 32 ∷ address ∷ bits ∷ []))
-    ≡ Ok (with_slots s (recapped s.slots slot (Frame frame held (Some (record { root = root; page = address / page_size; rights = mapping_rights held bits })))))
+    ≡ Ok (with_slots s (recapped s.slots slot
+    (Frame frame held (Some (record { root = root; page = address / page_size; rights = mapping_rights held bits })))))
 frame-made s slot frame held root_slot root address bits shape asked =
     let allowed = mapping_rights held bits in
-    let end : Result State KError = Ok (with_slots s (recapped s.slots slot (Frame frame held (Some (record { root = root; page = address / page_size; rights = allowed }))))) in
+    let end : Result State KError =
+    Ok (with_slots s (recapped s.slots slot (Frame frame held (Some (record { root = root; page = address / page_size; rights = allowed }))))) in
     made-there s shape slot asked.inside map_frame_label (root_slot ∷ 32 ∷ address ∷ bits ∷ []) (Frame frame held None) asked.holds refl
     ∙ frame-called s slot frame held root_slot address bits
     ∙ goes (root_named s.slots (boot_root s.boot_radix) (boot_name root_slot)) _ root end (root-found s root_slot root shape asked.under)

@@ -9,7 +9,8 @@ use Rattle.model.specs.Images.Described.{original, with_table}
 use Rattle.model.specs.Images.Image.{Image}
 use Rattle.model.specs.Images.Places.{offset_of, type_at}
 use Rattle.model.specs.Kernel.AddressSpaces.{page_size, region_pages}
-use Rattle.model.specs.Kernel.Retype.{NewObject, NewUntyped, NewThread, NewEndpoint, NewNotification, NewCNode, NewFrame, NewPageTable, NewRootTable, first_capability}
+use Rattle.model.specs.Kernel.Retype.{NewObject, NewUntyped, NewThread, NewEndpoint, NewNotification, NewCNode, NewFrame, NewPageTable, NewRootTable}
+use Rattle.model.specs.Kernel.Retype.{first_capability}
 use Rattle.model.specs.declared.capabilities.Cap.{Cap}
 use Rattle.model.specs.declared.capabilities.Cap.TheVariants.{Empty}
 use Rattle.model.specs.declared.capabilities.TableMapping.{TableMapping}
@@ -94,7 +95,8 @@ mapped-same image c None same = refl
 mapped-same image c (Some t) same = same (mapping_of image t)
 
 module _ (image : Image) (number : ℕ) (kind : NewObject) (is : type_at image number ≡ Some kind)
-    (same : (m : Option TableMapping) → with_table_mapping (first_capability kind (offset_of image number)) m ≡ first_capability kind (offset_of image number)) where
+    (same : (m : Option TableMapping) → with_table_mapping (first_capability kind (offset_of image number)) m ≡ first_capability kind
+    (offset_of image number)) where
   pub original-loaded : (p : Progress) → original_so_far image p number ≡ first_capability kind (offset_of image number)
   original-loaded p =
       ap (λ o. table_so_far image p number (option_map_or (λ k. first_capability k (offset_of image number)) o Empty)) is

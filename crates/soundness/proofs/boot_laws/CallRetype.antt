@@ -58,7 +58,8 @@ module _ (s : State) (untyped offset bits watermark kind size slot : ℕ) (new :
   empty-range : any_full s.slots (slot_of 0 slot) 1 ≡ false
   empty-range = ap (λ (n : ℕ). is_full s.slots n || false) bare ∙ ap (λ b. b || false) asked.free
 
-  retype-there : retype s (boot_root s.boot_radix) untyped (memory_of offset bits watermark) (one_object kind size slot) ≡ Ok (retyped s untyped offset bits slot new place)
+  retype-there : retype s (boot_root s.boot_radix) untyped (memory_of offset bits watermark) (one_object kind size slot) ≡ Ok
+      (retyped s untyped offset bits slot new place)
   unfolding retype
   retype-there =
       let end : Result State KError = Ok (retyped s untyped offset bits slot new place) in
@@ -70,7 +71,8 @@ module _ (s : State) (untyped offset bits watermark kind size slot : ℕ) (new :
       (passes (not (any_full s.slots (slot_of 0 slot) 1)) DeleteFirst _ end (ap not empty-range)
       (passes (nat_lt (depth_of s.slots untyped) 255) IllegalOperation _ end (lt-ltb (depth_of s.slots untyped) 255 asked.shallow)
       (goes (wanted (placement bits watermark (object_bits new) 1) NotEnoughMemory) _ place end (ap (λ o. wanted o NotEnoughMemory) asked.room)
-      (ap (λ (n : ℕ). Ok (with_new (with_slots s (recapped s.slots untyped (Untyped offset bits place.1))) (record { kind = new; first = offset + place.0; count = 1 }) n untyped)) bare)))))))
+      (ap (λ (n : ℕ). Ok (with_new (with_slots s (recapped s.slots untyped (Untyped offset bits place.1)))
+      (record { kind = new; first = offset + place.0; count = 1 }) n untyped)) bare)))))))
 
   pub retype-made : made s (loader_call untyped retype_label (kind ∷ size ∷ 0 ∷ 0 ∷ slot ∷ 1 ∷ [])) ≡ Ok (retyped s untyped offset bits slot new place)
   retype-made =

@@ -19,7 +19,8 @@ use Rattle.model.specs.declared.rights.Rights.{Rights}
 use Rattle.soundness.proofs.boot_laws.CallLookups.{boot-source, boot_name, goes, made-there, passes, slot_call}
 
 bind-called : (s : State) (handler number copy : ℕ)
-    → performed s set_notification_label (copy ∷ 32 ∷ []) (slot_call s handler (InterruptHandler number)) ≡ bind s (slot_call s handler (InterruptHandler number)) number (boot_name copy)
+    → performed s set_notification_label (copy ∷ 32 ∷ []) (slot_call s handler (InterruptHandler number)) ≡ bind s
+    (slot_call s handler (InterruptHandler number)) number (boot_name copy)
 unfolding invoke decode
 bind-called s handler number copy = refl
 

@@ -1,5 +1,6 @@
 -- Calls on threads by the loader: Configure with a guard word, SetPriority, SetRegister and Resume, on a thread that does not run.
-use Rattle.std.proofs.Common.{ℕ, ◌≡◌, ◌∙◌, ◌==◌, ◌%◌, ◌^◌, ◌<◌, ◌≤◌, ◌&&◌, ◌||◌, true, false, not, nat_le, nat_lt, if◌then◌else◌, Some, None, Result, Ok, [], ◌∷◌, refl, ap}
+use Rattle.std.proofs.Common.{ℕ, ◌≡◌, ◌∙◌, ◌==◌, ◌%◌, ◌^◌, ◌<◌, ◌≤◌, ◌&&◌, ◌||◌, true, false, not, nat_le, nat_lt, if◌then◌else◌, Some, None, Result, Ok, []}
+use Rattle.std.proofs.Common.{◌∷◌, refl, ap}
 use Rattle.std.proofs.lemmas.Bool.{and_from, le-leb, lt-ltb}
 use Rattle.model.specs.Capabilities.CapabilityKinds.{cnode_of, is_guard_word, root_of}
 use Rattle.model.specs.Capabilities.Slots.{capability_at, depth_of, inserted, is_empty, is_full}
@@ -24,7 +25,8 @@ configure-called : (s : State) (slot thread fault cspace vspace guard : ℕ)
 unfolding configure_with_guard
 configure-called s slot thread fault cspace vspace guard = refl
 
-priority-called : (s : State) (slot thread priority : ℕ) → performed s set_priority_label (priority ∷ []) (slot_call s slot (Tcb thread)) ≡ set_priority s thread priority
+priority-called : (s : State) (slot thread priority : ℕ) → performed s set_priority_label (priority ∷ []) (slot_call s slot (Tcb thread)) ≡ set_priority s
+    thread priority
 unfolding invoke decode
 priority-called s slot thread priority = refl
 
@@ -70,19 +72,25 @@ configure-made s slot thread fault cspace cnode radix vspace root guard shape is
     let second = capability_at s.slots vspace in
     let name = boot_root s.boot_radix in
     let end : Result State KError = Ok (configured s thread fault cspace cnode radix guard vspace root) in
-    let free = and_from (not (is_full s.slots (cspace_slot thread))) (not (is_full s.slots (vspace_slot thread))) (ap not asked.first_free) (ap not asked.second_free) in
+    let free = and_from (not (is_full s.slots (cspace_slot thread))) (not (is_full s.slots (vspace_slot thread))) (ap not asked.first_free)
+    (ap not asked.second_free) in
     made-there s shape slot is.inside configure_label (fault ∷ cspace ∷ 32 ∷ vspace ∷ 32 ∷ guard ∷ []) (Tcb thread) is.holds refl
     ∙ configure-called s slot thread fault cspace vspace guard
     ∙ goes (source_slot s.slots name (boot_name cspace)) _ cspace end (boot-source s shape cspace asked.first (ap (λ c. not (is_empty c)) asked.first_holds))
-    (goes (wanted (cnode_of first) InvalidCapability) _ (record { offset = cnode; radix = radix }) end (ap (λ c. wanted (cnode_of c) InvalidCapability) asked.first_holds)
+    (goes (wanted (cnode_of first) InvalidCapability) _ (record { offset = cnode; radix = radix }) end
+    (ap (λ c. wanted (cnode_of c) InvalidCapability) asked.first_holds)
     (goes (source_slot s.slots name (boot_name vspace)) _ vspace end (boot-source s shape vspace asked.second (ap (λ c. not (is_empty c)) asked.second_holds))
     (goes (wanted (root_of second) InvalidCapability) _ root end (ap (λ c. wanted (root_of c) InvalidCapability) asked.second_holds)
     (passes (not (is_full s.slots (cspace_slot thread)) && not (is_full s.slots (vspace_slot thread))) DeleteFirst _ end free
     (passes (given_guard_fits first (Some guard)) IllegalOperation _ end (ap (λ c. given_guard_fits c (Some guard)) asked.first_holds ∙ asked.fits)
     (passes (nat_lt (depth_of s.slots cspace) 255) IllegalOperation _ end (lt-ltb (depth_of s.slots cspace) 255 asked.first_shallow)
     (passes (nat_lt (depth_of s.slots vspace) 255) IllegalOperation _ end (lt-ltb (depth_of s.slots vspace) 255 asked.second_shallow)
-    (ap (λ c. Ok (with_thread (with_slots s (inserted (inserted s.slots (cspace_slot thread) (with_guard c (Some guard)) (Some cspace)) (vspace_slot thread) second (Some vspace))) thread (record (thread_at s thread) { fault_address = fault }))) asked.first_holds
-    ∙ ap (λ c. Ok (with_thread (with_slots s (inserted (inserted s.slots (cspace_slot thread) (CNode cnode radix guard) (Some cspace)) (vspace_slot thread) c (Some vspace))) thread (record (thread_at s thread) { fault_address = fault }))) asked.second_holds))))))))
+    (ap (λ c. Ok (with_thread
+    (with_slots s (inserted (inserted s.slots (cspace_slot thread) (with_guard c (Some guard)) (Some cspace)) (vspace_slot thread) second (Some vspace)))
+    thread (record (thread_at s thread) { fault_address = fault }))) asked.first_holds
+    ∙ ap (λ c. Ok (with_thread
+    (with_slots s (inserted (inserted s.slots (cspace_slot thread) (CNode cnode radix guard) (Some cspace)) (vspace_slot thread) c (Some vspace))) thread
+    (record (thread_at s thread) { fault_address = fault }))) asked.second_holds))))))))
 
 -- ---- SetPriority, SetRegister, Resume
 

@@ -5,7 +5,8 @@ pub use Rattle.soundness.proofs.boot_laws.ObjectsThere.{first-at, reads-objects}
 pub use Rattle.soundness.proofs.boot_laws.PhaseMappings.{limited-frame, limited-table}
 pub use Rattle.soundness.proofs.boot_laws.PlacesApart.{stand-apart}
 pub use Rattle.soundness.proofs.boot_laws.PlacesObjects.{object-at, object-stands, objects-apart, offsets-apart}
-pub use Rattle.soundness.proofs.boot_laws.PlacesRules.{AreFormed, CapabilityKept, FrameKept, TableKept, ThreadKept, are-formed, kept-before, kept-behind, kept-of, not-refused, numbered-at, range-at, range-from}
+pub use Rattle.soundness.proofs.boot_laws.PlacesRules.{AreFormed, CapabilityKept, FrameKept, TableKept, ThreadKept, are-formed, kept-before, kept-behind}
+pub use Rattle.soundness.proofs.boot_laws.PlacesRules.{kept-of, not-refused, numbered-at, range-at, range-from}
 pub use Rattle.soundness.proofs.boot_laws.PlacesSlots.{boot-slots-suffice, cnode-slot, cspace-slot, slot-behind-boot, slot-in-memory, slot-of-one, vspace-slot}
 pub use Rattle.soundness.proofs.boot_laws.PlacesTypes.{has-type}
 pub use Rattle.soundness.proofs.boot_laws.PlacesUsed.{used_with}

@@ -1,5 +1,6 @@
 -- Object by object: Retype leads from the state with the first objects to the state with one more.
-use Rattle.std.proofs.Common.{ℕ, suc, ◌≡◌, ◌≢◌, ◌∙◌, ◌==◌, ◌+◌, ◌-◌, ◌^◌, ◌<◌, ◌≤◌, ◌||◌, inl, inr, true, false, if◌then◌else◌, take, Option, Some, None, Ok, refl, sym, ap, subst, arith}
+use Rattle.std.proofs.Common.{ℕ, suc, ◌≡◌, ◌≢◌, ◌∙◌, ◌==◌, ◌+◌, ◌-◌, ◌^◌, ◌<◌, ◌≤◌, ◌||◌, inl, inr, true, false, if◌then◌else◌, take, Option, Some, None, Ok}
+use Rattle.std.proofs.Common.{refl, sym, ap, subst, arith}
 use Rattle.std.specs.Prelude.{nat_lt}
 use Rattle.std.specs.Option.{option_map_or}
 use Rattle.std.specs.List.{list_any, range_with_len}
@@ -34,7 +35,8 @@ use Rattle.model.specs.Images.Described.{held_in, is_object_slot}
 use Rattle.model.specs.Images.Image.{Image}
 use Rattle.model.specs.Images.Places.{object_at, offset_of, original_slot, untyped_at, used_before, used_by}
 use Rattle.model.specs.Kernel.Removal.{slot_count}
-use Rattle.model.specs.Kernel.Retype.{NewObject, first_capability, object, object_bits, place_of_new, some_new, with_first_capabilities, with_new, with_new_slots}
+use Rattle.model.specs.Kernel.Retype.{NewObject, first_capability, object, object_bits, place_of_new, some_new, with_first_capabilities, with_new}
+use Rattle.model.specs.Kernel.Retype.{with_new_slots}
 use Rattle.model.specs.Kernel.State.{boot_area_slots, slot_of, with_slots}
 
 within-one : (first x : ℕ) → is_within first 1 x ≡ (x == first)
@@ -49,7 +51,8 @@ read-alike : (image : Image) (p q : Progress) (slot : ℕ) → is_open_so_far im
 unfolding loaded
 read-alike image p q slot opened held = λ i. if opened i then Some (shown (held i)) else None
 
-open-more : (image : Image) (i slot : ℕ) → is_object_slot image slot i ≡ false → is_open_so_far image (at_objects (suc i)) slot ≡ is_open_so_far image (at_objects i) slot
+open-more : (image : Image) (i slot : ℕ) → is_object_slot image slot i ≡ false →
+    is_open_so_far image (at_objects (suc i)) slot ≡ is_open_so_far image (at_objects i) slot
 unfolding is_open_so_far
 open-more image i slot other =
     let before = list_any (is_object_slot image slot) (range_with_len 0 i) in
@@ -108,7 +111,8 @@ module _ (image : Image) (fitting : IsFitting image) (formed : AreFormed image) 
   abbrev with_room : Slots
   with_room = with_new_slots (one_new (HasType.kind typed) (offset_of image i)) (recapped (slots_of_loaded image p) home used_up)
 
-  room-test : (slot : ℕ) → some_new (one_new (HasType.kind typed) (offset_of image i)) (λ at. is_within (slot_of at 0) (slot_count (object (HasType.kind typed))) slot)
+  room-test : (slot : ℕ) → some_new (one_new (HasType.kind typed) (offset_of image i))
+      (λ at. is_within (slot_of at 0) (slot_count (object (HasType.kind typed))) slot)
       ≡ is_object_slot image slot i
   room-test slot =
       some-one (HasType.kind typed) (offset_of image i) (λ at. is_within (slot_of at 0) (slot_count (object (HasType.kind typed))) slot)
@@ -119,12 +123,14 @@ module _ (image : Image) (fitting : IsFitting image) (formed : AreFormed image) 
       let original = original_slot image i in
       let kind = HasType.kind typed in
       let place : place_of_new (one_new kind (offset_of image i)) (slot - original) ≡ offset_of image i =
-      (let none : slot - original ≡ 0 = omega (arith, here) in let first : place_of_new (one_new kind (offset_of image i)) 0 ≡ offset_of image i = omega arith in
+      (let none : slot - original ≡ 0 = omega (arith, here) in let first : place_of_new (one_new kind (offset_of image i)) 0 ≡ offset_of image i =
+      omega arith in
       ap (place_of_new (one_new kind (offset_of image i))) none ∙ first) in
       let stays : is_moved image q i ≡ false = and_right _ false refl in
       let capability : original_so_far image q i ≡ first_capability kind (offset_of image i) =
       ap (λ (t : Option NewObject). option_map_or (λ kind. first_capability kind (offset_of image i)) t Empty) (HasType.is typed) in
-      ap (λ b. if b then Some (entry (first_capability kind (place_of_new (one_new kind (offset_of image i)) (slot - original))) (Some home)) else with_room slot)
+      ap (λ b. if b then Some (entry (first_capability kind (place_of_new (one_new kind (offset_of image i)) (slot - original))) (Some home)) else
+      with_room slot)
       (within-one original slot ∙ test)
       ∙ ap (λ n. let o : Option Entry = Some (entry (first_capability kind n) (Some home)) in o) place
       ∙ ap (λ c. let o : Option Entry = Some (entry c (Some home)) in o) (sym capability)
@@ -133,7 +139,8 @@ module _ (image : Image) (fitting : IsFitting image) (formed : AreFormed image) 
   past-original : (slot : ℕ) → (slot == original_slot image i) ≡ false → new_slots slot ≡ with_room slot
   past-original slot test =
       let kind = HasType.kind typed in
-      ap (λ b. if b then Some (entry (first_capability kind (place_of_new (one_new kind (offset_of image i)) (slot - original_slot image i))) (Some home)) else with_room slot)
+      ap (λ b. if b then Some (entry (first_capability kind (place_of_new (one_new kind (offset_of image i)) (slot - original_slot image i))) (Some home)) else
+      with_room slot)
       (within-one (original_slot image i) slot ∙ test)
 
   in-object : (slot : ℕ) → is_object_slot image slot i ≡ true → with_room slot ≡ slots_of_loaded image q slot
@@ -147,8 +154,10 @@ module _ (image : Image) (fitting : IsFitting image) (formed : AreFormed image) 
       let o = object_at image i in
       let used : used_by (take (suc i) image.objects) home ≡ used_after image i =
       used-more image.objects i home o (object-at image i fitting less) ∙ used-here home (used_by (take i image.objects) home) o refl in
-      let parent : parent_at (slots_of_loaded image p) home ≡ None = parent-read image p home (untyped_so_far image p (home, untyped_at image home)).1 before-home in
-      ap (recapped (slots_of_loaded image p) home used_up) here ∙ entry-same (slots_of_loaded image p) home (Some (entry used_up (parent_at (slots_of_loaded image p) home)))
+      let parent : parent_at (slots_of_loaded image p) home ≡ None =
+      parent-read image p home (untyped_so_far image p (home, untyped_at image home)).1 before-home in
+      ap (recapped (slots_of_loaded image p) home used_up) here
+      ∙ entry-same (slots_of_loaded image p) home (Some (entry used_up (parent_at (slots_of_loaded image p) home)))
       ∙ ap (λ (n : Option ℕ). let o : Option Entry = Some (entry used_up n) in o) parent
       ∙ ap (λ (n : ℕ). let o : Option Entry = Some (entry (Untyped (untyped_at image home).offset (untyped_at image home).bits n) None) in o) (sym used)
       ∙ sym (ReadsBoot.untyped (reads-boot image fitting formed q more) home (ObjectStands.less stands)) ∙ ap (slots_of_loaded image q) (sym here)
@@ -162,20 +171,22 @@ module _ (image : Image) (fitting : IsFitting image) (formed : AreFormed image) 
   slots-grown : (slot : ℕ) → new_slots slot ≡ slots_of_loaded image q slot
   slots-grown slot = elim (eqb_tells slot (original_slot image i)) [
     | inl here ↦ at-original slot here.1 here.0
-    | inr apart ↦ past-original slot apart.0 ∙ elim (is_object_slot image slot i) as (λ b. is_object_slot image slot i ≡ b → with_room slot ≡ slots_of_loaded image q slot) [
-      | true ↦ λ is. in-object slot is
-      | false ↦ λ is.
-          ap (λ b. if b then Some empty_entry else recapped (slots_of_loaded image p) home used_up slot) (room-test slot ∙ is)
-          ∙ elim (eqb_tells slot home) [
-            | inl here ↦ at-home slot here.1
-            | inr other ↦ elsewhere-same slot apart.1 is other.1
-          ]
-    ] refl
+    | inr apart ↦ past-original slot apart.0 ∙ elim (is_object_slot image slot i)
+        as (λ b. is_object_slot image slot i ≡ b → with_room slot ≡ slots_of_loaded image q slot) [
+          | true ↦ λ is. in-object slot is
+          | false ↦ λ is.
+              ap (λ b. if b then Some empty_entry else recapped (slots_of_loaded image p) home used_up slot) (room-test slot ∙ is)
+              ∙ elim (eqb_tells slot home) [
+                | inl here ↦ at-home slot here.1
+                | inr other ↦ elsewhere-same slot apart.1 is other.1
+              ]
+        ] refl
   ]
 
   -- ---- the state
 
-  state-grown : with_new (with_slots (loaded image p) (recapped (slots_of_loaded image p) home used_up)) (one_new (HasType.kind typed) (offset_of image i)) (original_slot image i) home ≡ loaded image q
+  state-grown : with_new (with_slots (loaded image p) (recapped (slots_of_loaded image p) home used_up)) (one_new (HasType.kind typed) (offset_of image i))
+      (original_slot image i) home ≡ loaded image q
   unfolding loaded
   state-grown = λ k. record (loaded image p) {
     slots = λ slot. slots-grown slot k;
@@ -193,7 +204,8 @@ module _ (image : Image) (fitting : IsFitting image) (formed : AreFormed image) 
 
   placed : with_new (with_slots (loaded image p) (recapped (slots_of_loaded image p) home used_up))
       (one_new (HasType.kind typed) ((untyped_at image home).offset + align (used_before image i) (size_at image i))) (original_slot image i) home
-      ≡ with_new (with_slots (loaded image p) (recapped (slots_of_loaded image p) home used_up)) (one_new (HasType.kind typed) (offset_of image i)) (original_slot image i) home
+      ≡ with_new (with_slots (loaded image p) (recapped (slots_of_loaded image p) home used_up)) (one_new (HasType.kind typed) (offset_of image i))
+      (original_slot image i) home
   unfolding offset_of
   placed = refl
 
@@ -209,12 +221,14 @@ module _ (image : Image) (fitting : IsFitting image) (formed : AreFormed image) 
       let slots = radix in
       let holds = ObjectStands.less stands in
       let read = (untyped_so_far image p (home, u)).1 in
-      retype-made (loaded image p) home u.offset u.bits (used_before image i) o.kind o.size (original_slot image i) (HasType.kind typed) place (has-shape image p fitting)
+      retype-made (loaded image p) home u.offset u.bits (used_before image i) o.kind o.size (original_slot image i) (HasType.kind typed) place
+      (has-shape image p fitting)
       (record {
         memory = (let wide : home < 2 ^ image.header.boot_radix = omega (arith, holds, enough) in subst (λ (n : ℕ). home < 2 ^ n) (sym radix) wide);
         holds = capability-read image p home read before-home;
         shallow = root-shallow (slots_of_loaded image p) home (parent-read image p home read before-home);
-        destination = (let wide : original_slot image i < 2 ^ image.header.boot_radix = omega (arith, less, enough) in subst (λ (n : ℕ). original_slot image i < 2 ^ n) (sym radix) wide);
+        destination = (let wide : original_slot image i < 2 ^ image.header.boot_radix = omega (arith, less, enough) in
+            subst (λ (n : ℕ). original_slot image i < 2 ^ n) (sym radix) wide);
         free = free-read image p (original_slot image i) (ReadsEmpty.original (reads-empty image fitting formed p inside) i (omega arith) less);
         named = HasType.is typed;
         large = HasType.large typed;

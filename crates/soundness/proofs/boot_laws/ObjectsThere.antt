@@ -30,7 +30,8 @@ module _ {A : Type 0} (f : ℕ → Option A) where
       let rest = map f (range_with_len (from + 1) count) in
       elim (eqb_tells from n) [
         | inl here ↦
-            let none = first-none (from + 1) count (λ k above below. others k (omega (arith, above)) (omega (arith, below)) (let same = here.1 in λ e. omega (arith, e, same, above))) in
+            let none = first-none (from + 1) count (λ k above below.
+            others k (omega (arith, above)) (omega (arith, below)) (let same = here.1 in λ e. omega (arith, e, same, above))) in
             ap (λ m. first_some (f m ∷ rest)) here.1
             ∙ elim (f n) as (λ o. first_some (o ∷ rest) ≡ o) [ None ↦ none | Some x ↦ refl ]
         | inr apart ↦
@@ -40,7 +41,8 @@ module _ {A : Type 0} (f : ℕ → Option A) where
       ]
 
   -- one number more at which nothing is
-  pub first-more : (from count : ℕ) → f (from + count) ≡ None → first_some (map f (range_with_len from (suc count))) ≡ first_some (map f (range_with_len from count))
+  pub first-more : (from count : ℕ) → f (from + count) ≡ None →
+      first_some (map f (range_with_len from (suc count))) ≡ first_some (map f (range_with_len from count))
   first-more from zero none =
       let here : from ≡ from + 0 = omega arith in ap (λ n. first_some (f n ∷ [])) here ∙ ap (λ o. first_some (o ∷ [])) none
   first-more from (suc count) none =
@@ -66,7 +68,8 @@ module _ (image : Image) (fitting : IsFitting image) (formed : AreFormed image) 
   others-none count number most inside k less other =
       elsewhere (offset_of image number) k (λ same. other (offsets-apart image k number fitting formed (omega (arith, less, most)) inside same))
 
-  pub object-there : (within : IsWithin image p) (number : ℕ) → number < p.objects → objects_so_far image p (offset_of image number) ≡ object_so_far image p number
+  pub object-there : (within : IsWithin image p) (number : ℕ) → number < p.objects →
+      objects_so_far image p (offset_of image number) ≡ object_so_far image p number
   object-there within number less =
       let most = within.objects in
       first-at (there_by (offset_of image number)) 0 p.objects number (omega arith) (omega (arith, less))

@@ -1,5 +1,6 @@
 -- One frame more that is mapped, by a copy.
-use Rattle.std.proofs.Common.{ℕ, zero, suc, ◌≡◌, ◌≢◌, ◌∙◌, ◌==◌, ◌<◌, ◌≤◌, ◌/◌, ◌^◌, ◌&&◌, ◌||◌, Bool, true, false, if◌then◌else◌, None, Some, Option, Ok, List, [], ◌∷◌, map, find, take, refl, sym, ap, arith, inl, inr}
+use Rattle.std.proofs.Common.{ℕ, zero, suc, ◌≡◌, ◌≢◌, ◌∙◌, ◌==◌, ◌<◌, ◌≤◌, ◌/◌, ◌^◌, ◌&&◌, ◌||◌, Bool, true, false, if◌then◌else◌, None, Some, Option, Ok, List}
+use Rattle.std.proofs.Common.{[], ◌∷◌, map, find, take, refl, sym, ap, arith, inl, inr}
 use Rattle.std.specs.Prelude.{slice_get}
 use Rattle.std.specs.List.{list_any}
 use Rattle.std.specs.Option.{option_map_or}
@@ -44,7 +45,8 @@ use Rattle.soundness.proofs.boot_laws.RunSequences.{Leads, leads-both, leads-cal
 
 -- ---- rights that a mapping may have
 
-allowed-rights : (bits : ℕ) → bits ≤ 7 → are_frame_rights bits ≡ true → (may_read (mapping_rights frame_rights bits) || may_execute (mapping_rights frame_rights bits)) ≡ true
+allowed-rights : (bits : ℕ) → bits ≤ 7 → are_frame_rights bits ≡ true →
+    (may_read (mapping_rights frame_rights bits) || may_execute (mapping_rights frame_rights bits)) ≡ true
 allowed-rights zero few are = absurd cc
 allowed-rights (suc zero) few are = absurd cc
 allowed-rights (suc (suc zero)) few are = refl
@@ -60,13 +62,15 @@ allowed-rights (suc (suc (suc (suc (suc (suc (suc (suc n)))))))) few are = absur
 -- the entry that a test picks out of a list
 some-item : {A : Type 0} (test : A → Bool) (xs : List A) → list_any test xs ≡ true → (j : ℕ) × (x : A) × (slice_get xs j ≡ Some x) × (test x ≡ true)
 some-item test [] is = absurd cc
-some-item {A} test (x ∷ xs) is = elim (test x) as (λ b. test x ≡ b → (b || list_any test xs) ≡ true → (j : ℕ) × (y : A) × (slice_get (x ∷ xs) j ≡ Some y) × (test y ≡ true)) [
-  | true ↦ λ passes e. (0, x, refl, passes)
-  | false ↦ λ passes e. let rest = some-item test xs e in (suc rest.0, rest.1, rest.2, rest.3)
-] refl is
+some-item {A} test (x ∷ xs) is = elim (test x) as (λ b. test x ≡ b → (b || list_any test xs) ≡ true → (j : ℕ) × (y : A) × (slice_get (x ∷ xs) j ≡ Some y)
+    × (test y ≡ true)) [
+      | true ↦ λ passes e. (0, x, refl, passes)
+      | false ↦ λ passes e. let rest = some-item test xs e in (suc rest.0, rest.1, rest.2, rest.3)
+    ] refl is
 
 -- an item that no earlier one has the test of is the one that is found
-found-first : {A : Type 0} (test : A → Bool) (xs : List A) (n j : ℕ) (x : A) → j < n → slice_get xs j ≡ Some x → test x ≡ true → list_any test (take j xs) ≡ false → find test (take n xs) ≡ Some x
+found-first : {A : Type 0} (test : A → Bool) (xs : List A) (n j : ℕ) (x : A) → j < n → slice_get xs j ≡ Some x → test x ≡ true →
+    list_any test (take j xs) ≡ false → find test (take n xs) ≡ Some x
 found-first test xs zero j x less at passes first = absurd (omega (arith, less))
 found-first test [] (suc n) zero x less at passes first = absurd cc
 found-first test [] (suc n) (suc j) x less at passes first = absurd cc
@@ -77,7 +81,8 @@ found-first test (y ∷ ys) (suc n) (suc j) x less at passes first =
     let parts = or_parts (test y) (list_any test (take j ys)) first in
     ap (λ b. if b then Some y else find test (take n ys)) parts.0 ∙ found-first test ys n j x (omega (arith, less)) at passes parts.1
 
-module _ (image : Image) (p : Progress) (f : FrameEntry) (known : Known image p) (all : p.objects ≡ image.header.objects) (tabled : p.tables ≡ image.header.tables) (none : p.threads ≡ 0)
+module _ (image : Image) (p : Progress) (f : FrameEntry) (known : Known image p) (all : p.objects ≡ image.header.objects)
+    (tabled : p.tables ≡ image.header.tables) (none : p.threads ≡ 0)
     (few : p.frames < image.header.frames) (at : slice_get image.frames p.frames ≡ Some f) where
   abbrev kept : FrameKept image p.frames f
   kept = known.formed.frame p.frames f at
@@ -127,7 +132,8 @@ module _ (image : Image) (p : Progress) (f : FrameEntry) (known : Known image p)
 
   capability-same : (slot : ℕ) → slot ≢ copy_slot → capability_at between_slots slot ≡ capability_at before.slots slot
   capability-same slot apart =
-      ap (λ (o : Option Entry). option_map_or (λ e. e.capability) o Empty) (inserted-elsewhere before.slots copy_slot bare (Some (original_slot image f.frame)) slot apart)
+      ap (λ (o : Option Entry). option_map_or (λ e. e.capability) o Empty)
+      (inserted-elsewhere before.slots copy_slot bare (Some (original_slot image f.frame)) slot apart)
 
   shape-between : HasShape between
   shape-between = record {
@@ -150,10 +156,12 @@ module _ (image : Image) (p : Progress) (f : FrameEntry) (known : Known image p)
       let mapping : TableMapping = record { root = offset_of image t.root; region = t.address / page_size / region_pages } in
       let early : j < p.tables = omega (arith, slice_get_within image.tables j t there, known.fits.tables, tabled) in
       let held : original_so_far image p t.table ≡ PageTable (offset_of image t.table) (Some mapping) =
-      ap (λ o. option_map_or (λ u. with_table_mapping (first (type_at image t.table)) (Some (record { root = offset_of image u.root; region = u.address / page_size / region_pages }))) o (first (type_at image t.table)))
+      ap (λ o. option_map_or (λ u. with_table_mapping (first (type_at image t.table))
+      (Some (record { root = offset_of image u.root; region = u.address / page_size / region_pages }))) o (first (type_at image t.table)))
       (found-first (λ (u : TableEntry). u.table == t.table) image.tables p.tables j t early there (eq-eqb t.table t.table refl) table.once)
       ∙ ap (λ o. with_table_mapping (first o) (Some mapping)) table_kind in
-      let still : is_moved image p t.table ≡ false = ap (λ c. is_untyped c && list_any (λ l. l.source == t.table) (take p.capabilities image.capabilities)) held in
+      let still : is_moved image p t.table ≡ false = ap (λ c. is_untyped c && list_any (λ l. l.source == t.table) (take p.capabilities image.capabilities))
+      held in
       let read = capability-read image p (original_slot image t.table) _ (original-read image p t.table known all less still) in
       let region : t.address / page_size / region_pages ≡ page / region_pages = region-of-page t.address ∙ regions ∙ sym (region-of-page f.address) in
       ap (maps_region root (page / region_pages)) (capability-same (original_slot image t.table) (λ is. omega (arith, is, less)) ∙ read ∙ held)
@@ -166,7 +174,8 @@ module _ (image : Image) (p : Progress) (f : FrameEntry) (known : Known image p)
       let parts = and_parts (item.1.root == f.root) (item.1.address / region_size == f.address / region_size) item.3 in
       let less = (known.fits.table item.0 item.1 item.2).table in
       let enough = enough-slots image known.formed in
-      boot-held between (maps_region root (page / region_pages)) (original_slot image item.1.table) shape-between (rw (same-radix image p) (omega (arith, enough, less)))
+      boot-held between (maps_region root (page / region_pages)) (original_slot image item.1.table) shape-between
+      (rw (same-radix image p) (omega (arith, enough, less)))
       (covers item.0 item.1 item.2 (eqb-true item.1.root f.root parts.0) (eqb-true (item.1.address / region_size) (f.address / region_size) parts.1))
 
   -- ---- the page is free
@@ -176,11 +185,13 @@ module _ (image : Image) (p : Progress) (f : FrameEntry) (known : Known image p)
       false_from_ne_true _ (λ same.
       let parts = and_parts (offset_of image g.root == root) (g.address / page_size == page) same in
       let one = known.fits.frame j g there in
-      let roots : g.root ≡ f.root = offsets-apart image g.root f.root known.fits known.formed one.root fit.root (eqb-true (offset_of image g.root) root parts.0) in
+      let roots : g.root ≡ f.root = offsets-apart image g.root f.root known.fits known.formed one.root fit.root
+      (eqb-true (offset_of image g.root) root parts.0) in
       let a = address-parts g.address page_size (known.formed.frame j g there).address in
       let b = address-parts f.address page_size kept.address in
       let rise = known.fits.pages_rise j p.frames g f early there at in
-      let keys = key-same g.root g.address f.root f.address roots (multiple-same g.address f.address page_size (omega arith) a.1 b.1 (eqb-true (g.address / page_size) page parts.1)) in
+      let keys = key-same g.root g.address f.root f.address roots
+      (multiple-same g.address f.address page_size (omega arith) a.1 b.1 (eqb-true (g.address / page_size) page parts.1)) in
       omega (arith, rise, keys))
 
   none-maps : NoneHolds image p (maps_page root page)
@@ -199,7 +210,8 @@ module _ (image : Image) (p : Progress) (f : FrameEntry) (known : Known image p)
 
   free : is_page_taken between root page ≡ false
   free = none-held between (maps_page root page) (λ slot. elim (eqb_tells slot copy_slot) [
-    | inl same ↦ ap (λ (n : ℕ). maps_page root page (capability_at between_slots n)) same.1 ∙ ap (λ (o : Option Entry). maps_page root page (option_map_or (λ e. e.capability) o Empty)) here
+    | inl same ↦ ap (λ (n : ℕ). maps_page root page (capability_at between_slots n)) same.1
+        ∙ ap (λ (o : Option Entry). maps_page root page (option_map_or (λ e. e.capability) o Empty)) here
     | inr other ↦ ap (maps_page root page) (capability-same slot other.1) ∙ none-holds image p (maps_page root page) none-maps slot
   ])
 
@@ -220,7 +232,9 @@ module _ (image : Image) (p : Progress) (f : FrameEntry) (known : Known image p)
       over : (slot : ℕ) → recapped between_slots copy_slot mapped slot ≡ inserted before.slots copy_slot mapped (Some (original_slot image f.frame)) slot
       over slot =
           ap (λ (o : Option Entry). if slot == copy_slot then Some (entry mapped (option_map_or (λ e. e.parent) o None)) else between_slots slot) here
-          ∙ elim (slot == copy_slot) as (λ b. (if b then Some (entry mapped (Some (original_slot image f.frame))) else (if b then Some (entry bare (Some (original_slot image f.frame))) else before.slots slot))
+          ∙ elim (slot == copy_slot)
+          as (λ b. (if b then Some (entry mapped (Some (original_slot image f.frame))) else
+          (if b then Some (entry bare (Some (original_slot image f.frame))) else before.slots slot))
           ≡ (if b then Some (entry mapped (Some (original_slot image f.frame))) else before.slots slot)) [ true ↦ refl | false ↦ refl ]
 
   maps : made between (loader_call copy_slot map_frame_label (original_slot image f.root ∷ 32 ∷ f.address ∷ f.rights ∷ [])) ≡ Ok (loaded image (one_frame p))

@@ -4,7 +4,8 @@ use Rattle.std.specs.Prelude.{find, slice_get, take}
 use Rattle.std.specs.Option.{option_map_or}
 use Rattle.std.proofs.lemmas.Bool.{ltb-false, ne_eqb}
 use Rattle.model.specs.declared.capabilities.Cap.{Cap}
-use Rattle.model.specs.declared.capabilities.Cap.TheVariants.{Empty, Endpoint, Frame, InterruptControl, InterruptHandler, Notification, RootTable, CNode, Tcb, PageTable, Untyped}
+use Rattle.model.specs.declared.capabilities.Cap.TheVariants.{Empty, Endpoint, Frame, InterruptControl, InterruptHandler, Notification, RootTable, CNode, Tcb}
+use Rattle.model.specs.declared.capabilities.Cap.TheVariants.{PageTable, Untyped}
 use Rattle.model.specs.declared.capabilities.TableMapping.{TableMapping}
 use Rattle.model.specs.declared.entries.InterruptEntry.{InterruptEntry}
 use Rattle.model.specs.Capabilities.CapabilityKinds.{is_handler_of, with_table_mapping}
@@ -14,7 +15,8 @@ use Rattle.model.specs.Images.BootCalls.{interrupt_call}
 use Rattle.model.specs.Images.Image.{Image}
 use Rattle.model.specs.Images.Places.{boot_slots, control_slot, handler_slot, offset_of, type_at}
 use Rattle.model.specs.Kernel.AddressSpaces.{page_size, region_pages}
-use Rattle.model.specs.Kernel.Retype.{NewObject, NewUntyped, NewThread, NewEndpoint, NewNotification, NewCNode, NewFrame, NewPageTable, NewRootTable, first_capability}
+use Rattle.model.specs.Kernel.Retype.{NewObject, NewUntyped, NewThread, NewEndpoint, NewNotification, NewCNode, NewFrame, NewPageTable, NewRootTable}
+use Rattle.model.specs.Kernel.Retype.{first_capability}
 use Rattle.model.specs.Kernel.State.{State}
 use Rattle.soundness.specs.boot_laws.Loading.{Progress, bytes_so_far, holdings_so_far, is_open_so_far, loaded, original_so_far}
 use Rattle.soundness.proofs.boot_laws.CallCopies.{Gets, get-made}
@@ -62,7 +64,9 @@ original-handler : (image : Image) (p : Progress) (n number : ℕ) → is_handle
 original-handler image p n number =
     let first = option_map_or (λ kind. first_capability kind (offset_of image number)) (type_at image number) Empty in
     elim (find (λ t. t.table == number) (take p.tables image.tables)) as
-    (λ o. is_handler_of n (option_map_or (λ t. with_table_mapping first (Some (record { root = offset_of image t.root; region = t.address / page_size / region_pages }))) o first) ≡ false) [
+    (λ o. is_handler_of n
+    (option_map_or (λ t. with_table_mapping first (Some (record { root = offset_of image t.root; region = t.address / page_size / region_pages }))) o first)
+    ≡ false) [
       | None ↦ no-handler n (type_at image number) (offset_of image number)
       | Some t ↦ unmapped-handler n first _ ∙ no-handler n (type_at image number) (offset_of image number)
     ]
@@ -86,7 +90,8 @@ none-handles image p i fits early none at = record {
     eqb-other : (a b : ℕ) → a < b → (a == b) ≡ false
     eqb-other a b less = ne_eqb a b (λ same. omega (arith, same, less))
 
-pub handlers-by-one : (image : Image) (p : Progress) (i : InterruptEntry) → Known image p → p.handlers < image.header.interrupts → p.capabilities ≡ 0 → p.threads ≡ 0
+pub handlers-by-one : (image : Image) (p : Progress) (i : InterruptEntry) → Known image p → p.handlers < image.header.interrupts → p.capabilities ≡ 0 →
+    p.threads ≡ 0
     → slice_get image.interrupts p.handlers ≡ Some i
     → made (loaded image p) (interrupt_call image (p.handlers, i)) ≡ Ok (loaded image (one_handler p))
 handlers-by-one image p i known few early none at =

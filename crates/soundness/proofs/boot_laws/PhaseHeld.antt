@@ -1,5 +1,6 @@
 -- What any slot of a state between two operations of the loader holds: nothing, or what one of the holdings so far says.
-use Rattle.std.proofs.Common.{ℕ, zero, suc, ◌≡◌, ◌∙◌, ◌==◌, ◌+◌, ◌<◌, ◌&&◌, Bool, true, false, not, List, [], ◌∷◌, ◌++◌, map, filter, find, take, Option, Some, None, option_map, if◌then◌else◌, refl, sym, ap, arith}
+use Rattle.std.proofs.Common.{ℕ, zero, suc, ◌≡◌, ◌∙◌, ◌==◌, ◌+◌, ◌<◌, ◌&&◌, Bool, true, false, not, List, [], ◌∷◌, ◌++◌, map, filter, find, take, Option, Some}
+use Rattle.std.proofs.Common.{None, option_map, if◌then◌else◌, refl, sym, ap, arith}
 use Rattle.std.specs.Prelude.{flat_map, slice_get}
 use Rattle.std.specs.Option.{option_map_or}
 use Rattle.std.specs.List.{enumerate_from, range_with_len}
@@ -13,10 +14,12 @@ use Rattle.model.specs.declared.entries.UntypedEntry.{UntypedEntry}
 use Rattle.model.specs.declared.slot_entries.Entry.{Entry}
 use Rattle.model.specs.Capabilities.CapabilityKinds.{with_payload}
 use Rattle.model.specs.Capabilities.Slots.{capability_at, empty_entry}
-use Rattle.model.specs.Images.Described.{Holding, binding_holding, frame_holding, handler_holding, held_in, holding, listed_capability, listed_holding, notification_holding, numbered, original, signalled, thread_holdings}
+use Rattle.model.specs.Images.Described.{Holding, binding_holding, frame_holding, handler_holding, held_in, holding, listed_capability, listed_holding}
+use Rattle.model.specs.Images.Described.{notification_holding, numbered, original, signalled, thread_holdings}
 use Rattle.model.specs.Images.Image.{Image, Thread}
 use Rattle.model.specs.Images.Places.{control_slot}
-use Rattle.soundness.specs.boot_laws.Loading.{Progress, boot_holdings_so_far, holdings_so_far, is_moved, is_open_so_far, loaded, original_holding_so_far, original_so_far, originals_so_far, untyped_so_far}
+use Rattle.soundness.specs.boot_laws.Loading.{Progress, boot_holdings_so_far, holdings_so_far, is_moved, is_open_so_far, loaded, original_holding_so_far}
+use Rattle.soundness.specs.boot_laws.Loading.{original_so_far, originals_so_far, untyped_so_far}
 
 -- ---- lists of holdings
 
@@ -56,7 +59,8 @@ free-filter test of keep [] all = refl
 free-filter test of keep (x ∷ xs) all =
     let parts = and_parts (not (test (of x).1.capability)) (free test (map of xs)) all in
     let rest = free-filter test of keep xs parts.1 in
-    elim (keep x) as (λ b. free test (map of (if b then x ∷ filter keep xs else filter keep xs)) ≡ true) [ true ↦ ap (λ b. b && free test (map of (filter keep xs))) parts.0 ∙ rest | false ↦ rest ]
+    elim (keep x) as (λ b. free test (map of (if b then x ∷ filter keep xs else filter keep xs)) ≡ true)
+    [ true ↦ ap (λ b. b && free test (map of (filter keep xs))) parts.0 ∙ rest | false ↦ rest ]
 
 capability_of : Option Entry → Cap
 capability_of o = option_map_or (λ e. e.capability) o Empty
@@ -67,7 +71,8 @@ unfolding free
 free-find test [] slot empty all = empty
 free-find test (h ∷ hs) slot empty all =
     let parts = and_parts (not (test h.1.capability)) (free test hs) all in
-    elim (h.0 == slot) as (λ b. test (option_map_or (λ held. held) (option_map (λ g. g.1) (if b then Some h else find (λ g. g.0 == slot) hs)) empty_entry).capability ≡ false) [
+    elim (h.0 == slot) as (λ b.
+    test (option_map_or (λ held. held) (option_map (λ g. g.1) (if b then Some h else find (λ g. g.0 == slot) hs)) empty_entry).capability ≡ false) [
       | true ↦ un-not (test h.1.capability) parts.0
       | false ↦ free-find test hs slot empty parts.1
     ]
@@ -86,7 +91,8 @@ get-take (suc n) [] (suc k) x at = absurd cc
 get-take (suc n) (y ∷ ys) zero x at = (omega arith, at)
 get-take (suc n) (y ∷ ys) (suc k) x at = let rest = get-take n ys k x at in (omega (arith, rest.0), rest.1)
 
-get-enumerated : {A : Type 0} (from : ℕ) (xs : List A) (k : ℕ) (x : ℕ × A) → slice_get (enumerate_from from xs) k ≡ Some x → (x.0 ≡ from + k) × (slice_get xs k ≡ Some x.1)
+get-enumerated : {A : Type 0} (from : ℕ) (xs : List A) (k : ℕ) (x : ℕ × A) → slice_get (enumerate_from from xs) k ≡ Some x → (x.0 ≡ from + k)
+    × (slice_get xs k ≡ Some x.1)
 get-enumerated from [] zero x at = absurd cc
 get-enumerated from [] (suc k) x at = absurd cc
 get-enumerated {A} from (y ∷ ys) zero x at =
@@ -116,7 +122,8 @@ pub record NoneHolds (image : Image) (p : Progress) (test : Cap → Bool) : Type
   pub frame : (k : ℕ) (f : FrameEntry) → k < p.frames → slice_get image.frames k ≡ Some f → test (frame_holding image (k, f)).1.capability ≡ false
   pub signal : (k : ℕ) (i : InterruptEntry) → k < p.signals → slice_get image.interrupts k ≡ Some i → test (signalled image i) ≡ false
   pub listed : (k : ℕ) (c : CapabilityEntry) → k < p.capabilities → slice_get image.capabilities k ≡ Some c → test (listed_capability image c) ≡ false
-  pub cspace : (k : ℕ) (t : Thread) → k < p.threads → slice_get image.threads k ≡ Some t → test (with_payload (original image t.header.cnode) t.header.guard) ≡ false
+  pub cspace : (k : ℕ) (t : Thread) → k < p.threads → slice_get image.threads k ≡ Some t →
+      test (with_payload (original image t.header.cnode) t.header.guard) ≡ false
   pub vspace : (k : ℕ) (t : Thread) → k < p.threads → slice_get image.threads k ≡ Some t → test (original image t.header.root) ≡ false
 
 boot-free : (image : Image) (p : Progress) (test : Cap → Bool) → NoneHolds image p test → free test (boot_holdings_so_far image p) ≡ true
@@ -144,10 +151,12 @@ boot-free image p test none =
     (free-both test ((((us ++ os) ++ c) ++ hs) ++ fs) ns
     (free-both test (((us ++ os) ++ c) ++ hs) fs
     (free-both test ((us ++ os) ++ c) hs
-    (free-both test (us ++ os) c (free-both test us os u o) (free-more test (holding (control_slot image) InterruptControl None) [] none.control (free-none test)))
+    (free-both test (us ++ os) c (free-both test us os u o)
+    (free-more test (holding (control_slot image) InterruptControl None) [] none.control (free-none test)))
     h) f) n) b
 
-pub none-holds : (image : Image) (p : Progress) (test : Cap → Bool) → NoneHolds image p test → (slot : ℕ) → test (capability_at (loaded image p).slots slot) ≡ false
+pub none-holds : (image : Image) (p : Progress) (test : Cap → Bool) → NoneHolds image p test → (slot : ℕ) →
+    test (capability_at (loaded image p).slots slot) ≡ false
 unfolding loaded holdings_so_far capability_of
 none-holds image p test none slot =
     let boots = boot_holdings_so_far image p in
@@ -160,7 +169,8 @@ none-holds image p test none slot =
     free-more test _ _ (none.cspace k x early.0 early.1) (free-more test _ [] (none.vspace k x early.0 early.1) (free-none test))) in
     let all = free-both test (boots ++ ls) ts (free-both test boots ls (boot-free image p test none) l) t in
     let held = free-find test ((boots ++ ls) ++ ts) slot none.empty all in
-    elim (is_open_so_far image p slot) as (λ b. test (capability_of (if b then Some (option_map_or (λ h. h) (held_in ((boots ++ ls) ++ ts) slot) empty_entry) else None)) ≡ false) [
+    elim (is_open_so_far image p slot)
+    as (λ b. test (capability_of (if b then Some (option_map_or (λ h. h) (held_in ((boots ++ ls) ++ ts) slot) empty_entry) else None)) ≡ false) [
       | true ↦ held
       | false ↦ none.empty
     ]

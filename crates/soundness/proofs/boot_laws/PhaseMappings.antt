@@ -1,11 +1,13 @@
 -- Which capabilities of a state between two operations hold mappings: page tables by the table entries so far, frame copies, and no others.
-use Rattle.std.proofs.Common.{ℕ, zero, suc, ◌≡◌, ◌∙◌, ◌==◌, ◌<◌, ◌≤◌, ◌+◌, ◌*◌, ◌/◌, ◌%◌, ◌^◌, Bool, true, false, if◌then◌else◌, None, Some, Option, List, [], ◌∷◌, find, take, refl, sym, ap, subst, arith}
+use Rattle.std.proofs.Common.{ℕ, zero, suc, ◌≡◌, ◌∙◌, ◌==◌, ◌<◌, ◌≤◌, ◌+◌, ◌*◌, ◌/◌, ◌%◌, ◌^◌, Bool, true, false, if◌then◌else◌, None, Some, Option, List, []}
+use Rattle.std.proofs.Common.{◌∷◌, find, take, refl, sym, ap, subst, arith}
 use Rattle.std.specs.Prelude.{slice_get}
 use Rattle.std.specs.List.{list_any}
 use Rattle.std.specs.Option.{option_map_or}
 use Rattle.std.proofs.lemmas.Bool.{leb-false, or_parts}
 use Rattle.model.specs.declared.capabilities.Cap.{Cap}
-use Rattle.model.specs.declared.capabilities.Cap.TheVariants.{Empty, CNode, Endpoint, Frame, InterruptControl, InterruptHandler, Notification, PageTable, RootTable, Tcb, Untyped}
+use Rattle.model.specs.declared.capabilities.Cap.TheVariants.{Empty, CNode, Endpoint, Frame, InterruptControl, InterruptHandler, Notification, PageTable}
+use Rattle.model.specs.declared.capabilities.Cap.TheVariants.{RootTable, Tcb, Untyped}
 use Rattle.model.specs.declared.capabilities.TableMapping.{TableMapping}
 use Rattle.model.specs.declared.entries.CapabilityEntry.{CapabilityEntry}
 use Rattle.model.specs.declared.entries.InterruptEntry.{InterruptEntry}
@@ -15,7 +17,8 @@ use Rattle.model.specs.Images.Described.{limited, listed_capability, original, s
 use Rattle.model.specs.Images.Image.{Image, pair_key}
 use Rattle.model.specs.Images.Places.{interrupt_of, is_handler, offset_of, type_at}
 use Rattle.model.specs.Kernel.AddressSpaces.{page_size, region_pages, region_size}
-use Rattle.model.specs.Kernel.Retype.{NewObject, NewUntyped, NewThread, NewEndpoint, NewNotification, NewCNode, NewFrame, NewPageTable, NewRootTable, first_capability}
+use Rattle.model.specs.Kernel.Retype.{NewObject, NewUntyped, NewThread, NewEndpoint, NewNotification, NewCNode, NewFrame, NewPageTable, NewRootTable}
+use Rattle.model.specs.Kernel.Retype.{first_capability}
 use Rattle.soundness.specs.boot_laws.Loading.{Progress, original_so_far}
 use Rattle.soundness.proofs.boot_laws.CallOriginals.{original-described}
 use Rattle.format_laws.specs.Fitting.{IsFitting}
@@ -25,13 +28,15 @@ use Rattle.soundness.proofs.boot_laws.PlacesTypes.{HasType, has-type}
 -- ---- lists
 
 -- what is found in a beginning is one of its items
-pub find-item : {A : Type 0} (test : A → Bool) (xs : List A) (n : ℕ) (x : A) → find test (take n xs) ≡ Some x → (j : ℕ) × (j < n) × (slice_get xs j ≡ Some x) × (test x ≡ true)
+pub find-item : {A : Type 0} (test : A → Bool) (xs : List A) (n : ℕ) (x : A) → find test (take n xs) ≡ Some x → (j : ℕ) × (j < n) × (slice_get xs j ≡ Some x)
+    × (test x ≡ true)
 find-item test xs zero x is = absurd cc
 find-item test [] (suc n) x is = absurd cc
-find-item {A} test (y ∷ ys) (suc n) x is = elim (test y) as (λ b. test y ≡ b → (if b then Some y else find test (take n ys)) ≡ Some x → (j : ℕ) × (j < suc n) × (slice_get (y ∷ ys) j ≡ Some x) × (test x ≡ true)) [
-  | true ↦ λ passes found. let same : y ≡ x = cc found in (0, omega arith, found, subst (λ (z : A). test z ≡ true) same passes)
-  | false ↦ λ passes found. let rest = find-item test ys n x found in (suc rest.0, omega (arith, rest.1), rest.2, rest.3)
-] refl is
+find-item {A} test (y ∷ ys) (suc n) x is = elim (test y) as (λ b. test y ≡ b → (if b then Some y else find test (take n ys)) ≡ Some x → (j : ℕ) × (j < suc n)
+    × (slice_get (y ∷ ys) j ≡ Some x) × (test x ≡ true)) [
+      | true ↦ λ passes found. let same : y ≡ x = cc found in (0, omega arith, found, subst (λ (z : A). test z ≡ true) same passes)
+      | false ↦ λ passes found. let rest = find-item test ys n x found in (suc rest.0, omega (arith, rest.1), rest.2, rest.3)
+    ] refl is
 
 -- nothing is found where no item of a beginning passes
 pub find-none : {A : Type 0} (test : A → Bool) (xs : List A) → list_any test xs ≡ false → find test xs ≡ None
@@ -48,7 +53,8 @@ key-same a b c d first second = ap (λ (n : ℕ). n * 2 ^ 32 + b) first ∙ ap (
 
 -- multiples of a size are the same where their numbers are
 pub multiple-same : (a b size : ℕ) → 1 ≤ size → a % size ≡ 0 → b % size ≡ 0 → a / size ≡ b / size → a ≡ b
-multiple-same a b size least first second same = div-mod a ∙ ap (λ (n : ℕ). n * size + a % size) same ∙ ap (λ (n : ℕ). b / size * size + n) (first ∙ sym second) ∙ sym (div-mod b)
+multiple-same a b size least first second same = div-mod a ∙ ap (λ (n : ℕ). n * size + a % size) same ∙ ap (λ (n : ℕ). b / size * size + n) (first ∙ sym second)
+    ∙ sym (div-mod b)
   where
     div-mod : (n : ℕ) → n ≡ n / size * size + n % size
     div-mod n = grind (arith, least)
@@ -59,7 +65,8 @@ region-of-page a = omega arith
 -- ---- originals
 
 -- all but page tables
-pub unmapped-first : (kind : NewObject) (offset : ℕ) → is_table_type (Some kind) ≡ false → (m : Option TableMapping) → with_table_mapping (first_capability kind offset) m ≡ first_capability kind offset
+pub unmapped-first : (kind : NewObject) (offset : ℕ) → is_table_type (Some kind) ≡ false → (m : Option TableMapping) →
+    with_table_mapping (first_capability kind offset) m ≡ first_capability kind offset
 unmapped-first (NewUntyped size) offset b m = refl
 unmapped-first NewThread offset b m = refl
 unmapped-first NewPageTable offset b m = absurd cc
@@ -107,12 +114,14 @@ no-frame-mapped (InterruptHandler a) m = refl
 pub no-frame-original : (image : Image) (p : Progress) (number : ℕ) → frame_mapping (original_so_far image p number) ≡ None
 no-frame-original image p number =
     let first = option_map_or (λ kind. first_capability kind (offset_of image number)) (type_at image number) Empty in
-    let bare : frame_mapping first ≡ None = elim (type_at image number) as (λ o. frame_mapping (option_map_or (λ kind. first_capability kind (offset_of image number)) o Empty) ≡ None) [
+    let bare : frame_mapping first ≡ None = elim (type_at image number)
+    as (λ o. frame_mapping (option_map_or (λ kind. first_capability kind (offset_of image number)) o Empty) ≡ None) [
       | None ↦ refl
       | Some kind ↦ no-frame-first kind (offset_of image number)
     ] in
     elim (find (λ t. t.table == number) (take p.tables image.tables)) as
-    (λ o. frame_mapping (option_map_or (λ t. with_table_mapping first (Some (record { root = offset_of image t.root; region = t.address / page_size / region_pages }))) o first) ≡ None) [
+    (λ o. frame_mapping (option_map_or
+    (λ t. with_table_mapping first (Some (record { root = offset_of image t.root; region = t.address / page_size / region_pages }))) o first) ≡ None) [
       | None ↦ bare
       | Some t ↦ no-frame-mapped first _ ∙ bare
     ]
@@ -149,10 +158,13 @@ limited-frame (InterruptHandler a) bits payload = refl
 module _ (image : Image) (k : ℕ) (c : CapabilityEntry) (fits : IsFitting image) (kept : CapabilityKept image k c) where
   source-plain : (table_mapping (source_capability image c.source) ≡ None) × (frame_mapping (source_capability image c.source) ≡ None)
   source-plain = elim (is_handler image c.source) as (λ b. is_handler image c.source ≡ b
-      → (table_mapping (if b then option_map_or (λ i. InterruptHandler i.line) (slice_get image.interrupts (interrupt_of image c.source)) Empty else original image c.source) ≡ None)
-      × (frame_mapping (if b then option_map_or (λ i. InterruptHandler i.line) (slice_get image.interrupts (interrupt_of image c.source)) Empty else original image c.source) ≡ None)) [
+      → (table_mapping (if b then option_map_or (λ i. InterruptHandler i.line) (slice_get image.interrupts (interrupt_of image c.source)) Empty else
+      original image c.source) ≡ None)
+      × (frame_mapping (if b then option_map_or (λ i. InterruptHandler i.line) (slice_get image.interrupts (interrupt_of image c.source)) Empty else
+      original image c.source) ≡ None)) [
         | true ↦ λ is. elim (slice_get image.interrupts (interrupt_of image c.source)) as (λ (o : Option InterruptEntry).
-            (table_mapping (option_map_or (λ i. InterruptHandler i.line) o Empty) ≡ None) × (frame_mapping (option_map_or (λ i. InterruptHandler i.line) o Empty) ≡ None)) [
+            (table_mapping (option_map_or (λ i. InterruptHandler i.line) o Empty) ≡ None)
+            × (frame_mapping (option_map_or (λ i. InterruptHandler i.line) o Empty) ≡ None)) [
               | None ↦ (refl, refl)
               | Some i ↦ (refl, refl)
             ]
@@ -161,7 +173,8 @@ module _ (image : Image) (k : ℕ) (c : CapabilityEntry) (fits : IsFitting image
             let typed = has-type image c.source fits less in
             let kind = HasType.kind typed in
             let source_is : source_type image c.source ≡ Some kind = ap (λ b. if b then None else type_at image c.source) is ∙ HasType.is typed in
-            let first = original-described image c.source kind (HasType.is typed) (unmapped-first kind (offset_of image c.source) (ap is_table_type (sym source_is) ∙ kept.no_table)) in
+            let first = original-described image c.source kind (HasType.is typed)
+            (unmapped-first kind (offset_of image c.source) (ap is_table_type (sym source_is) ∙ kept.no_table)) in
             (ap table_mapping first ∙ no-table-first kind (offset_of image c.source), ap frame_mapping first ∙ no-frame-first kind (offset_of image c.source))
       ] refl
 

@@ -28,7 +28,8 @@ use Rattle.soundness.proofs.boot_laws.PhaseStates.{Known, capability-read, free-
 use Rattle.soundness.proofs.boot_laws.Readings.{entry, one_signal}
 use Rattle.soundness.proofs.boot_laws.RunSequences.{Leads, leads-both, leads-call}
 
-module _ (image : Image) (p : Progress) (i : InterruptEntry) (known : Known image p) (all : p.objects ≡ image.header.objects) (handled : p.handlers ≡ image.header.interrupts)
+module _ (image : Image) (p : Progress) (i : InterruptEntry) (known : Known image p) (all : p.objects ≡ image.header.objects)
+    (handled : p.handlers ≡ image.header.interrupts)
     (few : p.signals < image.header.interrupts) (at : slice_get image.interrupts p.signals ≡ Some i) where
   less : i.notification < image.header.objects
   less = (known.fits.interrupt p.signals i at).notification
@@ -95,13 +96,15 @@ module _ (image : Image) (p : Progress) (i : InterruptEntry) (known : Known imag
   binds : Binds between (handler_slot image p.signals) i.line copy_slot (offset_of image i.notification) endpoint_rights i.badge
   binds = record {
     inside = let enough = enough-slots image known.formed in rw (same-radix image p) (omega (arith, enough, few));
-    handles = capability-same (handler_slot image p.signals) (λ is. omega (arith, is, few)) ∙ capability-read image p (handler_slot image p.signals) _ (known.boot.handler p.signals i (omega (arith, few, handled)) at);
+    handles = capability-same (handler_slot image p.signals) (λ is. omega (arith, is, few))
+        ∙ capability-read image p (handler_slot image p.signals) _ (known.boot.handler p.signals i (omega (arith, few, handled)) at);
     copied = rw (same-radix image p) copy-below;
     holds = ap (λ (o : Option Entry). option_map_or (λ e. e.capability) o Empty) here;
     shallow = grandchild-shallow between_slots copy_slot (original_slot image i.notification) (object_at image i.notification).untyped
         (ap (λ (o : Option Entry). option_map_or (λ e. e.parent) o None) here)
         (parent-same (original_slot image i.notification) (λ is. omega (arith, is, less)) ∙ original-parent image p i.notification known all less still)
-        (parent-same (object_at image i.notification).untyped (λ is. omega (arith, is, untyped-less image p i.notification known all less)) ∙ untyped-root image p i.notification known all less);
+        (parent-same (object_at image i.notification).untyped (λ is. omega (arith, is, untyped-less image p i.notification known all less))
+        ∙ untyped-root image p i.notification known all less);
     writes = refl;
     free = ap (λ c. not (is_empty c)) (capability-same (line_slot (loaded image p).boot_radix i.line) (rw (same-radix image p) line-apart))
         ∙ free-read image p (line_slot (loaded image p).boot_radix i.line) (rw (same-radix image p) (known.empty.binding p.signals i (omega arith) at));

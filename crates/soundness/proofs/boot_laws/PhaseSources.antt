@@ -15,15 +15,18 @@ use Rattle.soundness.proofs.boot_laws.Readings.{Reads, entry}
 
 -- ---- one more slot filled
 
-pub inserted-here : (slots : Slots) (slot : ℕ) (capability : Cap) (parent : Option ℕ) → inserted slots slot capability parent slot ≡ Some (entry capability parent)
+pub inserted-here : (slots : Slots) (slot : ℕ) (capability : Cap) (parent : Option ℕ) →
+    inserted slots slot capability parent slot ≡ Some (entry capability parent)
 inserted-here slots slot capability parent = ap (λ b. if b then Some (entry capability parent) else slots slot) (eq-eqb slot slot refl)
 
-pub inserted-elsewhere : (slots : Slots) (slot : ℕ) (capability : Cap) (parent : Option ℕ) (other : ℕ) → other ≢ slot → inserted slots slot capability parent other ≡ slots other
+pub inserted-elsewhere : (slots : Slots) (slot : ℕ) (capability : Cap) (parent : Option ℕ) (other : ℕ) → other ≢ slot →
+    inserted slots slot capability parent other ≡ slots other
 inserted-elsewhere slots slot capability parent other apart = ap (λ b. if b then Some (entry capability parent) else slots other) (ne_eqb other slot apart)
 
 -- ---- originals
 
-module _ (image : Image) (p : Progress) (number : ℕ) (known : Known image p) (all : p.objects ≡ image.header.objects) (less : number < image.header.objects) where
+module _ (image : Image) (p : Progress) (number : ℕ) (known : Known image p) (all : p.objects ≡ image.header.objects)
+    (less : number < image.header.objects) where
   pub below-boot : original_slot image number < 2 ^ image.header.boot_radix
   below-boot = let enough = enough-slots image known.formed in omega (arith, enough, less)
 

@@ -10,7 +10,8 @@ use Rattle.model.specs.Kernel.State.{with_slots}
 use Rattle.soundness.specs.boot_laws.Loading.{Progress, bytes_so_far, holdings_so_far, is_open_so_far, loaded}
 use Rattle.format_laws.specs.Fitting.{IsFitting}
 use Rattle.soundness.proofs.boot_laws.PlacesRules.{AreFormed}
-use Rattle.soundness.proofs.boot_laws.Readings.{ReadsBoot, ReadsEmpty, ReadsRoom, ReadsObjects, AddsBoot, AddsRoom, Reads, one_capability, one_frame, one_handler, one_signal, one_table, slots_of_loaded}
+use Rattle.soundness.proofs.boot_laws.Readings.{ReadsBoot, ReadsEmpty, ReadsRoom, ReadsObjects, AddsBoot, AddsRoom, Reads, one_capability, one_frame}
+use Rattle.soundness.proofs.boot_laws.Readings.{one_handler, one_signal, one_table, slots_of_loaded}
 
 -- All that is known of a state between two operations.
 pub record Known (image : Image) (p : Progress) : Type 0 where

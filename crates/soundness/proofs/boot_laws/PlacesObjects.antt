@@ -1,5 +1,6 @@
 -- Where the objects of a well-formed image lie: inside their untypeds, after the boot area, and apart.
-use Rattle.std.proofs.Common.{ℕ, zero, suc, ◌≡◌, ◌≢◌, ◌∙◌, ◌==◌, ◌+◌, ◌*◌, ◌%◌, ◌^◌, ◌<◌, ◌≤◌, ◌⊎◌, inl, inr, true, false, if◌then◌else◌, take, pow_pos, Option, Some, None, refl, sym, ap, subst, arith}
+use Rattle.std.proofs.Common.{ℕ, zero, suc, ◌≡◌, ◌≢◌, ◌∙◌, ◌==◌, ◌+◌, ◌*◌, ◌%◌, ◌^◌, ◌<◌, ◌≤◌, ◌⊎◌, inl, inr, true, false, if◌then◌else◌, take, pow_pos, Option}
+use Rattle.std.proofs.Common.{Some, None, refl, sym, ap, subst, arith}
 use Rattle.std.specs.Prelude.{is_none, nat_le, slice_get}
 use Rattle.std.proofs.lemmas.Bool.{true≢false, cases_order, eqb-true, ltb-false, not-false, or_parts}
 use Rattle.std.proofs.lemmas.Bool.Decides.{eqb_tells}
@@ -20,7 +21,8 @@ use Rattle.soundness.proofs.NewPlaces.{laid}
 pub object-at : (image : Image) (number : ℕ) → IsFitting image → number < image.header.objects → slice_get image.objects number ≡ Some (object_at image number)
 object-at image number fitting less = slice_get-get_or image.objects number (record { untyped = 0; kind = 0; size = 0 }) (omega (arith, less, fitting.objects))
 
-pub untyped-at : (image : Image) (number : ℕ) → IsFitting image → number < image.header.untypeds → slice_get image.untypeds number ≡ Some (untyped_at image number)
+pub untyped-at : (image : Image) (number : ℕ) → IsFitting image → number < image.header.untypeds →
+    slice_get image.untypeds number ≡ Some (untyped_at image number)
 untyped-at image number fitting less = slice_get-get_or image.untypeds number (record { offset = 0; bits = 0 }) (omega (arith, less, fitting.untypeds))
 
 -- ---- untypeds
@@ -55,7 +57,8 @@ pub untypeds-apart : (image : Image) (j k : ℕ) → IsFitting image → AreForm
     → untyped_end (untyped_at image j) ≤ (untyped_at image k).offset
 untypeds-apart image j zero fitting formed less inside = absurd (omega (arith, less))
 untypeds-apart image j (suc k) fitting formed less inside =
-    let next : untyped_end (untyped_at image k) ≤ (untyped_at image (suc k)).offset = UntypedStands.behind (untyped-stands image (suc k) fitting formed inside) in
+    let next : untyped_end (untyped_at image k) ≤ (untyped_at image (suc k)).offset =
+    UntypedStands.behind (untyped-stands image (suc k) fitting formed inside) in
     elim (cases_order j k) [
       | inl same ↦ subst (λ n. untyped_end (untyped_at image n) ≤ (untyped_at image (suc k)).offset) (sym same) next
       | inr (inl below) ↦ let before = untypeds-apart image j k fitting formed below (omega (arith, inside)) in omega (arith, before, next)
@@ -112,7 +115,8 @@ object-stands image number fitting formed inside =
       behind = there.behind;
       ends = (let e = there.ends in omega (arith, e));
       fits = there.fits;
-      aligned = (let e : offset_of image number + 0 * size_at image number ≡ offset_of image number = omega arith in ap (λ (n : ℕ). n % size_at image number) (sym e) ∙ there.aligned 0);
+      aligned = (let e : offset_of image number + 0 * size_at image number ≡ offset_of image number = omega arith in
+          ap (λ (n : ℕ). n % size_at image number) (sym e) ∙ there.aligned 0);
     }
 
 -- after the boot area, and inside memory

@@ -1,5 +1,6 @@
 -- What the rules on a well-formed image say of each of its entries.
-use Rattle.std.proofs.Common.{ℕ, zero, suc, ◌≡◌, ◌∙◌, ◌==◌, ◌+◌, ◌%◌, ◌<◌, ◌&&◌, Bool, true, false, List, [], ◌∷◌, ◌++◌, map, Some, None, refl, ap, subst, arith}
+use Rattle.std.proofs.Common.{ℕ, zero, suc, ◌≡◌, ◌∙◌, ◌==◌, ◌+◌, ◌%◌, ◌<◌, ◌&&◌, Bool, true, false, List, [], ◌∷◌, ◌++◌, map, Some, None, refl, ap, subst}
+use Rattle.std.proofs.Common.{arith}
 use Rattle.std.specs.Prelude.{option_map, flat_map, nat_le, nat_lt, slice_get}
 use Rattle.std.specs.List.{enumerate_from, list_all, range_with_len}
 use Rattle.std.proofs.lemmas.Bool.{not-false, or_parts}
@@ -14,7 +15,10 @@ use Rattle.model.specs.declared.refusals.Refusal.TheVariants.{UntypedOverlap, No
 use Rattle.model.specs.Acceptance.Accepted.{AreKept, IsWellFormed}
 use Rattle.model.specs.Acceptance.Rules.{Rule, refuse_if}
 use Rattle.model.specs.Acceptance.ThreadRules.{has_guard, is_bad, is_code, is_in_use, program_end, rules_of_thread, shares_cspace, shares_vspace, thread_rules}
-use Rattle.model.specs.Acceptance.WellFormed.{are_frame_rights, capability_rules, content_rule, does_not_fit, frame_rules, has_no_room, has_slot, has_writable_code, is_address, is_covered, is_frame_type, is_listed_before, is_mapped_before, is_root_type, is_table_type, is_thread_type, is_untyped_type, mapping_rules, may_have, misplaces_frame, misplaces_table, object_rules, overlaps, signals_nothing, source_type, too_few_boot_slots}
+use Rattle.model.specs.Acceptance.WellFormed.{are_frame_rights, capability_rules, content_rule, does_not_fit, frame_rules, has_no_room, has_slot}
+use Rattle.model.specs.Acceptance.WellFormed.{has_writable_code, is_address, is_covered, is_frame_type, is_listed_before, is_mapped_before, is_root_type}
+use Rattle.model.specs.Acceptance.WellFormed.{is_table_type, is_thread_type, is_untyped_type, mapping_rules, may_have, misplaces_frame, misplaces_table}
+use Rattle.model.specs.Acceptance.WellFormed.{object_rules, overlaps, signals_nothing, source_type, too_few_boot_slots}
 use Rattle.model.specs.Images.Described.{Numbered, numbered, numbered_threads}
 use Rattle.model.specs.Images.Fills.{program_pages}
 use Rattle.model.specs.Images.Image.{Image, ImageContent, Thread}
@@ -75,7 +79,8 @@ range-from from (suc count) (suc k) less = range-from (from + 1) count k (omega 
 pub range-at : (count k : ℕ) → k < count → slice_get (range_with_len 0 count) k ≡ Some k
 range-at count k less = range-from 0 count k less ∙ ap (λ (n : ℕ). Some n) (omega arith)
 
-pub thread-at : (image : Image) (k : ℕ) (t : Thread) → slice_get image.threads k ≡ Some t → slice_get (numbered_threads image) k ≡ Some (record { number = k; thread = t })
+pub thread-at : (image : Image) (k : ℕ) (t : Thread) → slice_get image.threads k ≡ Some t →
+    slice_get (numbered_threads image) k ≡ Some (record { number = k; thread = t })
 thread-at image k t at =
     slice_get-map (λ t. let n : Numbered = record { number = t.0; thread = t.1 } in n) (numbered image.threads) k
     ∙ ap (option_map (λ t. let n : Numbered = record { number = t.0; thread = t.1 } in n)) (numbered-at image.threads k t at)
@@ -192,14 +197,26 @@ are-formed image formed =
     let of_thread = λ (k : ℕ) (t : Thread) (at : slice_get image.threads k ≡ Some t).
     kept-of (rules_of_thread image) (numbered_threads image) formed.threads k (record { number = k; thread = t }) (thread-at image k t at) in
     record {
-      untyped = λ k u at. not-refused _ _ (kept-one (λ u. refuse_if (overlaps image u) (UntypedOverlap u.0)) (numbered image.untypeds) (kept-before untypeds rooms places) k (k, u) (numbered-at image.untypeds k u at));
-      room = λ k less. not-refused _ _ (kept-one (λ number. refuse_if (has_no_room image number) (NoRoom number)) (range_with_len 0 image.header.objects) (kept-behind untypeds rooms places) k k (range-at image.header.objects k less));
-      boot_slots = not-refused _ _ (kept-head (refuse_if (too_few_boot_slots image) (BadObject image.header.objects)) [] (kept-behind (untypeds ++ rooms) few formed.objects));
-      capability = λ k c at. capability-kept image k c (not-refused _ _ (kept-one (λ c. refuse_if (does_not_fit image c) (BadCap c.0)) (numbered image.capabilities) (kept-before capabilities _ formed.capabilities) k (k, c) (numbered-at image.capabilities k c at)));
-      interrupt = λ k i at. not-refused _ _ (kept-one (λ i. refuse_if (signals_nothing image i.1) (BadCap (image.header.capabilities + i.0))) (numbered image.interrupts) (kept-behind capabilities _ formed.capabilities) k (k, i) (numbered-at image.interrupts k i at));
-      table = λ k t at. table-kept image k t (not-refused _ _ (kept-one (λ t. refuse_if (misplaces_table image t) (BadMapping t.0)) (numbered image.tables) (kept-before tables frames maps) k (k, t) (numbered-at image.tables k t at)));
+      untyped = λ k u at. not-refused _ _ (kept-one (λ u. refuse_if (overlaps image u) (UntypedOverlap u.0)) (numbered image.untypeds)
+          (kept-before untypeds rooms places) k (k, u) (numbered-at image.untypeds k u at));
+      room = λ k less. not-refused _ _ (kept-one (λ number. refuse_if (has_no_room image number) (NoRoom number)) (range_with_len 0 image.header.objects)
+          (kept-behind untypeds rooms places) k k (range-at image.header.objects k less));
+      boot_slots = not-refused _ _ (kept-head (refuse_if (too_few_boot_slots image) (BadObject image.header.objects)) []
+          (kept-behind (untypeds ++ rooms) few formed.objects));
+      capability = λ k c at. capability-kept image k c
+          (not-refused _ _ (kept-one (λ c. refuse_if (does_not_fit image c) (BadCap c.0)) (numbered image.capabilities)
+          (kept-before capabilities _ formed.capabilities) k (k, c) (numbered-at image.capabilities k c at)));
+      interrupt = λ k i at.
+          not-refused _ _ (kept-one (λ i. refuse_if (signals_nothing image i.1) (BadCap (image.header.capabilities + i.0))) (numbered image.interrupts)
+          (kept-behind capabilities _ formed.capabilities) k (k, i) (numbered-at image.interrupts k i at));
+      table = λ k t at. table-kept image k t
+          (not-refused _ _ (kept-one (λ t. refuse_if (misplaces_table image t) (BadMapping t.0)) (numbered image.tables) (kept-before tables frames maps) k
+          (k, t) (numbered-at image.tables k t at)));
       frame = λ k f at. frame-kept image k f (not-refused _ _ (of_frame k f at 0 None (omega arith))) (not-refused _ _ (of_frame k f at 1 None (omega arith)));
-      content = λ k c at. not-false _ (not-refused _ _ (kept-one (content_rule image) (numbered image.contents) (kept-behind (tables ++ frames) _ formed.mappings) k (k, c) (numbered-at image.contents k c at)));
+      content = λ k c at. not-false _
+          (not-refused _ _ (kept-one (content_rule image) (numbered image.contents) (kept-behind (tables ++ frames) _ formed.mappings) k (k, c)
+          (numbered-at image.contents k c at)));
       thread = λ k t at.
-          thread-kept image k t (not-refused _ _ (of_thread k t at 0 None (omega arith))) (not-refused _ _ (of_thread k t at 1 None (omega arith))) (not-refused _ _ (of_thread k t at 2 None (omega arith)));
+          thread-kept image k t (not-refused _ _ (of_thread k t at 0 None (omega arith))) (not-refused _ _ (of_thread k t at 1 None (omega arith)))
+          (not-refused _ _ (of_thread k t at 2 None (omega arith)));
     }

@@ -15,7 +15,8 @@ use Rattle.model.specs.Images.Described.{is_object_slot}
 use Rattle.model.specs.Images.Image.{Image}
 use Rattle.model.specs.Images.Places.{bits_of, boot_slots, cnode_slot, object_at, offset_of, type_at}
 use Rattle.model.specs.Kernel.Removal.{slot_count}
-use Rattle.model.specs.Kernel.Retype.{NewObject, NewUntyped, NewThread, NewEndpoint, NewNotification, NewCNode, NewFrame, NewPageTable, NewRootTable, object, object_bits}
+use Rattle.model.specs.Kernel.Retype.{NewObject, NewUntyped, NewThread, NewEndpoint, NewNotification, NewCNode, NewFrame, NewPageTable, NewRootTable, object}
+use Rattle.model.specs.Kernel.Retype.{object_bits}
 use Rattle.model.specs.Kernel.State.{boot_area_slots, cspace_slot, slot_of, vspace_slot}
 
 -- a multiple of a power of two is one of each lower power
@@ -37,7 +38,8 @@ module _ (image : Image) (fitting : IsFitting image) (formed : AreFormed image) 
   pub offset-whole : (number : ℕ) → number < image.header.objects → offset_of image number % 16 ≡ 0
   offset-whole number less =
       let typed = has-type image number fitting less in
-      let bits : 4 ≤ bits_of (object_at image number) = (let four = four-bits typed.kind typed.large in let same = bits-type image number typed in omega (arith, four, same)) in
+      let bits : 4 ≤ bits_of (object_at image number) =
+      (let four = four-bits typed.kind typed.large in let same = bits-type image number typed in omega (arith, four, same)) in
       lower-power (offset_of image number) 4 (bits_of (object_at image number)) bits (ObjectStands.aligned (object-stands image number fitting formed less))
 
   -- the 16 bytes of a slot lie in its object
@@ -54,7 +56,8 @@ module _ (image : Image) (fitting : IsFitting image) (formed : AreFormed image) 
       let high : slot < offset_of image number / 16 + 0 + slot_count (option_and_then object (type_at image number)) = bounds.1 in
       (omega (arith, low, whole), omega (arith, high, count, whole, room, size))
 
-  pub slot-behind-boot : (number slot : ℕ) → number < image.header.objects → is_object_slot image slot number ≡ true → boot_area_slots image.header.boot_radix ≤ slot
+  pub slot-behind-boot : (number slot : ℕ) → number < image.header.objects → is_object_slot image slot number ≡ true →
+      boot_area_slots image.header.boot_radix ≤ slot
   slot-behind-boot number slot less is =
       let inside = slot-inside number slot less is in
       let bounds = object-bounds image number (object-stands image number fitting formed less) in
@@ -67,7 +70,8 @@ module _ (image : Image) (fitting : IsFitting image) (formed : AreFormed image) 
       omega (arith, inside, bounds)
 
   -- a slot is one object's
-  pub slot-of-one : (i j slot : ℕ) → i < image.header.objects → j < image.header.objects → is_object_slot image slot i ≡ true → is_object_slot image slot j ≡ true → i ≡ j
+  pub slot-of-one : (i j slot : ℕ) → i < image.header.objects → j < image.header.objects → is_object_slot image slot i ≡ true →
+      is_object_slot image slot j ≡ true → i ≡ j
   slot-of-one i j slot inside_i inside_j one two = elim (eqb_tells i j) [
     | inl equal ↦ equal.1
     | inr other ↦

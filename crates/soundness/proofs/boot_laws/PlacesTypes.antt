@@ -9,7 +9,8 @@ use Rattle.soundness.proofs.boot_laws.PlacesObjects.{object-at}
 use Rattle.model.specs.Images.Image.{Image, between, size_fits}
 use Rattle.model.specs.Images.Places.{object_at}
 use Rattle.model.specs.Kernel.Removal.{slot_count}
-use Rattle.model.specs.Kernel.Retype.{NewObject, NewUntyped, NewThread, NewEndpoint, NewNotification, NewCNode, NewFrame, NewPageTable, NewRootTable, is_large_enough, is_small_enough, object, object_bits, type_of}
+use Rattle.model.specs.Kernel.Retype.{NewObject, NewUntyped, NewThread, NewEndpoint, NewNotification, NewCNode, NewFrame, NewPageTable, NewRootTable}
+use Rattle.model.specs.Kernel.Retype.{is_large_enough, is_small_enough, object, object_bits, type_of}
 
 pub record HasType (o : ObjectEntry) : Type 0 where
   pub kind : NewObject

@@ -7,7 +7,8 @@ use Rattle.model.specs.declared.entries.ObjectEntry.{ObjectEntry}
 use Rattle.model.specs.Capabilities.Placement.{align, place_of_object}
 use Rattle.model.specs.Images.Places.{bits_of, used_by}
 
-fold-more : {A B : Type 0} (f : B → A → B) (b : B) (xs : List A) (n : ℕ) (x : A) → slice_get xs n ≡ Some x → fold f b (take (suc n) xs) ≡ f (fold f b (take n xs)) x
+fold-more : {A B : Type 0} (f : B → A → B) (b : B) (xs : List A) (n : ℕ) (x : A) → slice_get xs n ≡ Some x →
+    fold f b (take (suc n) xs) ≡ f (fold f b (take n xs)) x
 fold-more f b [] n x at = absurd (none-some x at)
 fold-more f b (y ∷ ys) zero x at = ap (f b) (same_Some y x at)
 fold-more f b (y ∷ ys) (suc n) x at = fold-more f (f b y) ys n x at

@@ -1,5 +1,6 @@
 -- Untyped memory and interrupt control are put into boot slots: what is there before the first kernel call.
-use Rattle.std.proofs.Common.{ℕ, zero, suc, ◌≡◌, ◌∙◌, ◌==◌, ◌+◌, ◌%◌, ◌^◌, ◌<◌, ◌≤◌, ◌&&◌, ◌||◌, Bool, true, false, not, nat_le, nat_lt, if◌then◌else◌, Some, None, List, [], ◌∷◌, ◌++◌, map, take, length, option_map, refl, sym, ap, subst, arith}
+use Rattle.std.proofs.Common.{ℕ, zero, suc, ◌≡◌, ◌∙◌, ◌==◌, ◌+◌, ◌%◌, ◌^◌, ◌<◌, ◌≤◌, ◌&&◌, ◌||◌, Bool, true, false, not, nat_le, nat_lt, if◌then◌else◌, Some}
+use Rattle.std.proofs.Common.{None, List, [], ◌∷◌, ◌++◌, map, take, length, option_map, refl, sym, ap, subst, arith}
 use Rattle.std.specs.Prelude.{flat_map, slice_get}
 use Rattle.std.specs.Option.{option_map_or}
 use Rattle.std.proofs.lemmas.Bool.{and_from, eq-eqb, le-leb, le-ltb}
@@ -76,7 +77,8 @@ module _ (image : Image) (fitting : IsFitting image) (formed : AreFormed image) 
     behind-all : holds_some (states k) (λ capability. nat_lt u.offset (end_of capability)) ≡ false
     behind-all =
         none-held (states k) (λ capability. nat_lt u.offset (end_of capability))
-        (λ slot. none-boot (λ capability. nat_lt u.offset (end_of capability)) image.header.boot_radix (puts k) slot (le-ltb u.offset 0 (omega arith)) ends-before)
+        (λ slot. none-boot (λ capability. nat_lt u.offset (end_of capability)) image.header.boot_radix (puts k) slot (le-ltb u.offset 0 (omega arith))
+        ends-before)
 
     may-stand : may_be_untyped (states k) u.offset u.bits ≡ true
     may-stand =
@@ -88,7 +90,8 @@ module _ (image : Image) (fitting : IsFitting image) (formed : AreFormed image) 
         let d = and_from (nat_le 4 u.bits && nat_le u.bits 24 && (u.offset % size == 0) && nat_le (u.offset + size) (2 ^ image.header.memory_bits))
         (nat_le (boot_area_end image.header.boot_radix) u.offset) c (le-leb (boot_area_end image.header.boot_radix) u.offset stands.behind_boot) in
         and_from (nat_le 4 u.bits && nat_le u.bits 24 && (u.offset % size == 0) && nat_le (u.offset + size) (2 ^ image.header.memory_bits)
-        && nat_le (boot_area_end image.header.boot_radix) u.offset) (not (holds_some (states k) (λ capability. nat_lt u.offset (end_of capability)))) d (ap not behind-all)
+        && nat_le (boot_area_end image.header.boot_radix) u.offset) (not (holds_some (states k) (λ capability. nat_lt u.offset (end_of capability)))) d
+        (ap not behind-all)
 
     numbered-here : slice_get (numbered image.untypeds) k ≡ Some (k, u)
     numbered-here = numbered-at image.untypeds k u (untyped-at image k fitting inside)
@@ -114,9 +117,11 @@ module _ (image : Image) (fitting : IsFitting image) (formed : AreFormed image) 
 
   -- ---- all of them
 
-  untyped-leads : (k : ℕ) (x : ℕ × UntypedEntry) → slice_get (numbered image.untypeds) k ≡ Some x → Leads image (states k) (PutsUntyped x.0 x.1 ∷ []) (states (suc k))
+  untyped-leads : (k : ℕ) (x : ℕ × UntypedEntry) → slice_get (numbered image.untypeds) k ≡ Some x →
+      Leads image (states k) (PutsUntyped x.0 x.1 ∷ []) (states (suc k))
   untyped-leads k x at =
-      let inside : k < image.header.untypeds = subst (λ (n : ℕ). k < n) fitting.untypeds (slice_get_within image.untypeds k x.1 (numbered-back image.untypeds k x at).1) in
+      let inside : k < image.header.untypeds = subst (λ (n : ℕ). k < n) fitting.untypeds
+      (slice_get_within image.untypeds k x.1 (numbered-back image.untypeds k x at).1) in
       subst (λ (y : ℕ × UntypedEntry). Leads image (states k) (PutsUntyped y.0 y.1 ∷ []) (states (suc k))) (sym (entry-named k x at))
       (leads-untyped image (states k) (states (suc k)) k (untyped_at image k) (put-here k inside))
 
@@ -128,8 +133,10 @@ module _ (image : Image) (fitting : IsFitting image) (formed : AreFormed image) 
 
   all-lead : Leads image (states 0) (map (λ x. PutsUntyped x.0 x.1) (numbered image.untypeds)) with_all
   all-lead =
-      leads-same image (states 0) with_all (flat_map (λ x. PutsUntyped x.0 x.1 ∷ []) (numbered image.untypeds)) _ (one-each (λ x. PutsUntyped x.0 x.1) (numbered image.untypeds))
-      (leads-to image (states 0) (states (0 + length (numbered image.untypeds))) with_all (flat_map (λ x. PutsUntyped x.0 x.1 ∷ []) (numbered image.untypeds)) ended
+      leads-same image (states 0) with_all (flat_map (λ x. PutsUntyped x.0 x.1 ∷ []) (numbered image.untypeds)) _
+      (one-each (λ x. PutsUntyped x.0 x.1) (numbered image.untypeds))
+      (leads-to image (states 0) (states (0 + length (numbered image.untypeds))) with_all (flat_map (λ x. PutsUntyped x.0 x.1 ∷ []) (numbered image.untypeds))
+      ended
       (leads-each image (λ x. PutsUntyped x.0 x.1 ∷ []) states (numbered image.untypeds) 0 (λ k x at.
       let here : k ≡ 0 + k = omega arith in
       subst (λ (n : ℕ). Leads image (states n) (PutsUntyped x.0 x.1 ∷ []) (states (suc n))) here (untyped-leads k x at))))
@@ -137,7 +144,8 @@ module _ (image : Image) (fitting : IsFitting image) (formed : AreFormed image) 
       ended : states (0 + length (numbered image.untypeds)) ≡ with_all
       ended =
           let count : 0 + length (numbered image.untypeds) ≡ length (numbered image.untypeds) = omega arith in
-          ap states count ∙ ap (λ xs. booted_with image.header.memory_bits image.header.boot_radix (map fresh xs)) (take-whole (length (numbered image.untypeds)) (numbered image.untypeds) refl)
+          ap states count ∙ ap (λ xs. booted_with image.header.memory_bits image.header.boot_radix (map fresh xs))
+          (take-whole (length (numbered image.untypeds)) (numbered image.untypeds) refl)
 
   -- ---- interrupt control
 
@@ -175,9 +183,11 @@ module _ (image : Image) (fitting : IsFitting image) (formed : AreFormed image) 
   unfolding holdings_so_far
   holdings-first =
       no-others (map (untyped_so_far image nothing_loaded) (numbered image.untypeds)) (holding (control_slot image) InterruptControl None ∷ [])
-      ∙ (λ i. map (λ u. holding u.0 (Untyped (u.1).offset (u.1).bits (unused u.0 i)) None) (numbered image.untypeds) ++ holding (control_slot image) InterruptControl None ∷ [])
+      ∙ (λ i. map (λ u. holding u.0 (Untyped (u.1).offset (u.1).bits (unused u.0 i)) None) (numbered image.untypeds)
+      ++ holding (control_slot image) InterruptControl None ∷ [])
 
-  slot-first : (slot : ℕ) → boot_slots_with image.header.boot_radix (all_puts ++ holding (control_slot image) InterruptControl None ∷ []) slot ≡ slots_so_far image nothing_loaded slot
+  slot-first : (slot : ℕ) → boot_slots_with image.header.boot_radix (all_puts ++ holding (control_slot image) InterruptControl None ∷ []) slot ≡ slots_so_far
+      image nothing_loaded slot
   unfolding is_open_so_far
   slot-first slot = λ i.
       if or-false (nat_lt slot (boot_area_slots image.header.boot_radix)) i
@@ -204,12 +214,14 @@ module _ (image : Image) (fitting : IsFitting image) (formed : AreFormed image) 
   states-sound : IsSound (states 0) → (k : ℕ) → k ≤ image.header.untypeds → IsSound (states k)
   states-sound sound zero less = sound
   states-sound sound (suc k) less =
-      put_untyped-whole (states k) (states (suc k)) k (untyped_at image k).offset (untyped_at image k).bits (states-sound sound k (omega (arith, less))) (put-here k less)
+      put_untyped-whole (states k) (states (suc k)) k (untyped_at image k).offset (untyped_at image k).bits (states-sound sound k (omega (arith, less)))
+      (put-here k less)
 
   pub puts-sound : IsSound (boot_area image.header.memory_bits image.header.boot_radix) → IsSound (loaded image nothing_loaded)
   puts-sound sound =
       let first = subst IsSound (booted-first image.header.memory_bits image.header.boot_radix) sound in
       let all = states-sound first image.header.untypeds (omega arith) in
       let with_them : states image.header.untypeds ≡ with_all =
-      ap (λ xs. booted_with image.header.memory_bits image.header.boot_radix (map fresh xs)) (take-whole image.header.untypeds (numbered image.untypeds) (length-numbered 0 image.untypeds ∙ fitting.untypeds)) in
+      ap (λ xs. booted_with image.header.memory_bits image.header.boot_radix (map fresh xs))
+      (take-whole image.header.untypeds (numbered image.untypeds) (length-numbered 0 image.untypeds ∙ fitting.untypeds)) in
       subst IsSound control-loaded (control-whole with_all with_control (control_slot image) (subst IsSound with_them all) control-put)

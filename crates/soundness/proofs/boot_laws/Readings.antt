@@ -15,7 +15,8 @@ use Rattle.model.specs.Capabilities.Rights.{frame_rights, mapping_rights}
 use Rattle.model.specs.Capabilities.Slots.{Slots, empty_entry, inserted, recapped, relocated}
 use Rattle.model.specs.Images.Described.{listed_capability, original, signalled}
 use Rattle.model.specs.Images.Image.{Image, Thread}
-use Rattle.model.specs.Images.Places.{cnode_slot, control_slot, frame_copy_slot, handler_slot, notification_copy_slot, object_at, offset_of, original_slot, source_slot, type_at, untyped_at}
+use Rattle.model.specs.Images.Places.{cnode_slot, control_slot, frame_copy_slot, handler_slot, notification_copy_slot, object_at, offset_of, original_slot}
+use Rattle.model.specs.Images.Places.{source_slot, type_at, untyped_at}
 use Rattle.model.specs.Kernel.AddressSpaces.{page_size, region_pages}
 use Rattle.model.specs.Kernel.State.{cspace_slot, line_slot, vspace_slot}
 
@@ -49,7 +50,8 @@ pub record ReadsBoot (image : Image) (p : Progress) : Type 0 where
   pub handler : (k : ℕ) (i : InterruptEntry) → k < p.handlers → slice_get image.interrupts k ≡ Some i
       → Reads image p (handler_slot image k) (entry (InterruptHandler i.line) (Some (control_slot image)))
   pub frame : (k : ℕ) (f : FrameEntry) → k < p.frames → slice_get image.frames k ≡ Some f
-      → Reads image p (frame_copy_slot image k) (entry (Frame (offset_of image f.frame) frame_rights (Some (mapping_of image f))) (Some (original_slot image f.frame)))
+      → Reads image p (frame_copy_slot image k)
+      (entry (Frame (offset_of image f.frame) frame_rights (Some (mapping_of image f))) (Some (original_slot image f.frame)))
   pub notification : (k : ℕ) (i : InterruptEntry) → k < p.signals → slice_get image.interrupts k ≡ Some i
       → Reads image p (notification_copy_slot image k) (entry (signalled image i) (Some (original_slot image i.notification)))
   pub binding : (k : ℕ) (i : InterruptEntry) → k < p.signals → slice_get image.interrupts k ≡ Some i

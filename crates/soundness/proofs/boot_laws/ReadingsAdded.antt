@@ -25,19 +25,23 @@ other-handler : (image : Image) (p : Progress) (i : InterruptEntry) (s : ℕ) �
     → held_in (holdings_so_far image (one_handler p)) s ≡ held_in (holdings_so_far image p) s
 unfolding holdings_so_far
 other-handler image p i s at other =
-    let one = mapped-more (handler_holding image) (numbered image.interrupts) p.handlers (p.handlers, i) s (numbered-at image.interrupts p.handlers i at) (λ same. other (sym same)) in
+    let one = mapped-more (handler_holding image) (numbered image.interrupts) p.handlers (p.handlers, i) s (numbered-at image.interrupts p.handlers i at)
+    (λ same. other (sym same)) in
     held-in-first _ _ (threads_part image p) s (held-in-first _ _ (listed_part image p) s (held-in-first _ _ (bindings_part image p) s
-    (held-in-first _ _ (notifications_part image p) s (held-in-first _ _ (frames_part image p) s (held-in-rest _ (handlers_part image (one_handler p)) (handlers_part image p) s one)))))
+    (held-in-first _ _ (notifications_part image p) s
+    (held-in-first _ _ (frames_part image p) s (held-in-rest _ (handlers_part image (one_handler p)) (handlers_part image p) s one)))))
 
 other-frame : (image : Image) (p : Progress) (f : FrameEntry) (s : ℕ) → slice_get image.frames p.frames ≡ Some f → s ≢ frame_copy_slot image p.frames
     → held_in (holdings_so_far image (one_frame p)) s ≡ held_in (holdings_so_far image p) s
 unfolding holdings_so_far
 other-frame image p f s at other =
-    let one = mapped-more (frame_holding image) (numbered image.frames) p.frames (p.frames, f) s (numbered-at image.frames p.frames f at) (λ same. other (sym same)) in
+    let one = mapped-more (frame_holding image) (numbered image.frames) p.frames (p.frames, f) s (numbered-at image.frames p.frames f at)
+    (λ same. other (sym same)) in
     held-in-first _ _ (threads_part image p) s (held-in-first _ _ (listed_part image p) s (held-in-first _ _ (bindings_part image p) s
     (held-in-first _ _ (notifications_part image p) s (held-in-rest _ (frames_part image (one_frame p)) (frames_part image p) s one))))
 
-other-signal : (image : Image) (p : Progress) (i : InterruptEntry) (s : ℕ) → slice_get image.interrupts p.signals ≡ Some i → s ≢ notification_copy_slot image p.signals
+other-signal : (image : Image) (p : Progress) (i : InterruptEntry) (s : ℕ) → slice_get image.interrupts p.signals ≡ Some i →
+    s ≢ notification_copy_slot image p.signals
     → s ≢ line_slot image.header.boot_radix i.line → held_in (holdings_so_far image (one_signal p)) s ≡ held_in (holdings_so_far image p) s
 unfolding holdings_so_far
 other-signal image p i s at one two =
@@ -50,7 +54,8 @@ other-signal image p i s at one two =
 
 -- ---- one more
 
-pub within-handler : (image : Image) (p : Progress) (i : InterruptEntry) → IsFitting image → IsWithin image p → slice_get image.interrupts p.handlers ≡ Some i → IsWithin image (one_handler p)
+pub within-handler : (image : Image) (p : Progress) (i : InterruptEntry) → IsFitting image → IsWithin image p → slice_get image.interrupts p.handlers ≡ Some i →
+    IsWithin image (one_handler p)
 within-handler image p i fitting within at = let less = slice_get_within image.interrupts p.handlers i at in record {
   objects = within.objects;
   handlers = omega (arith, less, fitting.interrupts);
@@ -61,7 +66,8 @@ within-handler image p i fitting within at = let less = slice_get_within image.i
   threads = within.threads;
 }
 
-pub within-frame : (image : Image) (p : Progress) (f : FrameEntry) → IsFitting image → IsWithin image p → slice_get image.frames p.frames ≡ Some f → IsWithin image (one_frame p)
+pub within-frame : (image : Image) (p : Progress) (f : FrameEntry) → IsFitting image → IsWithin image p → slice_get image.frames p.frames ≡ Some f →
+    IsWithin image (one_frame p)
 within-frame image p f fitting within at = let less = slice_get_within image.frames p.frames f at in record {
   objects = within.objects;
   handlers = within.handlers;
@@ -72,7 +78,8 @@ within-frame image p f fitting within at = let less = slice_get_within image.fra
   threads = within.threads;
 }
 
-pub within-signal : (image : Image) (p : Progress) (i : InterruptEntry) → IsFitting image → IsWithin image p → slice_get image.interrupts p.signals ≡ Some i → IsWithin image (one_signal p)
+pub within-signal : (image : Image) (p : Progress) (i : InterruptEntry) → IsFitting image → IsWithin image p → slice_get image.interrupts p.signals ≡ Some i →
+    IsWithin image (one_signal p)
 within-signal image p i fitting within at = let less = slice_get_within image.interrupts p.signals i at in record {
   objects = within.objects;
   handlers = within.handlers;

@@ -17,7 +17,8 @@ use Rattle.soundness.proofs.boot_laws.PlacesSlots.{boot-slots-suffice}
 use Rattle.soundness.proofs.boot_laws.Readings.{IsWithin, Reads, ReadsBoot, ReadsEmpty, entry, mapping_of}
 use Rattle.soundness.proofs.boot_laws.ReadingsLists.{held-here, mapped-at, mapped-none, numbered-back, range-kept, range-none}
 use Rattle.soundness.proofs.boot_laws.ReadingsOpen.{open-low, read-open, shown}
-use Rattle.soundness.proofs.boot_laws.ReadingsSections.{frames-none, handlers-none, notifications-none, originals-none, read-binding, read-control, read-frame, read-handler, read-notification, read-original, read-untyped}
+use Rattle.soundness.proofs.boot_laws.ReadingsSections.{frames-none, handlers-none, notifications-none, originals-none, read-binding, read-control, read-frame}
+use Rattle.soundness.proofs.boot_laws.ReadingsSections.{read-handler, read-notification, read-original, read-untyped}
 use Rattle.soundness.specs.boot_laws.Loading.{Progress, holdings_so_far, is_moved, original_holding_so_far, original_so_far, untyped_so_far}
 use Rattle.model.specs.Images.Described.{binding_holding, frame_holding, handler_holding, held_in, holding, notification_holding, numbered, signalled}
 use Rattle.model.specs.Images.Image.{Image}
@@ -50,15 +51,18 @@ module _ (image : Image) (fitting : IsFitting image) (formed : AreFormed image) 
       let objects = within.objects in
       boot-reads (original_slot image number) (Some (original_holding_so_far image p number).1) (omega (arith, less, objects, room))
       (read-original image fitting formed p within (original_slot image number) (omega arith) (omega (arith, less, objects))
-      ∙ range-kept (original_holding_so_far image p) image.header.untypeds (λ n. refl) (λ n. not (is_moved image p n)) 0 p.objects number (omega arith) (omega (arith, less)) (kept-number number stays))
+      ∙ range-kept (original_holding_so_far image p) image.header.untypeds (λ n. refl) (λ n. not (is_moved image p n)) 0 p.objects number (omega arith)
+      (omega (arith, less)) (kept-number number stays))
 
   reads-control : Reads image p (control_slot image) (entry InterruptControl None)
   reads-control =
       let room = boot-slots-suffice image fitting formed in
       boot-reads (control_slot image) (Some (entry InterruptControl None)) (omega (arith, room))
-      (read-control image fitting formed p within (control_slot image) refl ∙ held-here (holding (control_slot image) InterruptControl None) [] (control_slot image) refl)
+      (read-control image fitting formed p within (control_slot image) refl
+      ∙ held-here (holding (control_slot image) InterruptControl None) [] (control_slot image) refl)
 
-  handler-keys : (k : ℕ) (j : ℕ) (y : ℕ × InterruptEntry) → j < k → slice_get (numbered image.interrupts) j ≡ Some y → (handler_holding image y).0 ≢ handler_slot image k
+  handler-keys : (k : ℕ) (j : ℕ) (y : ℕ × InterruptEntry) → j < k → slice_get (numbered image.interrupts) j ≡ Some y →
+      (handler_holding image y).0 ≢ handler_slot image k
   handler-keys k j y below at same = let back = (numbered-back image.interrupts j y at).0 in omega (arith, back, same, below)
 
   reads-handler : (k : ℕ) (i : InterruptEntry) → k < p.handlers → slice_get image.interrupts k ≡ Some i
@@ -68,19 +72,22 @@ module _ (image : Image) (fitting : IsFitting image) (formed : AreFormed image) 
       let handlers = within.handlers in
       boot-reads (handler_slot image k) (Some (handler_holding image (k, i)).1) (omega (arith, less, handlers, room))
       (read-handler image fitting formed p within (handler_slot image k) (omega arith) (omega (arith, less, handlers))
-      ∙ mapped-at (handler_holding image) (numbered image.interrupts) p.handlers k (k, i) (handler_slot image k) (numbered-at image.interrupts k i at) less refl (handler-keys k))
+      ∙ mapped-at (handler_holding image) (numbered image.interrupts) p.handlers k (k, i) (handler_slot image k) (numbered-at image.interrupts k i at) less refl
+      (handler-keys k))
 
   frame-keys : (k : ℕ) (j : ℕ) (y : ℕ × FrameEntry) → j < k → slice_get (numbered image.frames) j ≡ Some y → (frame_holding image y).0 ≢ frame_copy_slot image k
   frame-keys k j y below at same = let back = (numbered-back image.frames j y at).0 in omega (arith, back, same, below)
 
   reads-frame : (k : ℕ) (f : FrameEntry) → k < p.frames → slice_get image.frames k ≡ Some f
-      → Reads image p (frame_copy_slot image k) (entry (Frame (offset_of image f.frame) frame_rights (Some (mapping_of image f))) (Some (original_slot image f.frame)))
+      → Reads image p (frame_copy_slot image k)
+      (entry (Frame (offset_of image f.frame) frame_rights (Some (mapping_of image f))) (Some (original_slot image f.frame)))
   reads-frame k f less at =
       let room = boot-slots-suffice image fitting formed in
       let frames = within.frames in
       boot-reads (frame_copy_slot image k) (Some (frame_holding image (k, f)).1) (omega (arith, less, frames, room))
       (read-frame image fitting formed p within (frame_copy_slot image k) (omega arith) (omega (arith, less, frames))
-      ∙ mapped-at (frame_holding image) (numbered image.frames) p.frames k (k, f) (frame_copy_slot image k) (numbered-at image.frames k f at) less refl (frame-keys k))
+      ∙ mapped-at (frame_holding image) (numbered image.frames) p.frames k (k, f) (frame_copy_slot image k) (numbered-at image.frames k f at) less refl
+      (frame-keys k))
 
   notification-keys : (k : ℕ) (j : ℕ) (y : ℕ × InterruptEntry) → j < k → slice_get (numbered image.interrupts) j ≡ Some y
       → (notification_holding image y).0 ≢ notification_copy_slot image k
@@ -93,7 +100,8 @@ module _ (image : Image) (fitting : IsFitting image) (formed : AreFormed image) 
       let signals = within.signals in
       boot-reads (notification_copy_slot image k) (Some (notification_holding image (k, i)).1) (omega (arith, less, signals, room))
       (read-notification image fitting formed p within (notification_copy_slot image k) (omega arith) (omega (arith, less, signals))
-      ∙ mapped-at (notification_holding image) (numbered image.interrupts) p.signals k (k, i) (notification_copy_slot image k) (numbered-at image.interrupts k i at) less refl (notification-keys k))
+      ∙ mapped-at (notification_holding image) (numbered image.interrupts) p.signals k (k, i) (notification_copy_slot image k)
+      (numbered-at image.interrupts k i at) less refl (notification-keys k))
 
   binding-keys : (k : ℕ) (i : InterruptEntry) → slice_get image.interrupts k ≡ Some i → (j : ℕ) (y : ℕ × InterruptEntry) → j < k
       → slice_get (numbered image.interrupts) j ≡ Some y → (binding_holding image y).0 ≢ line_slot image.header.boot_radix i.line
@@ -114,7 +122,8 @@ module _ (image : Image) (fitting : IsFitting image) (formed : AreFormed image) 
       → Reads image p (line_slot image.header.boot_radix i.line) (entry (signalled image i) (Some (notification_copy_slot image k)))
   reads-binding k i less at =
       binding-held (Some (binding_holding image (k, i)).1) k i at
-      (mapped-at (binding_holding image) (numbered image.interrupts) p.signals k (k, i) (line_slot image.header.boot_radix i.line) (numbered-at image.interrupts k i at) less refl (binding-keys k i at))
+      (mapped-at (binding_holding image) (numbered image.interrupts) p.signals k (k, i) (line_slot image.header.boot_radix i.line)
+      (numbered-at image.interrupts k i at) less refl (binding-keys k i at))
 
   pub reads-boot : ReadsBoot image p
   reads-boot = record {
@@ -145,7 +154,8 @@ module _ (image : Image) (fitting : IsFitting image) (formed : AreFormed image) 
             ∙ originals-none image fitting formed p within (original_slot image number) (inr (omega (arith, above))));
         moved = λ number less is. boot-reads (original_slot image number) None (omega (arith, less, room))
             (read-original image fitting formed p within (original_slot image number) (omega arith) (omega (arith, less))
-            ∙ range-none (original_holding_so_far image p) image.header.untypeds (λ n. refl) (λ n. not (is_moved image p n)) 0 p.objects (original_slot image number) (moved-none number is));
+            ∙ range-none (original_holding_so_far image p) image.header.untypeds (λ n. refl) (λ n. not (is_moved image p n)) 0 p.objects
+            (original_slot image number) (moved-none number is));
         handler = λ k above less. boot-reads (handler_slot image k) None (omega (arith, less, room))
             (read-handler image fitting formed p within (handler_slot image k) (omega arith) (omega (arith, less))
             ∙ handlers-none image fitting formed p within (handler_slot image k) (inr (omega (arith, above))));

@@ -1,5 +1,6 @@
 -- What one listed capability, one page table or one thread more makes of the slots.
-use Rattle.std.proofs.Common.{ℕ, suc, ◌≡◌, ◌∙◌, ◌==◌, ◌/◌, ◌<◌, ◌&&◌, inl, inr, true, false, if◌then◌else◌, find, take, Option, Some, None, refl, sym, ap, arith}
+use Rattle.std.proofs.Common.{ℕ, suc, ◌≡◌, ◌∙◌, ◌==◌, ◌/◌, ◌<◌, ◌&&◌, inl, inr, true, false, if◌then◌else◌, find, take, Option, Some, None, refl, sym, ap}
+use Rattle.std.proofs.Common.{arith}
 use Rattle.std.specs.Prelude.{slice_get}
 use Rattle.std.specs.Option.{option_map_or}
 use Rattle.std.specs.List.{list_any}
@@ -34,7 +35,8 @@ use Rattle.model.specs.Kernel.AddressSpaces.{page_size, region_pages}
 use Rattle.model.specs.Kernel.Retype.{NewObject, NewUntyped, NewThread, NewEndpoint, NewNotification, NewCNode, NewFrame, NewPageTable, NewRootTable}
 use Rattle.model.specs.Kernel.State.{cspace_slot, vspace_slot}
 
-pub within-capability : (image : Image) (p : Progress) (c : CapabilityEntry) → IsFitting image → IsWithin image p → slice_get image.capabilities p.capabilities ≡ Some c
+pub within-capability : (image : Image) (p : Progress) (c : CapabilityEntry) → IsFitting image → IsWithin image p →
+    slice_get image.capabilities p.capabilities ≡ Some c
     → IsWithin image (one_capability p)
 within-capability image p c fitting within at = let less = slice_get_within image.capabilities p.capabilities c at in record {
   objects = within.objects;
@@ -46,7 +48,8 @@ within-capability image p c fitting within at = let less = slice_get_within imag
   threads = within.threads;
 }
 
-pub within-table : (image : Image) (p : Progress) (t : TableEntry) → IsFitting image → IsWithin image p → slice_get image.tables p.tables ≡ Some t → IsWithin image (one_table p)
+pub within-table : (image : Image) (p : Progress) (t : TableEntry) → IsFitting image → IsWithin image p → slice_get image.tables p.tables ≡ Some t →
+    IsWithin image (one_table p)
 within-table image p t fitting within at = let less = slice_get_within image.tables p.tables t at in record {
   objects = within.objects;
   handlers = within.handlers;
@@ -57,7 +60,8 @@ within-table image p t fitting within at = let less = slice_get_within image.tab
   threads = within.threads;
 }
 
-pub within-thread : (image : Image) (p : Progress) (t : Thread) → IsFitting image → IsWithin image p → slice_get image.threads p.threads ≡ Some t → IsWithin image (one_thread p)
+pub within-thread : (image : Image) (p : Progress) (t : Thread) → IsFitting image → IsWithin image p → slice_get image.threads p.threads ≡ Some t →
+    IsWithin image (one_thread p)
 within-thread image p t fitting within at = let less = slice_get_within image.threads p.threads t at in record {
   objects = within.objects;
   handlers = within.handlers;
@@ -108,20 +112,24 @@ pool-of : (image : Image) (c : CapabilityEntry) → is_untyped_type (source_type
 pool-of image c is = elim (cases_lt c.source image.header.objects) [
   | inl less ↦
       let object = lt-leb image.header.objects c.source less in
-      let untyped : is_untyped_type (type_at image c.source) ≡ true = sym (ap (λ b. is_untyped_type (if b then None else type_at image c.source)) object) ∙ is in
+      let untyped : is_untyped_type (type_at image c.source) ≡ true = sym (ap (λ b. is_untyped_type (if b then None else type_at image c.source)) object)
+      ∙ is in
       record {
         less = less;
         untyped = untyped;
         source = λ p.
-            ap (λ b. limited (if b then option_map_or (λ (i : InterruptEntry). InterruptHandler i.line) (slice_get image.interrupts (interrupt_of image c.source)) Empty else original image c.source) c.rights c.payload) object
+            ap (λ b. limited (if b then option_map_or (λ (i : InterruptEntry). InterruptHandler i.line)
+            (slice_get image.interrupts (interrupt_of image c.source)) Empty else original image c.source) c.rights c.payload) object
             ∙ pool-same image (type_at image c.source) (offset_of image c.source) c.rights c.payload (find (λ t. t.table == c.source) image.tables)
             (find (λ t. t.table == c.source) (take p.tables image.tables)) untyped;
         parent = ap (λ b. if b then (object_at image c.source).untyped else source_slot image c.source) (listed-untyped image c ∙ is);
       }
-  | inr handler ↦ absurd (false≢true (sym (ap (λ b. is_untyped_type (if b then None else type_at image c.source)) (le-leb image.header.objects c.source handler)) ∙ is))
+  | inr handler ↦ absurd
+      (false≢true (sym (ap (λ b. is_untyped_type (if b then None else type_at image c.source)) (le-leb image.header.objects c.source handler)) ∙ is))
 ]
 
-module _ (image : Image) (fitting : IsFitting image) (formed : AreFormed image) (p : Progress) (within : IsWithin image p) (all : p.objects ≡ image.header.objects) where
+module _ (image : Image) (fitting : IsFitting image) (formed : AreFormed image) (p : Progress) (within : IsWithin image p)
+    (all : p.objects ≡ image.header.objects) where
   adds-listed : (c : CapabilityEntry) → slice_get image.capabilities p.capabilities ≡ Some c → is_untyped_type (source_type image c.source) ≡ false
       → slots_of_loaded image (one_capability p)
       ≡ with_entry (slots_of_loaded image p) (cnode_slot image c.cnode c.index) (Some (entry (listed_capability image c) (Some (source_slot image c.source))))
@@ -152,7 +160,8 @@ module _ (image : Image) (fitting : IsFitting image) (formed : AreFormed image) 
       let once = TableKept.once (formed.table p.tables t at) in
       let less = TableFits.table (fitting.table p.tables t at) in
       let inside : t.table < p.objects = omega (arith, less, all) in
-      let now = ReadsBoot.original (reads-boot image fitting formed (one_table p) (within-table image p t fitting within at)) t.table inside (table-plain (one_table p) t at) in
+      let now = ReadsBoot.original (reads-boot image fitting formed (one_table p) (within-table image p t fitting within at)) t.table inside
+      (table-plain (one_table p) t at) in
       let before = ReadsBoot.original (reads-boot image fitting formed p within) t.table inside (table-plain p t at) in
       let unmapped : original_so_far image p t.table ≡ first = ap (λ o. mapped_by image o first) (find-none test (take p.tables image.tables) once) in
       let mapped : original_so_far image (one_table p) t.table ≡ mapped_by image (Some t) first =
@@ -173,8 +182,10 @@ module _ (image : Image) (fitting : IsFitting image) (formed : AreFormed image) 
       (vspace_slot (offset_of image t.header.tcb)) (Some (vspace_holding image t).1)
   adds-thread t at =
       let more = within-thread image p t fitting within at in
-      two-change image p (one_thread p) (cspace_slot (offset_of image t.header.tcb)) (vspace_slot (offset_of image t.header.tcb)) (cspace_holding image t).1 (vspace_holding image t).1 refl
-      (reads-cspace image fitting formed (one_thread p) more all p.threads t (omega arith) at) (reads-vspace image fitting formed (one_thread p) more all p.threads t (omega arith) at)
+      two-change image p (one_thread p) (cspace_slot (offset_of image t.header.tcb)) (vspace_slot (offset_of image t.header.tcb)) (cspace_holding image t).1
+      (vspace_holding image t).1 refl
+      (reads-cspace image fitting formed (one_thread p) more all p.threads t (omega arith) at)
+      (reads-vspace image fitting formed (one_thread p) more all p.threads t (omega arith) at)
       (λ s one two. other-thread image p t s at (thread-apart image fitting formed p within t s (λ same. one (sym same)) (λ same. two (sym same))))
 
   -- ---- a pool

@@ -1,5 +1,6 @@
 -- What a list of full slots says of one slot, where lists are joined, and where entries come one by one.
-use Rattle.std.proofs.Common.{ℕ, zero, suc, ◌≡◌, ◌≢◌, ◌∙◌, ◌==◌, ◌+◌, ◌<◌, ◌≤◌, ◌⊎◌, inl, inr, Bool, true, false, cond, map, filter, find, take, List, [], ◌∷◌, ◌++◌, Option, Some, None, refl, sym, ap, subst, arith}
+use Rattle.std.proofs.Common.{ℕ, zero, suc, ◌≡◌, ◌≢◌, ◌∙◌, ◌==◌, ◌+◌, ◌<◌, ◌≤◌, ◌⊎◌, inl, inr, Bool, true, false, cond, map, filter, find, take, List, [], ◌∷◌}
+use Rattle.std.proofs.Common.{◌++◌, Option, Some, None, refl, sym, ap, subst, arith}
 use Rattle.std.specs.Prelude.{flat_map, option_map, slice_get}
 use Rattle.std.specs.Option.{option_or}
 use Rattle.std.specs.List.{enumerate_from, range_with_len}
@@ -39,11 +40,13 @@ pub held-joined : (first rest : List Holding) (slot : ℕ) (a b : Option Entry) 
     → held_in (first ++ rest) slot ≡ option_or a b
 held-joined first rest slot a b one two = held-append first rest slot ∙ (λ i. option_or (one i) (two i))
 
-pub held-in-first : (first other rest : List Holding) (slot : ℕ) → held_in first slot ≡ held_in other slot → held_in (first ++ rest) slot ≡ held_in (other ++ rest) slot
+pub held-in-first : (first other rest : List Holding) (slot : ℕ) → held_in first slot ≡ held_in other slot →
+    held_in (first ++ rest) slot ≡ held_in (other ++ rest) slot
 held-in-first first other rest slot same =
     held-append first rest slot ∙ ap (λ (o : Option Entry). option_or o (held_in rest slot)) same ∙ sym (held-append other rest slot)
 
-pub held-in-rest : (first rest other : List Holding) (slot : ℕ) → held_in rest slot ≡ held_in other slot → held_in (first ++ rest) slot ≡ held_in (first ++ other) slot
+pub held-in-rest : (first rest other : List Holding) (slot : ℕ) → held_in rest slot ≡ held_in other slot →
+    held_in (first ++ rest) slot ≡ held_in (first ++ other) slot
 held-in-rest first rest other slot same =
     held-append first rest slot ∙ ap (λ (o : Option Entry). option_or (held_in first slot) o) same ∙ sym (held-append first other slot)
 
@@ -75,7 +78,8 @@ module _ {A : Type 0} (g : A → Holding) where
   mapped-more (y ∷ ys) zero x slot at other = held-later (g y) [] slot (λ here. other (ap (λ z. (g z).0) (sym (same_Some y x at)) ∙ here))
   mapped-more (y ∷ ys) (suc m) x slot at other = elim (eqb_tells (g y).0 slot) [
     | inl here ↦ held-here (g y) (map g (take (suc m) ys)) slot here.1 ∙ sym (held-here (g y) (map g (take m ys)) slot here.1)
-    | inr apart ↦ held-later (g y) (map g (take (suc m) ys)) slot apart.1 ∙ mapped-more ys m x slot at other ∙ sym (held-later (g y) (map g (take m ys)) slot apart.1)
+    | inr apart ↦ held-later (g y) (map g (take (suc m) ys)) slot apart.1 ∙ mapped-more ys m x slot at other
+        ∙ sym (held-later (g y) (map g (take m ys)) slot apart.1)
   ]
 
 -- ---- several holdings for each entry
@@ -91,7 +95,8 @@ module _ {A : Type 0} (f : A → List Holding) where
       held-joined (f y) (flat_map f (take m ys)) slot None (Some held) (before 0 y (omega arith) refl)
       (flat-at ys m k x slot held at (omega (arith, less)) here (λ j z below there. before (suc j) z (omega (arith, below)) there))
 
-  pub flat-none : (xs : List A) (m slot : ℕ) → ((j : ℕ) (y : A) → j < m → slice_get xs j ≡ Some y → held_in (f y) slot ≡ None) → held_in (flat_map f (take m xs)) slot ≡ None
+  pub flat-none : (xs : List A) (m slot : ℕ) → ((j : ℕ) (y : A) → j < m → slice_get xs j ≡ Some y → held_in (f y) slot ≡ None) →
+      held_in (flat_map f (take m xs)) slot ≡ None
   flat-none xs zero slot apart = refl
   flat-none [] (suc m) slot apart = refl
   flat-none (y ∷ ys) (suc m) slot apart =
@@ -106,7 +111,8 @@ module _ {A : Type 0} (f : A → List Holding) where
 
 -- ---- entries with their numbers
 
-numbered-behind : {A : Type 0} (from : ℕ) (xs : List A) (k : ℕ) (y : ℕ × A) → slice_get (enumerate_from from xs) k ≡ Some y → (y.0 ≡ from + k) × (slice_get xs k ≡ Some y.1)
+numbered-behind : {A : Type 0} (from : ℕ) (xs : List A) (k : ℕ) (y : ℕ × A) → slice_get (enumerate_from from xs) k ≡ Some y → (y.0 ≡ from + k)
+    × (slice_get xs k ≡ Some y.1)
 numbered-behind from [] k y at = absurd (none-some y at)
 numbered-behind from (x ∷ xs) zero y at =
     let same = same_Some (from, x) y at in

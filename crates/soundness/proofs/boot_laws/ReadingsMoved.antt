@@ -10,7 +10,8 @@ use Rattle.model.specs.declared.entries.TableEntry.{TableEntry}
 use Rattle.format_laws.specs.Fitting.{IsFitting}
 use Rattle.soundness.proofs.boot_laws.Readings.{one_capability, one_table, one_thread}
 use Rattle.soundness.proofs.boot_laws.ReadingsLists.{flat-more, held-in-first, held-in-rest, mapped-more, range-alike}
-use Rattle.soundness.proofs.boot_laws.ReadingsSections.{bindings_part, control_part, frames_part, handlers_part, listed_part, notifications_part, threads_part, untypeds_part}
+use Rattle.soundness.proofs.boot_laws.ReadingsSections.{bindings_part, control_part, frames_part, handlers_part, listed_part, notifications_part, threads_part}
+use Rattle.soundness.proofs.boot_laws.ReadingsSections.{untypeds_part}
 use Rattle.soundness.proofs.boot_laws.ReadingsTypes.{any-more, find-more, first_of_type, mapped_by, original-untyped, source-untyped}
 use Rattle.soundness.specs.boot_laws.Loading.{Progress, holdings_so_far, is_moved, original_holding_so_far, original_so_far, originals_so_far}
 use Rattle.model.specs.Acceptance.WellFormed.{is_untyped_type, source_type}
@@ -58,7 +59,8 @@ other-capability image p c slot fitting at no_pool other =
     let originals =
     range-alike (original_holding_so_far image q) (original_holding_so_far image p) image.header.untypeds (λ n. refl) (λ n. refl)
     (λ n. not (is_moved image q n)) (λ n. not (is_moved image p n)) 0 p.objects slot (λ n here. (ap not (moved n here), refl)) in
-    around-originals (untypeds_part image p) (originals_so_far image q) (originals_so_far image p) (control_part image) (handlers_part image p) (frames_part image p)
+    around-originals (untypeds_part image p) (originals_so_far image q) (originals_so_far image p) (control_part image) (handlers_part image p)
+    (frames_part image p)
     (notifications_part image p) (bindings_part image p) (listed_part image q) (threads_part image p) slot originals
     ∙ held-in-first _ _ (threads_part image p) slot (held-in-rest _ (listed_part image q) (listed_part image p) slot listed) where
       moved : (n : ℕ) → image.header.untypeds + n ≡ slot → is_moved image (one_capability p) n ≡ is_moved image p n
@@ -80,7 +82,8 @@ original-same image p number t at other =
 
 moved-table : (image : Image) (p : Progress) (number : ℕ) → is_moved image (one_table p) number ≡ is_moved image p number
 moved-table image p number =
-    ap (λ b. b && list_any (λ c. c.source == number) (take p.capabilities image.capabilities)) (original-untyped image (one_table p) number ∙ sym (original-untyped image p number))
+    ap (λ b. b && list_any (λ c. c.source == number) (take p.capabilities image.capabilities))
+    (original-untyped image (one_table p) number ∙ sym (original-untyped image p number))
 
 pub other-table : (image : Image) (p : Progress) (t : TableEntry) (slot : ℕ) → slice_get image.tables p.tables ≡ Some t → slot ≢ original_slot image t.table
     → held_in (holdings_so_far image (one_table p)) slot ≡ held_in (holdings_so_far image p) slot
@@ -90,16 +93,19 @@ other-table image p t slot at other =
     let originals =
     range-alike (original_holding_so_far image q) (original_holding_so_far image p) image.header.untypeds (λ n. refl) (λ n. refl)
     (λ n. not (is_moved image q n)) (λ n. not (is_moved image p n)) 0 p.objects slot (λ n here. (ap not (moved-table image p n), held n here)) in
-    around-originals (untypeds_part image p) (originals_so_far image q) (originals_so_far image p) (control_part image) (handlers_part image p) (frames_part image p)
+    around-originals (untypeds_part image p) (originals_so_far image q) (originals_so_far image p) (control_part image) (handlers_part image p)
+    (frames_part image p)
     (notifications_part image p) (bindings_part image p) (listed_part image p) (threads_part image p) slot originals where
       held : (n : ℕ) → image.header.untypeds + n ≡ slot → original_holding_so_far image (one_table p) n ≡ original_holding_so_far image p n
       held n here =
           let apart : t.table ≢ n = λ same. other (sym here ∙ ap (λ m. image.header.untypeds + m) (sym same)) in
-          ap (λ (c : Cap). let h : Holding = (original_slot image n, record { capability = c; parent = Some (object_at image n).untyped }) in h) (original-same image p n t at apart)
+          ap (λ (c : Cap). let h : Holding = (original_slot image n, record { capability = c; parent = Some (object_at image n).untyped }) in h)
+          (original-same image p n t at apart)
 
 -- ---- threads
 
-pub other-thread : (image : Image) (p : Progress) (t : Thread) (slot : ℕ) → slice_get image.threads p.threads ≡ Some t → held_in (thread_holdings image t) slot ≡ None
+pub other-thread : (image : Image) (p : Progress) (t : Thread) (slot : ℕ) → slice_get image.threads p.threads ≡ Some t →
+    held_in (thread_holdings image t) slot ≡ None
     → held_in (holdings_so_far image (one_thread p)) slot ≡ held_in (holdings_so_far image p) slot
 unfolding holdings_so_far
 other-thread image p t slot at other =

@@ -20,7 +20,8 @@ pub open-low : (image : Image) (p : Progress) (slot : ℕ) → slot < boot_area_
 unfolding is_open_so_far
 open-low image p slot low = or_left _ _ (lt-ltb slot (boot_area_slots image.header.boot_radix) low)
 
-pub open-room : (image : Image) (p : Progress) (slot number : ℕ) → number < p.objects → is_object_slot image slot number ≡ true → is_open_so_far image p slot ≡ true
+pub open-room : (image : Image) (p : Progress) (slot number : ℕ) → number < p.objects → is_object_slot image slot number ≡ true →
+    is_open_so_far image p slot ≡ true
 unfolding is_open_so_far
 open-room image p slot number less is =
     let long : number < length (range_with_len 0 p.objects) = rw (length-range_with_len 0 p.objects) less in
@@ -39,7 +40,8 @@ read-open image p slot v is_open held =
     ∙ ap (λ (o : Option Entry). let e : Option Entry = Some (shown o) in e) held
 
 -- slots that are open alike and hold alike
-pub read-same : (image : Image) (p q : Progress) (slot : ℕ) → q.objects ≡ p.objects → held_in (holdings_so_far image q) slot ≡ held_in (holdings_so_far image p) slot
+pub read-same : (image : Image) (p q : Progress) (slot : ℕ) → q.objects ≡ p.objects →
+    held_in (holdings_so_far image q) slot ≡ held_in (holdings_so_far image p) slot
     → (loaded image q).slots slot ≡ (loaded image p).slots slot
 unfolding loaded is_open_so_far
 read-same image p q slot objects held = λ i.
@@ -60,7 +62,8 @@ one-changes image p q slot held objects reads others = λ i s. at s i where
   ]
 
 -- two slots change
-pub two-change : (image : Image) (p q : Progress) (first second : ℕ) (one two : Entry) → q.objects ≡ p.objects → Reads image q first one → Reads image q second two
+pub two-change : (image : Image) (p q : Progress) (first second : ℕ) (one two : Entry) → q.objects ≡ p.objects → Reads image q first one →
+    Reads image q second two
     → ((s : ℕ) → s ≢ first → s ≢ second → held_in (holdings_so_far image q) s ≡ held_in (holdings_so_far image p) s)
     → slots_of_loaded image q ≡ with_entry (with_entry (slots_of_loaded image p) first (Some one)) second (Some two)
 two-change image p q first second one two objects reads_one reads_two others = λ i s. at s i where

@@ -1,5 +1,6 @@
 -- Nothing in a loaded state derives from a pool: its slot is no full slot's parent.
-use Rattle.std.proofs.Common.{ℕ, zero, suc, ◌≡◌, ◌≢◌, ◌∙◌, ◌==◌, ◌+◌, ◌<◌, inl, inr, Bool, true, false, not, cond, if◌then◌else◌, map, filter, take, List, [], ◌∷◌, ◌++◌, Option, Some, None, refl, sym, ap, subst, arith}
+use Rattle.std.proofs.Common.{ℕ, zero, suc, ◌≡◌, ◌≢◌, ◌∙◌, ◌==◌, ◌+◌, ◌<◌, inl, inr, Bool, true, false, not, cond, if◌then◌else◌, map, filter, take, List, []}
+use Rattle.std.proofs.Common.{◌∷◌, ◌++◌, Option, Some, None, refl, sym, ap, subst, arith}
 use Rattle.std.specs.Prelude.{flat_map, option_map, slice_get}
 use Rattle.std.specs.Option.{option_map_or, option_or}
 use Rattle.std.specs.List.{range_with_len}
@@ -17,13 +18,16 @@ use Rattle.soundness.proofs.boot_laws.PlacesRules.{AreFormed, FrameKept, ThreadK
 use Rattle.soundness.proofs.boot_laws.Readings.{IsWithin}
 use Rattle.soundness.proofs.boot_laws.ReadingsLists.{held-append, held-here, held-later, numbered-back}
 use Rattle.soundness.proofs.boot_laws.ReadingsOpen.{shown}
-use Rattle.soundness.proofs.boot_laws.ReadingsSections.{bindings_part, control_part, cspace_holding, frames_part, handlers_part, listed_part, notifications_part, threads_part, untypeds_part, vspace_holding}
+use Rattle.soundness.proofs.boot_laws.ReadingsSections.{bindings_part, control_part, cspace_holding, frames_part, handlers_part, listed_part}
+use Rattle.soundness.proofs.boot_laws.ReadingsSections.{notifications_part, threads_part, untypeds_part, vspace_holding}
 use Rattle.soundness.proofs.boot_laws.ReadingsTypes.{listed-untyped}
-use Rattle.soundness.specs.boot_laws.Loading.{Progress, holdings_so_far, is_moved, is_open_so_far, loaded, original_holding_so_far, originals_so_far, untyped_so_far}
+use Rattle.soundness.specs.boot_laws.Loading.{Progress, holdings_so_far, is_moved, is_open_so_far, loaded, original_holding_so_far, originals_so_far}
+use Rattle.soundness.specs.boot_laws.Loading.{untyped_so_far}
 use Rattle.model.specs.Acceptance.WellFormed.{is_frame_type, is_notification_type, is_root_type, is_untyped_type, radix_of}
 use Rattle.model.specs.Capabilities.CapabilityKinds.{is_guard_word}
 use Rattle.model.specs.Capabilities.Slots.{adopted, with_parent}
-use Rattle.model.specs.Images.Described.{Holding, binding_holding, frame_holding, handler_holding, held_in, listed_holding, listed_parent, notification_holding, numbered, thread_holdings}
+use Rattle.model.specs.Images.Described.{Holding, binding_holding, frame_holding, handler_holding, held_in, listed_holding, listed_parent, notification_holding}
+use Rattle.model.specs.Images.Described.{numbered, thread_holdings}
 use Rattle.model.specs.Images.Image.{Image, Thread}
 use Rattle.model.specs.Images.Places.{control_slot, handler_slot, interrupt_of, object_at, original_slot, source_slot, type_at}
 use Rattle.model.specs.Kernel.Retype.{NewObject, NewUntyped, NewThread, NewEndpoint, NewNotification, NewCNode, NewFrame, NewPageTable, NewRootTable}
@@ -65,7 +69,8 @@ free-range : (from : ℕ) (g : ℕ → Holding) (keeps : ℕ → Bool) (first co
 free-range from g keeps first zero each = free-none from
 free-range from g keeps first (suc count) each =
     let rest = free-range from g keeps (first + 1) count (λ n less. each n (omega (arith, less))) in
-    elim (keeps first) as (λ b. AreFree from (map g (cond b (first ∷ filter keeps (range_with_len (first + 1) count)) (filter keeps (range_with_len (first + 1) count))))) [
+    elim (keeps first) as (λ b.
+    AreFree from (map g (cond b (first ∷ filter keeps (range_with_len (first + 1) count)) (filter keeps (range_with_len (first + 1) count))))) [
       | true ↦ free-more from (g first) (map g (filter keeps (range_with_len (first + 1) count))) (each first (omega arith)) rest
       | false ↦ rest
     ]
@@ -96,7 +101,8 @@ only (Some NewFrame) is = absurd (false≢true is)
 only (Some NewPageTable) is = absurd (false≢true is)
 only (Some NewRootTable) is = absurd (false≢true is)
 
-module _ (image : Image) (fitting : IsFitting image) (formed : AreFormed image) (source : ℕ) (object : source < image.header.objects) (pool : is_untyped_type (type_at image source) ≡ true) where
+module _ (image : Image) (fitting : IsFitting image) (formed : AreFormed image) (source : ℕ) (object : source < image.header.objects)
+    (pool : is_untyped_type (type_at image source) ≡ true) where
   -- an object that passes a test that untyped memory does not pass
   apart-by : (test : Option NewObject → Bool) (number : ℕ) → test (type_at image source) ≡ false → test (type_at image number) ≡ true
       → Some (original_slot image number) ≢ Some (original_slot image source)
@@ -115,39 +121,47 @@ module _ (image : Image) (fitting : IsFitting image) (formed : AreFormed image) 
       let e = same_Some (object_at image n).untyped (original_slot image source) same in
       omega (arith, home, e))
 
-  free-frame : (j : ℕ) (y : ℕ × FrameEntry) → slice_get (numbered image.frames) j ≡ Some y → ((frame_holding image y).1).parent ≢ Some (original_slot image source)
+  free-frame : (j : ℕ) (y : ℕ × FrameEntry) → slice_get (numbered image.frames) j ≡ Some y →
+      ((frame_holding image y).1).parent ≢ Some (original_slot image source)
   free-frame j y at =
       apart-by is_frame_type (y.1).frame (IsOnly.frame none-of) (FrameKept.frame (formed.frame j y.1 (numbered-back image.frames j y at).1))
 
-  free-notification : (j : ℕ) (y : ℕ × InterruptEntry) → slice_get (numbered image.interrupts) j ≡ Some y → ((notification_holding image y).1).parent ≢ Some (original_slot image source)
+  free-notification : (j : ℕ) (y : ℕ × InterruptEntry) → slice_get (numbered image.interrupts) j ≡ Some y →
+      ((notification_holding image y).1).parent ≢ Some (original_slot image source)
   free-notification j y at =
       apart-by is_notification_type (y.1).notification (IsOnly.notification none-of)
       (not-false (is_notification_type (type_at image (y.1).notification)) (formed.interrupt j y.1 (numbered-back image.interrupts j y at).1))
 
   free-listed : (j : ℕ) (c : CapabilityEntry) → slice_get image.capabilities j ≡ Some c → Some (listed_parent image c) ≢ Some (original_slot image source)
   free-listed j c at = elim (cases_lt c.source image.header.objects) [
-    | inl below ↦ elim (is_untyped_type (type_at image c.source)) as (λ b. is_untyped_type (type_at image c.source) ≡ b → Some (listed_parent image c) ≢ Some (original_slot image source)) [
-      | true ↦ λ is same.
-          let untyped = listed-untyped image c ∙ ap (λ b. is_untyped_type (if b then None else type_at image c.source)) (lt-leb image.header.objects c.source below) ∙ is in
-          let parent : listed_parent image c ≡ (object_at image c.source).untyped =
-          ap (λ b. if b then (object_at image c.source).untyped else source_slot image c.source) untyped in
-          let home = ObjectFits.untyped (fitting.object c.source (object_at image c.source) (object-at image c.source fitting below)) in
-          let e = same_Some (listed_parent image c) (original_slot image source) same in
-          omega (arith, parent, home, e)
-      | false ↦ λ is same.
-          let plain = listed-untyped image c ∙ ap (λ b. is_untyped_type (if b then None else type_at image c.source)) (lt-leb image.header.objects c.source below) ∙ is in
-          let parent : listed_parent image c ≡ original_slot image c.source =
-          ap (λ b. if b then (object_at image c.source).untyped else source_slot image c.source) plain
-          ∙ ap (λ b. if b then handler_slot image (interrupt_of image c.source) else original_slot image c.source) (lt-leb image.header.objects c.source below) in
-          let e = same_Some (listed_parent image c) (original_slot image source) same in
-          let numbers : c.source ≡ source = omega (arith, parent, e) in
-          true≢false (sym pool ∙ ap (λ n. is_untyped_type (type_at image n)) (sym numbers) ∙ is)
-    ] refl
+    | inl below ↦ elim (is_untyped_type (type_at image c.source))
+        as (λ b. is_untyped_type (type_at image c.source) ≡ b → Some (listed_parent image c) ≢ Some (original_slot image source)) [
+          | true ↦ λ is same.
+              let untyped = listed-untyped image c ∙ ap (λ b. is_untyped_type (if b then None else type_at image c.source))
+              (lt-leb image.header.objects c.source below) ∙ is in
+              let parent : listed_parent image c ≡ (object_at image c.source).untyped =
+              ap (λ b. if b then (object_at image c.source).untyped else source_slot image c.source) untyped in
+              let home = ObjectFits.untyped (fitting.object c.source (object_at image c.source) (object-at image c.source fitting below)) in
+              let e = same_Some (listed_parent image c) (original_slot image source) same in
+              omega (arith, parent, home, e)
+          | false ↦ λ is same.
+              let plain = listed-untyped image c ∙ ap (λ b. is_untyped_type (if b then None else type_at image c.source))
+              (lt-leb image.header.objects c.source below) ∙ is in
+              let parent : listed_parent image c ≡ original_slot image c.source =
+              ap (λ b. if b then (object_at image c.source).untyped else source_slot image c.source) plain
+              ∙ ap (λ b. if b then handler_slot image (interrupt_of image c.source) else original_slot image c.source)
+              (lt-leb image.header.objects c.source below) in
+              let e = same_Some (listed_parent image c) (original_slot image source) same in
+              let numbers : c.source ≡ source = omega (arith, parent, e) in
+              true≢false (sym pool ∙ ap (λ n. is_untyped_type (type_at image n)) (sym numbers) ∙ is)
+        ] refl
     | inr handler ↦ λ same.
-        let plain = listed-untyped image c ∙ ap (λ b. is_untyped_type (if b then None else type_at image c.source)) (le-leb image.header.objects c.source handler) in
+        let plain = listed-untyped image c ∙ ap (λ b. is_untyped_type (if b then None else type_at image c.source))
+        (le-leb image.header.objects c.source handler) in
         let parent : listed_parent image c ≡ handler_slot image (interrupt_of image c.source) =
         ap (λ b. if b then (object_at image c.source).untyped else source_slot image c.source) plain
-        ∙ ap (λ b. if b then handler_slot image (interrupt_of image c.source) else original_slot image c.source) (le-leb image.header.objects c.source handler) in
+        ∙ ap (λ b. if b then handler_slot image (interrupt_of image c.source) else original_slot image c.source)
+        (le-leb image.header.objects c.source handler) in
         let e = same_Some (listed_parent image c) (original_slot image source) same in
         omega (arith, parent, e, object)
   ]
@@ -158,18 +172,21 @@ module _ (image : Image) (fitting : IsFitting image) (formed : AreFormed image) 
       let radix = ap (λ o. option_map_or (λ radix. is_guard_word radix t.header.guard) o false) (IsOnly.radix none-of) in
       free-more (original_slot image source) (cspace_holding image t) (vspace_holding image t ∷ [])
       (apart-by (λ o. option_map_or (λ radix. is_guard_word radix t.header.guard) (radix_of o) false) t.header.cnode radix (ThreadKept.guard kept))
-      (free-more (original_slot image source) (vspace_holding image t) [] (apart-by is_root_type t.header.root (IsOnly.root none-of) (ThreadKept.root kept)) (free-none (original_slot image source)))
+      (free-more (original_slot image source) (vspace_holding image t) [] (apart-by is_root_type t.header.root (IsOnly.root none-of) (ThreadKept.root kept))
+      (free-none (original_slot image source)))
 
   pub free-holdings : (p : Progress) → IsWithin image p → AreFree (original_slot image source) (holdings_so_far image p)
   unfolding holdings_so_far
   free-holdings p within =
       let from = original_slot image source in
-      free-both from _ (threads_part image p) (free-both from _ (listed_part image p) (free-both from _ (bindings_part image p) (free-both from _ (notifications_part image p)
+      free-both from _ (threads_part image p)
+      (free-both from _ (listed_part image p) (free-both from _ (bindings_part image p) (free-both from _ (notifications_part image p)
       (free-both from _ (frames_part image p) (free-both from _ (handlers_part image p) (free-both from _ (control_part image)
       (free-both from (untypeds_part image p) (originals_so_far image p)
       (free-all from (untyped_so_far image p) (numbered image.untypeds) (λ u same. none-some from same)) (free-originals p within))
       (free-more from _ [] (λ same. none-some from same) (free-none from)))
-      (free-mapped from (handler_holding image) (numbered image.interrupts) p.handlers (λ j y at same. let e = same_Some (control_slot image) from same in omega (arith, e, object))))
+      (free-mapped from (handler_holding image) (numbered image.interrupts) p.handlers
+      (λ j y at same. let e = same_Some (control_slot image) from same in omega (arith, e, object))))
       (free-mapped from (frame_holding image) (numbered image.frames) p.frames free-frame))
       (free-mapped from (notification_holding image) (numbered image.interrupts) p.signals free-notification))
       (free-mapped from (binding_holding image) (numbered image.interrupts) p.signals (λ j y at same.
@@ -191,7 +208,8 @@ unfolding loaded
 unparented image p from to slot free =
     elim (is_open_so_far image p slot) as (λ b. option_map (adopted from to) (if b then Some (shown (held_in (holdings_so_far image p) slot)) else None)
     ≡ (if b then Some (shown (held_in (holdings_so_far image p) slot)) else None)) [
-      | true ↦ ap (λ (e : Entry). let o : Option Entry = Some e in o) (adopted-none from to (shown (held_in (holdings_so_far image p) slot)) (apart (held_in (holdings_so_far image p) slot) refl))
+      | true ↦ ap (λ (e : Entry). let o : Option Entry = Some e in o)
+          (adopted-none from to (shown (held_in (holdings_so_far image p) slot)) (apart (held_in (holdings_so_far image p) slot) refl))
       | false ↦ refl
     ] where
       apart : (o : Option Entry) → held_in (holdings_so_far image p) slot ≡ o → (shown o).parent ≢ Some from

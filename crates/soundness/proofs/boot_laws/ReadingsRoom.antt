@@ -1,5 +1,6 @@
 -- The slots of CNodes and threads: no two entries of an image ask for one slot, so each is read by itself.
-use Rattle.std.proofs.Common.{ℕ, zero, suc, ◌≡◌, ◌≢◌, ◌∙◌, ◌==◌, ◌^◌, ◌<◌, ◌≤◌, Bool, true, false, take, List, [], ◌∷◌, Option, Some, None, refl, sym, ap, subst, arith}
+use Rattle.std.proofs.Common.{ℕ, zero, suc, ◌≡◌, ◌≢◌, ◌∙◌, ◌==◌, ◌^◌, ◌<◌, ◌≤◌, Bool, true, false, take, List, [], ◌∷◌, Option, Some, None, refl, sym, ap}
+use Rattle.std.proofs.Common.{subst, arith}
 use Rattle.std.specs.Prelude.{nat_lt, slice_get}
 use Rattle.std.specs.Option.{option_map_or, option_or}
 use Rattle.std.specs.List.{list_any}
@@ -35,7 +36,8 @@ no-thread (Some NewFrame) index slot thread = false≢true slot
 no-thread (Some NewPageTable) index slot thread = false≢true slot
 no-thread (Some NewRootTable) index slot thread = false≢true slot
 
-pub any-taken : {A : Type 0} (test : A → Bool) (xs : List A) (k j : ℕ) (x : A) → j < k → slice_get xs j ≡ Some x → test x ≡ true → list_any test (take k xs) ≡ true
+pub any-taken : {A : Type 0} (test : A → Bool) (xs : List A) (k j : ℕ) (x : A) → j < k → slice_get xs j ≡ Some x → test x ≡ true →
+    list_any test (take k xs) ≡ true
 any-taken test [] k j x less at is = absurd (none-some x at)
 any-taken test (y ∷ ys) zero j x less at is = absurd (omega (arith, less))
 any-taken test (y ∷ ys) (suc k) zero x less at is = or_left (test y) (list_any test (take k ys)) (ap test (same_Some y x at) ∙ is)
@@ -48,14 +50,16 @@ module _ (image : Image) (fitting : IsFitting image) (formed : AreFormed image) 
   first-slot : (k : ℕ) (t : Thread) → slice_get image.threads k ≡ Some t → is_object_slot image (cspace_slot (offset_of image t.header.tcb)) t.header.tcb ≡ true
   first-slot k t at = cspace-slot image t.header.tcb (ThreadKept.tcb (formed.thread k t at))
 
-  second-slot : (k : ℕ) (t : Thread) → slice_get image.threads k ≡ Some t → is_object_slot image (vspace_slot (offset_of image t.header.tcb)) t.header.tcb ≡ true
+  second-slot : (k : ℕ) (t : Thread) → slice_get image.threads k ≡ Some t →
+      is_object_slot image (vspace_slot (offset_of image t.header.tcb)) t.header.tcb ≡ true
   second-slot k t at = vspace-slot image t.header.tcb (ThreadKept.tcb (formed.thread k t at))
 
   -- two listed capabilities have two slots
   pub listed-apart : (j k : ℕ) (c d : CapabilityEntry) → j < k → slice_get image.capabilities j ≡ Some c → slice_get image.capabilities k ≡ Some d
       → cnode_slot image c.cnode c.index ≢ cnode_slot image d.cnode d.index
   listed-apart j k c d less one two same =
-      let there : is_object_slot image (cnode_slot image d.cnode d.index) c.cnode ≡ true = subst (λ slot. is_object_slot image slot c.cnode ≡ true) same (listed-slot j c one) in
+      let there : is_object_slot image (cnode_slot image d.cnode d.index) c.cnode ≡ true =
+      subst (λ slot. is_object_slot image slot c.cnode ≡ true) same (listed-slot j c one) in
       let cnodes : c.cnode ≡ d.cnode =
       slot-of-one image fitting formed c.cnode d.cnode (cnode_slot image d.cnode d.index) (CapabilityFits.cnode (fitting.capability j c one))
       (CapabilityFits.cnode (fitting.capability k d two)) there (listed-slot k d two) in
@@ -69,7 +73,8 @@ module _ (image : Image) (fitting : IsFitting image) (formed : AreFormed image) 
   thread-or-cnode j k c t slot one two same is =
       let there : is_object_slot image slot c.cnode ≡ true = subst (λ slot. is_object_slot image slot c.cnode ≡ true) same (listed-slot j c one) in
       let one_object : c.cnode ≡ t.header.tcb =
-      slot-of-one image fitting formed c.cnode t.header.tcb slot (CapabilityFits.cnode (fitting.capability j c one)) (ThreadFits.tcb (fitting.thread k t two)) there is in
+      slot-of-one image fitting formed c.cnode t.header.tcb slot (CapabilityFits.cnode (fitting.capability j c one)) (ThreadFits.tcb (fitting.thread k t two))
+      there is in
       no-thread (type_at image t.header.tcb) c.index (subst (λ n. has_slot image n c.index ≡ true) one_object (CapabilityKept.slot (formed.capability j c one)))
       (ThreadKept.tcb (formed.thread k t two))
 
@@ -84,13 +89,15 @@ module _ (image : Image) (fitting : IsFitting image) (formed : AreFormed image) 
   -- two threads are two objects
   pub threads-differ : (j k : ℕ) (t u : Thread) → j < k → slice_get image.threads j ≡ Some t → slice_get image.threads k ≡ Some u → t.header.tcb ≢ u.header.tcb
   threads-differ j k t u less one two same =
-      true≢false (sym (any-taken (λ v. v.header.tcb == u.header.tcb) image.threads k j t less one (eq-eqb t.header.tcb u.header.tcb same)) ∙ ThreadKept.once (formed.thread k u two))
+      true≢false (sym (any-taken (λ v. v.header.tcb == u.header.tcb) image.threads k j t less one (eq-eqb t.header.tcb u.header.tcb same))
+      ∙ ThreadKept.once (formed.thread k u two))
 
   shared : (j k : ℕ) (t u : Thread) (slot : ℕ) → j < k → slice_get image.threads j ≡ Some t → slice_get image.threads k ≡ Some u
       → is_object_slot image slot t.header.tcb ≡ true → is_object_slot image slot u.header.tcb ≡ true → ⊥
   shared j k t u slot less one two here there =
       threads-differ j k t u less one two
-      (slot-of-one image fitting formed t.header.tcb u.header.tcb slot (ThreadFits.tcb (fitting.thread j t one)) (ThreadFits.tcb (fitting.thread k u two)) here there)
+      (slot-of-one image fitting formed t.header.tcb u.header.tcb slot (ThreadFits.tcb (fitting.thread j t one)) (ThreadFits.tcb (fitting.thread k u two)) here
+      there)
 
   -- an earlier thread has no slot of a later one
   pub earlier-apart : (j k : ℕ) (t u : Thread) (slot : ℕ) → j < k → slice_get image.threads j ≡ Some t → slice_get image.threads k ≡ Some u
@@ -112,7 +119,8 @@ module _ (image : Image) (fitting : IsFitting image) (formed : AreFormed image) 
   two-apart t same = omega (arith, same)
 
   module _ (p : Progress) (within : IsWithin image p) (all : p.objects ≡ image.header.objects) where
-    room-reads : (slot number : ℕ) (a b : Option Entry) → number < image.header.objects → is_object_slot image slot number ≡ true → boot_area_slots image.header.boot_radix ≤ slot
+    room-reads : (slot number : ℕ) (a b : Option Entry) → number < image.header.objects → is_object_slot image slot number ≡ true →
+        boot_area_slots image.header.boot_radix ≤ slot
         → held_in (listed_part image p) slot ≡ a → held_in (threads_part image p) slot ≡ b → Reads image p slot (shown (option_or a b))
     room-reads slot number a b less is behind one two =
         read-open image p slot (option_or a b) (open-room image p slot number (omega (arith, less, all)) is)
@@ -121,7 +129,8 @@ module _ (image : Image) (fitting : IsFitting image) (formed : AreFormed image) 
     listed-reads : (k : ℕ) (c : CapabilityEntry) (v : Option Entry) → slice_get image.capabilities k ≡ Some c
         → held_in (listed_part image p) (cnode_slot image c.cnode c.index) ≡ v → Reads image p (cnode_slot image c.cnode c.index) (shown (option_or v None))
     listed-reads k c v at held =
-        room-reads (cnode_slot image c.cnode c.index) c.cnode v None (CapabilityFits.cnode (fitting.capability k c at)) (listed-slot k c at) (listed-behind image fitting formed p within k c at) held
+        room-reads (cnode_slot image c.cnode c.index) c.cnode v None (CapabilityFits.cnode (fitting.capability k c at)) (listed-slot k c at)
+        (listed-behind image fitting formed p within k c at) held
         (flat-none (thread_holdings image) image.threads p.threads (cnode_slot image c.cnode c.index) (λ j t below there. thread-none j k t c there at))
 
     pub reads-listed : (k : ℕ) (c : CapabilityEntry) → k < p.capabilities → slice_get image.capabilities k ≡ Some c
@@ -161,7 +170,8 @@ module _ (image : Image) (fitting : IsFitting image) (formed : AreFormed image) 
       listed = λ k c above at. listed-reads k c None at
           (mapped-none (listed_holding image) image.capabilities p.capabilities (cnode_slot image c.cnode c.index)
           (λ j d below there. listed-apart j k d c (omega (arith, below, above)) there at));
-      cspace = λ k t above at. thread-reads k t (cspace_slot (offset_of image t.header.tcb)) None at (first-slot k t at) (thread-behind image fitting formed p within k t at)
+      cspace = λ k t above at. thread-reads k t (cspace_slot (offset_of image t.header.tcb)) None at (first-slot k t at)
+          (thread-behind image fitting formed p within k t at)
           (flat-none (thread_holdings image) image.threads p.threads (cspace_slot (offset_of image t.header.tcb))
           (λ j u below there. earlier-apart j k u t (cspace_slot (offset_of image t.header.tcb)) (omega (arith, below, above)) there at (first-slot k t at)));
       vspace = λ k t above at.

@@ -15,7 +15,8 @@ use Rattle.soundness.proofs.boot_laws.PlacesSlots.{boot-slots-suffice, cnode-slo
 use Rattle.soundness.proofs.boot_laws.Readings.{IsWithin}
 use Rattle.soundness.proofs.boot_laws.ReadingsLists.{flat-none, held-joined, held-later, mapped-none, numbered-back, range-none}
 use Rattle.soundness.specs.boot_laws.Loading.{Progress, holdings_so_far, is_moved, original_holding_so_far, originals_so_far, untyped_so_far}
-use Rattle.model.specs.Images.Described.{Holding, binding_holding, frame_holding, handler_holding, held_in, holding, listed_holding, notification_holding, numbered, original, thread_holdings}
+use Rattle.model.specs.Images.Described.{Holding, binding_holding, frame_holding, handler_holding, held_in, holding, listed_holding, notification_holding}
+use Rattle.model.specs.Images.Described.{numbered, original, thread_holdings}
 use Rattle.model.specs.Capabilities.CapabilityKinds.{with_payload}
 use Rattle.model.specs.Images.Image.{Image, Thread}
 use Rattle.model.specs.Images.Places.{cnode_slot, control_slot, offset_of, original_slot}
@@ -48,14 +49,16 @@ threads_part image p = flat_map (thread_holdings image) (take p.threads image.th
 -- the two slots of a thread
 abbrev pub cspace_holding : Image → Thread → Holding
 cspace_holding image t =
-    holding (cspace_slot (offset_of image t.header.tcb)) (with_payload (original image t.header.cnode) t.header.guard) (Some (original_slot image t.header.cnode))
+    holding (cspace_slot (offset_of image t.header.tcb)) (with_payload (original image t.header.cnode) t.header.guard)
+    (Some (original_slot image t.header.cnode))
 
 abbrev pub vspace_holding : Image → Thread → Holding
 vspace_holding image t = holding (vspace_slot (offset_of image t.header.tcb)) (original image t.header.root) (Some (original_slot image t.header.root))
 
 -- ---- nine sections, one after another
 
-abbrev nine : Option Entry → Option Entry → Option Entry → Option Entry → Option Entry → Option Entry → Option Entry → Option Entry → Option Entry → Option Entry
+abbrev nine : Option Entry → Option Entry → Option Entry → Option Entry → Option Entry → Option Entry → Option Entry → Option Entry → Option Entry →
+    Option Entry
 nine a b c d e f g h i = option_or (option_or (option_or (option_or (option_or (option_or (option_or (option_or a b) c) d) e) f) g) h) i
 
 joined-nine : (image : Image) (p : Progress) (slot : ℕ) (a b c d e f g h i : Option Entry) → held_in (untypeds_part image p) slot ≡ a
@@ -66,7 +69,8 @@ unfolding holdings_so_far
 joined-nine image p slot a b c d e f g h i is_a is_b is_c is_d is_e is_f is_g is_h is_i =
     held-joined _ (threads_part image p) slot _ i (held-joined _ (listed_part image p) slot _ h (held-joined _ (bindings_part image p) slot _ g
     (held-joined _ (notifications_part image p) slot _ f (held-joined _ (frames_part image p) slot _ e (held-joined _ (handlers_part image p) slot _ d
-    (held-joined _ (control_part image) slot _ c (held-joined (untypeds_part image p) (originals_so_far image p) slot a b is_a is_b) is_c) is_d) is_e) is_f) is_g) is_h) is_i
+    (held-joined _ (control_part image) slot _ c (held-joined (untypeds_part image p) (originals_so_far image p) slot a b is_a is_b) is_c) is_d) is_e) is_f)
+    is_g) is_h) is_i
 
 module _ (image : Image) (fitting : IsFitting image) (formed : AreFormed image) (p : Progress) (within : IsWithin image p) where
   -- ---- slots outside a section
@@ -81,7 +85,8 @@ module _ (image : Image) (fitting : IsFitting image) (formed : AreFormed image) 
 
   pub originals-none : (slot : ℕ) → (slot < image.header.untypeds) ⊎ (image.header.untypeds + p.objects ≤ slot) → held_in (originals_so_far image p) slot ≡ None
   originals-none slot outside =
-      range-none (original_holding_so_far image p) image.header.untypeds (λ n. refl) (λ number. not (is_moved image p number)) 0 p.objects slot (λ n low high. inl (other n high outside)) where
+      range-none (original_holding_so_far image p) image.header.untypeds (λ n. refl) (λ number. not (is_moved image p number)) 0 p.objects slot
+      (λ n low high. inl (other n high outside)) where
         other : (n : ℕ) → n < 0 + p.objects → (slot < image.header.untypeds) ⊎ (image.header.untypeds + p.objects ≤ slot) → image.header.untypeds + n ≢ slot
         other n high (inl below) same = omega (arith, below, same)
         other n high (inr above) same = omega (arith, above, same, high)
@@ -91,16 +96,19 @@ module _ (image : Image) (fitting : IsFitting image) (formed : AreFormed image) 
 
   pub handlers-none : (slot : ℕ) → (slot < control_slot image + 1) ⊎ (control_slot image + 1 + p.handlers ≤ slot) → held_in (handlers_part image p) slot ≡ None
   handlers-none slot outside =
-      mapped-none (handler_holding image) (numbered image.interrupts) p.handlers slot (λ j y below at. other j y below (numbered-back image.interrupts j y at).0 outside) where
+      mapped-none (handler_holding image) (numbered image.interrupts) p.handlers slot
+      (λ j y below at. other j y below (numbered-back image.interrupts j y at).0 outside) where
         other : (j : ℕ) (y : ℕ × InterruptEntry) → j < p.handlers → y.0 ≡ j → (slot < control_slot image + 1) ⊎ (control_slot image + 1 + p.handlers ≤ slot)
             → control_slot image + 1 + y.0 ≢ slot
         other j y less number (inl below) same = omega (arith, below, same)
         other j y less number (inr above) same = omega (arith, above, same, less, number)
 
-  pub frames-none : (slot : ℕ) → (slot < control_slot image + 1 + image.header.interrupts) ⊎ (control_slot image + 1 + image.header.interrupts + p.frames ≤ slot)
+  pub frames-none : (slot : ℕ) → (slot < control_slot image + 1 + image.header.interrupts) ⊎
+      (control_slot image + 1 + image.header.interrupts + p.frames ≤ slot)
       → held_in (frames_part image p) slot ≡ None
   frames-none slot outside =
-      mapped-none (frame_holding image) (numbered image.frames) p.frames slot (λ j y below at. other j y.0 below (numbered-back image.frames j y at).0 outside) where
+      mapped-none (frame_holding image) (numbered image.frames) p.frames slot
+      (λ j y below at. other j y.0 below (numbered-back image.frames j y at).0 outside) where
         other : (j number : ℕ) → j < p.frames → number ≡ j
             → (slot < control_slot image + 1 + image.header.interrupts) ⊎ (control_slot image + 1 + image.header.interrupts + p.frames ≤ slot)
             → control_slot image + 1 + image.header.interrupts + number ≢ slot
@@ -110,22 +118,27 @@ module _ (image : Image) (fitting : IsFitting image) (formed : AreFormed image) 
   pub notifications-none : (slot : ℕ) → (slot < control_slot image + 1 + image.header.interrupts + image.header.frames)
       ⊎ (control_slot image + 1 + image.header.interrupts + image.header.frames + p.signals ≤ slot) → held_in (notifications_part image p) slot ≡ None
   notifications-none slot outside =
-      mapped-none (notification_holding image) (numbered image.interrupts) p.signals slot (λ j y below at. other j y.0 below (numbered-back image.interrupts j y at).0 outside) where
+      mapped-none (notification_holding image) (numbered image.interrupts) p.signals slot
+      (λ j y below at. other j y.0 below (numbered-back image.interrupts j y at).0 outside) where
         other : (j number : ℕ) → j < p.signals → number ≡ j
-            → (slot < control_slot image + 1 + image.header.interrupts + image.header.frames) ⊎ (control_slot image + 1 + image.header.interrupts + image.header.frames + p.signals ≤ slot)
+            → (slot < control_slot image + 1 + image.header.interrupts + image.header.frames) ⊎
+            (control_slot image + 1 + image.header.interrupts + image.header.frames + p.signals ≤ slot)
             → control_slot image + 1 + image.header.interrupts + image.header.frames + number ≢ slot
         other j number less is (inl below) same = omega (arith, below, same)
         other j number less is (inr above) same = omega (arith, above, same, less, is)
 
-  bindings-none : (slot : ℕ) → (slot < 2 ^ image.header.boot_radix) ⊎ (boot_area_slots image.header.boot_radix ≤ slot) → held_in (bindings_part image p) slot ≡ None
+  bindings-none : (slot : ℕ) → (slot < 2 ^ image.header.boot_radix) ⊎ (boot_area_slots image.header.boot_radix ≤ slot) →
+      held_in (bindings_part image p) slot ≡ None
   bindings-none slot outside =
       mapped-none (binding_holding image) (numbered image.interrupts) p.signals slot
       (λ j y below at. let back = numbered-back image.interrupts j y at in other (y.1).line (InterruptFits.line (fitting.interrupt j y.1 back.1)) outside) where
-        other : (line : ℕ) → line ≤ 63 → (slot < 2 ^ image.header.boot_radix) ⊎ (boot_area_slots image.header.boot_radix ≤ slot) → 2 ^ image.header.boot_radix + line ≢ slot
+        other : (line : ℕ) → line ≤ 63 → (slot < 2 ^ image.header.boot_radix) ⊎ (boot_area_slots image.header.boot_radix ≤ slot) →
+            2 ^ image.header.boot_radix + line ≢ slot
         other line most (inl below) same = omega (arith, below, same)
         other line most (inr above) same = omega (arith, above, same, most)
 
-  pub listed-behind : (k : ℕ) (c : CapabilityEntry) → slice_get image.capabilities k ≡ Some c → boot_area_slots image.header.boot_radix ≤ cnode_slot image c.cnode c.index
+  pub listed-behind : (k : ℕ) (c : CapabilityEntry) → slice_get image.capabilities k ≡ Some c →
+      boot_area_slots image.header.boot_radix ≤ cnode_slot image c.cnode c.index
   listed-behind k c at =
       slot-behind-boot image fitting formed c.cnode (cnode_slot image c.cnode c.index) (CapabilityFits.cnode (fitting.capability k c at))
       (cnode-slot image c.cnode c.index (CapabilityKept.slot (formed.capability k c at)))
@@ -135,7 +148,8 @@ module _ (image : Image) (fitting : IsFitting image) (formed : AreFormed image) 
       mapped-none (listed_holding image) image.capabilities p.capabilities slot
       (λ j c below at same. let behind = listed-behind j c at in omega (arith, behind, same, low))
 
-  pub thread-behind : (k : ℕ) (t : Thread) → slice_get image.threads k ≡ Some t → boot_area_slots image.header.boot_radix ≤ cspace_slot (offset_of image t.header.tcb)
+  pub thread-behind : (k : ℕ) (t : Thread) → slice_get image.threads k ≡ Some t →
+      boot_area_slots image.header.boot_radix ≤ cspace_slot (offset_of image t.header.tcb)
   thread-behind k t at =
       slot-behind-boot image fitting formed t.header.tcb (cspace_slot (offset_of image t.header.tcb)) (ThreadFits.tcb (fitting.thread k t at))
       (cspace-slot image t.header.tcb (ThreadKept.tcb (formed.thread k t at)))
@@ -158,16 +172,19 @@ module _ (image : Image) (fitting : IsFitting image) (formed : AreFormed image) 
       let room = boot-slots-suffice image fitting formed in
       joined-nine image p slot (held_in (untypeds_part image p) slot) None None None None None None None None refl
       (originals-none slot (inl high)) (control-none slot (λ same. omega (arith, same, high))) (handlers-none slot (inl (omega (arith, high))))
-      (frames-none slot (inl (omega (arith, high)))) (notifications-none slot (inl (omega (arith, high)))) (bindings-none slot (inl (omega (arith, high, room))))
+      (frames-none slot (inl (omega (arith, high)))) (notifications-none slot (inl (omega (arith, high))))
+      (bindings-none slot (inl (omega (arith, high, room))))
       (listed-none slot (omega (arith, high, room))) (threads-none slot (omega (arith, high, room)))
       ∙ elim (held_in (untypeds_part image p) slot) as (λ v. nine v None None None None None None None None ≡ v) [ None ↦ refl | Some held ↦ refl ]
 
-  pub read-original : (slot : ℕ) → image.header.untypeds ≤ slot → slot < control_slot image → held_in (holdings_so_far image p) slot ≡ held_in (originals_so_far image p) slot
+  pub read-original : (slot : ℕ) → image.header.untypeds ≤ slot → slot < control_slot image →
+      held_in (holdings_so_far image p) slot ≡ held_in (originals_so_far image p) slot
   read-original slot low high =
       let room = boot-slots-suffice image fitting formed in
       joined-nine image p slot None (held_in (originals_so_far image p) slot) None None None None None None None (untypeds-none slot low) refl
       (control-none slot (λ same. omega (arith, same, high))) (handlers-none slot (inl (omega (arith, high))))
-      (frames-none slot (inl (omega (arith, high)))) (notifications-none slot (inl (omega (arith, high)))) (bindings-none slot (inl (omega (arith, high, room))))
+      (frames-none slot (inl (omega (arith, high)))) (notifications-none slot (inl (omega (arith, high))))
+      (bindings-none slot (inl (omega (arith, high, room))))
       (listed-none slot (omega (arith, high, room))) (threads-none slot (omega (arith, high, room)))
       ∙ elim (held_in (originals_so_far image p) slot) as (λ v. nine None v None None None None None None None ≡ v) [ None ↦ refl | Some held ↦ refl ]
 
@@ -177,7 +194,8 @@ module _ (image : Image) (fitting : IsFitting image) (formed : AreFormed image) 
       let objects = within.objects in
       joined-nine image p slot None None (held_in (control_part image) slot) None None None None None None (untypeds-none slot (omega (arith, here)))
       (originals-none slot (inr (omega (arith, here, objects)))) refl (handlers-none slot (inl (omega (arith, here))))
-      (frames-none slot (inl (omega (arith, here)))) (notifications-none slot (inl (omega (arith, here)))) (bindings-none slot (inl (omega (arith, here, room))))
+      (frames-none slot (inl (omega (arith, here)))) (notifications-none slot (inl (omega (arith, here))))
+      (bindings-none slot (inl (omega (arith, here, room))))
       (listed-none slot (omega (arith, here, room))) (threads-none slot (omega (arith, here, room)))
       ∙ elim (held_in (control_part image) slot) as (λ v. nine None None v None None None None None None ≡ v) [ None ↦ refl | Some held ↦ refl ]
 
@@ -192,14 +210,16 @@ module _ (image : Image) (fitting : IsFitting image) (formed : AreFormed image) 
       (listed-none slot (omega (arith, high, room))) (threads-none slot (omega (arith, high, room)))
       ∙ elim (held_in (handlers_part image p) slot) as (λ v. nine None None None v None None None None None ≡ v) [ None ↦ refl | Some held ↦ refl ]
 
-  pub read-frame : (slot : ℕ) → control_slot image + 1 + image.header.interrupts ≤ slot → slot < control_slot image + 1 + image.header.interrupts + image.header.frames
+  pub read-frame : (slot : ℕ) → control_slot image + 1 + image.header.interrupts ≤ slot →
+      slot < control_slot image + 1 + image.header.interrupts + image.header.frames
       → held_in (holdings_so_far image p) slot ≡ held_in (frames_part image p) slot
   read-frame slot low high =
       let room = boot-slots-suffice image fitting formed in
       let objects = within.objects in
       let handlers = within.handlers in
       joined-nine image p slot None None None None (held_in (frames_part image p) slot) None None None None (untypeds-none slot (omega (arith, low)))
-      (originals-none slot (inr (omega (arith, low, objects)))) (control-none slot (λ same. omega (arith, same, low))) (handlers-none slot (inr (omega (arith, low, handlers)))) refl
+      (originals-none slot (inr (omega (arith, low, objects)))) (control-none slot (λ same. omega (arith, same, low)))
+      (handlers-none slot (inr (omega (arith, low, handlers)))) refl
       (notifications-none slot (inl high)) (bindings-none slot (inl (omega (arith, high, room))))
       (listed-none slot (omega (arith, high, room))) (threads-none slot (omega (arith, high, room)))
       ∙ elim (held_in (frames_part image p) slot) as (λ v. nine None None None None v None None None None ≡ v) [ None ↦ refl | Some held ↦ refl ]
@@ -213,7 +233,8 @@ module _ (image : Image) (fitting : IsFitting image) (formed : AreFormed image) 
       let handlers = within.handlers in
       let frames = within.frames in
       joined-nine image p slot None None None None None (held_in (notifications_part image p) slot) None None None (untypeds-none slot (omega (arith, low)))
-      (originals-none slot (inr (omega (arith, low, objects)))) (control-none slot (λ same. omega (arith, same, low))) (handlers-none slot (inr (omega (arith, low, handlers))))
+      (originals-none slot (inr (omega (arith, low, objects)))) (control-none slot (λ same. omega (arith, same, low)))
+      (handlers-none slot (inr (omega (arith, low, handlers))))
       (frames-none slot (inr (omega (arith, low, frames)))) refl (bindings-none slot (inl (omega (arith, high, room))))
       (listed-none slot (omega (arith, high, room))) (threads-none slot (omega (arith, high, room)))
       ∙ elim (held_in (notifications_part image p) slot) as (λ v. nine None None None None None v None None None ≡ v) [ None ↦ refl | Some held ↦ refl ]

@@ -1,5 +1,6 @@
 -- Which capabilities are untyped memory: those whose objects are, whatever is mapped, limited or listed.
-use Rattle.std.proofs.Common.{ℕ, zero, suc, ◌≡◌, ◌∙◌, ◌==◌, ◌/◌, ◌||◌, inl, inr, Bool, true, false, if◌then◌else◌, find, take, List, [], ◌∷◌, cond, Option, Some, None, refl, sym, ap, arith}
+use Rattle.std.proofs.Common.{ℕ, zero, suc, ◌≡◌, ◌∙◌, ◌==◌, ◌/◌, ◌||◌, inl, inr, Bool, true, false, if◌then◌else◌, find, take, List, [], ◌∷◌, cond, Option}
+use Rattle.std.proofs.Common.{Some, None, refl, sym, ap, arith}
 use Rattle.std.specs.Prelude.{slice_get}
 use Rattle.std.specs.Option.{option_map_or}
 use Rattle.std.specs.List.{list_any}
@@ -7,7 +8,8 @@ use Rattle.std.proofs.lemmas.Bool.{cases_lt, le-leb, lt-leb, or_parts}
 use Rattle.std.proofs.lemmas.List.{get_or_past}
 use Rattle.std.proofs.lemmas.Option.{none-some, same_Some}
 use Rattle.model.specs.declared.capabilities.Cap.{Cap}
-use Rattle.model.specs.declared.capabilities.Cap.TheVariants.{Empty, Untyped, Endpoint, Notification, CNode, Frame, PageTable, Tcb, RootTable, InterruptControl, InterruptHandler}
+use Rattle.model.specs.declared.capabilities.Cap.TheVariants.{Empty, Untyped, Endpoint, Notification, CNode, Frame, PageTable, Tcb, RootTable, InterruptControl}
+use Rattle.model.specs.declared.capabilities.Cap.TheVariants.{InterruptHandler}
 use Rattle.model.specs.declared.capabilities.TableMapping.{TableMapping}
 use Rattle.model.specs.declared.entries.CapabilityEntry.{CapabilityEntry}
 use Rattle.model.specs.declared.entries.InterruptEntry.{InterruptEntry}
@@ -21,7 +23,8 @@ use Rattle.model.specs.Images.Described.{limited, listed_capability, original}
 use Rattle.model.specs.Images.Image.{Image}
 use Rattle.model.specs.Images.Places.{interrupt_of, is_handler, object_at, offset_of, type_at}
 use Rattle.model.specs.Kernel.AddressSpaces.{page_size, region_pages}
-use Rattle.model.specs.Kernel.Retype.{NewObject, NewUntyped, NewThread, NewEndpoint, NewNotification, NewCNode, NewFrame, NewPageTable, NewRootTable, first_capability, type_of}
+use Rattle.model.specs.Kernel.Retype.{NewObject, NewUntyped, NewThread, NewEndpoint, NewNotification, NewCNode, NewFrame, NewPageTable, NewRootTable}
+use Rattle.model.specs.Kernel.Retype.{first_capability, type_of}
 
 table-untyped : (c : Cap) (m : Option TableMapping) → is_untyped (with_table_mapping c m) ≡ is_untyped c
 table-untyped Empty m = refl
@@ -87,7 +90,9 @@ described-untyped image number =
 pub listed-untyped : (image : Image) (c : CapabilityEntry) → is_untyped (listed_capability image c) ≡ is_untyped_type (source_type image c.source)
 listed-untyped image c =
     limited-untyped _ c.rights c.payload
-    ∙ elim (is_handler image c.source) as (λ b. is_untyped (if b then option_map_or (λ (i : InterruptEntry). InterruptHandler i.line) (slice_get image.interrupts (interrupt_of image c.source)) Empty else original image c.source)
+    ∙ elim (is_handler image c.source)
+    as (λ b. is_untyped (if b then option_map_or (λ (i : InterruptEntry). InterruptHandler i.line)
+    (slice_get image.interrupts (interrupt_of image c.source)) Empty else original image c.source)
     ≡ is_untyped_type (if b then None else type_at image c.source)) [
       | true ↦ no-untyped (slice_get image.interrupts (interrupt_of image c.source))
       | false ↦ described-untyped image c.source
@@ -101,7 +106,8 @@ pub source-untyped : (image : Image) (source : ℕ) → IsFitting image → is_u
 source-untyped image source fitting = elim (cases_lt source image.header.objects) [
   | inl object ↦ sym (ap (λ b. is_untyped_type (if b then None else type_at image source)) (lt-leb image.header.objects source object))
   | inr handler ↦
-      let none : object_at image source ≡ record { untyped = 0; kind = 0; size = 0 } = get_or_past image.objects source _ (omega (arith, handler, fitting.objects)) in
+      let none : object_at image source ≡ record { untyped = 0; kind = 0; size = 0 } =
+      get_or_past image.objects source _ (omega (arith, handler, fitting.objects)) in
       ap (λ (o : ObjectEntry). is_untyped_type (type_of o.kind o.size)) none
       ∙ sym (ap (λ b. is_untyped_type (if b then None else type_at image source)) (le-leb image.header.objects source handler))
 ]
@@ -112,10 +118,11 @@ pub any-more : {A : Type 0} (test : A → Bool) (xs : List A) (m : ℕ) (x : A) 
     → list_any test (take (suc m) xs) ≡ (list_any test (take m xs) || test x)
 any-more test [] m x at = absurd (none-some x at)
 any-more test (y ∷ ys) zero x at = elim (test y) as (λ b. (b || false) ≡ b) [ true ↦ refl | false ↦ refl ] ∙ ap test (same_Some y x at)
-any-more test (y ∷ ys) (suc m) x at = ap (λ b. test y || b) (any-more test ys m x at) ∙ elim (test y) as (λ b. (b || (list_any test (take m ys) || test x)) ≡ ((b || list_any test (take m ys)) || test x)) [
-  | true ↦ refl
-  | false ↦ refl
-]
+any-more test (y ∷ ys) (suc m) x at = ap (λ b. test y || b) (any-more test ys m x at)
+    ∙ elim (test y) as (λ b. (b || (list_any test (take m ys) || test x)) ≡ ((b || list_any test (take m ys)) || test x)) [
+      | true ↦ refl
+      | false ↦ refl
+    ]
 
 pub find-none : {A : Type 0} (test : A → Bool) (xs : List A) → list_any test xs ≡ false → find test xs ≡ None
 find-none test [] none = refl

@@ -1,5 +1,6 @@
 -- Phase after phase, an image whose entries can be loaded one by one boots into the state that it describes.
-use Rattle.std.proofs.Common.{ℕ, zero, suc, ◌≡◌, ◌∙◌, ◌+◌, ◌<◌, List, [], ◌∷◌, ◌++◌, map, take, length, None, Some, Ok, refl, sym, ap, subst, append_assoc, arith}
+use Rattle.std.proofs.Common.{ℕ, zero, suc, ◌≡◌, ◌∙◌, ◌+◌, ◌<◌, List, [], ◌∷◌, ◌++◌, map, take, length, None, Some, Ok, refl, sym, ap, subst, append_assoc}
+use Rattle.std.proofs.Common.{arith}
 use Rattle.std.specs.Prelude.{flat_map, slice_get}
 use Rattle.std.specs.List.{enumerate_from, range_with_len}
 use Rattle.std.proofs.lemmas.List.FromFn.{length-range_with_len}
@@ -8,7 +9,8 @@ use Rattle.model.specs.declared.entries.FrameEntry.{FrameEntry}
 use Rattle.model.specs.declared.entries.InterruptEntry.{InterruptEntry}
 use Rattle.model.specs.declared.entries.TableEntry.{TableEntry}
 use Rattle.model.specs.Images.Boot.{booted, made, misplaced}
-use Rattle.model.specs.Images.BootCalls.{LoaderCall, Operation, PutsUntyped, PutsControl, Calls, capability_call, content_operation, first_calls, frame_calls, interrupt_call, last_calls, object_call, operations, program_operation, signal_calls, table_call, thread_calls}
+use Rattle.model.specs.Images.BootCalls.{LoaderCall, Operation, PutsUntyped, PutsControl, Calls, capability_call, content_operation, first_calls, frame_calls}
+use Rattle.model.specs.Images.BootCalls.{interrupt_call, last_calls, object_call, operations, program_operation, signal_calls, table_call, thread_calls}
 use Rattle.model.specs.Images.Described.{Numbered, described, numbered, numbered_threads}
 use Rattle.model.specs.Images.Fills.{content_fill, fills, program_fills}
 use Rattle.model.specs.Images.Image.{Image, ImageContent, Thread}
@@ -54,9 +56,11 @@ at_threads image count = record (at_signals image image.header.interrupts) { thr
 pub record LoadsByOne (image : Image) : Type 0 where
   pub placed : misplaced image ≡ None
   pub counts : CountsAreLengths image
-  pub lengths : (length image.capabilities ≡ image.header.capabilities) × (length image.interrupts ≡ image.header.interrupts) × (length image.tables ≡ image.header.tables)
+  pub lengths : (length image.capabilities ≡ image.header.capabilities) × (length image.interrupts ≡ image.header.interrupts)
+      × (length image.tables ≡ image.header.tables)
       × (length image.frames ≡ image.header.frames) × (length image.threads ≡ image.header.threads)
-  pub puts : Leads image (boot_area image.header.memory_bits image.header.boot_radix) (map (λ u. PutsUntyped u.0 u.1) (numbered image.untypeds) ++ PutsControl (control_slot image) ∷ [])
+  pub puts : Leads image (boot_area image.header.memory_bits image.header.boot_radix)
+      (map (λ u. PutsUntyped u.0 u.1) (numbered image.untypeds) ++ PutsControl (control_slot image) ∷ [])
       (loaded image nothing_loaded)
   pub objects : (i : ℕ) → i < image.header.objects → made (loaded image (at_objects i)) (object_call image i) ≡ Ok (loaded image (at_objects (suc i)))
   pub handlers : (i : ℕ) (x : ℕ × InterruptEntry) → slice_get (numbered image.interrupts) i ≡ Some x
@@ -135,7 +139,8 @@ at-range start (suc count) zero x is = (let e : start ≡ x = cc is in omega (ar
 at-range start (suc count) (suc i) x is =
     let rest = at-range (start + 1) count i x is in (omega (arith, rest.0), omega (arith, rest.1))
 
-first-calls : (image : Image) → LoadsByOne image → Leads image (loaded image nothing_loaded) (map Calls (first_calls image)) (loaded image (at_frames image image.header.frames))
+first-calls : (image : Image) → LoadsByOne image → Leads image (loaded image nothing_loaded) (map Calls (first_calls image))
+    (loaded image (at_frames image image.header.frames))
 first-calls image by =
     let xs = map (object_call image) (range_with_len 0 image.header.objects) in
     let ys = map (interrupt_call image) (numbered image.interrupts) in
@@ -148,36 +153,46 @@ first-calls image by =
     let s3 = loaded image (at_tables image 0) in
     let s4 = loaded image (at_frames image 0) in
     let s5 = loaded image (at_frames image image.header.frames) in
-    let objects : Leads image s0 (map Calls xs) s1 = calls-each image (object_call image) (λ i. loaded image (at_objects i)) (range_with_len 0 image.header.objects) image.header.objects (length-range_with_len 0 image.header.objects) (λ i x is.
+    let objects : Leads image s0 (map Calls xs) s1 = calls-each image (object_call image) (λ i. loaded image (at_objects i))
+    (range_with_len 0 image.header.objects) image.header.objects (length-range_with_len 0 image.header.objects) (λ i x is.
     let at = at-range 0 image.header.objects i x is in
     let here : x ≡ i = omega (arith, at.0) in
     subst (λ (n : ℕ). made (loaded image (at_objects i)) (object_call image n) ≡ Ok (loaded image (at_objects (suc i)))) (sym here) (by.objects i at.1)) in
-    let handlers : Leads image s1 (map Calls ys) s2 = calls-each image (interrupt_call image) (λ i. loaded image (at_handlers image i)) (numbered image.interrupts) image.header.interrupts (length-numbered_from 0 image.interrupts ∙ by.lengths.1) by.handlers in
-    let capabilities : Leads image s2 (map Calls zs) s3 = calls-each image (capability_call image) (λ i. loaded image (at_capabilities image i)) image.capabilities image.header.capabilities by.lengths.0 by.capabilities in
-    let tables : Leads image s3 (map Calls ts) s4 = calls-each image (table_call image) (λ i. loaded image (at_tables image i)) image.tables image.header.tables by.lengths.2 by.tables in
-    let frames : Leads image s4 (map Calls fs) s5 = lists-each image (frame_calls image) (λ i. loaded image (at_frames image i)) (numbered image.frames) image.header.frames (length-numbered_from 0 image.frames ∙ by.lengths.3) by.frames in
+    let handlers : Leads image s1 (map Calls ys) s2 = calls-each image (interrupt_call image) (λ i. loaded image (at_handlers image i))
+    (numbered image.interrupts) image.header.interrupts (length-numbered_from 0 image.interrupts ∙ by.lengths.1) by.handlers in
+    let capabilities : Leads image s2 (map Calls zs) s3 = calls-each image (capability_call image) (λ i. loaded image (at_capabilities image i))
+    image.capabilities image.header.capabilities by.lengths.0 by.capabilities in
+    let tables : Leads image s3 (map Calls ts) s4 = calls-each image (table_call image) (λ i. loaded image (at_tables image i)) image.tables image.header.tables
+    by.lengths.2 by.tables in
+    let frames : Leads image s4 (map Calls fs) s5 = lists-each image (frame_calls image) (λ i. loaded image (at_frames image i)) (numbered image.frames)
+    image.header.frames (length-numbered_from 0 image.frames ∙ by.lengths.3) by.frames in
     let late = leads-both image s3 s4 s5 (map Calls ts) (map Calls fs) tables frames in
     let later = leads-both image s2 s3 s5 (map Calls zs) (map Calls ts ++ map Calls fs) capabilities late in
     let mid = leads-both image s1 s2 s5 (map Calls ys) (map Calls zs ++ (map Calls ts ++ map Calls fs)) handlers later in
     let whole = leads-both image s0 s1 s5 (map Calls xs) (map Calls ys ++ (map Calls zs ++ (map Calls ts ++ map Calls fs))) objects mid in
     leads-same image s0 s5 (map Calls xs ++ (map Calls ys ++ (map Calls zs ++ (map Calls ts ++ map Calls fs)))) (map Calls (first_calls image))
-    (sym (calls-joined (((xs ++ ys) ++ zs) ++ ts) fs ∙ ap (λ (ops : List Operation). ops ++ map Calls fs) (calls-joined ((xs ++ ys) ++ zs) ts ∙ ap (λ (ops : List Operation). ops ++ map Calls ts)
+    (sym (calls-joined (((xs ++ ys) ++ zs) ++ ts) fs ∙ ap (λ (ops : List Operation). ops ++ map Calls fs)
+    (calls-joined ((xs ++ ys) ++ zs) ts ∙ ap (λ (ops : List Operation). ops ++ map Calls ts)
     (calls-joined (xs ++ ys) zs ∙ ap (λ (ops : List Operation). ops ++ map Calls zs) (calls-joined xs ys)))
     ∙ append_assoc ((map Calls xs ++ map Calls ys) ++ map Calls zs) (map Calls ts) (map Calls fs)
     ∙ append_assoc (map Calls xs ++ map Calls ys) (map Calls zs) (map Calls ts ++ map Calls fs)
     ∙ append_assoc (map Calls xs) (map Calls ys) (map Calls zs ++ (map Calls ts ++ map Calls fs))))
     whole
 
-last-calls : (image : Image) → LoadsByOne image → Leads image (loaded image (at_signals image 0)) (map Calls (last_calls image)) (loaded image (all_loaded image))
+last-calls : (image : Image) → LoadsByOne image → Leads image (loaded image (at_signals image 0)) (map Calls (last_calls image))
+    (loaded image (all_loaded image))
 last-calls image by =
     let xs = flat_map (signal_calls image) (numbered image.interrupts) in
     let ys = flat_map (thread_calls image) image.threads in
     let s0 = loaded image (at_signals image 0) in
     let s1 = loaded image (at_threads image 0) in
     let s2 = loaded image (all_loaded image) in
-    let signals : Leads image s0 (map Calls xs) s1 = lists-each image (signal_calls image) (λ i. loaded image (at_signals image i)) (numbered image.interrupts) image.header.interrupts (length-numbered_from 0 image.interrupts ∙ by.lengths.1) by.signals in
-    let threads : Leads image s1 (map Calls ys) s2 = lists-each image (thread_calls image) (λ i. loaded image (at_threads image i)) image.threads image.header.threads by.lengths.4 by.threads in
-    leads-same image s0 s2 (map Calls xs ++ map Calls ys) (map Calls (last_calls image)) (sym (calls-joined xs ys)) (leads-both image s0 s1 s2 (map Calls xs) (map Calls ys) signals threads)
+    let signals : Leads image s0 (map Calls xs) s1 = lists-each image (signal_calls image) (λ i. loaded image (at_signals image i)) (numbered image.interrupts)
+    image.header.interrupts (length-numbered_from 0 image.interrupts ∙ by.lengths.1) by.signals in
+    let threads : Leads image s1 (map Calls ys) s2 = lists-each image (thread_calls image) (λ i. loaded image (at_threads image i)) image.threads
+    image.header.threads by.lengths.4 by.threads in
+    leads-same image s0 s2 (map Calls xs ++ map Calls ys) (map Calls (last_calls image)) (sym (calls-joined xs ys))
+    (leads-both image s0 s1 s2 (map Calls xs) (map Calls ys) signals threads)
 
 -- a list's beginning of no items, and a number that is after nothing
 take-none : {A : Type 0} (xs : List A) → take 0 xs ≡ []
@@ -198,7 +213,8 @@ fills-counted image threads =
     ∙ ap (λ (n : ℕ). n + length ps) (sym (length-map (content_fill image) image.contents)) ∙ sym (length-joined cs ps)
 
 middle : (image : Image) → LoadsByOne image
-    → Leads image (loaded image (at_fills image 0)) (map (content_operation image) image.contents ++ map (program_operation image) (numbered_threads image)) (loaded image (at_signals image 0))
+    → Leads image (loaded image (at_fills image 0)) (map (content_operation image) image.contents ++ map (program_operation image) (numbered_threads image))
+    (loaded image (at_signals image 0))
 middle image by =
     let cs = map (content_operation image) image.contents in
     let ps = map (program_operation image) (numbered_threads image) in
@@ -211,7 +227,8 @@ middle image by =
     leads-to image s0 (loaded image (at_fills image (length image.contents))) s1 cs (ap (λ (n : ℕ). loaded image (at_fills image n)) none)
     (operations-each image (content_operation image) (λ i. loaded image (at_fills image i)) image.contents (length image.contents) refl by.contents) in
     let programs : Leads image s1 ps s2 =
-    leads-to image s1 (loaded image (at_programs image image.header.threads)) s2 ps (ap (λ (n : ℕ). loaded image (at_fills image n)) (fills-counted image by.counts.threads))
+    leads-to image s1 (loaded image (at_programs image image.header.threads)) s2 ps
+    (ap (λ (n : ℕ). loaded image (at_fills image n)) (fills-counted image by.counts.threads))
     (operations-each image (program_operation image) (λ i. loaded image (at_programs image i)) (numbered_threads image) image.header.threads
     (length-map (λ t. record { number = t.0; thread = t.1 }) (numbered image.threads) ∙ length-numbered_from 0 image.threads ∙ by.lengths.4) by.programs) in
     leads-both image s0 s1 s2 cs ps contents programs
@@ -234,7 +251,8 @@ boots-well-by image by =
     let s3 = loaded image (all_loaded image) in
     let end : Leads image s1 ((cs ++ ps) ++ lasts) s3 = leads-both image s1 s2 s3 (cs ++ ps) lasts (middle image by) (last-calls image by) in
     let behind : Leads image s0 (firsts ++ ((cs ++ ps) ++ lasts)) s3 = leads-both image s0 s1 s3 firsts ((cs ++ ps) ++ lasts) (first-calls image by) end in
-    let whole : Leads image start ((us ++ control ∷ []) ++ (firsts ++ ((cs ++ ps) ++ lasts))) s3 = leads-both image start s0 s3 (us ++ control ∷ []) (firsts ++ ((cs ++ ps) ++ lasts)) by.puts behind in
+    let whole : Leads image start ((us ++ control ∷ []) ++ (firsts ++ ((cs ++ ps) ++ lasts))) s3 =
+    leads-both image start s0 s3 (us ++ control ∷ []) (firsts ++ ((cs ++ ps) ++ lasts)) by.puts behind in
     let same : (us ++ control ∷ []) ++ (firsts ++ ((cs ++ ps) ++ lasts)) ≡ operations image =
     append_assoc us (control ∷ []) (firsts ++ ((cs ++ ps) ++ lasts))
     ∙ ap (λ (ops : List Operation). us ++ control ∷ (firsts ++ ops)) (append_assoc cs ps lasts)
@@ -242,4 +260,5 @@ boots-well-by image by =
     ∙ sym (append_assoc (us ++ control ∷ firsts) cs (ps ++ lasts))
     ∙ sym (append_assoc (us ++ control ∷ firsts ++ cs) ps lasts) in
     boots-by image (described image) by.placed
-    (leads-to image start s3 (described image) (operations image) (loaded-end image by.counts) (leads-same image start s3 ((us ++ control ∷ []) ++ (firsts ++ ((cs ++ ps) ++ lasts))) (operations image) same whole))
+    (leads-to image start s3 (described image) (operations image) (loaded-end image by.counts)
+    (leads-same image start s3 ((us ++ control ∷ []) ++ (firsts ++ ((cs ++ ps) ++ lasts))) (operations image) same whole))

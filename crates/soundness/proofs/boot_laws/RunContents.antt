@@ -1,5 +1,6 @@
 -- Contents and programs are filled, if all that they name is there.
-use Rattle.std.proofs.Common.{ℕ, zero, suc, ◌≡◌, ◌∙◌, ◌+◌, ◌≤◌, ◌-◌, Bool, true, List, [], ◌∷◌, ◌++◌, map, take, drop, length, Option, Some, None, option_map, if◌then◌else◌, refl, sym, ap, subst, arith}
+use Rattle.std.proofs.Common.{ℕ, zero, suc, ◌≡◌, ◌∙◌, ◌+◌, ◌≤◌, ◌-◌, Bool, true, List, [], ◌∷◌, ◌++◌, map, take, drop, length, Option, Some, None, option_map}
+use Rattle.std.proofs.Common.{if◌then◌else◌, refl, sym, ap, subst, arith}
 use Rattle.std.specs.Prelude.{filter_map, flat_map, option_and_then, slice_get}
 use Rattle.std.specs.List.{cons_option}
 use Rattle.std.proofs.lemmas.List.{length-take}
@@ -48,8 +49,10 @@ get-flat {A} {B} of (z ∷ zs) zero x j y is item =
     let none : length (flat_map of (take 0 (z ∷ zs))) + j ≡ j = omega arith in
     ap (λ (n : ℕ). slice_get (of z ++ flat_map of zs) n) none ∙ get-first (of z) (flat_map of zs) j y (subst (λ (a : A). slice_get (of a) j ≡ Some y) here item)
 get-flat of (z ∷ zs) (suc k) x j y is item =
-    let split : length (of z ++ flat_map of (take k zs)) + j ≡ length (of z) + (length (flat_map of (take k zs)) + j) = omega (arith, length-joined (of z) (flat_map of (take k zs))) in
-    ap (λ (n : ℕ). slice_get (of z ++ flat_map of zs) n) split ∙ get-behind (of z) (flat_map of zs) (length (flat_map of (take k zs)) + j) ∙ get-flat of zs k x j y is item
+    let split : length (of z ++ flat_map of (take k zs)) + j ≡ length (of z) + (length (flat_map of (take k zs)) + j) =
+    omega (arith, length-joined (of z) (flat_map of (take k zs))) in
+    ap (λ (n : ℕ). slice_get (of z ++ flat_map of zs) n) split ∙ get-behind (of z) (flat_map of zs) (length (flat_map of (take k zs)) + j)
+    ∙ get-flat of zs k x j y is item
 
 -- ---- what has to be there
 
@@ -75,7 +78,8 @@ contents-by-one image there i c is =
     let s = loaded image p in
     let one : FillsFrom image p (f ∷ []) = record {
       listed = λ j g at. only j g at;
-      frames = λ j g at. subst (λ (h : Fill). is_frame_object (objects_so_far image p h.offset) ≡ true) (sole j g at) (there.frames p refl c.header.frame known.0);
+      frames = λ j g at. subst (λ (h : Fill). is_frame_object (objects_so_far image p h.offset) ≡ true) (sole j g at)
+          (there.frames p refl c.header.frame known.0);
       short = λ j g at. subst (λ (h : Fill). length h.bytes ≤ page_size) (sole j g at) known.1;
     } in
     let end : i + length (f ∷ []) ≡ suc i = omega arith in
@@ -92,7 +96,8 @@ contents-by-one image there i c is =
     only zero g at =
         let here : i + 0 ≡ i = omega arith in
         ap (λ (n : ℕ). slice_get (fills image) n) here
-        ∙ get-first (map (content_fill image) image.contents) (flat_map (program_fills image) image.threads) i (content_fill image c) (get-map (content_fill image) image.contents i c is)
+        ∙ get-first (map (content_fill image) image.contents) (flat_map (program_fills image) image.threads) i (content_fill image c)
+        (get-map (content_fill image) image.contents i c is)
         ∙ ap (λ (h : Fill). Some h) (sole zero g at)
     only (suc j) g at = absurd cc
 
@@ -107,7 +112,8 @@ filter-item {A} {B} f (x ∷ xs) j y is = elim (f x) as (λ o. f x ≡ o → sli
   | Some first ↦ λ at later. here (λ k. filter-item f xs k y) j first at later
 ] refl is
   where
-    here : ((k : ℕ) → slice_get (filter_map f xs) k ≡ Some y → (z : A) × (f z ≡ Some y)) → (j : ℕ) (first : B) → f x ≡ Some first → slice_get (first ∷ filter_map f xs) j ≡ Some y → (z : A) × (f z ≡ Some y)
+    here : ((k : ℕ) → slice_get (filter_map f xs) k ≡ Some y → (z : A) × (f z ≡ Some y)) → (j : ℕ) (first : B) → f x ≡ Some first →
+        slice_get (first ∷ filter_map f xs) j ≡ Some y → (z : A) × (f z ≡ Some y)
     here rest zero first at later = (x, at ∙ later)
     here rest (suc j) first at later = rest j later
 
@@ -155,15 +161,22 @@ programs-by-one image there k x is =
     let s = loaded image p in
     let fs = program_fills image t in
     let more : take (suc k) image.threads ≡ take k image.threads ++ t ∷ [] = take-more image.threads k t is in
-    let count : length (flat_map (program_fills image) (take (suc k) image.threads)) ≡ length (flat_map (program_fills image) (take k image.threads)) + length fs =
+    let count : length (flat_map (program_fills image) (take (suc k) image.threads)) ≡ length (flat_map (program_fills image) (take k image.threads)) + length
+    fs =
     ap (λ (ts : List Thread). length (flat_map (program_fills image) ts)) more ∙ flat-more (take k image.threads) in
     let end : p.fills + length fs ≡ length image.contents + length (flat_map (program_fills image) (take (suc k) image.threads)) = omega (arith, count) in
     leads-fills image s (loaded image (at_programs image (suc k))) x.number (if has_place image t then Some fs else None)
     (ap (λ b. option_and_then (fill_all s) (if b then Some fs else None)) (there.programs k x is)
     ∙ fills-many image p fs (program-from image there k x is) ∙ ap (λ (n : ℕ). Some (loaded image (at_fills image n))) end)
   where
-    flat-more : (ts : List Thread) → length (flat_map (program_fills image) (ts ++ x.thread ∷ [])) ≡ length (flat_map (program_fills image) ts) + length (program_fills image x.thread)
+    flat-more : (ts : List Thread) → length (flat_map (program_fills image) (ts ++ x.thread ∷ [])) ≡ length (flat_map (program_fills image) ts) + length
+        (program_fills image x.thread)
     flat-more [] = length-joined (program_fills image x.thread) [] ∙ omega arith
     flat-more (u ∷ ts) =
         let rest = flat-more ts in
-        omega (arith, length-joined (program_fills image u) (flat_map (program_fills image) (ts ++ x.thread ∷ [])), length-joined (program_fills image u) (flat_map (program_fills image) ts), rest)
+        omega (
+          arith,
+          length-joined (program_fills image u) (flat_map (program_fills image) (ts ++ x.thread ∷ [])),
+          length-joined (program_fills image u) (flat_map (program_fills image) ts),
+          rest,
+        )

@@ -1,5 +1,6 @@
 -- Frames are filled one by one: each fill is what is described after one fill more.
-use Rattle.std.proofs.Common.{ℕ, zero, suc, ◌≡◌, ◌∙◌, ◌+◌, ◌-◌, ◌≤◌, ◌&&◌, true, false, nat_le, List, [], ◌∷◌, ◌++◌, take, length, reverse, find, Option, Some, None, option_map, if◌then◌else◌, refl, sym, ap, subst, arith}
+use Rattle.std.proofs.Common.{ℕ, zero, suc, ◌≡◌, ◌∙◌, ◌+◌, ◌-◌, ◌≤◌, ◌&&◌, true, false, nat_le, List, [], ◌∷◌, ◌++◌, take, length, reverse, find, Option, Some}
+use Rattle.std.proofs.Common.{None, option_map, if◌then◌else◌, refl, sym, ap, subst, arith}
 use Rattle.std.specs.Prelude.{option_and_then, slice_get, slice_index}
 use Rattle.std.specs.Option.{option_map_or}
 use Rattle.std.specs.List.{list_any, range_with_len}
@@ -26,13 +27,15 @@ take-more {A} (y ∷ ys) (suc i) x is = ap (λ (zs : List A). y ∷ zs) (take-mo
 
 -- what is at a place after one fill more
 filled-more : (all : List Fill) (i : ℕ) (f : Fill) (place : ℕ) → slice_get all i ≡ Some f
-    → filled_byte (take (suc i) all) place ≡ (if is_within f.offset (length f.bytes) place then slice_index f.bytes (place - f.offset) else filled_byte (take i all) place)
+    → filled_byte (take (suc i) all) place ≡ (if is_within f.offset (length f.bytes) place then slice_index f.bytes (place - f.offset) else
+    filled_byte (take i all) place)
 filled-more all i f place is =
     let found = λ (o : Option Fill). option_map_or (λ g. slice_index g.bytes (place - g.offset)) o 0 in
     let earlier = find (is_filled place) (reverse (take i all)) in
     ap (λ (fs : List Fill). found (find (is_filled place) (reverse fs))) (take-more all i f is)
     ∙ ap (λ (fs : List Fill). found (find (is_filled place) fs)) (reverse-append (take i all) (f ∷ []))
-    ∙ elim (is_within f.offset (length f.bytes) place) as (λ b. found (if b then Some f else earlier) ≡ (if b then slice_index f.bytes (place - f.offset) else found earlier)) [ true ↦ refl | false ↦ refl ]
+    ∙ elim (is_within f.offset (length f.bytes) place)
+    as (λ b. found (if b then Some f else earlier) ≡ (if b then slice_index f.bytes (place - f.offset) else found earlier)) [ true ↦ refl | false ↦ refl ]
 
 pub fills-one : (image : Image) (p : Progress) (f : Fill) → slice_get (fills image) p.fills ≡ Some f
     → is_frame_object (objects_so_far image p f.offset) ≡ true → length f.bytes ≤ page_size
@@ -42,7 +45,8 @@ fills-one image p f is frame short =
     let s = loaded image p in
     let test : (is_frame_object (objects_so_far image p f.offset) && nat_le (length f.bytes) page_size) ≡ true =
     ap (λ b. b && nat_le (length f.bytes) page_size) frame ∙ le-leb (length f.bytes) page_size short in
-    let byte : (place : ℕ) → (if is_within f.offset (length f.bytes) place then option_map (λ _. slice_index f.bytes (place - f.offset)) (s.bytes place) else s.bytes place)
+    let byte : (place : ℕ) → (if is_within f.offset (length f.bytes) place then option_map (λ _. slice_index f.bytes (place - f.offset)) (s.bytes place) else
+    s.bytes place)
     ≡ bytes_so_far image (record p { fills = suc p.fills }) place = λ place.
     let within = is_within f.offset (length f.bytes) place in
     let wanted = slice_index f.bytes (place - f.offset) in
@@ -70,7 +74,8 @@ pub fills-many : (image : Image) (p : Progress) (fs : List Fill) → FillsFrom i
 fills-many image p [] from = ap (λ (n : ℕ). Some (loaded image (record p { fills = n }))) (let none : p.fills ≡ p.fills + 0 = omega arith in none)
 fills-many image p (f ∷ fs) from =
     let here : p.fills + 0 ≡ p.fills = omega arith in
-    let one = fills-one image p f (subst (λ (n : ℕ). slice_get (fills image) n ≡ Some f) here (from.listed 0 f refl)) (from.frames 0 f refl) (from.short 0 f refl) in
+    let one = fills-one image p f (subst (λ (n : ℕ). slice_get (fills image) n ≡ Some f) here (from.listed 0 f refl)) (from.frames 0 f refl)
+    (from.short 0 f refl) in
     let rest = fills-many image (record p { fills = suc p.fills }) fs (record {
       listed = λ j g is.
           let step : p.fills + suc j ≡ suc p.fills + j = omega arith in

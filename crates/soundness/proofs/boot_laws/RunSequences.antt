@@ -1,5 +1,6 @@
 -- A sequence of the loader's operations leads from one state to another, whatever comes after it.
-use Rattle.std.proofs.Common.{ℕ, suc, ◌≡◌, ◌∙◌, ◌+◌, List, [], ◌∷◌, ◌++◌, map, length, Option, Some, None, Result, Ok, refl, sym, ap, subst, append_assoc, arith}
+use Rattle.std.proofs.Common.{ℕ, suc, ◌≡◌, ◌∙◌, ◌+◌, List, [], ◌∷◌, ◌++◌, map, length, Option, Some, None, Result, Ok, refl, sym, ap, subst, append_assoc}
+use Rattle.std.proofs.Common.{arith}
 use Rattle.std.specs.Prelude.{flat_map, option_and_then, slice_get}
 use Rattle.std.proofs.lemmas.List.{append-nil}
 use Rattle.model.specs.declared.entries.UntypedEntry.{UntypedEntry}
@@ -28,14 +29,16 @@ leads-call image s t call is = record {
   leads = λ n later. ap (λ (r : Result State KError). goes_on n (λ after. run_from image (suc n) after later) r) is;
 }
 
-pub leads-fills : (image : Image) (s t : State) (place : ℕ) (fills : Option (List Fill)) → option_and_then (fill_all s) fills ≡ Some t → Leads image s (Fills place fills ∷ []) t
+pub leads-fills : (image : Image) (s t : State) (place : ℕ) (fills : Option (List Fill)) → option_and_then (fill_all s) fills ≡ Some t →
+    Leads image s (Fills place fills ∷ []) t
 unfolding run_from
 leads-fills image s t place fills is = record {
   behind = λ n. n;
   leads = λ n later. ap (λ (o : Option State). goes_on_inside place (λ after. run_from image n after later) o) is;
 }
 
-pub leads-untyped : (image : Image) (s t : State) (number : ℕ) (u : UntypedEntry) → put_untyped s number u.offset u.bits ≡ Some t → Leads image s (PutsUntyped number u ∷ []) t
+pub leads-untyped : (image : Image) (s t : State) (number : ℕ) (u : UntypedEntry) → put_untyped s number u.offset u.bits ≡ Some t →
+    Leads image s (PutsUntyped number u ∷ []) t
 unfolding run_from
 leads-untyped image s t number u is = record {
   behind = λ n. n;
@@ -95,7 +98,8 @@ one-each of (x ∷ xs) = ap (λ (ops : List Operation). of x ∷ ops) (one-each 
 
 -- ---- the whole
 
-pub boots-by : (image : Image) (t : State) → misplaced image ≡ None → Leads image (boot_area image.header.memory_bits image.header.boot_radix) (operations image) t → booted image ≡ Ok t
+pub boots-by : (image : Image) (t : State) → misplaced image ≡ None →
+    Leads image (boot_area image.header.memory_bits image.header.boot_radix) (operations image) t → booted image ≡ Ok t
 unfolding booted run_from
 boots-by image t placed leads =
     let start = boot_area image.header.memory_bits image.header.boot_radix in

@@ -9,7 +9,9 @@ use Rattle.soundness.specs.boot_laws.Loading.{loaded, nothing_loaded}
 use Rattle.model.specs.Acceptance.Accepted.{IsWellFormed}
 use Rattle.model.specs.Acceptance.WellFormed.{is_frame_type}
 use Rattle.model.specs.Images.Boot.{booted, boots_unless, run_from}
-use Rattle.model.specs.Images.BootCalls.{LoaderCall, Operation, PutsControl, PutsUntyped, Calls, capability_call, content_operation, first_calls, frame_calls, has_place, interrupt_call, last_calls, object_call, operations, program_operation, signal_calls, table_call, thread_calls}
+use Rattle.model.specs.Images.BootCalls.{LoaderCall, Operation, PutsControl, PutsUntyped, Calls, capability_call, content_operation, first_calls, frame_calls}
+use Rattle.model.specs.Images.BootCalls.{has_place, interrupt_call, last_calls, object_call, operations, program_operation, signal_calls, table_call}
+use Rattle.model.specs.Images.BootCalls.{thread_calls}
 use Rattle.model.specs.Images.Described.{described, numbered, numbered_threads}
 use Rattle.model.specs.Images.Fills.{content_fill, program_fills}
 use Rattle.model.specs.Images.Image.{Image, whole_image}
@@ -23,7 +25,8 @@ use Rattle.format_laws.proofs.Laws.{is-fitting}
 use Rattle.soundness.proofs.boot_laws.PlacesRules.{are-formed, range-at}
 use Rattle.soundness.proofs.boot_laws.PutsUntypeds.{puts-sound, puts-lead}
 use Rattle.soundness.proofs.boot_laws.SoundRuns.{FillsBytes, HasSmallBytes, HasSmallWords, IsFine, run-sound}
-use Rattle.soundness.proofs.boot_laws.SoundWords.{bytes-small, capability-words, each-all, flat-all, frame-words, interrupt-words, object-words, program-bytes, signal-words, table-words, thread-words}
+use Rattle.soundness.proofs.boot_laws.SoundWords.{bytes-small, capability-words, each-all, flat-all, frame-words, interrupt-words, object-words, program-bytes}
+use Rattle.soundness.proofs.boot_laws.SoundWords.{signal-words, table-words, thread-words}
 use Rattle.soundness.proofs.boot_laws.ThreadsFit.{registers-fit, values-fit}
 use Rattle.soundness.proofs.boot_laws.WholeLoads.{boots-well, numbered-is, placed}
 
@@ -75,7 +78,8 @@ module _ (image : Image) (fits : whole_image.fits image ≡ true) (well : IsWell
       let tables = All-map HasSmallWords (table_call image) image.tables
       (each-all (λ t. HasSmallWords (table_call image t)) image.tables (λ k t at. table-words image fitting k t at)) in
       All-append HasSmallWords (((xs ++ ys) ++ zs) ++ ts) (flat_map (frame_calls image) (numbered image.frames))
-      (All-append HasSmallWords ((xs ++ ys) ++ zs) ts (All-append HasSmallWords (xs ++ ys) zs (All-append HasSmallWords xs ys objects-fine handlers-fine) capabilities) tables)
+      (All-append HasSmallWords ((xs ++ ys) ++ zs) ts
+      (All-append HasSmallWords (xs ++ ys) zs (All-append HasSmallWords xs ys objects-fine handlers-fine) capabilities) tables)
       frames-fine
 
   contents-fine : All IsFine (map (content_operation image) image.contents)
@@ -95,7 +99,8 @@ module _ (image : Image) (fits : whole_image.fits image ≡ true) (well : IsWell
       ]))
 
   abbrev later : List Operation
-  later = map Calls (first_calls image) ++ (map (content_operation image) image.contents ++ (map (program_operation image) (numbered_threads image) ++ map Calls (last_calls image)))
+  later = map Calls (first_calls image) ++ (map (content_operation image) image.contents
+      ++ (map (program_operation image) (numbered_threads image) ++ map Calls (last_calls image)))
 
   later-fine : All IsFine later
   later-fine =
@@ -104,7 +109,8 @@ module _ (image : Image) (fits : whole_image.fits image ≡ true) (well : IsWell
       let ps = map (program_operation image) (numbered_threads image) in
       let lasts = map Calls (last_calls image) in
       let last = calls-fine (last_calls image)
-      (All-append HasSmallWords (flat_map (signal_calls image) (numbered image.interrupts)) (flat_map (thread_calls image) image.threads) signals-fine threads-fine) in
+      (All-append HasSmallWords (flat_map (signal_calls image) (numbered image.interrupts)) (flat_map (thread_calls image) image.threads) signals-fine
+      threads-fine) in
       All-append IsFine firsts (cs ++ (ps ++ lasts)) (calls-fine (first_calls image) first-fine)
       (All-append IsFine cs (ps ++ lasts) contents-fine (All-append IsFine ps lasts programs-fine last))
 

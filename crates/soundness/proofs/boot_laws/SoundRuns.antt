@@ -60,11 +60,14 @@ run-sound image (PutsControl slot ∷ ops) n s t sound fine is =
 run-sound image (Calls c ∷ ops) n s t sound fine is =
     elim (made s c) as (λ r. made s c ≡ r → goes_on n (λ after. run_from image (suc n) after ops) r ≡ Ok t → IsSound t) [
       | Err error ↦ λ _ clash. absurd (no-fault (Kernel n error) t clash)
-      | Ok u ↦ λ one rest. run-sound image ops (suc n) u t (made-whole s u c sound (All-head IsFine (Calls c) ops fine) one) (All-tail IsFine (Calls c) ops fine) rest
+      | Ok u ↦ λ one rest. run-sound image ops (suc n) u t (made-whole s u c sound (All-head IsFine (Calls c) ops fine) one)
+          (All-tail IsFine (Calls c) ops fine) rest
     ] refl is
 run-sound image (Fills place fs ∷ ops) n s t sound fine is =
-    elim (option_and_then (fill_all s) fs) as (λ o. option_and_then (fill_all s) fs ≡ o → goes_on_inside place (λ after. run_from image n after ops) o ≡ Ok t → IsSound t) [
+    elim (option_and_then (fill_all s) fs) as (λ o. option_and_then (fill_all s) fs ≡ o → goes_on_inside place (λ after. run_from image n after ops) o ≡ Ok t →
+    IsSound t) [
       | None ↦ λ _ clash. absurd (no-fault (Outside place) t clash)
       | Some u ↦ λ one rest.
-          run-sound image ops n u t (some-fills-sound fs s u sound (All-head IsFine (Fills place fs) ops fine) one) (All-tail IsFine (Fills place fs) ops fine) rest
+          run-sound image ops n u t (some-fills-sound fs s u sound (All-head IsFine (Fills place fs) ops fine) one) (All-tail IsFine (Fills place fs) ops fine)
+          rest
     ] refl is

@@ -1,5 +1,6 @@
 -- The words of the loader's calls are words of 32 bits, and what it fills are bytes, for an image that fits its format.
-use Rattle.std.proofs.Common.{ℕ, suc, ◌≡◌, ◌+◌, ◌-◌, ◌/◌, ◌%◌, ◌^◌, ◌<◌, ◌≤◌, ◌==◌, ◌&&◌, ◌||◌, true, false, nat_le, nat_lt, if◌then◌else◌, List, [], ◌∷◌, ◌++◌, map, drop, option_map, Option, Some, None, inl, inr, refl, subst, arith}
+use Rattle.std.proofs.Common.{ℕ, suc, ◌≡◌, ◌+◌, ◌-◌, ◌/◌, ◌%◌, ◌^◌, ◌<◌, ◌≤◌, ◌==◌, ◌&&◌, ◌||◌, true, false, nat_le, nat_lt, if◌then◌else◌, List, [], ◌∷◌, ◌++◌}
+use Rattle.std.proofs.Common.{map, drop, option_map, Option, Some, None, inl, inr, refl, subst, arith}
 use Rattle.std.specs.Prelude.{All, ⊤, filter_map, flat_map, slice_get}
 use Rattle.std.specs.List.{cons_option}
 use Rattle.std.proofs.lemmas.Bool.{and_parts, eqb-true, leb-true, or_cases}
@@ -10,13 +11,15 @@ use Rattle.format_laws.specs.Fitting.{IsFitting}
 use Rattle.soundness.proofs.boot_laws.PlacesObjects.{object-at}
 use Rattle.soundness.proofs.boot_laws.SoundRuns.{HasSmallBytes, HasSmallWords}
 use Rattle.model.specs.Acceptance.WellFormed.{is_untyped_type, source_type}
-use Rattle.model.specs.Images.BootCalls.{LoaderCall, boot_argument, boot_cnode, capability_call, frame_calls, interrupt_call, listed_arguments, loader_call, object_call, signal_calls, table_call, thread_calls}
+use Rattle.model.specs.Images.BootCalls.{LoaderCall, boot_argument, boot_cnode, capability_call, frame_calls, interrupt_call, listed_arguments, loader_call}
+use Rattle.model.specs.Images.BootCalls.{object_call, signal_calls, table_call, thread_calls}
 use Rattle.model.specs.Images.Described.{start_of}
 use Rattle.model.specs.Images.Fills.{Fill, bytes_of, frame_at, page_bytes, page_fill, program_fills, program_pages}
 use Rattle.model.specs.Images.Image.{Image, Thread, size_fits}
 use Rattle.model.specs.Images.Places.{frame_copy_slot, handler_slot, is_handler, notification_copy_slot, object_at, offset_of, original_slot, source_slot}
 use Rattle.model.specs.Kernel.AddressSpaces.{page_size}
-use Rattle.model.specs.Kernel.CallForms.{configure_label, copy_label, map_frame_label, mint_label, move_label, resume_label, set_notification_label, set_priority_label, set_register_label}
+use Rattle.model.specs.Kernel.CallForms.{configure_label, copy_label, map_frame_label, mint_label, move_label, resume_label, set_notification_label}
+use Rattle.model.specs.Kernel.CallForms.{set_priority_label, set_register_label}
 use Rattle.model.specs.Shared.Bytes.{word_bytes}
 use Rattle.model.specs.declared.entries.CapabilityEntry.{CapabilityEntry}
 use Rattle.model.specs.declared.entries.FrameEntry.{FrameEntry}
@@ -29,7 +32,8 @@ use Rattle.model.specs.declared.entries.TableEntry.{TableEntry}
 pub each-all : {A : Type 0} (P : A → Type 0) (xs : List A) → ((j : ℕ) (x : A) → slice_get xs j ≡ Some x → P x) → All P xs
 each-all P xs each = λ k d less. each k _ (slice_get-get_or xs k d less)
 
-pub flat-all : {A B : Type 0} (P : B → Type 0) (f : A → List B) (xs : List A) → ((j : ℕ) (x : A) → slice_get xs j ≡ Some x → All P (f x)) → All P (flat_map f xs)
+pub flat-all : {A B : Type 0} (P : B → Type 0) (f : A → List B) (xs : List A) → ((j : ℕ) (x : A) → slice_get xs j ≡ Some x → All P (f x)) →
+    All P (flat_map f xs)
 flat-all P f [] each = All-nil P
 flat-all P f (x ∷ xs) each = All-append P (f x) (flat_map f xs) (each 0 x refl) (flat-all P f xs (λ j y at. each (suc j) y at))
 
@@ -61,7 +65,8 @@ two-fine one other first second =
 
 size-small : (kind size : ℕ) → size_fits kind size ≡ true → size < 2 ^ 32
 size-small kind size is =
-    elim (or_cases ((kind == 1 && (nat_le 4 size && nat_le size 24)) || (kind == 5 && (nat_le 1 size && nat_le size 14))) (nat_lt 1 kind && size == 0 && (nat_lt kind 5 || nat_lt 5 kind)) is) [
+    elim (or_cases ((kind == 1 && (nat_le 4 size && nat_le size 24)) || (kind == 5 && (nat_le 1 size && nat_le size 14)))
+    (nat_lt 1 kind && size == 0 && (nat_lt kind 5 || nat_lt 5 kind)) is) [
       | inl sized ↦ elim (or_cases (kind == 1 && (nat_le 4 size && nat_le size 24)) (kind == 5 && (nat_le 1 size && nat_le size 14)) sized) [
         | inl untyped ↦
             let most = leb-true size 24 (and_parts (nat_le 4 size) (nat_le size 24) (and_parts (kind == 1) (nat_le 4 size && nat_le size 24) untyped).1).1 in
@@ -71,7 +76,8 @@ size-small kind size is =
             omega (arith, most)
       ]
       | inr none ↦
-          let zeros = eqb-true size 0 (and_parts (nat_lt 1 kind) (size == 0) (and_parts (nat_lt 1 kind && size == 0) (nat_lt kind 5 || nat_lt 5 kind) none).0).1 in
+          let zeros = eqb-true size 0 (and_parts (nat_lt 1 kind) (size == 0)
+          (and_parts (nat_lt 1 kind && size == 0) (nat_lt kind 5 || nat_lt 5 kind) none).0).1 in
           omega (arith, zeros)
     ]
 
@@ -108,8 +114,13 @@ module _ (image : Image) (fitting : IsFitting image) where
   listed-small k c at =
       let fits = fitting.capability k c at in
       let cnode = fits-object c.cnode fits.cnode in
-      small-all (listed_arguments image c)
-      (fits.index, (size-small (object_at image c.cnode).kind (object_at image c.cnode).size cnode.size, (source-small c.source fits.source, (omega arith, tt))))
+      small-all (listed_arguments image c) (
+        fits.index,
+        (
+          size-small (object_at image c.cnode).kind (object_at image c.cnode).size cnode.size,
+          (source-small c.source fits.source, (omega arith, tt)),
+        ),
+      )
 
   pub capability-words : (k : ℕ) (c : CapabilityEntry) → slice_get image.capabilities k ≡ Some c → HasSmallWords (capability_call image c)
   capability-words k c at =
@@ -158,7 +169,8 @@ module _ (image : Image) (fitting : IsFitting image) where
   thread-words k t at registers =
       let fits = fitting.thread k t at in
       let tcb = original_slot image t.header.tcb in
-      let configure = loader_call tcb configure_label ((t.header.fault ∷ boot_argument (original_slot image t.header.cnode)) ++ boot_argument (original_slot image t.header.root) ++ t.header.guard ∷ []) in
+      let configure = loader_call tcb configure_label ((t.header.fault ∷ boot_argument (original_slot image t.header.cnode))
+      ++ boot_argument (original_slot image t.header.root) ++ t.header.guard ∷ []) in
       let priority = loader_call tcb set_priority_label (t.header.priority ∷ []) in
       let pc = loader_call tcb set_register_label (0 ∷ start_of t ∷ []) in
       let resume = loader_call tcb resume_label [] in
@@ -194,7 +206,8 @@ program-bytes image t = filtered-all HasSmallBytes (page_fill image t) (program_
   where
     page : (address : ℕ) (f : Fill) → page_fill image t address ≡ Some f → HasSmallBytes f
     page address f is =
-        elim (frame_at image t.header.root address) as (λ o. option_map (λ g. record { offset = offset_of image g.frame; bytes = page_bytes t address }) o ≡ Some f → HasSmallBytes f) [
+        elim (frame_at image t.header.root address)
+        as (λ o. option_map (λ g. record { offset = offset_of image g.frame; bytes = page_bytes t address }) o ≡ Some f → HasSmallBytes f) [
           | None ↦ λ clash. absurd (none-some f clash)
           | Some g ↦ λ some.
               let whole : Fill = record { offset = offset_of image g.frame; bytes = page_bytes t address } in

@@ -26,7 +26,8 @@ registers-within least (suc n) (x ∷ xs) low is zero r at =
     let e : x.register ≡ r.register = ap (λ (y : RegisterEntry). y.register) (same_Some x r at) in
     (omega (arith, here, low, e), omega (arith, here, e))
 registers-within least (suc n) (x ∷ xs) low is (suc j) r at =
-    registers-within (x.register + 1) n xs (omega arith) (and_parts ((register_format least).fits x) (many_fit register_format (λ e. e.register + 1) (x.register + 1) n xs) is).1 j r at
+    registers-within (x.register + 1) n xs (omega arith)
+    (and_parts ((register_format least).fits x) (many_fit register_format (λ e. e.register + 1) (x.register + 1) n xs) is).1 j r at
 
 of-thread : (objects : ℕ) (t : Thread) → (thread_format (slots_format objects) objects).fits t ≡ true
     → (j : ℕ) (r : RegisterEntry) → slice_get t.registers j ≡ Some r → (1 ≤ r.register) × (r.register ≤ 31)
@@ -45,10 +46,12 @@ value-fits : (least : ℕ) (r : RegisterEntry) → (register_format least).fits 
 unfolding register_format
 value-fits least r is = (field-parts (nat_lt 0) r.value (and_parts ((field (between least 31)).fits r.register) _ is).1).0
 
-values-of : (objects : ℕ) (t : Thread) → (thread_format (slots_format objects) objects).fits t ≡ true → (j : ℕ) (r : RegisterEntry) → slice_get t.registers j ≡ Some r → r.value < 2 ^ 32
+values-of : (objects : ℕ) (t : Thread) → (thread_format (slots_format objects) objects).fits t ≡ true → (j : ℕ) (r : RegisterEntry) →
+    slice_get t.registers j ≡ Some r → r.value < 2 ^ 32
 unfolding thread_format registers_format
 values-of objects t is j r at =
-    let one = many-each register_format (λ e. e.register + 1) 1 t.header.registers t.registers (and_parts _ _ (and_parts _ _ is).1).0 j r at in value-fits one.0 r one.1
+    let one = many-each register_format (λ e. e.register + 1) 1 t.header.registers t.registers (and_parts _ _ (and_parts _ _ is).1).0 j r at in
+    value-fits one.0 r one.1
 
 pub values-fit : (image : Image) → whole_image.fits image ≡ true → (k : ℕ) (t : Thread) → slice_get image.threads k ≡ Some t
     → (j : ℕ) (r : RegisterEntry) → slice_get t.registers j ≡ Some r → r.value < 2 ^ 32

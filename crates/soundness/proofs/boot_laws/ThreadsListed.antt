@@ -1,5 +1,6 @@
 -- One listed thread more: the objects and the ready list of a state between two operations of the loader.
-use Rattle.std.proofs.Common.{ℕ, suc, ◌≡◌, ◌≢◌, ◌∙◌, ◌==◌, ◌||◌, Bool, true, false, not, if◌then◌else◌, Option, Some, None, List, [], ◌∷◌, ◌++◌, map, filter, find, take, option_map, option_and_then, inl, inr, refl, sym, ap}
+use Rattle.std.proofs.Common.{ℕ, suc, ◌≡◌, ◌≢◌, ◌∙◌, ◌==◌, ◌||◌, Bool, true, false, not, if◌then◌else◌, Option, Some, None, List, [], ◌∷◌, ◌++◌, map, filter}
+use Rattle.std.proofs.Common.{find, take, option_map, option_and_then, inl, inr, refl, sym, ap}
 use Rattle.std.specs.Prelude.{slice_get}
 use Rattle.std.specs.List.{list_any, range_with_len}
 use Rattle.std.specs.Option.{option_map_or, option_or}
@@ -79,7 +80,8 @@ module _ (gone : ℕ → Bool) where
   objects-quiet image p offset =
       first-same (λ number. if offset_of image number == offset then object_so_far image p number else None) (range_with_len 0 p.objects) (λ number.
       there-same (offset_of image number == offset) (object_so_far image p number)
-      (listed-same (find (λ t. t.header.tcb == number) (take p.threads image.threads)) (option_and_then object (type_at image number)) (new-same (type_at image number))))
+      (listed-same (find (λ t. t.header.tcb == number) (take p.threads image.threads)) (option_and_then object (type_at image number))
+      (new-same (type_at image number))))
 
 -- ---- one more
 
@@ -97,12 +99,14 @@ module _ (image : Image) (p : Progress) (t : Thread) (at : slice_get image.threa
 
   abbrev found_by : ℕ → Option Thread → Bool → Option Object
   found_by number before last =
-      option_map_or (λ u. Some (ThreadObject (listed_thread u))) (option_or before (if last then Some t else None)) (option_and_then object (type_at image number))
+      option_map_or (λ u. Some (ThreadObject (listed_thread u))) (option_or before (if last then Some t else None))
+      (option_and_then object (type_at image number))
 
   object-next : (number : ℕ) → object_so_far image (one_thread p) number
       ≡ found_by number (find (λ u. u.header.tcb == number) (take p.threads image.threads)) (tcb == number)
   object-next number =
-      ap (λ ts. option_map_or (λ u. Some (ThreadObject (listed_thread u))) (find (λ u. u.header.tcb == number) ts) (option_and_then object (type_at image number)))
+      ap (λ ts. option_map_or (λ u. Some (ThreadObject (listed_thread u))) (find (λ u. u.header.tcb == number) ts)
+      (option_and_then object (type_at image number)))
       (take-more image.threads p.threads t at)
       ∙ ap (λ o. option_map_or (λ u. Some (ThreadObject (listed_thread u))) o (option_and_then object (type_at image number)))
       (find-append (λ u. u.header.tcb == number) (take p.threads image.threads) (t ∷ []))
@@ -114,7 +118,8 @@ module _ (image : Image) (p : Progress) (t : Thread) (at : slice_get image.threa
       ∙ ap (λ o. found_by tcb o (tcb == tcb)) (find-none (λ u. u.header.tcb == tcb) (take p.threads image.threads) once)
       ∙ ap (found_by tcb None) (eq-eqb tcb tcb refl)
 
-  or-none : (number : ℕ) (o : Option Thread) → found_by number o false ≡ option_map_or (λ u. Some (ThreadObject (listed_thread u))) o (option_and_then object (type_at image number))
+  or-none : (number : ℕ) (o : Option Thread) → found_by number o false ≡ option_map_or (λ u. Some (ThreadObject (listed_thread u))) o
+      (option_and_then object (type_at image number))
   or-none number None = refl
   or-none number (Some u) = refl
 
@@ -159,7 +164,8 @@ module _ (image : Image) (p : Progress) (t : Thread) (at : slice_get image.threa
   one-mapped false = refl
 
   pub ready-listed : (q : ℕ)
-      → put (ready_so_far image p) t.header.priority (ready_so_far image p t.header.priority ++ offset_of image tcb ∷ []) q ≡ ready_so_far image (one_thread p) q
+      → put (ready_so_far image p) t.header.priority (ready_so_far image p t.header.priority ++ offset_of image tcb ∷ []) q ≡ ready_so_far image (one_thread p)
+      q
   ready-listed q =
       let offset = λ (u : Thread). offset_of image u.header.tcb in
       let test = λ (u : Thread). u.header.priority == q in

@@ -1,5 +1,6 @@
 -- The calls that set one thread up lead to the state with one listed thread more.
-use Rattle.std.proofs.Common.{ℕ, ◌≡◌, ◌≢◌, ◌∙◌, ◌==◌, ◌<◌, ◌≤◌, true, false, not, if◌then◌else◌, Option, Some, List, [], ◌∷◌, ◌++◌, map, replicate, take, option_map, inl, inr, refl, sym, ap, subst, arith, Ok}
+use Rattle.std.proofs.Common.{ℕ, ◌≡◌, ◌≢◌, ◌∙◌, ◌==◌, ◌<◌, ◌≤◌, true, false, not, if◌then◌else◌, Option, Some, List, [], ◌∷◌, ◌++◌, map, replicate, take}
+use Rattle.std.proofs.Common.{option_map, inl, inr, refl, sym, ap, subst, arith, Ok}
 use Rattle.std.specs.Prelude.{slice_get}
 use Rattle.std.specs.Option.{option_map_or}
 use Rattle.std.proofs.lemmas.Bool.{cases_eq, eq-eqb, ne_eqb}
@@ -94,7 +95,8 @@ module _ (image : Image) (p : Progress) (t : Thread) (comes : ThreadComes image 
   earlier-apart j u there same =
       let before = get-take p.threads image.threads j u there in
       threads-differ image comes.before.fits comes.before.formed j p.threads u t before.0 before.1 comes.at
-      (offsets-apart image u.header.tcb t.header.tcb comes.before.fits comes.before.formed (ThreadFits.tcb (comes.before.fits.thread j u before.1)) fits.tcb same)
+      (offsets-apart image u.header.tcb t.header.tcb comes.before.fits comes.before.formed (ThreadFits.tcb (comes.before.fits.thread j u before.1)) fits.tcb
+      same)
 
   rests : (priority : ℕ) → without x (s.ready priority) ≡ s.ready priority
   unfolding loaded
@@ -157,7 +159,8 @@ module _ (image : Image) (p : Progress) (t : Thread) (comes : ThreadComes image 
   root-source : IsSource s (original_slot image t.header.root) (RootTable (offset_of image t.header.root))
   root-source = kind-source image p t.header.root NewRootTable comes.before comes.objects fits.root is_root (λ m. refl) refl
 
-  asked : Configures s x (original_slot image t.header.cnode) (offset_of image t.header.cnode) guard.0 (original_slot image t.header.root) (offset_of image t.header.root) t.header.guard
+  asked : Configures s x (original_slot image t.header.cnode) (offset_of image t.header.cnode) guard.0 (original_slot image t.header.root)
+      (offset_of image t.header.root) t.header.guard
   asked = record {
     first = cnode-source.inside;
     first_holds = cnode-source.holds;
@@ -166,7 +169,8 @@ module _ (image : Image) (p : Progress) (t : Thread) (comes : ThreadComes image 
     second_holds = root-source.holds;
     second_shallow = root-source.shallow;
     first_free = ap (λ c. not (is_empty c)) (capability-read image p (cspace_slot x) empty_entry (comes.before.room.cspace p.threads t (omega arith) comes.at));
-    second_free = ap (λ c. not (is_empty c)) (capability-read image p (vspace_slot x) empty_entry (comes.before.room.vspace p.threads t (omega arith) comes.at));
+    second_free = ap (λ c. not (is_empty c)) (capability-read image p (vspace_slot x) empty_entry
+        (comes.before.room.vspace p.threads t (omega arith) comes.at));
     fits = guard.2;
   }
 
@@ -222,7 +226,8 @@ module _ (image : Image) (p : Progress) (t : Thread) (comes : ThreadComes image 
   last-steps =
       leads-same image (standing s slots x third_thread) (loaded image (one_thread p)) (map Calls register_calls ++ Calls resume_call ∷ []) _
       (sym (map-append Calls register_calls (resume_call ∷ [])))
-      (leads-both image (standing s slots x third_thread) (standing s slots x prepared) (loaded image (one_thread p)) (map Calls register_calls) (Calls resume_call ∷ [])
+      (leads-both image (standing s slots x third_thread) (standing s slots x prepared) (loaded image (one_thread p)) (map Calls register_calls)
+      (Calls resume_call ∷ [])
       (sets-registers s slots x slot comes.before.shape thread-source.inside thread-named image third_thread t.registers comes.registers)
       (leads-call image (standing s slots x prepared) (loaded image (one_thread p)) resume_call resumed))
 

@@ -1,5 +1,6 @@
 -- Calls of the loader on a thread that does not run, in a state with other slots and with the thread as it is between them.
-use Rattle.std.proofs.Common.{ℕ, suc, ◌≡◌, ◌∙◌, ◌==◌, ◌%◌, ◌^◌, ◌<◌, ◌≤◌, Bool, true, false, not, if◌then◌else◌, Option, Some, List, [], ◌∷◌, map, fold, Ok, refl, ap, arith}
+use Rattle.std.proofs.Common.{ℕ, suc, ◌≡◌, ◌∙◌, ◌==◌, ◌%◌, ◌^◌, ◌<◌, ◌≤◌, Bool, true, false, not, if◌then◌else◌, Option, Some, List, [], ◌∷◌, map, fold, Ok}
+use Rattle.std.proofs.Common.{refl, ap, arith}
 use Rattle.std.specs.Prelude.{slice_get, slice_set}
 use Rattle.std.specs.Option.{option_map_or}
 use Rattle.std.proofs.lemmas.Bool.{eq-eqb, ne_eqb, or_left, or_right}
@@ -24,10 +25,12 @@ pub at-standing : (s : State) (slots : Slots) (x : ℕ) (t : ThreadState) → th
 at-standing s slots x t = ap (λ b. option_map_or (λ u. u) (as_thread (if b then Some (ThreadObject t) else s.objects x)) new_thread) (eq-eqb x x refl)
 
 put-again : (objects : ℕ → Option Object) (x : ℕ) (a b : Option Object) (offset : ℕ) → put (put objects x a) x b offset ≡ put objects x b offset
-put-again objects x a b offset = elim (offset == x) as (λ is. (if is then b else (if is then a else objects offset)) ≡ (if is then b else objects offset)) [ true ↦ refl | false ↦ refl ]
+put-again objects x a b offset = elim (offset == x) as (λ is. (if is then b else (if is then a else objects offset)) ≡ (if is then b else objects offset))
+    [ true ↦ refl | false ↦ refl ]
 
 pub standing-again : (s : State) (slots : Slots) (x : ℕ) (t u : ThreadState) → with_thread (standing s slots x t) x u ≡ standing s slots x u
-standing-again s slots x t u = λ i. record (standing s slots x u) { objects = λ offset. put-again s.objects x (Some (ThreadObject t)) (Some (ThreadObject u)) offset i }
+standing-again s slots x t u = λ i. record (standing s slots x u)
+    { objects = λ offset. put-again s.objects x (Some (ThreadObject t)) (Some (ThreadObject u)) offset i }
 
 pub standing-shape : (s : State) (slots : Slots) (x : ℕ) (t : ThreadState) → HasShape s → HasShape (standing s slots x t)
 standing-shape s slots x t shape = record {
@@ -43,7 +46,8 @@ module _ (s : State) (slots : Slots) (x slot : ℕ) (shape : HasShape s) (inside
   thread-there t = record { inside = inside; holds = holds }
 
   -- another thread in place of the one that is there
-  changed : (t : ThreadState) (change : ThreadState → ThreadState) → with_thread (standing s slots x t) x (change (thread_at (standing s slots x t) x)) ≡ standing s slots x (change t)
+  changed : (t : ThreadState) (change : ThreadState → ThreadState) →
+      with_thread (standing s slots x t) x (change (thread_at (standing s slots x t) x)) ≡ standing s slots x (change t)
   changed t change =
       ap (λ u. with_thread (standing s slots x t) x (change u)) (at-standing s slots x t) ∙ standing-again s slots x t (change t)
 
@@ -58,7 +62,8 @@ module _ (s : State) (slots : Slots) (x slot : ℕ) (shape : HasShape s) (inside
       → made (standing s slots x t) (loader_call slot set_register_label (0 ∷ value ∷ []))
       ≡ Ok (standing s slots x (record t { registers = record t.registers { pc = value } }))
   sets-pc t value aligned =
-      register-made (standing s slots x t) slot x (standing-shape s slots x t shape) (thread-there t) 0 value (omega arith) (or_right (not (0 == 0)) (value % 4 == 0) aligned)
+      register-made (standing s slots x t) slot x (standing-shape s slots x t shape) (thread-there t) 0 value (omega arith)
+      (or_right (not (0 == 0)) (value % 4 == 0) aligned)
       ∙ ap (λ after. Ok after) (changed t (λ u. record u { registers = record u.registers { pc = value } }))
 
   pub sets-register : (t : ThreadState) (index value : ℕ) → 1 ≤ index → index ≤ 31
@@ -66,15 +71,21 @@ module _ (s : State) (slots : Slots) (x slot : ℕ) (shape : HasShape s) (inside
       ≡ Ok (standing s slots x (record t { registers = record t.registers { words = slice_set t.registers.words index value } }))
   sets-register t index value least most =
       let other : (index == 0) ≡ false = ne_eqb index 0 (λ same. omega (arith, least, same)) in
-      let written = λ (b : Bool) (u : ThreadState). record u { registers = if b then record u.registers { pc = value } else if b then u.registers else record u.registers { words = slice_set u.registers.words index value } } in
-      register-made (standing s slots x t) slot x (standing-shape s slots x t shape) (thread-there t) index value most (or_left (not (index == 0)) (value % 4 == 0) (ap not other))
+      let written = λ (b : Bool) (u : ThreadState).
+      record u {
+        registers = if b then record u.registers { pc = value } else if b then u.registers else
+            record u.registers { words = slice_set u.registers.words index value };
+      } in
+      register-made (standing s slots x t) slot x (standing-shape s slots x t shape) (thread-there t) index value most
+      (or_left (not (index == 0)) (value % 4 == 0) (ap not other))
       ∙ ap (λ b. Ok (with_thread (standing s slots x t) x (written b (thread_at (standing s slots x t) x)))) other
       ∙ ap (λ after. Ok after) (changed t (written false))
 
   pub resumes : (t : ThreadState) → is_runnable t.status ≡ false
       → made (standing s slots x t) (loader_call slot resume_label []) ≡ Ok (wake (leaves (standing s slots x t) x) x)
   resumes t rests =
-      resume-made (standing s slots x t) slot x (standing-shape s slots x t shape) (thread-there t) (ap (λ u. is_runnable u.status) (at-standing s slots x t) ∙ rests)
+      resume-made (standing s slots x t) slot x (standing-shape s slots x t shape) (thread-there t)
+      (ap (λ u. is_runnable u.status) (at-standing s slots x t) ∙ rests)
 
   -- ---- one register after another
 

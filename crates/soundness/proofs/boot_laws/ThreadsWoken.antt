@@ -36,7 +36,8 @@ module _ (s : State) (slots : Slots) (x : ℕ) (registers : RegisterFile) (prior
 
   left-thread : thread_at left x ≡ before
   left-thread =
-      ap (λ b. option_map_or (λ u. u) (as_thread (option_map (without_threads (λ other. other == x)) (if b then Some (ThreadObject before) else s.objects x))) new_thread) (eq-eqb x x refl)
+      ap (λ b. option_map_or (λ u. u) (as_thread (option_map (without_threads (λ other. other == x)) (if b then Some (ThreadObject before) else s.objects x)))
+      new_thread) (eq-eqb x x refl)
 
   abbrev set_to : ThreadState → State
   set_to t = unready (with_thread left x t) x
@@ -50,7 +51,8 @@ module _ (s : State) (slots : Slots) (x : ℕ) (registers : RegisterFile) (prior
 
   object-there : (offset : ℕ) → put left.objects x (Some (ThreadObject after)) offset ≡ put s.objects x (Some (ThreadObject after)) offset
   object-there offset =
-      elim (offset == x) as (λ b. (if b then Some (ThreadObject after) else option_map (without_threads (λ other. other == x)) (if b then Some (ThreadObject before) else s.objects offset))
+      elim (offset == x) as (λ b. (if b then Some (ThreadObject after) else
+      option_map (without_threads (λ other. other == x)) (if b then Some (ThreadObject before) else s.objects offset))
       ≡ (if b then Some (ThreadObject after) else s.objects offset)) [
         | true ↦ refl
         | false ↦ quiet offset

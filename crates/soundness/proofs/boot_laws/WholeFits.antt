@@ -10,7 +10,8 @@ use Rattle.soundness.proofs.boot_laws.RunEnd.{CountsAreLengths}
 use Rattle.model.specs.Images.Described.{numbered}
 use Rattle.model.specs.Images.Fills.{bytes_of, fills}
 use Rattle.model.specs.Images.Format.{field, many, ordered}
-use Rattle.model.specs.Images.Image.{Image, ImageContent, between, capability_format, content_format, frame_format, header_format, image_with, interrupt_format, object_format, pair_key, sections_format, sections_of, table_format, untyped_format, whole_image}
+use Rattle.model.specs.Images.Image.{Image, ImageContent, between, capability_format, content_format, frame_format, header_format, image_with, interrupt_format}
+use Rattle.model.specs.Images.Image.{object_format, pair_key, sections_format, sections_of, table_format, untyped_format, whole_image}
 use Rattle.model.specs.Kernel.AddressSpaces.{page_size}
 use Rattle.model.specs.Shared.Bytes.{word_bytes}
 
@@ -34,7 +35,8 @@ bytes-long (w ∷ ws) =
     let rest = bytes-long ws in
     omega (arith, length-joined (word_bytes w) (flat_map word_bytes ws), word-long w, rest)
 
-pub contents-fit : (image : Image) → whole_image.fits image ≡ true → (i : ℕ) (c : ImageContent) → slice_get image.contents i ≡ Some c → length (bytes_of c.words) ≤ page_size
+pub contents-fit : (image : Image) → whole_image.fits image ≡ true → (i : ℕ) (c : ImageContent) → slice_get image.contents i ≡ Some c →
+    length (bytes_of c.words) ≤ page_size
 unfolding image_with sections_format
 contents-fit image is i c at =
     let header = image.header in
@@ -42,7 +44,8 @@ contents-fit image is i c at =
     let a = and_parts (header_format.fits header) _ whole.0 in
     let b = and_parts ((many header.untypeds untyped_format).fits image.untypeds) _ a.1 in
     let d = and_parts ((ordered 0 (object_format header.untypeds) (λ e. e.untyped) header.objects).fits image.objects) _ b.1 in
-    let e = and_parts ((ordered 0 (capability_format header.objects header.interrupts) (λ e. pair_key e.cnode e.index + 1) header.capabilities).fits image.capabilities) _ d.1 in
+    let e = and_parts ((ordered 0 (capability_format header.objects header.interrupts) (λ e. pair_key e.cnode e.index + 1) header.capabilities).fits
+    image.capabilities) _ d.1 in
     let f = and_parts ((ordered 0 (interrupt_format header.objects) (λ e. e.line + 1) header.interrupts).fits image.interrupts) _ e.1 in
     let g = and_parts ((ordered 0 (table_format header.objects) (λ e. pair_key e.root e.address + 1) header.tables).fits image.tables) _ f.1 in
     let h = and_parts ((ordered 0 (frame_format header.objects) (λ e. pair_key e.root e.address + 1) header.frames).fits image.frames) _ g.1 in

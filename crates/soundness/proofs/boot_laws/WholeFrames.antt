@@ -1,5 +1,6 @@
 -- What is filled are frames: those of contents and those under programs are there once all objects are.
-use Rattle.std.proofs.Common.{ℕ, zero, suc, ◌≡◌, ◌≢◌, ◌∙◌, ◌==◌, ◌+◌, ◌≤◌, ◌<◌, ◌%◌, ◌&&◌, Bool, true, false, if◌then◌else◌, is_some, List, [], ◌∷◌, map, find, take, length, Option, Some, None, option_and_then, inl, inr, refl, sym, ap, subst, arith}
+use Rattle.std.proofs.Common.{ℕ, zero, suc, ◌≡◌, ◌≢◌, ◌∙◌, ◌==◌, ◌+◌, ◌≤◌, ◌<◌, ◌%◌, ◌&&◌, Bool, true, false, if◌then◌else◌, is_some, List, [], ◌∷◌, map, find}
+use Rattle.std.proofs.Common.{take, length, Option, Some, None, option_and_then, inl, inr, refl, sym, ap, subst, arith}
 use Rattle.std.specs.Prelude.{slice_get}
 use Rattle.std.specs.Option.{option_map_or, unwrap_or}
 use Rattle.std.specs.List.{list_all, range_with_len}
@@ -49,7 +50,8 @@ all-as one other (x ∷ xs) each is =
     and_from (other x) (list_all other xs) (each x parts.0) (all-as one other xs each parts.1)
 
 -- one number of a range alone gives something
-first-none : (f : ℕ → Option Object) (from count : ℕ) → ((m : ℕ) → from ≤ m → m < from + count → f m ≡ None) → first_some (map f (range_with_len from count)) ≡ None
+first-none : (f : ℕ → Option Object) (from count : ℕ) → ((m : ℕ) → from ≤ m → m < from + count → f m ≡ None) →
+    first_some (map f (range_with_len from count)) ≡ None
 first-none f from zero none = refl
 first-none f from (suc count) none =
     ap (λ o. first_some (o ∷ map f (range_with_len (from + 1) count))) (none from (omega arith) (omega arith))
@@ -63,7 +65,8 @@ first-only f from (suc count) n o low high here none =
       | inl same ↦ ap (λ p. first_some (p ∷ map f (range_with_len (from + 1) count))) (ap f same ∙ here)
       | inr other ↦
           ap (λ p. first_some (p ∷ map f (range_with_len (from + 1) count))) (none from (omega arith) (omega arith) other)
-          ∙ first-only f (from + 1) count n o (omega (arith, low, other)) (omega (arith, high)) here (λ m less more. none m (omega (arith, less)) (omega (arith, more)))
+          ∙ first-only f (from + 1) count n o (omega (arith, low, other)) (omega (arith, high)) here
+          (λ m less more. none m (omega (arith, less)) (omega (arith, more)))
     ]
 
 -- ---- frames of the image
@@ -80,7 +83,8 @@ typed-inside image number fitting is =
           absurd (false≢true (sym (ap (λ (o : ObjectEntry). is_frame_type (type_of o.kind o.size)) none) ∙ is))
     ]
 
-frame-object : (image : Image) (p : Progress) (number : ℕ) → AreFormed image → is_frame_type (type_at image number) ≡ true → object_so_far image p number ≡ Some FrameObject
+frame-object : (image : Image) (p : Progress) (number : ℕ) → AreFormed image → is_frame_type (type_at image number) ≡ true →
+    object_so_far image p number ≡ Some FrameObject
 frame-object image p number formed is =
     let type = frame-type (type_at image number) is in
     ap (λ o. option_map_or (λ t. Some (ThreadObject (listed_thread t))) o (option_and_then object (type_at image number)))
@@ -89,7 +93,8 @@ frame-object image p number formed is =
     ne_eqb t.header.tcb number (λ same. false≢true (sym (ap is_thread_type (ap (type_at image) same ∙ type)) ∙ ThreadKept.tcb (formed.thread j t there.1)))))
     ∙ ap (option_and_then object) type
 
-frame-there : (image : Image) (p : Progress) (number : ℕ) → IsFitting image → AreFormed image → p.objects ≡ image.header.objects → is_frame_type (type_at image number) ≡ true
+frame-there : (image : Image) (p : Progress) (number : ℕ) → IsFitting image → AreFormed image → p.objects ≡ image.header.objects →
+    is_frame_type (type_at image number) ≡ true
     → is_frame_object (objects_so_far image p (offset_of image number)) ≡ true
 frame-there image p number fitting formed all is =
     let inside = typed-inside image number fitting is in
@@ -113,7 +118,8 @@ program-placed image k t formed at =
     let kept = formed.thread k t at in
     let pages = all-as (is_code image t) (λ address. is_some (frame_at image t.header.root address)) (program_pages t)
     (λ address is. code-mapped (frame_at image t.header.root address) is) kept.code in
-    and_from ((t.header.base % page_size == 0) && is_root_type (type_at image t.header.root)) (list_all (λ address. is_some (frame_at image t.header.root address)) (program_pages t))
+    and_from ((t.header.base % page_size == 0) && is_root_type (type_at image t.header.root))
+    (list_all (λ address. is_some (frame_at image t.header.root address)) (program_pages t))
     (and_from (t.header.base % page_size == 0) (is_root_type (type_at image t.header.root)) kept.base kept.root) pages
 
 pub frames-there : (image : Image) → whole_image.fits image ≡ true → IsFitting image → AreFormed image → FramesAreThere image

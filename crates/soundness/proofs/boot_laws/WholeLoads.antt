@@ -1,5 +1,6 @@
 -- A well-formed image boots into the state that it describes: all phases are there.
-use Rattle.std.proofs.Common.{ℕ, suc, ◌≡◌, ◌∙◌, ◌<◌, ◌≤◌, true, if◌then◌else◌, List, [], ◌∷◌, map, length, find, option_map, Option, Some, None, Ok, refl, sym, ap, subst, arith}
+use Rattle.std.proofs.Common.{ℕ, suc, ◌≡◌, ◌∙◌, ◌<◌, ◌≤◌, true, if◌then◌else◌, List, [], ◌∷◌, map, length, find, option_map, Option, Some, None, Ok, refl, sym}
+use Rattle.std.proofs.Common.{ap, subst, arith}
 use Rattle.std.specs.Prelude.{slice_get}
 use Rattle.std.specs.Option.{option_map_or}
 use Rattle.std.proofs.lemmas.Option.{none-some, same_Some, slice_get-map, slice_get_within}
@@ -28,7 +29,8 @@ use Rattle.soundness.proofs.boot_laws.PutsUntypeds.{puts-lead}
 use Rattle.soundness.proofs.boot_laws.Readings.{IsWithin, one_thread}
 use Rattle.soundness.proofs.boot_laws.ReadingsKnown.{known}
 use Rattle.soundness.proofs.boot_laws.ReadingsLists.{numbered-back}
-use Rattle.soundness.proofs.boot_laws.RunBoots.{LoadsByOne, at_capabilities, at_frames, at_handlers, at_programs, at_signals, at_tables, at_threads, boots-well-by}
+use Rattle.soundness.proofs.boot_laws.RunBoots.{LoadsByOne, at_capabilities, at_frames, at_handlers, at_programs, at_signals, at_tables, at_threads}
+use Rattle.soundness.proofs.boot_laws.RunBoots.{boots-well-by}
 use Rattle.soundness.proofs.boot_laws.RunContents.{contents-by-one, programs-by-one}
 use Rattle.soundness.proofs.boot_laws.RunSequences.{Leads}
 use Rattle.soundness.proofs.boot_laws.ThreadsKnown.{threads-by-one}
@@ -69,7 +71,8 @@ module _ (image : Image) (fits : whole_image.fits image ≡ true) (well : IsWell
 
   pub placed : misplaced image ≡ None
   placed =
-      ap (λ (o : Option (ℕ × UntypedEntry)). option_map_or (λ u. Some u.0) o (if too_few_boot_slots image then Some image.header.untypeds else None)) none-overlaps
+      ap (λ (o : Option (ℕ × UntypedEntry)). option_map_or (λ u. Some u.0) o (if too_few_boot_slots image then Some image.header.untypeds else None))
+      none-overlaps
       ∙ ap (λ b. if b then Some image.header.untypeds else None) formed.boot_slots
 
   -- ---- what is known before each entry

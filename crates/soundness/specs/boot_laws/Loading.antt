@@ -1,5 +1,6 @@
 -- The states through which a loader goes: of each section of an image so many entries are loaded.
-use Rattle.std.specs.Prelude.{ℕ, ◌==◌, ◌/◌, Bool, false, not, ◌||◌, ◌&&◌, nat_lt, Option, Some, None, option_and_then, List, [], ◌∷◌, ◌++◌, map, filter, find, flat_map, take, length, if◌then◌else◌}
+use Rattle.std.specs.Prelude.{ℕ, ◌==◌, ◌/◌, Bool, false, not, ◌||◌, ◌&&◌, nat_lt, Option, Some, None, option_and_then, List, [], ◌∷◌, ◌++◌, map, filter, find}
+use Rattle.std.specs.Prelude.{flat_map, take, length, if◌then◌else◌}
 use Rattle.std.specs.Option.{option_map_or}
 use Rattle.std.specs.List.{list_any, range_with_len}
 use Rattle.model.specs.declared.capabilities.Cap.{Cap}
@@ -7,7 +8,8 @@ use Rattle.model.specs.declared.capabilities.Cap.TheVariants.{Empty, Untyped, In
 use Rattle.model.specs.declared.entries.UntypedEntry.{UntypedEntry}
 use Rattle.model.specs.Capabilities.CapabilityKinds.{is_untyped, with_table_mapping}
 use Rattle.model.specs.Capabilities.Slots.{Slots, empty_entry}
-use Rattle.model.specs.Images.Described.{Holding, binding_holding, first_some, frame_holding, handler_holding, held_in, holding, is_object_slot, listed_holding, listed_thread, notification_holding, numbered, thread_holdings}
+use Rattle.model.specs.Images.Described.{Holding, binding_holding, first_some, frame_holding, handler_holding, held_in, holding, is_object_slot, listed_holding}
+use Rattle.model.specs.Images.Described.{listed_thread, notification_holding, numbered, thread_holdings}
 use Rattle.model.specs.Images.Fills.{filled_byte, fills, is_in_frame}
 use Rattle.model.specs.Images.Image.{Image}
 use Rattle.model.specs.Images.Places.{control_slot, object_at, offset_of, original_slot, type_at, used_by}

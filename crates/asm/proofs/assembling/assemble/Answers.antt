@@ -23,6 +23,7 @@ unfolding text_means
 returns-clause-listed c listed is entered same =
     let texts = lines c.args.text.now in
     let searched : c.deref.result.now ≡ labels_of texts = c.deref.ensures.value ∙ c.in_ok-labels.ensures.meant in
-    let given = subst (λ (labels : List FoundLabels). MeansText c.image_with.result (and_then (all_read labels 0 nothing_read texts) (λ (read : ℕ × Draft). on_line (max read.0 1) (finished read.1))))
+    let given = subst (λ (labels : List FoundLabels). MeansText c.image_with.result
+    (and_then (all_read labels 0 nothing_read texts) (λ (read : ℕ × Draft). on_line (max read.0 1) (finished read.1))))
     searched c.image_with.ensures.meant in
     only c.args.text.now c.image_with.result listed given (ap text_means same ∙ listing-means listed is entered)

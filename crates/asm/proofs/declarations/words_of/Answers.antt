@@ -8,7 +8,8 @@ use Rattle.asm.proofs.declarations.words_of.Goals as goal
 pub returns-in_err-append : goal.returns-in_err-append
 returns-in_err-append c =
     refused-means c.from_residual.result c.in_err-append.field-0.0 _ _ c.from_residual.ensures
-    (either-goes (values-full c.words.read.items c.words.rest c.args.words c.in-Some.word c.in-Some.words _ c.words.invariant c.in-Some.ensures.exact) c.in_err-append.ensures.meant)
+    (either-goes (values-full c.words.read.items c.words.rest c.args.words c.in-Some.word c.in-Some.words _ c.words.invariant c.in-Some.ensures.exact)
+    c.in_err-append.ensures.meant)
 
 pub returns : goal.returns
 returns c =

@@ -14,4 +14,6 @@ unfolding spelling
 returns-then-has_spelling c =
     let same : to_z w32 (of_z w32 c.args.offset) ≡ c.args.offset = omega (arith, ints) in
     let fits : IsInstr (Branch c.args.op c.args.rs1 c.args.rs2 c.args.offset) = search rules in
-    ap (λ (b : Bool). if b then Ok (spelling (Branch c.args.op c.args.rs1 c.args.rs2 c.args.offset)) else Err 4) (branch-true c.args.op c.args.rs1 c.args.rs2 c.args.offset fits) ∙ (ap (λ (z : ℤ). Ok (spelling (Branch c.args.op c.args.rs1 c.args.rs2 z))) (sym same) ∙ ap (λ (word : ℕ). Ok word) (sym c.encode.ensures.spells.1))
+    ap (λ (b : Bool). if b then Ok (spelling (Branch c.args.op c.args.rs1 c.args.rs2 c.args.offset)) else Err 4)
+    (branch-true c.args.op c.args.rs1 c.args.rs2 c.args.offset fits)
+    ∙ (ap (λ (z : ℤ). Ok (spelling (Branch c.args.op c.args.rs1 c.args.rs2 z))) (sym same) ∙ ap (λ (word : ℕ). Ok word) (sym c.encode.ensures.spells.1))

@@ -14,4 +14,5 @@ unfolding spelling
 returns-then-has_spelling c =
     let same : to_z w32 (of_z w32 c.args.offset) ≡ c.args.offset = omega (arith, ints) in
     let fits : IsInstr (Jal c.args.rd c.args.offset) = search rules in
-    ap (λ (b : Bool). if b then Ok (spelling (Jal c.args.rd c.args.offset)) else Err 4) (jump-true c.args.rd c.args.offset fits) ∙ (ap (λ (z : ℤ). Ok (spelling (Jal c.args.rd z))) (sym same) ∙ ap (λ (word : ℕ). Ok word) (sym c.encode.ensures.spells.1))
+    ap (λ (b : Bool). if b then Ok (spelling (Jal c.args.rd c.args.offset)) else Err 4) (jump-true c.args.rd c.args.offset fits)
+    ∙ (ap (λ (z : ℤ). Ok (spelling (Jal c.args.rd z))) (sym same) ∙ ap (λ (word : ℕ). Ok word) (sym c.encode.ensures.spells.1))

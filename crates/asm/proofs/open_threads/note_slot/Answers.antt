@@ -29,12 +29,20 @@ returns c =
     let word0 = slice_index c.args.words 0 in
     let word1 = slice_index c.args.words 1 in
     let key : SlotEntry → ℕ = λ (e : SlotEntry). pair_key e.cnode e.index in
-    let entry : SlotEntry = record { cnode = c.in_ok-cnode.cnode; index = c.args.index; word0 = word0; word1 = word1; parent_cnode = c.in_ok-from.from.0; parent_index = c.in_ok-from.from.1 } in
+    let entry : SlotEntry = record {
+      cnode = c.in_ok-cnode.cnode;
+      index = c.args.index;
+      word0 = word0;
+      word1 = word1;
+      parent_cnode = c.in_ok-from.from.0;
+      parent_index = c.in_ok-from.from.1;
+    } in
     let grown : List SlotEntry → Result StateRecord ℕ = λ slots. Ok (record n { header = record n.header { slots = length slots }; slots = slots }) in
     let chain : slots_with c.args.names.now c.args.cnode.now c.args.index word0 word1 c.args.parent.now n ≡ (sorted_with key 256 entry n.slots >>= grown) =
     goes (number_known c.args.names.now.objects c.args.cnode.now) _ c.in_ok-cnode.cnode _ c.in_ok-cnode.ensures
     (goes (parent_known c.args.names.now c.args.parent.now) _ c.in_ok-from.from _ c.in_ok-from.ensures refl) in
     let made : StateRecord = record n { header = record n.header { slots = length c.insert.new.entries.items }; slots = c.insert.new.entries.items } in
-    subst (λ (old : StateRecord). Means c.insert.result (λ _. made) (slots_with c.args.names.now c.args.cnode.now c.args.index word0 word1 c.args.parent.now old)) c.noted.view_is
+    subst (λ (old : StateRecord). Means c.insert.result (λ _. made)
+    (slots_with c.args.names.now c.args.cnode.now c.args.index word0 word1 c.args.parent.now old)) c.noted.view_is
     (means-same c.insert.result _ _ _ (sym chain)
     (means-on c.insert.result (λ _. c.insert.new.entries.items) (sorted_with key 256 entry n.slots) grown (λ _. made) (λ _. refl) c.insert.ensures))

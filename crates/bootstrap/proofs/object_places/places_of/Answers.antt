@@ -9,7 +9,8 @@ use Rattle.bootstrap.proofs.object_places.places_of.Goals as goal
 
 pub align-first-requires-clause-place : goal.align-first-requires-clause-place
 align-first-requires-clause-place c =
-    let low = c.loop-number.invariant.low c.object-object.result.untyped (untyped-near c.args.image.now c.loop-number.number c.object-object.result c.requires c.object-object.ensures) in
+    let low = c.loop-number.invariant.low c.object-object.result.untyped
+    (untyped-near c.args.image.now c.loop-number.number c.object-object.result c.requires c.object-object.ensures) in
     let objects = c.requires.header.objects in
     omega (arith, low, objects, c.loop-number-test.true, ap (λ h. h.objects) c.header-number-end.ensures.value)
 
@@ -26,15 +27,19 @@ untyped-requires c = (c.requires.objects.entries c.loop-number.number c.object-o
 
 pub overflow_add-from : goal.overflow_add-from
 overflow_add-from c =
-    let low = c.loop-number.invariant.low c.object-object.result.untyped (untyped-near c.args.image.now c.loop-number.number c.object-object.result c.requires c.object-object.ensures) in
-    let end = end-small c.align-first.result _ c.power-size.result c.loop-number.number _ _ c.loop-number-test.true (ap (λ h. h.objects) c.header-number-end.ensures.value) c.requires.header.objects low c.align-first.ensures.bounded c.power-size.ensures.most in
+    let low = c.loop-number.invariant.low c.object-object.result.untyped
+    (untyped-near c.args.image.now c.loop-number.number c.object-object.result c.requires c.object-object.ensures) in
+    let end = end-small c.align-first.result _ c.power-size.result c.loop-number.number _ _ c.loop-number-test.true
+    (ap (λ h. h.objects) c.header-number-end.ensures.value) c.requires.header.objects low c.align-first.ensures.bounded c.power-size.ensures.most in
     let wide = c.untyped.type_inv in
     omega (arith, end, c.from.ensures, wide)
 
 pub overflow_add-used : goal.overflow_add-used
 overflow_add-used c =
-    let low = c.loop-number.invariant.low c.object-object.result.untyped (untyped-near c.args.image.now c.loop-number.number c.object-object.result c.requires c.object-object.ensures) in
-    let end = end-small c.align-first.result _ c.power-size.result c.loop-number.number _ _ c.loop-number-test.true (ap (λ h. h.objects) c.header-number-end.ensures.value) c.requires.header.objects low c.align-first.ensures.bounded c.power-size.ensures.most in
+    let low = c.loop-number.invariant.low c.object-object.result.untyped
+    (untyped-near c.args.image.now c.loop-number.number c.object-object.result c.requires c.object-object.ensures) in
+    let end = end-small c.align-first.result _ c.power-size.result c.loop-number.number _ _ c.loop-number-test.true
+    (ap (λ h. h.objects) c.header-number-end.ensures.value) c.requires.header.objects low c.align-first.ensures.bounded c.power-size.ensures.most in
     omega (arith, end)
 
 pub bounds-used-untyped-in-loop-number : goal.bounds-used-untyped-in-loop-number
@@ -63,11 +68,15 @@ loop-number-preserved c =
     record {
       size = length-set used o.untyped (first + size) ∙ many;
       used = used-after image n o used first size c.object-object.ensures near many before c.align-first.ensures.value sized;
-      low = used-low image n o used first size c.object-object.ensures near many before c.align-first.ensures.value sized c.loop-number.invariant.low c.align-first.ensures.bounded c.power-size.ensures.most;
-      placed = subst (ArePlaces image (n + 1)) (sym (c.in_ok-push.ensures.items ∙ ap (λ (w : ℕ). c.loop-number.places.items ++ (w + first) ∷ []) c.from.ensures))
-          (placed-after image n o used first size c.object-object.ensures near many before c.align-first.ensures.value sized c.loop-number.places.items c.untyped.result c.untyped.ensures c.loop-number.invariant.placed);
+      low = used-low image n o used first size c.object-object.ensures near many before c.align-first.ensures.value sized c.loop-number.invariant.low
+          c.align-first.ensures.bounded c.power-size.ensures.most;
+      placed = subst (ArePlaces image (n + 1))
+          (sym (c.in_ok-push.ensures.items ∙ ap (λ (w : ℕ). c.loop-number.places.items ++ (w + first) ∷ []) c.from.ensures))
+          (placed-after image n o used first size c.object-object.ensures near many before c.align-first.ensures.value sized c.loop-number.places.items
+          c.untyped.result c.untyped.ensures c.loop-number.invariant.placed);
     }
 
 pub returns : goal.returns
 returns c =
-    subst (λ (n : ℕ). ArePlaces c.args.image.now n c.loop-number.places.items) (omega (arith, ap (λ h. h.objects) c.header-number-end.ensures.value)) c.loop-number.invariant.placed
+    subst (λ (n : ℕ). ArePlaces c.args.image.now n c.loop-number.places.items) (omega (arith, ap (λ h. h.objects) c.header-number-end.ensures.value))
+    c.loop-number.invariant.placed

@@ -19,7 +19,8 @@ returns-in_err-load-clause-fault c =
     let image = c.args.image.now in
     let s = state_in c.in-Ok-new.machine in
     let none : misplaced image ≡ None = sym c.misplaced.ensures ∙ c.in_default.is in
-    let fresh : s ≡ boot_area image.header.memory_bits image.header.boot_radix = c.in-Ok-new.ensures ∙ ap (λ h. boot_area h.memory_bits h.boot_radix) c.limited_header-header.ensures.value in
+    let fresh : s ≡ boot_area image.header.memory_bits image.header.boot_radix = c.in-Ok-new.ensures
+    ∙ ap (λ h. boot_area h.memory_bits h.boot_radix) c.limited_header-header.ensures.value in
     let p = err_from_is_err_and c.from_residual.result c.from_residual.ensures.1 in
     rw (p.1, p.2) (inr (booted-runs image s none fresh ∙ ap state_after c.in_err-load.ensures))
 
@@ -28,7 +29,8 @@ returns-in_err-load-clause-formed c = λ fits formed.
     let image = c.args.image.now in
     let s = state_in c.in-Ok-new.machine in
     let none : misplaced image ≡ None = sym c.misplaced.ensures ∙ c.in_default.is in
-    let fresh : s ≡ boot_area image.header.memory_bits image.header.boot_radix = c.in-Ok-new.ensures ∙ ap (λ h. boot_area h.memory_bits h.boot_radix) c.limited_header-header.ensures.value in
+    let fresh : s ≡ boot_area image.header.memory_bits image.header.boot_radix = c.in-Ok-new.ensures
+    ∙ ap (λ h. boot_area h.memory_bits h.boot_radix) c.limited_header-header.ensures.value in
     let p = err_from_is_err_and c.from_residual.result c.from_residual.ensures.1 in
     rw (p.1, p.2) (only-memory image fits formed _ (inr (booted-runs image s none fresh ∙ ap state_after c.in_err-load.ensures)))
 
@@ -37,5 +39,6 @@ returns-clause-loaded c =
     let image = c.args.image.now in
     let s = state_in c.in-Ok-new.machine in
     let none : misplaced image ≡ None = sym c.misplaced.ensures ∙ c.in_default.is in
-    let fresh : s ≡ boot_area image.header.memory_bits image.header.boot_radix = c.in-Ok-new.ensures ∙ ap (λ h. boot_area h.memory_bits h.boot_radix) c.limited_header-header.ensures.value in
+    let fresh : s ≡ boot_area image.header.memory_bits image.header.boot_radix = c.in-Ok-new.ensures
+    ∙ ap (λ h. boot_area h.memory_bits h.boot_radix) c.limited_header-header.ensures.value in
     booted-runs image s none fresh ∙ ap state_after c.in_ok-load.ensures

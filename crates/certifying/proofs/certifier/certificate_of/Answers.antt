@@ -27,6 +27,7 @@ invariant_of-given c =
       listed = noted ∙ ap (λ (i : Image). image_slots i t) image-is ∙ ap (λ (u : Thread). image_slots space.image.now u) thread-is;
       rising = subst (λ (l : List NotedSlot). Rise l) (sym c.deref-2.ensures.value) c.in_ok-slots.ensures.rise;
       unlinked = subst (λ (l : List NotedSlot). AreUnlinked l) (sym noted) (image-unlinked image t);
-      told = c.lists_stray-lists_stray.ensures ∙ ap (λ (slots : List NotedSlot). list_any (is_stray_in space []) slots) (c.deref.ensures.value ∙ sym c.deref-2.ensures.value);
+      told = c.lists_stray-lists_stray.ensures ∙ ap (λ (slots : List NotedSlot). list_any (is_stray_in space []) slots)
+          (c.deref.ensures.value ∙ sym c.deref-2.ensures.value);
       bare = ap (λ (u : Thread). u.records) c.given_space-space.ensures.thread ∙ c.has_records.ensures c.if-has_records.false;
     }

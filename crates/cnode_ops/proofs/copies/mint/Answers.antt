@@ -17,14 +17,17 @@ use Rattle.cnode_ops.proofs.copies.mint.Goals as goal
 pub returns-in_err-to-clause-outcome : goal.returns-in_err-to-clause-outcome
 returns-in_err-to-clause-outcome g c = λ s call same_root same_node.
     let p = err_from_is_err_and c.from_residual.result c.from_residual.ensures.1 in
-    rw (p.1, p.2) (mint-unnamed s (g.S.SlotMap.slots c.args.store.now) call c.args.call.root c.args.call.node c.args.destination c.args.source c.args.rights same_root same_node c.args.payload _ (sym c.in_err-to.ensures.value))
+    rw (p.1, p.2) (mint-unnamed s (g.S.SlotMap.slots c.args.store.now) call c.args.call.root c.args.call.node c.args.destination c.args.source c.args.rights
+    same_root same_node c.args.payload _ (sym c.in_err-to.ensures.value))
 
 pub returns-in_err-capability-clause-outcome : goal.returns-in_err-capability-clause-outcome
 returns-in_err-capability-clause-outcome g c = λ s call same_root same_node.
     let slots : Slots = g.S.SlotMap.slots c.args.store.now in
     let p = err_from_is_err_and c.from_residual-in_err-capability.result c.from_residual-in_err-capability.ensures.1 in
-    rw (p.1, p.2) (mint-gives s slots call c.args.call.root c.args.call.node c.args.destination c.args.source c.args.rights same_root same_node c.args.payload c.in_ok-to.to c.in_ok-to.from (Err _)
-    (sym c.in_ok-to.ensures.value) (ap (λ (held : Cap). minted_copy_of held c.args.rights c.args.payload) (sym c.capability.ensures.value) ∙ sym c.in_err-capability.ensures.value))
+    rw (p.1, p.2) (mint-gives s slots call c.args.call.root c.args.call.node c.args.destination c.args.source c.args.rights same_root same_node c.args.payload
+    c.in_ok-to.to c.in_ok-to.from (Err _)
+    (sym c.in_ok-to.ensures.value) (ap (λ (held : Cap). minted_copy_of held c.args.rights c.args.payload) (sym c.capability.ensures.value)
+    ∙ sym c.in_err-capability.ensures.value))
 
 pub insert_child-requires-clause-empty : goal.insert_child-requires-clause-empty
 insert_child-requires-clause-empty g c = c.in_ok-to.ensures.free
@@ -48,7 +51,8 @@ returns-clause-unchanged g c = c.insert_child.ensures.same
 
 pub returns-clause-bytes : goal.returns-clause-bytes
 returns-clause-bytes g c =
-    child-bytes (g.S.SlotMap.slots c.args.store.now) g.S.SlotStore.memory c.args.store.now c.insert_child.new.store c.insert_child.result c.insert_child.ensures.bytes c.insert_child.ensures.same
+    child-bytes (g.S.SlotMap.slots c.args.store.now) g.S.SlotStore.memory c.args.store.now c.insert_child.new.store c.insert_child.result
+    c.insert_child.ensures.bytes c.insert_child.ensures.same
 
 pub returns-clause-outcome : goal.returns-clause-outcome
 returns-clause-outcome g c = λ s call same_root same_node.
@@ -57,8 +61,10 @@ returns-clause-outcome g c = λ s call same_root same_node.
     let to = c.in_ok-to.to in
     let from = c.in_ok-to.from in
     let made = c.in_ok-capability.capability in
-    let e = mint-gives s slots call c.args.call.root c.args.call.node c.args.destination c.args.source c.args.rights same_root same_node c.args.payload to from (Ok made)
-    (sym c.in_ok-to.ensures.value) (ap (λ (held : Cap). minted_copy_of held c.args.rights c.args.payload) (sym c.capability.ensures.value) ∙ sym c.in_ok-capability.ensures.value) in
+    let e = mint-gives s slots call c.args.call.root c.args.call.node c.args.destination c.args.source c.args.rights same_root same_node c.args.payload to from
+    (Ok made)
+    (sym c.in_ok-to.ensures.value) (ap (λ (held : Cap). minted_copy_of held c.args.rights c.args.payload) (sym c.capability.ensures.value)
+    ∙ sym c.in_ok-capability.ensures.value) in
     subst (λ (defined : Result State KError). Gives defined s after c.insert_child.result) (sym e)
     (child-gives s slots after to from made c.insert_child.result c.insert_child.ensures.when c.insert_child.ensures.slots c.insert_child.ensures.deep)
 
@@ -69,4 +75,5 @@ returns-clause-nodes g c =
     let made = c.in_ok-capability.capability in
     let named = minted-node c.capability.result c.args.rights c.args.payload made (sym c.in_ok-capability.ensures.value) in
     let here = node-made slots c.capability.result made named (subst (HasOpenSlots slots) (sym c.capability.ensures.value) (c.requires.nodes.nodes from)) in
-    child-nodes g.S.SlotMap.slots c.args.store.now c.insert_child.new.store c.in_ok-to.to from made c.insert_child.result c.insert_child.ensures.slots c.insert_child.ensures.same c.requires.nodes here
+    child-nodes g.S.SlotMap.slots c.args.store.now c.insert_child.new.store c.in_ok-to.to from made c.insert_child.result c.insert_child.ensures.slots
+    c.insert_child.ensures.same c.requires.nodes here

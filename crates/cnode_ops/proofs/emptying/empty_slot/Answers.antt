@@ -17,8 +17,10 @@ rewind-requires-clause-full g c =
     let has = g.met.E.Ends.of_slots c.args.ends.now before (g.S.SlotStore.memory c.args.store.now) in
     let tree : IsDerivation before = subst (λ (n : Slots). IsDerivation n) has c.requires.ready.derivation in
     parent-full before taken after one two c.take_out-removed.result.0 c.args.slot c.in-Some.parent
-    tree (parent-was before taken after one two c.take_out-removed.result.0 c.args.slot c.take_out-removed.ensures.slots (g.met.E.Ends.of_slots _ _ _) c.end_unnamed.ensures.state (g.met.E.Ends.of_slots _ _ _)
-    c.take_out-removed.result.2 c.in-Some.parent c.take_out-removed.ensures.childless c.in-Some.is) c.take_out-removed.ensures.slots (g.met.E.Ends.of_slots _ _ _) c.end_unnamed.ensures.state (g.met.E.Ends.of_slots _ _ _)
+    tree (parent-was before taken after one two c.take_out-removed.result.0 c.args.slot c.take_out-removed.ensures.slots (g.met.E.Ends.of_slots _ _ _)
+    c.end_unnamed.ensures.state (g.met.E.Ends.of_slots _ _ _)
+    c.take_out-removed.result.2 c.in-Some.parent c.take_out-removed.ensures.childless c.in-Some.is) c.take_out-removed.ensures.slots
+    (g.met.E.Ends.of_slots _ _ _) c.end_unnamed.ensures.state (g.met.E.Ends.of_slots _ _ _)
 
 pub rewind-requires-clause-childless : goal.rewind-requires-clause-childless
 rewind-requires-clause-childless g c =
@@ -27,7 +29,8 @@ rewind-requires-clause-childless g c =
     let after : Slots = g.S.SlotMap.slots c.end_unnamed.new.store in
     let one : State = g.E.Ends.state c.take_out-removed.new.ends taken (g.S.SlotStore.memory c.take_out-removed.new.store) in
     let two : State = g.E.Ends.state c.end_unnamed.new.ends after (g.S.SlotStore.memory c.end_unnamed.new.store) in
-    childless-left before taken after one two c.take_out-removed.result.0 c.args.slot c.take_out-removed.ensures.slots (g.met.E.Ends.of_slots _ _ _) c.end_unnamed.ensures.state (g.met.E.Ends.of_slots _ _ _)
+    childless-left before taken after one two c.take_out-removed.result.0 c.args.slot c.take_out-removed.ensures.slots (g.met.E.Ends.of_slots _ _ _)
+    c.end_unnamed.ensures.state (g.met.E.Ends.of_slots _ _ _)
     c.take_out-removed.result.2 c.in-Some.parent c.take_out-removed.ensures.childless c.in-Some.is
 
 pub returns-in-Some-clause-state : goal.returns-in-Some-clause-state
@@ -43,8 +46,10 @@ returns-in-Some-clause-state g c =
     let three : State = g.E.Ends.state c.end_unnamed.new.ends now (g.S.SlotStore.memory c.rewind.new.store) in
     emptied-in-steps zero_is one two three before taken after now c.args.slot c.take_out-removed.result.0 (Some c.in-Some.parent)
     (g.met.E.Ends.of_slots c.args.ends.now before memory) c.requires.ready c.requires.full
-    c.take_out-removed.ensures.removed c.take_out-removed.ensures.slots c.take_out-removed.ensures.state c.end_unnamed.ensures.state (g.met.E.Ends.of_slots _ _ _)
-    (parent-was before taken after one two c.take_out-removed.result.0 c.args.slot c.take_out-removed.ensures.slots (g.met.E.Ends.of_slots _ _ _) c.end_unnamed.ensures.state (g.met.E.Ends.of_slots _ _ _)
+    c.take_out-removed.ensures.removed c.take_out-removed.ensures.slots c.take_out-removed.ensures.state c.end_unnamed.ensures.state
+    (g.met.E.Ends.of_slots _ _ _)
+    (parent-was before taken after one two c.take_out-removed.result.0 c.args.slot c.take_out-removed.ensures.slots (g.met.E.Ends.of_slots _ _ _)
+    c.end_unnamed.ensures.state (g.met.E.Ends.of_slots _ _ _)
     c.take_out-removed.result.2 c.in-Some.parent c.take_out-removed.ensures.childless c.in-Some.is)
     c.rewind.ensures.slots c.rewind.ensures.state
 
@@ -62,14 +67,16 @@ returns-in_default-clause-state g c =
     (g.met.E.Ends.of_slots c.args.ends.now before memory) c.requires.ready c.requires.full
     c.take_out-removed.ensures.removed c.take_out-removed.ensures.slots c.take_out-removed.ensures.state c.end_unnamed.ensures.state has
     refl
-    (none-left before taken after one two c.take_out-removed.result.0 c.args.slot c.take_out-removed.ensures.slots (g.met.E.Ends.of_slots _ _ _) c.end_unnamed.ensures.state has
+    (none-left before taken after one two c.take_out-removed.result.0 c.args.slot c.take_out-removed.ensures.slots (g.met.E.Ends.of_slots _ _ _)
+    c.end_unnamed.ensures.state has
     c.take_out-removed.result.2 c.take_out-removed.ensures.childless c.in_default.is)
     (λ i. record two { slots = has i })
 
 pub end_unnamed-requires-clause-there : goal.end_unnamed-requires-clause-there
 end_unnamed-requires-clause-there g c =
     let before : Slots = g.S.SlotMap.slots c.args.store.now in
-    there-taken (g.E.Ends.state c.args.ends.now before (g.S.SlotStore.memory c.args.store.now)) _ before (g.S.SlotMap.slots c.take_out-removed.new.store) c.args.slot c.take_out-removed.result.0
+    there-taken (g.E.Ends.state c.args.ends.now before (g.S.SlotStore.memory c.args.store.now)) _ before (g.S.SlotMap.slots c.take_out-removed.new.store)
+    c.args.slot c.take_out-removed.result.0
     (g.met.E.Ends.of_slots _ _ _) c.requires.ready c.take_out-removed.ensures.removed c.take_out-removed.ensures.state
 
 pub end_unnamed-requires-clause-lie : goal.end_unnamed-requires-clause-lie
@@ -83,4 +90,5 @@ returns-in-Some-clause-noted g c =
 
 pub returns-in_default-clause-noted : goal.returns-in_default-clause-noted
 returns-in_default-clause-noted g c =
-    notes-then _ _ _ c.args.left.now c.args.left.now c.end_unnamed.new.left (notes-slots _ _ c.args.left.now _ c.take_out-removed.ensures.state) c.end_unnamed.ensures.noted
+    notes-then _ _ _ c.args.left.now c.args.left.now c.end_unnamed.new.left (notes-slots _ _ c.args.left.now _ c.take_out-removed.ensures.state)
+    c.end_unnamed.ensures.noted

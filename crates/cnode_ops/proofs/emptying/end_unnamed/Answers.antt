@@ -26,5 +26,6 @@ note_slots-requires g c = noted-fits _ c.in-Some.offset c.slots_of-own.result c.
 
 pub returns-clause-noted : goal.returns-clause-noted
 returns-clause-noted g c =
-    notes-ended _ _ c.args.removed c.in-Some.offset c.slots_of-own.result c.is_waited_at-waited.result c.args.left.now c.note_slots.new.self _ (sym c.object_of.ensures ∙ c.in-Some.is)
+    notes-ended _ _ c.args.removed c.in-Some.offset c.slots_of-own.result c.is_waited_at-waited.result c.args.left.now c.note_slots.new.self _
+    (sym c.object_of.ensures ∙ c.in-Some.is)
     c.slots_of-own.ensures c.is_waited_at-waited.ensures.0 c.end.ensures.state c.note_slots.ensures.none c.note_slots.ensures.some c.note_waiting.ensures

@@ -12,10 +12,12 @@ returns-then-is_none g c = λ line few.
 
 pub lines-preserved : goal.lines-preserved
 lines-preserved g c =
-    let lost : ℕ → Bool = λ line. has_line c.args.gone line && not (is_handled (g.S.SlotMap.slots c.args.store.now) (length (g.S.SlotStore.memory c.args.store.now) / 16) line) in
+    let lost : ℕ → Bool = λ line. has_line c.args.gone line
+    && not (is_handled (g.S.SlotMap.slots c.args.store.now) (length (g.S.SlotStore.memory c.args.store.now) / 16) line) in
     let next = c.with_if-lost.ensures (omega (arith, c.lines-test.true)) in
     record {
-      told = λ line before. line-before c.lines.lost c.with_if-lost.result c.lines.line c.is_lost.result lost (omega (arith, c.lines-test.true)) next c.is_lost.ensures c.lines.invariant.told c.lines.invariant.rest line before;
+      told = λ line before. line-before c.lines.lost c.with_if-lost.result c.lines.line c.is_lost.result lost (omega (arith, c.lines-test.true)) next
+          c.is_lost.ensures c.lines.invariant.told c.lines.invariant.rest line before;
       rest = λ line behind few. line-after c.lines.lost c.with_if-lost.result c.lines.line c.is_lost.result next c.lines.invariant.rest line behind few;
     }
 

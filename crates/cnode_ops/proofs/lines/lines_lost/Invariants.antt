@@ -6,6 +6,7 @@ use Rattle.cnode_ops.proofs.lines.lines_lost.Given as goal
 
 abbrev pub invariant-lines : goal.invariant-lines
 invariant-lines g l = record {
-  told : (line : ℕ) → line < l.line → has_line l.lost line ≡ (has_line l.gone line && not (is_handled (g.S.SlotMap.slots l.store) (length (g.S.SlotStore.memory l.store) / 16) line));
+  told : (line : ℕ) → line < l.line → has_line l.lost line ≡ (has_line l.gone line
+      && not (is_handled (g.S.SlotMap.slots l.store) (length (g.S.SlotStore.memory l.store) / 16) line));
   rest : (line : ℕ) → l.line ≤ line → line < 64 → has_line l.lost line ≡ false;
 }

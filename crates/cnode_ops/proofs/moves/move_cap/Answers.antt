@@ -18,7 +18,8 @@ returns-clause-nodes g c =
 pub returns-in_err-to-clause-outcome : goal.returns-in_err-to-clause-outcome
 returns-in_err-to-clause-outcome g c = λ s call same_root same_node.
     let p = err_from_is_err_and c.from_residual.result c.from_residual.ensures.1 in
-    rw (p.1, p.2) (move-unnamed s (g.S.SlotMap.slots c.args.store.now) call c.args.call.root c.args.call.node c.args.destination c.args.source same_root same_node _ (sym c.in_err-to.ensures.value))
+    rw (p.1, p.2) (move-unnamed s (g.S.SlotMap.slots c.args.store.now) call c.args.call.root c.args.call.node c.args.destination c.args.source same_root
+    same_node _ (sym c.in_err-to.ensures.value))
 
 pub relocate-requires-clause-full : goal.relocate-requires-clause-full
 relocate-requires-clause-full g c = c.in_ok-to.ensures.full
@@ -28,7 +29,8 @@ relocate-requires-clause-empty g c = c.in_ok-to.ensures.free
 
 pub returns-clause-outcome : goal.returns-clause-outcome
 returns-clause-outcome g c = λ s call same_root same_node.
-    move-gives s (g.S.SlotMap.slots c.args.store.now) call c.args.call.root c.args.call.node c.args.destination c.args.source same_root same_node c.in_ok-to.to c.in_ok-to.from (sym c.in_ok-to.ensures.value)
+    move-gives s (g.S.SlotMap.slots c.args.store.now) call c.args.call.root c.args.call.node c.args.destination c.args.source same_root same_node c.in_ok-to.to
+    c.in_ok-to.from (sym c.in_ok-to.ensures.value)
     ∙ ap (λ (t : Slots). Ok (with_slots s t)) (sym c.relocate.ensures.slots)
 
 pub returns-clause-bytes : goal.returns-clause-bytes

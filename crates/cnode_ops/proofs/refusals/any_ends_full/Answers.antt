@@ -19,19 +19,22 @@ slots-init g c =
     let size : ℕ = length (g.S.SlotStore.memory c.args.store.now) / 16 in
     record {
       known = λ slot is. before-first (λ s. goes slots c.args.set.now s ≡ true) slot is;
-      rest = behind-first (listed_in (g.S.SlotStore.order c.args.store.now) slots c.args.set.now) (goes slots c.args.set.now) (filled slots size c.args.set.now (is_full slots));
+      rest = behind-first (listed_in (g.S.SlotStore.order c.args.store.now) slots c.args.set.now) (goes slots c.args.set.now)
+          (filled slots size c.args.set.now (is_full slots));
       passed = no-slot 0 (is_full slots);
     }
 
 pub own_slots-own-requires-clause-goes : goal.own_slots-own-requires-clause-goes
 own_slots-own-requires-clause-goes g c =
     let slots : Slots = g.S.SlotMap.slots c.args.store.now in
-    found-member (listed_in (g.S.SlotStore.order c.args.store.now) slots c.args.set.now) (goes slots c.args.set.now) c.next_removed.ensures.lists c.slots.at c.in-Some.slot (sym c.in-Some.is ∙ c.next_removed.ensures.next)
+    found-member (listed_in (g.S.SlotStore.order c.args.store.now) slots c.args.set.now) (goes slots c.args.set.now) c.next_removed.ensures.lists c.slots.at
+    c.in-Some.slot (sym c.in-Some.is ∙ c.next_removed.ensures.next)
 
 pub slots-smaller : goal.slots-smaller
 slots-smaller g c =
     let slots : Slots = g.S.SlotMap.slots c.args.store.now in
-    fewer-behind (listed_in (g.S.SlotStore.order c.args.store.now) slots c.args.set.now) (goes slots c.args.set.now) c.next_removed.ensures.lists c.slots.at c.in-Some.slot (sym c.in-Some.is ∙ c.next_removed.ensures.next)
+    fewer-behind (listed_in (g.S.SlotStore.order c.args.store.now) slots c.args.set.now) (goes slots c.args.set.now) c.next_removed.ensures.lists c.slots.at
+    c.in-Some.slot (sym c.in-Some.is ∙ c.next_removed.ensures.next)
 
 pub slots-preserved : goal.slots-preserved
 slots-preserved g c =
@@ -41,8 +44,10 @@ slots-preserved g c =
     let next : Some c.in-Some.slot ≡ next_in list c.slots.at = sym c.in-Some.is ∙ c.next_removed.ensures.next in
     let fails : some_own c.own_slots-own.result (is_full slots) ≡ false = sym c.any_full_own.ensures ∙ c.if-any_full_own.false in
     record {
-      known = λ slot is. last-found (λ s. goes slots c.args.set.now s ≡ true) c.in-Some.slot slot (found-member list (goes slots c.args.set.now) c.next_removed.ensures.lists c.slots.at c.in-Some.slot next) is;
-      rest = behind-next list (goes slots c.args.set.now) c.next_removed.ensures.lists (filled slots size c.args.set.now (is_full slots)) c.slots.at c.in-Some.slot c.slots.invariant.rest next
+      known = λ slot is. last-found (λ s. goes slots c.args.set.now s ≡ true) c.in-Some.slot slot
+          (found-member list (goes slots c.args.set.now) c.next_removed.ensures.lists c.slots.at c.in-Some.slot next) is;
+      rest = behind-next list (goes slots c.args.set.now) c.next_removed.ensures.lists (filled slots size c.args.set.now (is_full slots)) c.slots.at
+          c.in-Some.slot c.slots.invariant.rest next
           (ap (λ (own : OwnSlots). some_own own (is_full slots)) (sym c.own_slots-own.ensures.value) ∙ fails);
       passed = fails;
     }
@@ -51,5 +56,6 @@ pub returns-in_default : goal.returns-in_default
 returns-in_default g c =
     let slots : Slots = g.S.SlotMap.slots c.args.store.now in
     let size : ℕ = length (g.S.SlotStore.memory c.args.store.now) / 16 in
-    λ _. none-left (listed_in (g.S.SlotStore.order c.args.store.now) slots c.args.set.now) (goes slots c.args.set.now) c.next_removed.ensures.lists (filled slots size c.args.set.now (is_full slots)) c.slots.at
+    λ _. none-left (listed_in (g.S.SlotStore.order c.args.store.now) slots c.args.set.now) (goes slots c.args.set.now) c.next_removed.ensures.lists
+    (filled slots size c.args.set.now (is_full slots)) c.slots.at
     c.slots.invariant.rest (sym c.in_default.is ∙ c.next_removed.ensures.next)

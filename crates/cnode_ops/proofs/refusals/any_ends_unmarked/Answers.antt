@@ -23,19 +23,22 @@ slots-init g c =
     let size : ℕ = length (g.S.SlotStore.memory c.args.store.now) / 16 in
     record {
       known = λ slot is. before-first (λ s. goes slots c.args.set.now s ≡ true) slot is;
-      rest = behind-first (listed_in (g.S.SlotStore.order c.args.store.now) slots c.args.set.now) (goes slots c.args.set.now) (filled slots size c.args.set.now (is_unmarked slots c.args.marks.now));
+      rest = behind-first (listed_in (g.S.SlotStore.order c.args.store.now) slots c.args.set.now) (goes slots c.args.set.now)
+          (filled slots size c.args.set.now (is_unmarked slots c.args.marks.now));
       passed = no-slot 0 (is_unmarked slots c.args.marks.now);
     }
 
 pub own_slots-own-requires-clause-goes : goal.own_slots-own-requires-clause-goes
 own_slots-own-requires-clause-goes g c =
     let slots : Slots = g.S.SlotMap.slots c.args.store.now in
-    found-member (listed_in (g.S.SlotStore.order c.args.store.now) slots c.args.set.now) (goes slots c.args.set.now) c.next_removed.ensures.lists c.slots.at c.in-Some.slot (sym c.in-Some.is ∙ c.next_removed.ensures.next)
+    found-member (listed_in (g.S.SlotStore.order c.args.store.now) slots c.args.set.now) (goes slots c.args.set.now) c.next_removed.ensures.lists c.slots.at
+    c.in-Some.slot (sym c.in-Some.is ∙ c.next_removed.ensures.next)
 
 pub slots-smaller : goal.slots-smaller
 slots-smaller g c =
     let slots : Slots = g.S.SlotMap.slots c.args.store.now in
-    fewer-behind (listed_in (g.S.SlotStore.order c.args.store.now) slots c.args.set.now) (goes slots c.args.set.now) c.next_removed.ensures.lists c.slots.at c.in-Some.slot (sym c.in-Some.is ∙ c.next_removed.ensures.next)
+    fewer-behind (listed_in (g.S.SlotStore.order c.args.store.now) slots c.args.set.now) (goes slots c.args.set.now) c.next_removed.ensures.lists c.slots.at
+    c.in-Some.slot (sym c.in-Some.is ∙ c.next_removed.ensures.next)
 
 pub slots-preserved : goal.slots-preserved
 slots-preserved g c =
@@ -45,14 +48,17 @@ slots-preserved g c =
     let next : Some c.in-Some.slot ≡ next_in list c.slots.at = sym c.in-Some.is ∙ c.next_removed.ensures.next in
     let fails : some_own c.own_slots-own.result (is_unmarked slots c.args.marks.now) ≡ false = sym c.any_unmarked_own.ensures ∙ c.if-any_unmarked_own.false in
     record {
-      known = λ slot is. last-found (λ s. goes slots c.args.set.now s ≡ true) c.in-Some.slot slot (found-member list (goes slots c.args.set.now) c.next_removed.ensures.lists c.slots.at c.in-Some.slot next) is;
-      rest = behind-next list (goes slots c.args.set.now) c.next_removed.ensures.lists (filled slots size c.args.set.now (is_unmarked slots c.args.marks.now)) c.slots.at c.in-Some.slot c.slots.invariant.rest next
+      known = λ slot is. last-found (λ s. goes slots c.args.set.now s ≡ true) c.in-Some.slot slot
+          (found-member list (goes slots c.args.set.now) c.next_removed.ensures.lists c.slots.at c.in-Some.slot next) is;
+      rest = behind-next list (goes slots c.args.set.now) c.next_removed.ensures.lists (filled slots size c.args.set.now (is_unmarked slots c.args.marks.now))
+          c.slots.at c.in-Some.slot c.slots.invariant.rest next
           (ap (λ (own : OwnSlots). some_own own (is_unmarked slots c.args.marks.now)) (sym c.own_slots-own.ensures.value) ∙ fails);
       passed = fails;
     }
 
 -- what does not go has none
-none-passes-by : (slots : Slots) (size : ℕ) (set : Removed) (test : ℕ → Bool) → ((slot : ℕ) → goes slots set slot ≡ true → filled slots size set test slot ≡ false) → (slot : ℕ)
+none-passes-by : (slots : Slots) (size : ℕ) (set : Removed) (test : ℕ → Bool) →
+    ((slot : ℕ) → goes slots set slot ≡ true → filled slots size set test slot ≡ false) → (slot : ℕ)
     → (goes slots set slot && filled slots size set test slot) ≡ false
 none-passes-by slots size set test none slot = elim (goes slots set slot) as (λ b. goes slots set slot ≡ b → (b && filled slots size set test slot) ≡ false) [
   | true ↦ λ is. none slot is
@@ -66,7 +72,8 @@ returns-in_default g c =
     let test : ℕ → Bool = is_unmarked slots c.args.marks.now in
     sym (some-none 0 size (λ slot. goes slots c.args.set.now slot && filled slots size c.args.set.now test slot) (λ i less.
     none-passes-by slots size c.args.set.now test
-    (none-left (listed_in (g.S.SlotStore.order c.args.store.now) slots c.args.set.now) (goes slots c.args.set.now) c.next_removed.ensures.lists (filled slots size c.args.set.now test) c.slots.at
+    (none-left (listed_in (g.S.SlotStore.order c.args.store.now) slots c.args.set.now) (goes slots c.args.set.now) c.next_removed.ensures.lists
+    (filled slots size c.args.set.now test) c.slots.at
     c.slots.invariant.rest (sym c.in_default.is ∙ c.next_removed.ensures.next)) (0 + i)))
 
 pub returns-then-any_unmarked_own : goal.returns-then-any_unmarked_own
@@ -75,7 +82,8 @@ returns-then-any_unmarked_own g c =
     let size : ℕ = length (g.S.SlotStore.memory c.args.store.now) / 16 in
     let test : ℕ → Bool = is_unmarked slots c.args.marks.now in
     let list : List ℕ = listed_in (g.S.SlotStore.order c.args.store.now) slots c.args.set.now in
-    let member = found-member list (goes slots c.args.set.now) c.next_removed.ensures.lists c.slots.at c.in-Some.slot (sym c.in-Some.is ∙ c.next_removed.ensures.next) in
+    let member = found-member list (goes slots c.args.set.now) c.next_removed.ensures.lists c.slots.at c.in-Some.slot
+    (sym c.in-Some.is ∙ c.next_removed.ensures.next) in
     let full : is_full slots c.in-Some.slot ≡ true = (both (is_full slots c.in-Some.slot) _ member).0 in
     let near : c.in-Some.slot < 0 + size = omega (arith, c.requires.near c.in-Some.slot (full-open slots c.in-Some.slot full)) in
     let passes : filled slots size c.args.set.now test c.in-Some.slot ≡ true =

@@ -18,4 +18,5 @@ returns g c =
 pub slots-preserved : goal.slots-preserved
 slots-preserved g c =
     let test : ℕ → Bool = is_unmarked (g.S.SlotMap.slots c.args.store.now) c.args.marks.now in
-    next-none c.slots.index (λ i. test (c.args.own.first + i)) c.slots.invariant (ap test (sym c.new.ensures) ∙ sym c.is_unmarked.ensures ∙ c.if-is_unmarked.false)
+    next-none c.slots.index (λ i. test (c.args.own.first + i)) c.slots.invariant
+    (ap test (sym c.new.ensures) ∙ sym c.is_unmarked.ensures ∙ c.if-is_unmarked.false)

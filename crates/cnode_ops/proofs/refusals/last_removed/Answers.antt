@@ -9,12 +9,14 @@ use Rattle.model.specs.Capabilities.Slots.{Slots}
 pub slots-smaller : goal.slots-smaller
 slots-smaller g c =
     let slots : Slots = g.S.SlotMap.slots c.args.store.now in
-    fewer-behind (listed_in (g.S.SlotStore.order c.args.store.now) slots c.args.set.now) (goes slots c.args.set.now) c.next_removed.ensures.lists (Some c.slots.last) c.in-Some.slot (sym c.in-Some.is ∙ c.next_removed.ensures.next)
+    fewer-behind (listed_in (g.S.SlotStore.order c.args.store.now) slots c.args.set.now) (goes slots c.args.set.now) c.next_removed.ensures.lists
+    (Some c.slots.last) c.in-Some.slot (sym c.in-Some.is ∙ c.next_removed.ensures.next)
 
 pub slots-preserved : goal.slots-preserved
 slots-preserved g c =
     let slots : Slots = g.S.SlotMap.slots c.args.store.now in
-    found-member (listed_in (g.S.SlotStore.order c.args.store.now) slots c.args.set.now) (goes slots c.args.set.now) c.next_removed.ensures.lists (Some c.slots.last) c.in-Some.slot (sym c.in-Some.is ∙ c.next_removed.ensures.next)
+    found-member (listed_in (g.S.SlotStore.order c.args.store.now) slots c.args.set.now) (goes slots c.args.set.now) c.next_removed.ensures.lists
+    (Some c.slots.last) c.in-Some.slot (sym c.in-Some.is ∙ c.next_removed.ensures.next)
 
 pub returns-clause-last : goal.returns-clause-last
 returns-clause-last g c = sym c.next_removed.ensures.next ∙ c.in_default.is

@@ -16,7 +16,8 @@ returns-in_default g c = λ s.
     let member : ℕ → Bool = goes slots c.args.set in
     refused-answer s c.args.set slots bytes _ c.requires.near
     (nothing-refused slots (bytes / 16) c.args.set
-    (none-passes list member c.next_removed.ensures.lists member None (behind-first list member member) (sym c.in_default.is ∙ c.next_removed.ensures.next) (λ slot is. is)))
+    (none-passes list member c.next_removed.ensures.lists member None (behind-first list member member) (sym c.in_default.is ∙ c.next_removed.ensures.next)
+    (λ slot is. is)))
 
 pub returns-then-not-any_ends_full : goal.returns-then-not-any_ends_full
 returns-then-not-any_ends_full g c = λ s.
@@ -25,4 +26,5 @@ returns-then-not-any_ends_full g c = λ s.
     refused-answer s c.args.set slots bytes _ c.requires.near (none-refused slots (bytes / 16) c.args.set (c.any_ends_full.ensures c.if-not-any_ends_full.true))
 
 pub returns : goal.returns
-returns g c = λ s. refused-answer s c.args.set (g.S.SlotMap.slots c.args.store.now) (length (g.S.SlotStore.memory c.args.store.now)) _ c.requires.near (sym c.any_ends_filled.ensures)
+returns g c = λ s. refused-answer s c.args.set (g.S.SlotMap.slots c.args.store.now) (length (g.S.SlotStore.memory c.args.store.now)) _ c.requires.near
+    (sym c.any_ends_filled.ensures)

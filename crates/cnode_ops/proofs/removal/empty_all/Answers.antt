@@ -17,10 +17,13 @@ slots-smaller g c =
     let now : State = g.E.Ends.state c.slots.ends slots (g.S.SlotStore.memory c.slots.store) in
     let after : Slots = g.S.SlotMap.slots c.empty_slot-held.new.store in
     let has : now.slots ≡ slots = g.met.E.Ends.of_slots c.slots.ends slots (g.S.SlotStore.memory c.slots.store) in
-    let full : IsFull now.slots c.in-Some-leaf_removed.slot = subst (λ (n : Slots). IsFull n c.in-Some-leaf_removed.slot) (sym has) c.in-Some-leaf_removed.ensures.full in
+    let full : IsFull now.slots c.in-Some-leaf_removed.slot =
+    subst (λ (n : Slots). IsFull n c.in-Some-leaf_removed.slot) (sym has) c.in-Some-leaf_removed.ensures.full in
     let left : IsLeftOf before now c.args.set.now = c.slots.invariant.left in
-    let same : after ≡ (emptied now (alone c.in-Some-leaf_removed.slot)).slots = sym (g.met.E.Ends.of_slots _ _ _) ∙ ap (λ (s : State). s.slots) c.empty_slot-held.ensures.state in
-    let fewer : full_count now.memory_bits (emptied now (alone c.in-Some-leaf_removed.slot)).slots < full_count now.memory_bits now.slots = fewer-full now c.in-Some-leaf_removed.slot left.ready full in
+    let same : after ≡ (emptied now (alone c.in-Some-leaf_removed.slot)).slots = sym (g.met.E.Ends.of_slots _ _ _)
+    ∙ ap (λ (s : State). s.slots) c.empty_slot-held.ensures.state in
+    let fewer : full_count now.memory_bits (emptied now (alone c.in-Some-leaf_removed.slot)).slots < full_count now.memory_bits now.slots =
+    fewer-full now c.in-Some-leaf_removed.slot left.ready full in
     let counted : full_count before.memory_bits after < full_count before.memory_bits slots =
     subst (λ (n : Slots). full_count before.memory_bits n < full_count before.memory_bits slots) (sym same)
     (subst (λ (n : Slots). full_count before.memory_bits (emptied now (alone c.in-Some-leaf_removed.slot)).slots < full_count before.memory_bits n) has
@@ -34,7 +37,8 @@ slots-init g c =
     let before : State = g.E.Ends.state c.args.ends.now slots (g.S.SlotStore.memory c.args.store.now) in
     let had : before.slots ≡ slots = g.met.E.Ends.of_slots c.args.ends.now slots (g.S.SlotStore.memory c.args.store.now) in
     record {
-      left = left-first before c.args.set.now c.requires.ready (subst (λ (n : Slots). (slot : ℕ) → set_of n c.args.set.now slot ≡ true → IsOpen n slot) (sym had) c.requires.members);
+      left = left-first before c.args.set.now c.requires.ready
+          (subst (λ (n : Slots). (slot : ℕ) → set_of n c.args.set.now slot ≡ true → IsOpen n slot) (sym had) c.requires.members);
       lines = none-gone before c.none-gone.result c.none-gone.ensures;
       noted = notes-same before before c.args.left.now refl;
       agree = c.requires.agree;
@@ -43,14 +47,16 @@ slots-init g c =
 
 pub returns-in_default-clause-lines : goal.returns-in_default-clause-lines
 returns-in_default-clause-lines g c =
-    none-gone (g.E.Ends.state c.args.ends.now (g.S.SlotMap.slots c.args.store.now) (g.S.SlotStore.memory c.args.store.now)) c.none-gone.result c.none-gone.ensures
+    none-gone (g.E.Ends.state c.args.ends.now (g.S.SlotMap.slots c.args.store.now) (g.S.SlotStore.memory c.args.store.now)) c.none-gone.result
+    c.none-gone.ensures
 
 pub slots-preserved : goal.slots-preserved
 slots-preserved g c =
     let slots : Slots = g.S.SlotMap.slots c.slots.store in
     let before : State = g.E.Ends.state c.args.ends.now (g.S.SlotMap.slots c.args.store.now) (g.S.SlotStore.memory c.args.store.now) in
     let now : State = g.E.Ends.state c.slots.ends slots (g.S.SlotStore.memory c.slots.store) in
-    let after : State = g.E.Ends.state c.empty_slot-held.new.ends (g.S.SlotMap.slots c.empty_slot-held.new.store) (g.S.SlotStore.memory c.empty_slot-held.new.store) in
+    let after : State = g.E.Ends.state c.empty_slot-held.new.ends (g.S.SlotMap.slots c.empty_slot-held.new.store)
+    (g.S.SlotStore.memory c.empty_slot-held.new.store) in
     let has : now.slots ≡ slots = g.met.E.Ends.of_slots c.slots.ends slots (g.S.SlotStore.memory c.slots.store) in
     let x = c.in-Some-leaf_removed.slot in
     record {
@@ -60,11 +66,13 @@ slots-preserved g c =
           c.empty_slot-held.ensures.state;
       lines = gone-next before now after c.slots.gone c.with_handled-gone.result x c.empty_slot-held.result c.slots.invariant.lines c.slots.invariant.left.ready
           (subst (λ (n : Slots). IsFull n x) (sym has) c.in-Some-leaf_removed.ensures.full) c.empty_slot-held.ensures.state
-          (subst (λ (n : Slots). c.empty_slot-held.result ≡ capability_at (unmapped_at n x) x) (sym has) c.empty_slot-held.ensures.held) c.with_handled-gone.ensures;
+          (subst (λ (n : Slots). c.empty_slot-held.result ≡ capability_at (unmapped_at n x) x) (sym has) c.empty_slot-held.ensures.held)
+          c.with_handled-gone.ensures;
       noted = notes-then before now after c.args.left.now c.slots.left c.empty_slot-held.new.left c.slots.invariant.noted c.empty_slot-held.ensures.noted;
       agree = c.empty_slot-held.ensures.agree;
       near = λ full.
-          let same : g.S.SlotMap.slots c.empty_slot-held.new.store ≡ (emptied now (alone x)).slots = sym (g.met.E.Ends.of_slots _ _ _) ∙ ap (λ (s : State). s.slots) c.empty_slot-held.ensures.state in
+          let same : g.S.SlotMap.slots c.empty_slot-held.new.store ≡ (emptied now (alone x)).slots = sym (g.met.E.Ends.of_slots _ _ _)
+          ∙ ap (λ (s : State). s.slots) c.empty_slot-held.ensures.state in
           ap (λ (n : Slots). set_of n c.args.set.now c.parent_removed-near.result) same
           ∙ set-still now c.args.set.now x c.parent_removed-near.result c.slots.invariant.left.ready
           (subst (λ (n : Slots). IsFull n x) (sym has) c.in-Some-leaf_removed.ensures.full)
@@ -76,7 +84,8 @@ slots-preserved g c =
 
 pub parent_removed-near-requires-clause-tree : goal.parent_removed-near-requires-clause-tree
 parent_removed-near-requires-clause-tree g c =
-    subst (λ (n : Slots). IsDerivation n) (g.met.E.Ends.of_slots c.slots.ends (g.S.SlotMap.slots c.slots.store) (g.S.SlotStore.memory c.slots.store)) c.slots.invariant.left.ready.derivation
+    subst (λ (n : Slots). IsDerivation n) (g.met.E.Ends.of_slots c.slots.ends (g.S.SlotMap.slots c.slots.store) (g.S.SlotStore.memory c.slots.store))
+    c.slots.invariant.left.ready.derivation
 
 pub returns-in_default-clause-taken : goal.returns-in_default-clause-taken
 returns-in_default-clause-taken g c = λ more opens.
@@ -88,7 +97,8 @@ returns-in_default-clause-taken g c = λ more opens.
     in
     ap (λ (n : Slots). emptied before (joined (set_of n c.args.set.now) more)) (sym had)
     ∙ left-done before before c.args.set.now
-    (left-first before c.args.set.now c.requires.ready (subst (λ (n : Slots). (slot : ℕ) → set_of n c.args.set.now slot ≡ true → IsOpen n slot) (sym had) c.requires.members))
+    (left-first before c.args.set.now c.requires.ready
+    (subst (λ (n : Slots). (slot : ℕ) → set_of n c.args.set.now slot ≡ true → IsOpen n slot) (sym had) c.requires.members))
     none more (subst (λ (n : Slots). (slot : ℕ) → more slot ≡ true → IsOpen n slot) (sym had) opens)
 
 pub returns-clause-taken : goal.returns-clause-taken
@@ -100,7 +110,9 @@ returns-clause-taken g c = λ more opens.
     let had : before.slots ≡ first = g.met.E.Ends.of_slots c.args.ends.now first (g.S.SlotStore.memory c.args.store.now) in
     let has : now.slots ≡ slots = g.met.E.Ends.of_slots c.slots.ends slots (g.S.SlotStore.memory c.slots.store) in
     let none : (slot : ℕ) → IsFull now.slots slot → set_of now.slots c.args.set.now slot ≡ false =
-    subst (λ (n : Slots). (slot : ℕ) → IsFull n slot → set_of n c.args.set.now slot ≡ false) (sym has) (c.leaf_removed.ensures.none c.in_default-leaf_removed.is)
+    subst (λ (n : Slots). (slot : ℕ) → IsFull n slot → set_of n c.args.set.now slot ≡ false) (sym has)
+    (c.leaf_removed.ensures.none c.in_default-leaf_removed.is)
     in
     ap (λ (n : Slots). emptied before (joined (set_of n c.args.set.now) more)) (sym had)
-    ∙ left-done before now c.args.set.now c.slots.invariant.left none more (subst (λ (n : Slots). (slot : ℕ) → more slot ≡ true → IsOpen n slot) (sym had) opens)
+    ∙ left-done before now c.args.set.now c.slots.invariant.left none more
+    (subst (λ (n : Slots). (slot : ℕ) → more slot ≡ true → IsOpen n slot) (sym had) opens)

@@ -12,9 +12,11 @@ pub lines-preserved : goal.lines-preserved
 lines-preserved g c =
     let before : State = g.E.Ends.state c.args.ends.now (g.S.SlotMap.slots c.args.store.now) (g.S.SlotStore.memory c.args.store.now) in
     let now : State = g.E.Ends.state c.lines.ends (g.S.SlotMap.slots c.lines.store) (g.S.SlotStore.memory c.lines.store) in
-    let after : State = g.E.Ends.state c.empty_binding.new.ends (g.S.SlotMap.slots c.empty_binding.new.store) (g.S.SlotStore.memory c.empty_binding.new.store) in
+    let after : State = g.E.Ends.state c.empty_binding.new.ends (g.S.SlotMap.slots c.empty_binding.new.store)
+    (g.S.SlotStore.memory c.empty_binding.new.store) in
     let taken : ℕ → Bool = λ line. has_line c.args.lines line in
-    let state : BindingEmptied now c.lines.line (taken c.lines.line) after = subst (λ b. BindingEmptied now c.lines.line b after) c.contains.ensures c.empty_binding.ensures.state in
+    let state : BindingEmptied now c.lines.line (taken c.lines.line) after =
+    subst (λ b. BindingEmptied now c.lines.line b after) c.contains.ensures c.empty_binding.ensures.state in
     record {
       left = line-emptied before now after taken c.lines.line c.lines-test.true c.lines.invariant.left state;
       noted = notes-then before now after c.args.left.now c.lines.left c.empty_binding.new.left c.lines.invariant.noted c.empty_binding.ensures.noted;

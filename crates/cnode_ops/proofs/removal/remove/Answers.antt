@@ -13,7 +13,10 @@ use Rattle.cnode_ops.proofs.removal.remove.Goals as goal
 
 pub wants_revoke_first-requires : goal.wants_revoke_first-requires
 wants_revoke_first-requires g c =
-    record { near = near-open (g.E.Ends.state c.args.ends.now (g.S.SlotMap.slots c.args.store.now) (g.S.SlotStore.memory c.args.store.now)) _ _ (g.met.E.Ends.of_slots _ _ _) c.requires.sound (g.met.E.Ends.of_memory _ _ _ c.requires.agree) }
+    record {
+      near = near-open (g.E.Ends.state c.args.ends.now (g.S.SlotMap.slots c.args.store.now) (g.S.SlotStore.memory c.args.store.now)) _ _
+          (g.met.E.Ends.of_slots _ _ _) c.requires.sound (g.met.E.Ends.of_memory _ _ _ c.requires.agree);
+    }
 
 pub returns-then-wants_revoke_first-clause-outcome : goal.returns-then-wants_revoke_first-clause-outcome
 returns-then-wants_revoke_first-clause-outcome g c =
@@ -36,8 +39,10 @@ pub settle-requires-clause-may : goal.settle-requires-clause-may
 settle-requires-clause-may g c =
     let slots : Slots = g.S.SlotMap.slots c.args.store.now in
     let w : State = g.E.Ends.state c.args.ends.now slots (g.S.SlotStore.memory c.args.store.now) in
-    let one : State = g.E.Ends.state c.empty_all-gone.new.ends (g.S.SlotMap.slots c.empty_all-gone.new.store) (g.S.SlotStore.memory c.empty_all-gone.new.store) in
-    let two : State = g.E.Ends.state c.empty_bindings.new.ends (g.S.SlotMap.slots c.empty_bindings.new.store) (g.S.SlotStore.memory c.empty_bindings.new.store) in
+    let one : State = g.E.Ends.state c.empty_all-gone.new.ends (g.S.SlotMap.slots c.empty_all-gone.new.store)
+    (g.S.SlotStore.memory c.empty_all-gone.new.store) in
+    let two : State = g.E.Ends.state c.empty_bindings.new.ends (g.S.SlotMap.slots c.empty_bindings.new.store)
+    (g.S.SlotStore.memory c.empty_bindings.new.store) in
     let has : w.slots ≡ slots = g.met.E.Ends.of_slots _ _ _ in
     let size : 2 ^ w.memory_bits ≡ length (g.S.SlotStore.memory c.args.store.now) = g.met.E.Ends.of_memory _ _ _ c.requires.agree in
     let ran : LoopsRan w one two slots c.args.set (λ line. has_line c.lines_lost-lost.result line) = record {
@@ -46,8 +51,10 @@ settle-requires-clause-may g c =
       members = c.requires.members;
       shape = c.empty_all-gone.ensures.shape;
       taken = c.empty_all-gone.ensures.taken;
-      last = λ line few. lines-told w one slots (g.S.SlotMap.slots c.empty_all-gone.new.store) (length (g.S.SlotStore.memory c.empty_all-gone.new.store)) c.args.set line
-          c.empty_all-gone.result (has_line c.lines_lost-lost.result line) has (g.met.E.Ends.of_slots _ _ _) (g.met.E.Ends.of_memory _ _ _ c.empty_all-gone.ensures.agree)
+      last = λ line few. lines-told w one slots (g.S.SlotMap.slots c.empty_all-gone.new.store) (length (g.S.SlotStore.memory c.empty_all-gone.new.store))
+          c.args.set line
+          c.empty_all-gone.result (has_line c.lines_lost-lost.result line) has (g.met.E.Ends.of_slots _ _ _)
+          (g.met.E.Ends.of_memory _ _ _ c.empty_all-gone.ensures.agree)
           c.empty_all-gone.ensures.shape.bits c.empty_all-gone.ensures.ready.derivation c.empty_all-gone.ensures.taken
           (c.empty_all-gone.ensures.lines line few) (c.lines_lost-lost.ensures line few);
       bound = c.empty_bindings.ensures.state;
@@ -59,8 +66,10 @@ pub settle-requires-clause-covered : goal.settle-requires-clause-covered
 settle-requires-clause-covered g c =
     let slots : Slots = g.S.SlotMap.slots c.args.store.now in
     let w : State = g.E.Ends.state c.args.ends.now slots (g.S.SlotStore.memory c.args.store.now) in
-    let one : State = g.E.Ends.state c.empty_all-gone.new.ends (g.S.SlotMap.slots c.empty_all-gone.new.store) (g.S.SlotStore.memory c.empty_all-gone.new.store) in
-    let two : State = g.E.Ends.state c.empty_bindings.new.ends (g.S.SlotMap.slots c.empty_bindings.new.store) (g.S.SlotStore.memory c.empty_bindings.new.store) in
+    let one : State = g.E.Ends.state c.empty_all-gone.new.ends (g.S.SlotMap.slots c.empty_all-gone.new.store)
+    (g.S.SlotStore.memory c.empty_all-gone.new.store) in
+    let two : State = g.E.Ends.state c.empty_bindings.new.ends (g.S.SlotMap.slots c.empty_bindings.new.store)
+    (g.S.SlotStore.memory c.empty_bindings.new.store) in
     let has : w.slots ≡ slots = g.met.E.Ends.of_slots _ _ _ in
     let size : 2 ^ w.memory_bits ≡ length (g.S.SlotStore.memory c.args.store.now) = g.met.E.Ends.of_memory _ _ _ c.requires.agree in
     let ran : LoopsRan w one two slots c.args.set (λ line. has_line c.lines_lost-lost.result line) = record {
@@ -69,22 +78,28 @@ settle-requires-clause-covered g c =
       members = c.requires.members;
       shape = c.empty_all-gone.ensures.shape;
       taken = c.empty_all-gone.ensures.taken;
-      last = λ line few. lines-told w one slots (g.S.SlotMap.slots c.empty_all-gone.new.store) (length (g.S.SlotStore.memory c.empty_all-gone.new.store)) c.args.set line
-          c.empty_all-gone.result (has_line c.lines_lost-lost.result line) has (g.met.E.Ends.of_slots _ _ _) (g.met.E.Ends.of_memory _ _ _ c.empty_all-gone.ensures.agree)
+      last = λ line few. lines-told w one slots (g.S.SlotMap.slots c.empty_all-gone.new.store) (length (g.S.SlotStore.memory c.empty_all-gone.new.store))
+          c.args.set line
+          c.empty_all-gone.result (has_line c.lines_lost-lost.result line) has (g.met.E.Ends.of_slots _ _ _)
+          (g.met.E.Ends.of_memory _ _ _ c.empty_all-gone.ensures.agree)
           c.empty_all-gone.ensures.shape.bits c.empty_all-gone.ensures.ready.derivation c.empty_all-gone.ensures.taken
           (c.empty_all-gone.ensures.lines line few) (c.lines_lost-lost.ensures line few);
       bound = c.empty_bindings.ensures.state;
       kept_first = sym (c.wants_revoke_first.ensures w has c.requires.sound size) ∙ c.if-wants_revoke_first.false;
     } in
-    loops-cover w one two slots c.args.set (λ line. has_line c.lines_lost-lost.result line) ran (g.S.SlotMap.slots c.empty_bindings.new.store) c.count.result c.nothing-left.result c.empty_all-gone.new.left
-    c.empty_bindings.new.left (g.met.E.Ends.of_slots _ _ _) (c.count.ensures.value ∙ sym size) c.nothing-left.ensures c.empty_all-gone.ensures.noted c.empty_bindings.ensures.noted
+    loops-cover w one two slots c.args.set (λ line. has_line c.lines_lost-lost.result line) ran (g.S.SlotMap.slots c.empty_bindings.new.store) c.count.result
+    c.nothing-left.result c.empty_all-gone.new.left
+    c.empty_bindings.new.left (g.met.E.Ends.of_slots _ _ _) (c.count.ensures.value ∙ sym size) c.nothing-left.ensures c.empty_all-gone.ensures.noted
+    c.empty_bindings.ensures.noted
 
 pub returns-clause-outcome : goal.returns-clause-outcome
 returns-clause-outcome g c =
     let slots : Slots = g.S.SlotMap.slots c.args.store.now in
     let w : State = g.E.Ends.state c.args.ends.now slots (g.S.SlotStore.memory c.args.store.now) in
-    let one : State = g.E.Ends.state c.empty_all-gone.new.ends (g.S.SlotMap.slots c.empty_all-gone.new.store) (g.S.SlotStore.memory c.empty_all-gone.new.store) in
-    let two : State = g.E.Ends.state c.empty_bindings.new.ends (g.S.SlotMap.slots c.empty_bindings.new.store) (g.S.SlotStore.memory c.empty_bindings.new.store) in
+    let one : State = g.E.Ends.state c.empty_all-gone.new.ends (g.S.SlotMap.slots c.empty_all-gone.new.store)
+    (g.S.SlotStore.memory c.empty_all-gone.new.store) in
+    let two : State = g.E.Ends.state c.empty_bindings.new.ends (g.S.SlotMap.slots c.empty_bindings.new.store)
+    (g.S.SlotStore.memory c.empty_bindings.new.store) in
     let has : w.slots ≡ slots = g.met.E.Ends.of_slots _ _ _ in
     let size : 2 ^ w.memory_bits ≡ length (g.S.SlotStore.memory c.args.store.now) = g.met.E.Ends.of_memory _ _ _ c.requires.agree in
     let ran : LoopsRan w one two slots c.args.set (λ line. has_line c.lines_lost-lost.result line) = record {
@@ -93,8 +108,10 @@ returns-clause-outcome g c =
       members = c.requires.members;
       shape = c.empty_all-gone.ensures.shape;
       taken = c.empty_all-gone.ensures.taken;
-      last = λ line few. lines-told w one slots (g.S.SlotMap.slots c.empty_all-gone.new.store) (length (g.S.SlotStore.memory c.empty_all-gone.new.store)) c.args.set line
-          c.empty_all-gone.result (has_line c.lines_lost-lost.result line) has (g.met.E.Ends.of_slots _ _ _) (g.met.E.Ends.of_memory _ _ _ c.empty_all-gone.ensures.agree)
+      last = λ line few. lines-told w one slots (g.S.SlotMap.slots c.empty_all-gone.new.store) (length (g.S.SlotStore.memory c.empty_all-gone.new.store))
+          c.args.set line
+          c.empty_all-gone.result (has_line c.lines_lost-lost.result line) has (g.met.E.Ends.of_slots _ _ _)
+          (g.met.E.Ends.of_memory _ _ _ c.empty_all-gone.ensures.agree)
           c.empty_all-gone.ensures.shape.bits c.empty_all-gone.ensures.ready.derivation c.empty_all-gone.ensures.taken
           (c.empty_all-gone.ensures.lines line few) (c.lines_lost-lost.ensures line few);
       bound = c.empty_bindings.ensures.state;

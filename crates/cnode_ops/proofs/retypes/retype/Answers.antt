@@ -50,13 +50,15 @@ returns-in_err-may_have_child-clause-outcome g c =
     let slots : Slots = g.S.SlotMap.slots c.args.store.now in
     let has : s.slots ≡ slots = g.met.B.Begins.of_slots _ _ _ in
     let p = err_from_is_err_and c.from_residual-in_err-may_have_child.result c.from_residual-in_err-may_have_child.ensures.1 in
-    rw (p.1, p.2) (child-refused s slots c.args.root c.args.slot c.args.memory c.args.call has _ c.in_ok-kind.ensures _ c.in_ok-node.ensures.value _ c.in_ok-window.ensures.value
+    rw (p.1, p.2) (child-refused s slots c.args.root c.args.slot c.args.memory c.args.call has _ c.in_ok-kind.ensures _ c.in_ok-node.ensures.value _
+    c.in_ok-window.ensures.value
     _ c.in_err-may_have_child.ensures)
 
 pub places-requires-clause-valid : goal.places-requires-clause-valid
 places-requires-clause-valid g c =
     let s : State = g.B.Begins.state c.args.begins.now (g.S.SlotMap.slots c.args.store.now) (g.S.SlotStore.memory c.args.store.now) in
-    subst IsCapability (ap (λ (t : Slots). capability_at t c.args.slot) (g.met.B.Begins.of_slots _ _ _) ∙ c.requires.held) (c.requires.sound.slots.derivation.valid c.args.slot)
+    subst IsCapability (ap (λ (t : Slots). capability_at t c.args.slot) (g.met.B.Begins.of_slots _ _ _) ∙ c.requires.held)
+    (c.requires.sound.slots.derivation.valid c.args.slot)
 
 pub returns-in_err-first-clause-outcome : goal.returns-in_err-first-clause-outcome
 returns-in_err-first-clause-outcome g c =
@@ -64,7 +66,8 @@ returns-in_err-first-clause-outcome g c =
     let slots : Slots = g.S.SlotMap.slots c.args.store.now in
     let has : s.slots ≡ slots = g.met.B.Begins.of_slots _ _ _ in
     let p = err_from_is_err_and c.from_residual-in_err-first.result c.from_residual-in_err-first.ensures.1 in
-    rw (p.1, p.2) (place-refused s slots c.args.root c.args.slot c.args.memory c.args.call has _ c.in_ok-kind.ensures _ c.in_ok-node.ensures.value _ c.in_ok-window.ensures.value tt c.in_ok-may_have_child.ensures
+    rw (p.1, p.2) (place-refused s slots c.args.root c.args.slot c.args.memory c.args.call has _ c.in_ok-kind.ensures _ c.in_ok-node.ensures.value _
+    c.in_ok-window.ensures.value tt c.in_ok-may_have_child.ensures
     _ c.in_err-first.ensures)
 
 pub begin-requires-clause-placed : goal.begin-requires-clause-placed
@@ -83,7 +86,8 @@ returns-clause-outcome g c =
     let s : State = g.B.Begins.state c.args.begins.now (g.S.SlotMap.slots c.args.store.now) (g.S.SlotStore.memory c.args.store.now) in
     let slots : Slots = g.S.SlotMap.slots c.args.store.now in
     let has : s.slots ≡ slots = g.met.B.Begins.of_slots _ _ _ in
-    retype-gives s slots c.args.root c.args.slot c.args.memory c.args.call has _ c.in_ok-kind.ensures _ c.in_ok-node.ensures.value _ c.in_ok-window.ensures.value tt
+    retype-gives s slots c.args.root c.args.slot c.args.memory c.args.call has _ c.in_ok-kind.ensures _ c.in_ok-node.ensures.value _
+    c.in_ok-window.ensures.value tt
     c.in_ok-may_have_child.ensures c.in_ok-first.first c.in_ok-first.watermark c.in_ok-first.ensures
     ∙ ap (λ (t : State). Ok t) (made-placed s slots c.args.root c.args.slot c.args.memory c.args.call has c.requires.held
     (new_type c.in_ok-kind.kind) c.in_ok-window.window c.in_ok-first.first c.in_ok-first.watermark ∙ sym c.begin.ensures.state)
@@ -112,7 +116,8 @@ places-requires-clause-small g c = (asked-sized c.args.call.kind c.args.call.siz
 
 pub places-requires-clause-few : goal.places-requires-clause-few
 places-requires-clause-few g c =
-    (window-counted (g.S.SlotMap.slots c.args.store.now) c.in_ok-node.node c.args.call.index c.args.call.count c.in_ok-window.window c.in_ok-window.ensures.value).1
+    (window-counted (g.S.SlotMap.slots c.args.store.now) c.in_ok-node.node c.args.call.index c.args.call.count c.in_ok-window.window
+    c.in_ok-window.ensures.value).1
 
 pub begin-requires-clause-agree : goal.begin-requires-clause-agree
 begin-requires-clause-agree g c = c.requires.agree

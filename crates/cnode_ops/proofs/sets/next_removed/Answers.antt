@@ -17,4 +17,5 @@ pub returns-in-Below-clause-lists : goal.returns-in-Below-clause-lists
 returns-in-Below-clause-lists g c =
     let slots : Slots = g.S.SlotMap.slots c.args.store.now in
     let order = g.S.SlotStore.order c.args.store.now in
-    subst (λ (r : Removed). Lists (listed_in order slots r) (goes slots r)) (sym c.in-Below.is) (below-listed slots order c.in-Below.root c.next_below.ensures.derivation c.next_below.ensures.lists)
+    subst (λ (r : Removed). Lists (listed_in order slots r) (goes slots r)) (sym c.in-Below.is)
+    (below-listed slots order c.in-Below.root c.next_below.ensures.derivation c.next_below.ensures.lists)

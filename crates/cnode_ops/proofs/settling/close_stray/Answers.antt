@@ -12,7 +12,8 @@ returns-then-is_open-clause-state g c =
     let now : Slots = g.S.SlotMap.slots c.close_range.new.self in
     let s : State = g.E.Ends.state c.args.ends.now slots (g.S.SlotStore.memory c.args.store.now) in
     stray_closed c.if-not-stray.false
-    (g.met.E.Ends.follows c.args.ends.now slots now _ _ c.requires.agree c.close_range.ensures.bytes (stays-closed slots now c.args.slot c.close_range.ensures.slots)
+    (g.met.E.Ends.follows c.args.ends.now slots now _ _ c.requires.agree c.close_range.ensures.bytes
+    (stays-closed slots now c.args.slot c.close_range.ensures.slots)
     ∙ one-closed s slots now c.args.slot (g.met.E.Ends.of_slots _ _ _) c.close_range.ensures.slots)
 
 pub returns-else-is_open-clause-state : goal.returns-else-is_open-clause-state

@@ -12,13 +12,15 @@ use Rattle.cnode_ops.proofs.settling.close_strays.Goals as goal
 pub new-requires : goal.new-requires
 new-requires g c =
     let before : State = g.E.Ends.state c.args.ends.now (g.S.SlotMap.slots c.args.store.now) (g.S.SlotStore.memory c.args.store.now) in
-    (passed-near before c.args.left.now (subst (λ (n : Slots). Covers n before c.args.left.now) (sym (g.met.E.Ends.of_slots _ _ _)) c.requires.covered) c.slots.at c.slots-test.true).1
+    (passed-near before c.args.left.now (subst (λ (n : Slots). Covers n before c.args.left.now) (sym (g.met.E.Ends.of_slots _ _ _)) c.requires.covered)
+    c.slots.at c.slots-test.true).1
 
 pub slots-init : goal.slots-init
 slots-init g c =
     let before : State = g.E.Ends.state c.args.ends.now (g.S.SlotMap.slots c.args.store.now) (g.S.SlotStore.memory c.args.store.now) in
     record {
-      passed = passed-covered before c.args.left.now (subst (λ (n : Slots). Covers n before c.args.left.now) (sym (g.met.E.Ends.of_slots _ _ _)) c.requires.covered) c.requires.may;
+      passed = passed-covered before c.args.left.now
+          (subst (λ (n : Slots). Covers n before c.args.left.now) (sym (g.met.E.Ends.of_slots _ _ _)) c.requires.covered) c.requires.may;
       agree = c.requires.agree;
     }
 
@@ -29,10 +31,12 @@ close_stray-requires-clause-empty g c = λ stray opens.
     let now : State = g.E.Ends.state c.args.ends.now slots (g.S.SlotStore.memory c.slots.store) in
     let passed : IsPassed before now c.slots.at = c.slots.invariant.passed in
     let has : now.slots ≡ slots = g.met.E.Ends.of_slots _ _ _ in
-    let none : slots_from before c.slots.at ≡ 0 = sym (passed-objects before now c.slots.at c.slots.at passed) ∙ sym c.slots_of-own.ensures ∙ is-zero c.slots_of-own.result stray in
+    let none : slots_from before c.slots.at ≡ 0 = sym (passed-objects before now c.slots.at c.slots.at passed) ∙ sym c.slots_of-own.ensures
+    ∙ is-zero c.slots_of-own.result stray in
     subst (λ (n : ℕ). slots n ≡ Some empty_entry) (sym c.new.ensures)
     (sym (ap (λ (m : Slots). m c.slots.at) has)
-    ∙ stray-empty before now c.slots.at passed none (subst (λ (m : Slots). IsOpen m c.slots.at) (sym has) (subst (λ (n : ℕ). IsOpen slots n) c.new.ensures opens)))
+    ∙ stray-empty before now c.slots.at passed none
+    (subst (λ (m : Slots). IsOpen m c.slots.at) (sym has) (subst (λ (n : ℕ). IsOpen slots n) c.new.ensures opens)))
 
 pub slots-preserved : goal.slots-preserved
 slots-preserved g c =
@@ -43,18 +47,21 @@ slots-preserved g c =
     let passed : IsPassed before now c.slots.at = c.slots.invariant.passed in
     let own : ℕ = c.slots_of-own.result in
     let own_is : own ≡ slots_from before c.slots.at = c.slots_of-own.ensures ∙ passed-objects before now c.slots.at c.slots.at passed in
-    let covers : Covers before.slots before c.args.left.now = subst (λ (n : Slots). Covers n before c.args.left.now) (sym (g.met.E.Ends.of_slots _ _ _)) c.requires.covered in
+    let covers : Covers before.slots before c.args.left.now =
+    subst (λ (n : Slots). Covers n before c.args.left.now) (sym (g.met.E.Ends.of_slots _ _ _)) c.requires.covered in
     let state : StrayClosed now c.slots.at (own == 0) after = subst (λ (n : ℕ). StrayClosed now n (own == 0) after) c.new.ensures c.close_stray.ensures.state in
     record {
       passed = passed-lands before c.args.left.now covers after (c.slots.at + c.max.result) c.next_noted-at.result
-          (subst (λ (n : ℕ). IsPassed before after (c.slots.at + n)) (sym c.max.ensures) (passed-next before now after c.slots.at own (own == 0) passed own_is refl state)) c.next_noted-at.ensures;
+          (subst (λ (n : ℕ). IsPassed before after (c.slots.at + n)) (sym c.max.ensures)
+          (passed-next before now after c.slots.at own (own == 0) passed own_is refl state)) c.next_noted-at.ensures;
       agree = c.close_stray.ensures.agree;
     }
 
 pub returns-clause-state : goal.returns-clause-state
 returns-clause-state g c =
     let before : State = g.E.Ends.state c.args.ends.now (g.S.SlotMap.slots c.args.store.now) (g.S.SlotStore.memory c.args.store.now) in
-    passed-end before c.args.left.now (subst (λ (n : Slots). Covers n before c.args.left.now) (sym (g.met.E.Ends.of_slots _ _ _)) c.requires.covered) _ c.slots.at c.slots.invariant.passed c.slots-test.false
+    passed-end before c.args.left.now (subst (λ (n : Slots). Covers n before c.args.left.now) (sym (g.met.E.Ends.of_slots _ _ _)) c.requires.covered) _
+    c.slots.at c.slots.invariant.passed c.slots-test.false
 
 pub slots-smaller : goal.slots-smaller
 slots-smaller g c =

@@ -10,7 +10,8 @@ use Rattle.cnode_ops.proofs.windows.window.Goals as goal
 pub new-first-requires : goal.new-first-requires
 new-first-requires g c =
     let has = sym c.has_slots.ensures ∙ c.if-not-has_slots.false in
-    let near = window-near c.in-CNode.offset c.in-CNode.radix c.in-CNode.guard c.args.index c.args.count (subst IsCapability c.in-CNode.is c.requires.valid) has in
+    let near = window-near c.in-CNode.offset c.in-CNode.radix c.in-CNode.guard c.args.index c.args.count (subst IsCapability c.in-CNode.is c.requires.valid)
+    has in
     let some = (counted c.in-CNode.radix c.args.index c.args.count has).0 in
     omega (arith, near, some)
 

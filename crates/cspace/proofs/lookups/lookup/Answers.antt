@@ -16,7 +16,8 @@ pub returns-in-Err : goal.returns-in-Err
 returns-in-Err g c =
     let rest = c.nodes.invariant.rest in
     let slots = g.S.SlotMap.slots c.args.slots.now in
-    let node : lookup_within rest.0 slots (CNode c.in-CNode.offset c.in-CNode.radix c.in-CNode.guard) c.args.address c.nodes.left ≡ lookup slots c.args.root c.args.address c.args.depth =
+    let node : lookup_within rest.0 slots (CNode c.in-CNode.offset c.in-CNode.radix c.in-CNode.guard) c.args.address c.nodes.left ≡ lookup slots c.args.root
+    c.args.address c.args.depth =
     ap (λ held. lookup_within rest.0 slots held c.args.address c.nodes.left) (sym c.in-CNode.is) ∙ rest.2 in
     record { value = sym (lookup-fails rest.0 slots _ _ _ _ _ _ _ rest.1 node (sym c.resolve.ensures.value ∙ c.in-Err.is)) }
 
@@ -29,9 +30,11 @@ pub returns-then-ends_at : goal.returns-then-ends_at
 returns-then-ends_at g c =
     let rest = c.nodes.invariant.rest in
     let slots = g.S.SlotMap.slots c.args.slots.now in
-    let node : lookup_within rest.0 slots (CNode c.in-CNode.offset c.in-CNode.radix c.in-CNode.guard) c.args.address c.nodes.left ≡ lookup slots c.args.root c.args.address c.args.depth =
+    let node : lookup_within rest.0 slots (CNode c.in-CNode.offset c.in-CNode.radix c.in-CNode.guard) c.args.address c.nodes.left ≡ lookup slots c.args.root
+    c.args.address c.args.depth =
     ap (λ held. lookup_within rest.0 slots held c.args.address c.nodes.left) (sym c.in-CNode.is) ∙ rest.2 in
-    let here : capability_at slots (c.in-CNode.offset / 16 + c.in-Ok.place.0) ≡ c.capability-next.result = ap (capability_at slots) (sym c.new-slot.ensures) ∙ sym c.capability-next.ensures.value in
+    let here : capability_at slots (c.in-CNode.offset / 16 + c.in-Ok.place.0) ≡ c.capability-next.result = ap (capability_at slots) (sym c.new-slot.ensures)
+    ∙ sym c.capability-next.ensures.value in
     let ends : (c.in-Ok.place.1 == 0 || not (is_cnode (capability_at slots (c.in-CNode.offset / 16 + c.in-Ok.place.0)))) ≡ true =
     ap (λ next. c.in-Ok.place.1 == 0 || not (is_cnode next)) here ∙ sym c.ends_at.ensures ∙ c.if-ends_at.true in
     record {
@@ -43,9 +46,11 @@ pub nodes-preserved : goal.nodes-preserved
 nodes-preserved g c =
     let rest = c.nodes.invariant.rest in
     let slots = g.S.SlotMap.slots c.args.slots.now in
-    let node : lookup_within rest.0 slots (CNode c.in-CNode.offset c.in-CNode.radix c.in-CNode.guard) c.args.address c.nodes.left ≡ lookup slots c.args.root c.args.address c.args.depth =
+    let node : lookup_within rest.0 slots (CNode c.in-CNode.offset c.in-CNode.radix c.in-CNode.guard) c.args.address c.nodes.left ≡ lookup slots c.args.root
+    c.args.address c.args.depth =
     ap (λ held. lookup_within rest.0 slots held c.args.address c.nodes.left) (sym c.in-CNode.is) ∙ rest.2 in
-    let here : capability_at slots (c.in-CNode.offset / 16 + c.in-Ok.place.0) ≡ c.capability-next.result = ap (capability_at slots) (sym c.new-slot.ensures) ∙ sym c.capability-next.ensures.value in
+    let here : capability_at slots (c.in-CNode.offset / 16 + c.in-Ok.place.0) ≡ c.capability-next.result = ap (capability_at slots) (sym c.new-slot.ensures)
+    ∙ sym c.capability-next.ensures.value in
     let more : (c.in-Ok.place.1 == 0 || not (is_cnode (capability_at slots (c.in-CNode.offset / 16 + c.in-Ok.place.0)))) ≡ false =
     ap (λ next. c.in-Ok.place.1 == 0 || not (is_cnode next)) here ∙ sym c.ends_at.ensures ∙ c.if-ends_at.false in
     let step = lookup-goes_on rest.0 slots _ _ _ _ _ _ _ _ rest.1 c.in-Ok.ensures.fewer node (sym c.resolve.ensures.value ∙ c.in-Ok.is) more in

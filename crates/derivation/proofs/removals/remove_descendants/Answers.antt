@@ -34,12 +34,15 @@ pub slots-smaller : goal.slots-smaller
 slots-smaller g c =
     let slots : Slots = g.S.SlotMap.slots c.slots.store in
     let order = g.S.SlotStore.order c.slots.store in
-    let left : IsLeft (g.S.SlotMap.slots c.args.store.now) slots order c.args.root (Some c.in-Some.slot) = subst (IsLeft _ slots order c.args.root) c.in-Some.is c.slots.invariant.left in
+    let left : IsLeft (g.S.SlotMap.slots c.args.store.now) slots order c.args.root (Some c.in-Some.slot) =
+    subst (IsLeft _ slots order c.args.root) c.in-Some.is c.slots.invariant.left in
     let order_is : g.S.SlotStore.order c.splice_out.new.self ≡ without c.in-Some.slot order = c.splice_out.ensures.order in
     let slots_are : g.S.SlotMap.slots c.splice_out.new.self ≡ spliced slots c.in-Some.slot = c.splice_out.ensures.slots in
-    let fewer : length (descendants (g.S.SlotStore.order c.splice_out.new.self) (g.S.SlotMap.slots c.splice_out.new.self) c.args.root) < length (descendants order slots c.args.root) =
+    let fewer : length (descendants (g.S.SlotStore.order c.splice_out.new.self) (g.S.SlotMap.slots c.splice_out.new.self) c.args.root) < length
+    (descendants order slots c.args.root) =
     subst (λ o. length (descendants o (g.S.SlotMap.slots c.splice_out.new.self) c.args.root) < length (descendants order slots c.args.root)) (sym order_is)
-    (subst (λ (t : Slots). length (descendants (without c.in-Some.slot order) t c.args.root) < length (descendants order slots c.args.root)) (sym slots_are) (one-fewer _ slots order c.args.root c.in-Some.slot left)) in
+    (subst (λ (t : Slots). length (descendants (without c.in-Some.slot order) t c.args.root) < length (descendants order slots c.args.root)) (sym slots_are)
+    (one-fewer _ slots order c.args.root c.in-Some.slot left)) in
     fewer
 
 pub slots-preserved : goal.slots-preserved
@@ -47,7 +50,8 @@ slots-preserved g c =
     let before : Slots = g.S.SlotMap.slots c.args.store.now in
     let slots : Slots = g.S.SlotMap.slots c.slots.store in
     let order = g.S.SlotStore.order c.slots.store in
-    let left : IsLeft before slots order c.args.root (Some c.in-Some.slot) = subst (IsLeft before slots order c.args.root) c.in-Some.is c.slots.invariant.left in
+    let left : IsLeft before slots order c.args.root (Some c.in-Some.slot) =
+    subst (IsLeft before slots order c.args.root) c.in-Some.is c.slots.invariant.left in
     let next = c.next_below-next-in-Some in
     let after = left-after before slots order c.args.root c.in-Some.slot next.result left next.ensures.next in
     record {

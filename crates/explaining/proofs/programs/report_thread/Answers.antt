@@ -27,5 +27,6 @@ invariant_of-scene c =
       listed = own ∙ ap (λ (i : Image). image_slots i t) image-is ∙ ap (λ (u : Thread). image_slots space.image.now u) thread-is;
       rising = subst (λ (l : List NotedSlot). Rise l) (sym c.deref-5.ensures.value) c.in_ok-slots.ensures.rise;
       unlinked = subst (λ (l : List NotedSlot). AreUnlinked l) (sym own) (image-unlinked image t);
-      told = c.lists_stray.ensures ∙ ap (λ (slots : List NotedSlot). list_any (is_stray_in space []) slots) (c.deref-6.ensures.value ∙ sym c.deref-5.ensures.value);
+      told = c.lists_stray.ensures ∙ ap (λ (slots : List NotedSlot). list_any (is_stray_in space []) slots)
+          (c.deref-6.ensures.value ∙ sym c.deref-5.ensures.value);
     }

@@ -13,6 +13,7 @@ returns c = λ bytes image events accepted.
       errors = goes.errors;
       budgets = λ t listed.
           let of = numbered-listed image.threads t listed in
-          c.standing_threads_keep_their_budgets.ensures bytes image events accepted (λ before behind is. (c.events_go_well.ensures bytes image before accepted).stand)
+          c.standing_threads_keep_their_budgets.ensures bytes image events accepted
+          (λ before behind is. (c.events_go_well.ensures bytes image before accepted).stand)
           (record { number = of.0; thread = t }) of.1;
     }

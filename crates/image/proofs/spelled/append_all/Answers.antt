@@ -11,4 +11,5 @@ loop-entry-preserved g c =
     c.loop-entry-test.true c.entry-item.is c.loop-entry.invariant c.in_ok-append.ensures
 
 pub returns : goal.returns
-returns g c = spelled-all g.E.Spelled.spelling c.args.bytes.now.items c.loop-entry.bytes.items c.args.entries.now c.loop-entry.entry-index c.loop-entry-test.false c.loop-entry.invariant
+returns g c = spelled-all g.E.Spelled.spelling c.args.bytes.now.items c.loop-entry.bytes.items c.args.entries.now c.loop-entry.entry-index
+    c.loop-entry-test.false c.loop-entry.invariant

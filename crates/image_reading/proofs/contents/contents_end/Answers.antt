@@ -12,7 +12,8 @@ returns-in_err-content c =
 
 pub loop-preserved : goal.loop-preserved
 loop-preserved c =
-    rw (c.from-least.ensures, c.header.ensures) (end_of-more (content_format c.args.objects) (λ r. r.header.frame + 1) c.loop.least c.args.count c.loop.counter c.args.bytes.now c.loop.at
+    rw (c.from-least.ensures, c.header.ensures)
+    (end_of-more (content_format c.args.objects) (λ r. r.header.frame + 1) c.loop.least c.args.count c.loop.counter c.args.bytes.now c.loop.at
     (c.in_ok-content.content, c.in_ok-content.next) _ c.loop-test.true c.in_ok-content.ensures c.loop.invariant)
 
 pub returns : goal.returns

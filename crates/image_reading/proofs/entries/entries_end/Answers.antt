@@ -10,7 +10,8 @@ returns-in_err-entry g c =
 
 pub loop-preserved : goal.loop-preserved
 loop-preserved g c =
-    rw c.least_behind-least.ensures (end_of-more (g.E.Entry.format c.args.counts) g.E.Entry.next c.loop.least c.args.count c.loop.counter c.args.bytes.now c.loop.at
+    rw c.least_behind-least.ensures (end_of-more (g.E.Entry.format c.args.counts) g.E.Entry.next c.loop.least c.args.count c.loop.counter c.args.bytes.now
+    c.loop.at
     (c.in_ok-entry.entry, c.in_ok-entry.next) _ c.loop-test.true c.in_ok-entry.ensures.reads c.loop.invariant)
 
 pub returns : goal.returns

@@ -10,6 +10,7 @@ returns-in_err-end c =
     let p = err_from_is_err_and c.from_residual-in_err-end.result c.from_residual-in_err-end.ensures.1 in
     let h = c.in_ok-header.header in
     let ranges = read_from_end ((ranges_format h.ranges).reads c.args.bytes.now c.in_ok-header.ranges_at) c.in_ok-slots_at.slots_at c.in_ok-slots_at.ensures in
-    let slots = read_from_end (((slots_format c.args.counts.objects).entries h.slots).reads c.args.bytes.now c.in_ok-slots_at.slots_at) c.in_ok-terms_at.terms_at c.in_ok-terms_at.ensures in
+    let slots = read_from_end (((slots_format c.args.counts.objects).entries h.slots).reads c.args.bytes.now c.in_ok-slots_at.slots_at)
+    c.in_ok-terms_at.terms_at c.in_ok-terms_at.ensures in
     let terms = refused_from_end ((terms_format h.terms).reads c.args.bytes.now c.in_ok-terms_at.terms_at) c.in_err-end.field-0.0 c.in_err-end.ensures in
     rw (p.1, p.2, ← c.in_ok-header.ensures, ranges, slots, terms) refl

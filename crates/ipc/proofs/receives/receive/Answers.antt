@@ -23,7 +23,8 @@ pub receive_or_wait-requires-clause-apart : goal.receive_or_wait-requires-clause
 receive_or_wait-requires-clause-apart g c =
     let before = state_in g.S.SlotMap.slots g.S.SlotStore.memory c.args.live.now in
     nowhere-still _ _ c.args.thread c.set_caller.ensures.state
-    (caller-nowhere before c.args.thread None (runs-there before c.args.thread c.requires.runs) c.args.thread (runs-nowhere before c.args.thread c.requires.sound c.requires.runs))
+    (caller-nowhere before c.args.thread None (runs-there before c.args.thread c.requires.runs) c.args.thread
+    (runs-nowhere before c.args.thread c.requires.sound c.requires.runs))
 
 pub returns-clause-beside : goal.returns-clause-beside
 returns-clause-beside g c = beside-then c.set_caller.ensures.beside c.receive_or_wait.ensures.beside

@@ -11,7 +11,8 @@ use Rattle.objects.specs.thread_records.Threads.{sender_of}
 pub returns-in-Some-clause-state : goal.returns-in-Some-clause-state
 returns-in-Some-clause-state g c =
     let before = state_in g.S.SlotMap.slots g.S.SlotStore.memory c.args.live.now in
-    received-from before _ _ (waits_to_receive before c.args.endpoint c.args.thread) c.args.endpoint c.args.thread (sender_of c.in-Some.sender.thread c.in-Some.sender.sending)
+    received-from before _ _ (waits_to_receive before c.args.endpoint c.args.thread) c.args.endpoint c.args.thread
+    (sender_of c.in-Some.sender.thread c.in-Some.sender.sending)
     c.in-Some.ensures.state c.receive_from.ensures.state
 
 pub returns-in-Some-clause-beside : goal.returns-in-Some-clause-beside

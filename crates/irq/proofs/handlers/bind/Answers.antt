@@ -17,8 +17,10 @@ returns-in_err-source-clause-outcome g c =
     let of_kernel = c.live.view_is ∙ c.kernel.view_is in
     λ call at.
     let p = err_from_is_err_and c.from_residual.result c.from_residual.ensures.1 in
-    rw (p.1, p.2) (subst (λ k. bind (state_in g.S.SlotMap.slots g.S.SlotStore.memory k) call c.args.line c.args.notification ≡ Err c.in_err-source.field-0.0) of_kernel
-    (bind-refused c.live.inside.objects (g.S.SlotMap.slots c.live.inside.store) (g.S.SlotStore.memory c.live.inside.store) c.args.root c.args.line c.args.notification
+    rw (p.1, p.2) (subst (λ k. bind (state_in g.S.SlotMap.slots g.S.SlotStore.memory k) call c.args.line c.args.notification ≡ Err c.in_err-source.field-0.0)
+    of_kernel
+    (bind-refused c.live.inside.objects (g.S.SlotMap.slots c.live.inside.store) (g.S.SlotStore.memory c.live.inside.store) c.args.root c.args.line
+    c.args.notification
     c.in_err-source.field-0.0 c.in_err-source.ensures call at))
 
 pub returns-in_err-remove_slot-clause-outcome : goal.returns-in_err-remove_slot-clause-outcome
@@ -26,9 +28,12 @@ returns-in_err-remove_slot-clause-outcome g c =
     let of_kernel = c.live.view_is ∙ c.kernel.view_is in
     λ call at.
     let p = err_from_is_err_and c.from_residual-in_err-remove_slot.result c.from_residual-in_err-remove_slot.ensures.1 in
-    rw (p.1, p.2) (subst (λ k. bind (state_in g.S.SlotMap.slots g.S.SlotStore.memory k) call c.args.line c.args.notification ≡ Err c.in_err-remove_slot.field-0.0) of_kernel
-    (bind-kept c.live.inside.objects (g.S.SlotMap.slots c.live.inside.store) (g.S.SlotStore.memory c.live.inside.store) c.args.root c.args.line c.args.notification
-    c.in_ok-source.source c.binding-binding.result c.in_err-remove_slot.field-0.0 c.in_ok-source.ensures (c.binding-binding.ensures _ _) c.in_err-remove_slot.ensures.outcome call at))
+    rw (p.1, p.2) (subst (λ k. bind (state_in g.S.SlotMap.slots g.S.SlotStore.memory k) call c.args.line c.args.notification ≡ Err
+    c.in_err-remove_slot.field-0.0) of_kernel
+    (bind-kept c.live.inside.objects (g.S.SlotMap.slots c.live.inside.store) (g.S.SlotStore.memory c.live.inside.store) c.args.root c.args.line
+    c.args.notification
+    c.in_ok-source.source c.binding-binding.result c.in_err-remove_slot.field-0.0 c.in_ok-source.ensures (c.binding-binding.ensures _ _)
+    c.in_err-remove_slot.ensures.outcome call at))
 
 pub insert-requires-clause-empty : goal.insert-requires-clause-empty
 insert-requires-clause-empty g c =
@@ -36,8 +41,10 @@ insert-requires-clause-empty g c =
     let of_kernel = c.live.view_is ∙ c.kernel.view_is in
     let root = subst (λ k. IsRoot (state_in g.S.SlotMap.slots g.S.SlotStore.memory k) c.args.root) (sym of_kernel) c.requires.root in
     let line = c.requires.line (subst (λ k. IsSound (state_in g.S.SlotMap.slots g.S.SlotStore.memory k)) of_kernel whole.sound) in
-    slot-empty c.live.inside.objects (g.S.SlotMap.slots c.live.inside.store) (g.S.SlotStore.memory c.live.inside.store) c.args.root c.args.line c.args.notification
-    c.remove_slot.new.ends (g.S.SlotMap.slots c.remove_slot.new.store) (g.S.SlotStore.memory c.remove_slot.new.store) c.in_ok-source.source c.binding-binding.result
+    slot-empty c.live.inside.objects (g.S.SlotMap.slots c.live.inside.store) (g.S.SlotStore.memory c.live.inside.store) c.args.root c.args.line
+    c.args.notification
+    c.remove_slot.new.ends (g.S.SlotMap.slots c.remove_slot.new.store) (g.S.SlotStore.memory c.remove_slot.new.store) c.in_ok-source.source
+    c.binding-binding.result
     whole root line c.in_ok-source.ensures (c.binding-binding.ensures _ _) c.in_ok-remove_slot.ensures.outcome
 
 pub insert-requires-clause-full : goal.insert-requires-clause-full
@@ -48,8 +55,10 @@ insert-requires-clause-full g c =
     let root = subst (λ k. IsRoot (state_in g.S.SlotMap.slots g.S.SlotStore.memory k) c.args.root) (sym of_kernel) c.requires.root in
     let line = c.requires.line (subst (λ k. IsSound (state_in g.S.SlotMap.slots g.S.SlotStore.memory k)) of_kernel whole.sound) in
     of-some (IsFull (g.S.SlotMap.slots c.remove_slot.new.store)) c.in_ok-source.source x
-    (source-full c.live.inside.objects (g.S.SlotMap.slots c.live.inside.store) (g.S.SlotStore.memory c.live.inside.store) c.args.root c.args.line c.args.notification
-    c.remove_slot.new.ends (g.S.SlotMap.slots c.remove_slot.new.store) (g.S.SlotStore.memory c.remove_slot.new.store) c.in_ok-source.source c.binding-binding.result
+    (source-full c.live.inside.objects (g.S.SlotMap.slots c.live.inside.store) (g.S.SlotStore.memory c.live.inside.store) c.args.root c.args.line
+    c.args.notification
+    c.remove_slot.new.ends (g.S.SlotMap.slots c.remove_slot.new.store) (g.S.SlotStore.memory c.remove_slot.new.store) c.in_ok-source.source
+    c.binding-binding.result
     whole root line c.in_ok-source.ensures (c.binding-binding.ensures _ _) c.in_ok-remove_slot.ensures.outcome) is
 
 pub insert-requires-clause-kin : goal.insert-requires-clause-kin
@@ -58,9 +67,12 @@ insert-requires-clause-kin g c =
     let of_kernel = c.live.view_is ∙ c.kernel.view_is in
     let root = subst (λ k. IsRoot (state_in g.S.SlotMap.slots g.S.SlotStore.memory k) c.args.root) (sym of_kernel) c.requires.root in
     let line = c.requires.line (subst (λ k. IsSound (state_in g.S.SlotMap.slots g.S.SlotStore.memory k)) of_kernel whole.sound) in
-    inl (source-kin c.live.inside.objects (g.S.SlotMap.slots c.live.inside.store) (g.S.SlotStore.memory c.live.inside.store) c.args.root c.args.line c.args.notification
-    c.remove_slot.new.ends (g.S.SlotMap.slots c.remove_slot.new.store) (g.S.SlotStore.memory c.remove_slot.new.store) c.in_ok-source.source c.binding-binding.result
-    whole root line c.in_ok-source.ensures (c.binding-binding.ensures _ _) c.in_ok-remove_slot.ensures.outcome c.capability-capability.result c.capability-capability.ensures.value)
+    inl (source-kin c.live.inside.objects (g.S.SlotMap.slots c.live.inside.store) (g.S.SlotStore.memory c.live.inside.store) c.args.root c.args.line
+    c.args.notification
+    c.remove_slot.new.ends (g.S.SlotMap.slots c.remove_slot.new.store) (g.S.SlotStore.memory c.remove_slot.new.store) c.in_ok-source.source
+    c.binding-binding.result
+    whole root line c.in_ok-source.ensures (c.binding-binding.ensures _ _) c.in_ok-remove_slot.ensures.outcome c.capability-capability.result
+    c.capability-capability.ensures.value)
 
 pub insert-requires-clause-room : goal.insert-requires-clause-room
 insert-requires-clause-room g c =
@@ -70,8 +82,10 @@ insert-requires-clause-room g c =
     let root = subst (λ k. IsRoot (state_in g.S.SlotMap.slots g.S.SlotStore.memory k) c.args.root) (sym of_kernel) c.requires.root in
     let line = c.requires.line (subst (λ k. IsSound (state_in g.S.SlotMap.slots g.S.SlotStore.memory k)) of_kernel whole.sound) in
     of-some (λ y. depth_of (g.S.SlotMap.slots c.remove_slot.new.store) y < 255) c.in_ok-source.source x
-    (source-room c.live.inside.objects (g.S.SlotMap.slots c.live.inside.store) (g.S.SlotStore.memory c.live.inside.store) c.args.root c.args.line c.args.notification
-    c.remove_slot.new.ends (g.S.SlotMap.slots c.remove_slot.new.store) (g.S.SlotStore.memory c.remove_slot.new.store) c.in_ok-source.source c.binding-binding.result
+    (source-room c.live.inside.objects (g.S.SlotMap.slots c.live.inside.store) (g.S.SlotStore.memory c.live.inside.store) c.args.root c.args.line
+    c.args.notification
+    c.remove_slot.new.ends (g.S.SlotMap.slots c.remove_slot.new.store) (g.S.SlotStore.memory c.remove_slot.new.store) c.in_ok-source.source
+    c.binding-binding.result
     whole root line c.in_ok-source.ensures (c.binding-binding.ensures _ _) c.in_ok-remove_slot.ensures.outcome) is
 
 pub returns-clause-outcome : goal.returns-clause-outcome
@@ -82,10 +96,14 @@ returns-clause-outcome g c =
     let root = subst (λ k. IsRoot (state_in g.S.SlotMap.slots g.S.SlotStore.memory k) c.args.root) (sym of_kernel) c.requires.root in
     let line = c.requires.line (subst (λ k. IsSound (state_in g.S.SlotMap.slots g.S.SlotStore.memory k)) of_kernel whole.sound) in
     let t = state_of c.remove_slot.new.ends (g.S.SlotMap.slots c.insert.new.self) (g.S.SlotStore.memory c.insert.new.self) in
-    let put = c.insert.ensures.slots ∙ ap (λ (k : Cap). inserted (g.S.SlotMap.slots c.remove_slot.new.store) c.binding-binding.result k (Some c.in_ok-source.source)) c.capability-capability.ensures.value in
+    let put = c.insert.ensures.slots
+    ∙ ap (λ (k : Cap). inserted (g.S.SlotMap.slots c.remove_slot.new.store) c.binding-binding.result k (Some c.in_ok-source.source))
+    c.capability-capability.ensures.value in
     subst (λ k. bind (state_in g.S.SlotMap.slots g.S.SlotStore.memory k) call c.args.line c.args.notification ≡ Ok t) of_kernel
-    (bind-left c.live.inside.objects (g.S.SlotMap.slots c.live.inside.store) (g.S.SlotStore.memory c.live.inside.store) c.args.root c.args.line c.args.notification
-    c.remove_slot.new.ends (g.S.SlotMap.slots c.remove_slot.new.store) (g.S.SlotStore.memory c.remove_slot.new.store) c.in_ok-source.source c.binding-binding.result
+    (bind-left c.live.inside.objects (g.S.SlotMap.slots c.live.inside.store) (g.S.SlotStore.memory c.live.inside.store) c.args.root c.args.line
+    c.args.notification
+    c.remove_slot.new.ends (g.S.SlotMap.slots c.remove_slot.new.store) (g.S.SlotStore.memory c.remove_slot.new.store) c.in_ok-source.source
+    c.binding-binding.result
     whole root line c.in_ok-source.ensures (c.binding-binding.ensures _ _) c.in_ok-remove_slot.ensures.outcome
     (g.S.SlotMap.slots c.insert.new.self) (g.S.SlotStore.memory c.insert.new.self) c.remove_slot.ensures.agree c.insert.ensures.bytes put call at)
 
@@ -96,9 +114,13 @@ invariant_of-live-2 g c =
     (
     let root = subst (λ k. IsRoot (state_in g.S.SlotMap.slots g.S.SlotStore.memory k) c.args.root) (sym of_kernel) c.requires.root in
     let line = c.requires.line (subst (λ k. IsSound (state_in g.S.SlotMap.slots g.S.SlotStore.memory k)) of_kernel whole.sound) in
-    let put = c.insert.ensures.slots ∙ ap (λ (k : Cap). inserted (g.S.SlotMap.slots c.remove_slot.new.store) c.binding-binding.result k (Some c.in_ok-source.source)) c.capability-capability.ensures.value in
-    bind-whole c.live.inside.objects (g.S.SlotMap.slots c.live.inside.store) (g.S.SlotStore.memory c.live.inside.store) c.args.root c.args.line c.args.notification
-    c.remove_slot.new.ends (g.S.SlotMap.slots c.remove_slot.new.store) (g.S.SlotStore.memory c.remove_slot.new.store) c.in_ok-source.source c.binding-binding.result
+    let put = c.insert.ensures.slots
+    ∙ ap (λ (k : Cap). inserted (g.S.SlotMap.slots c.remove_slot.new.store) c.binding-binding.result k (Some c.in_ok-source.source))
+    c.capability-capability.ensures.value in
+    bind-whole c.live.inside.objects (g.S.SlotMap.slots c.live.inside.store) (g.S.SlotStore.memory c.live.inside.store) c.args.root c.args.line
+    c.args.notification
+    c.remove_slot.new.ends (g.S.SlotMap.slots c.remove_slot.new.store) (g.S.SlotStore.memory c.remove_slot.new.store) c.in_ok-source.source
+    c.binding-binding.result
     whole root line c.in_ok-source.ensures (c.binding-binding.ensures _ _) c.in_ok-remove_slot.ensures.outcome
     (g.S.SlotMap.slots c.insert.new.self) (g.S.SlotStore.memory c.insert.new.self) c.remove_slot.ensures.agree c.insert.ensures.bytes put).stands
 
@@ -109,9 +131,13 @@ invariant_of-kernel-2 g c =
     consistent-of (
     let root = subst (λ k. IsRoot (state_in g.S.SlotMap.slots g.S.SlotStore.memory k) c.args.root) (sym of_kernel) c.requires.root in
     let line = c.requires.line (subst (λ k. IsSound (state_in g.S.SlotMap.slots g.S.SlotStore.memory k)) of_kernel whole.sound) in
-    let put = c.insert.ensures.slots ∙ ap (λ (k : Cap). inserted (g.S.SlotMap.slots c.remove_slot.new.store) c.binding-binding.result k (Some c.in_ok-source.source)) c.capability-capability.ensures.value in
-    bind-whole c.live.inside.objects (g.S.SlotMap.slots c.live.inside.store) (g.S.SlotStore.memory c.live.inside.store) c.args.root c.args.line c.args.notification
-    c.remove_slot.new.ends (g.S.SlotMap.slots c.remove_slot.new.store) (g.S.SlotStore.memory c.remove_slot.new.store) c.in_ok-source.source c.binding-binding.result
+    let put = c.insert.ensures.slots
+    ∙ ap (λ (k : Cap). inserted (g.S.SlotMap.slots c.remove_slot.new.store) c.binding-binding.result k (Some c.in_ok-source.source))
+    c.capability-capability.ensures.value in
+    bind-whole c.live.inside.objects (g.S.SlotMap.slots c.live.inside.store) (g.S.SlotStore.memory c.live.inside.store) c.args.root c.args.line
+    c.args.notification
+    c.remove_slot.new.ends (g.S.SlotMap.slots c.remove_slot.new.store) (g.S.SlotStore.memory c.remove_slot.new.store) c.in_ok-source.source
+    c.binding-binding.result
     whole root line c.in_ok-source.ensures (c.binding-binding.ensures _ _) c.in_ok-remove_slot.ensures.outcome
     (g.S.SlotMap.slots c.insert.new.self) (g.S.SlotStore.memory c.insert.new.self) c.remove_slot.ensures.agree c.insert.ensures.bytes put)
 

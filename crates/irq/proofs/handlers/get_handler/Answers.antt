@@ -18,8 +18,10 @@ returns-in_err-place-clause-outcome g c =
     let of_kernel = c.live.view_is ∙ c.kernel.view_is in
     λ call at here.
     let p = err_from_is_err_and c.from_residual.result c.from_residual.ensures.1 in
-    rw (p.1, p.2) (subst (λ k. get_handler (state_in g.S.SlotMap.slots g.S.SlotStore.memory k) call c.args.line c.args.destination ≡ Err c.in_err-place.field-0.0) of_kernel
-    (handler-refused c.live.inside.objects (g.S.SlotMap.slots c.live.inside.store) (g.S.SlotStore.memory c.live.inside.store) c.args.root c.args.slot c.args.line c.args.destination
+    rw (p.1, p.2) (subst (λ k. get_handler (state_in g.S.SlotMap.slots g.S.SlotStore.memory k) call c.args.line c.args.destination ≡ Err
+    c.in_err-place.field-0.0) of_kernel
+    (handler-refused c.live.inside.objects (g.S.SlotMap.slots c.live.inside.store) (g.S.SlotStore.memory c.live.inside.store) c.args.root c.args.slot
+    c.args.line c.args.destination
     whole.agrees c.in_err-place.field-0.0 c.in_err-place.ensures.value call at here))
 
 pub insert-requires-clause-empty : goal.insert-requires-clause-empty
@@ -27,7 +29,8 @@ insert-requires-clause-empty g c =
     let whole = whole-of g.S.SlotMap.slots g.S.SlotStore.memory c.live.inside.objects c.live.inside.store c.kernel.invariant c.live.view_is c.live.invariant in
     let of_kernel = c.live.view_is ∙ c.kernel.view_is in
     let root = subst (λ k. IsRoot (state_in g.S.SlotMap.slots g.S.SlotStore.memory k) c.args.root) (sym of_kernel) c.requires.root in
-    IsNewPlace.empty (new-place c.live.inside.objects (g.S.SlotMap.slots c.live.inside.store) (g.S.SlotStore.memory c.live.inside.store) c.args.root c.args.slot c.args.line c.args.destination
+    IsNewPlace.empty (new-place c.live.inside.objects (g.S.SlotMap.slots c.live.inside.store) (g.S.SlotStore.memory c.live.inside.store) c.args.root c.args.slot
+    c.args.line c.args.destination
     whole.sound root c.in_ok-place.place c.in_ok-place.ensures.value)
 
 pub insert-requires-clause-kin : goal.insert-requires-clause-kin
@@ -45,7 +48,8 @@ returns-clause-outcome g c =
     let held = subst (λ k. capability_at (g.S.SlotMap.slots k.store) c.args.slot ≡ InterruptControl) (sym of_kernel) c.requires.held in
     let t = state_of c.live.inside.objects (g.S.SlotMap.slots c.insert.new.self) (g.S.SlotStore.memory c.insert.new.self) in
     subst (λ k. get_handler (state_in g.S.SlotMap.slots g.S.SlotStore.memory k) call c.args.line c.args.destination ≡ Ok t) of_kernel
-    (handler-left c.live.inside.objects (g.S.SlotMap.slots c.live.inside.store) (g.S.SlotStore.memory c.live.inside.store) c.args.root c.args.slot c.args.line c.args.destination
+    (handler-left c.live.inside.objects (g.S.SlotMap.slots c.live.inside.store) (g.S.SlotStore.memory c.live.inside.store) c.args.root c.args.slot c.args.line
+    c.args.destination
     (g.S.SlotMap.slots c.insert.new.self) (g.S.SlotStore.memory c.insert.new.self) c.in_ok-place.place whole root held c.insert.ensures.bytes
     c.in_ok-place.ensures.value c.insert.ensures.slots call at here)
 
@@ -56,7 +60,8 @@ invariant_of-live g c =
     (
     let root = subst (λ k. IsRoot (state_in g.S.SlotMap.slots g.S.SlotStore.memory k) c.args.root) (sym of_kernel) c.requires.root in
     let held = subst (λ k. capability_at (g.S.SlotMap.slots k.store) c.args.slot ≡ InterruptControl) (sym of_kernel) c.requires.held in
-    handler-whole c.live.inside.objects (g.S.SlotMap.slots c.live.inside.store) (g.S.SlotStore.memory c.live.inside.store) c.args.root c.args.slot c.args.line c.args.destination
+    handler-whole c.live.inside.objects (g.S.SlotMap.slots c.live.inside.store) (g.S.SlotStore.memory c.live.inside.store) c.args.root c.args.slot c.args.line
+    c.args.destination
     (g.S.SlotMap.slots c.insert.new.self) (g.S.SlotStore.memory c.insert.new.self) c.in_ok-place.place whole root held c.insert.ensures.bytes
     c.in_ok-place.ensures.value c.insert.ensures.slots).stands
 
@@ -67,6 +72,7 @@ invariant_of-kernel-2 g c =
     consistent-of (
     let root = subst (λ k. IsRoot (state_in g.S.SlotMap.slots g.S.SlotStore.memory k) c.args.root) (sym of_kernel) c.requires.root in
     let held = subst (λ k. capability_at (g.S.SlotMap.slots k.store) c.args.slot ≡ InterruptControl) (sym of_kernel) c.requires.held in
-    handler-whole c.live.inside.objects (g.S.SlotMap.slots c.live.inside.store) (g.S.SlotStore.memory c.live.inside.store) c.args.root c.args.slot c.args.line c.args.destination
+    handler-whole c.live.inside.objects (g.S.SlotMap.slots c.live.inside.store) (g.S.SlotStore.memory c.live.inside.store) c.args.root c.args.slot c.args.line
+    c.args.destination
     (g.S.SlotMap.slots c.insert.new.self) (g.S.SlotStore.memory c.insert.new.self) c.in_ok-place.place whole root held c.insert.ensures.bytes
     c.in_ok-place.ensures.value c.insert.ensures.slots)

@@ -32,10 +32,12 @@ pub invariant_of-kernel-in-Some : goal.invariant_of-kernel-in-Some
 invariant_of-kernel-in-Some g c =
     let s = state_in g.S.SlotMap.slots g.S.SlotStore.memory c.kernel.inside.live in
     kept (acknowledge s c.args.line) c.kernel.invariant
-    (beside-then c.set_masked.ensures.beside (beside-then c.set_pending.ensures.beside (beside-then c.signal.ensures.beside c.set_masked-in-Some.ensures.beside)))
+    (beside-then c.set_masked.ensures.beside (beside-then c.set_pending.ensures.beside
+    (beside-then c.signal.ensures.beside c.set_masked-in-Some.ensures.beside)))
     (search rules) (acknowledge-whole s c.args.line c.kernel.invariant.sound) (acknowledge-machine s c.args.line)
 
 pub returns-in-Some-clause-beside : goal.returns-in-Some-clause-beside
 returns-in-Some-clause-beside g c =
     subst (λ (k : Parts _). SameBeside g.S.SlotMap.slots g.S.SlotStore.memory g.S.SlotStore.order k c.set_masked-in-Some.new.self) c.kernel.view_is
-    (beside-then c.set_masked.ensures.beside (beside-then c.set_pending.ensures.beside (beside-then c.signal.ensures.beside c.set_masked-in-Some.ensures.beside)))
+    (beside-then c.set_masked.ensures.beside (beside-then c.set_pending.ensures.beside
+    (beside-then c.signal.ensures.beside c.set_masked-in-Some.ensures.beside)))

@@ -18,12 +18,14 @@ signal-requires g c = record {
 pub invariant_of-kernel : goal.invariant_of-kernel
 invariant_of-kernel g c =
     let s = state_in g.S.SlotMap.slots g.S.SlotStore.memory c.kernel.inside.live in
-    kept (raise s c.args.line) c.kernel.invariant c.set_pending.ensures.beside (search rules) (raise-whole s c.kernel.invariant.sound c.args.line) (raise-machine s c.args.line)
+    kept (raise s c.args.line) c.kernel.invariant c.set_pending.ensures.beside (search rules) (raise-whole s c.kernel.invariant.sound c.args.line)
+    (raise-machine s c.args.line)
 
 pub invariant_of-kernel-in-None : goal.invariant_of-kernel-in-None
 invariant_of-kernel-in-None g c =
     let s = state_in g.S.SlotMap.slots g.S.SlotStore.memory c.kernel.inside.live in
-    kept (raise s c.args.line) c.kernel.invariant c.set_pending-in-None.ensures.beside (search rules) (raise-whole s c.kernel.invariant.sound c.args.line) (raise-machine s c.args.line)
+    kept (raise s c.args.line) c.kernel.invariant c.set_pending-in-None.ensures.beside (search rules) (raise-whole s c.kernel.invariant.sound c.args.line)
+    (raise-machine s c.args.line)
 
 pub invariant_of-kernel-in-Some : goal.invariant_of-kernel-in-Some
 invariant_of-kernel-in-Some g c =

@@ -10,4 +10,5 @@ returns-clause-inside g c place behind =
     let whole = whole-of g.S.SlotMap.slots g.S.SlotStore.memory c.live.inside.objects c.live.inside.store c.kernel.invariant c.live.view_is c.live.invariant in
     let of_kernel = c.live.view_is ∙ c.kernel.view_is in
     subst (λ k. (state_in g.S.SlotMap.slots g.S.SlotStore.memory k).objects place ≡ None) of_kernel
-    (none-behind _ (g.S.SlotStore.memory c.live.inside.store) place whole.sound whole.agrees (subst (λ (n : ℕ). n ≤ place) (c.len.ensures.value ∙ ap (λ (m : List ℕ). length m) c.mem.ensures) behind))
+    (none-behind _ (g.S.SlotStore.memory c.live.inside.store) place whole.sound whole.agrees
+    (subst (λ (n : ℕ). n ≤ place) (c.len.ensures.value ∙ ap (λ (m : List ℕ). length m) c.mem.ensures) behind))

@@ -1,6 +1,7 @@
 -- The slot where it was found, or none of the full ones.
 use Rattle.std.proofs.Common.{ℕ, suc, ◌≡◌, ◌∙◌, ◌+◌, ◌/◌, ◌≤◌, inl, inr, Bool, false, Some, length, nat_lt, sym, ap, arith}
-use Rattle.cnode_ops.proofs.Laws.{before-first, behind-first, behind-next, fewer-behind, found-member, last-found, none-passes, passes-full, some-none, store-some}
+use Rattle.cnode_ops.proofs.Laws.{before-first, behind-first, behind-next, fewer-behind, found-member, last-found, none-passes, passes-full, some-none}
+use Rattle.cnode_ops.proofs.Laws.{store-some}
 use Rattle.kernel_machine.proofs.places.reaches_behind.Goals as goal
 use Rattle.model.specs.Capabilities.Orders.{next_in}
 use Rattle.model.specs.Capabilities.Slots.{IsFull, Slots, capability_at, is_full}
@@ -27,7 +28,8 @@ slots-init g c =
 pub slots-smaller : goal.slots-smaller
 slots-smaller g c =
     let slots : Slots = g.S.SlotMap.slots c.args.store.now in
-    fewer-behind (g.S.SlotStore.order c.args.store.now) (is_full slots) c.next_full.ensures.lists c.slots.at c.in-Some.slot (sym c.in-Some.is ∙ c.next_full.ensures.next)
+    fewer-behind (g.S.SlotStore.order c.args.store.now) (is_full slots) c.next_full.ensures.lists c.slots.at c.in-Some.slot
+    (sym c.in-Some.is ∙ c.next_full.ensures.next)
 
 pub slots-preserved : goal.slots-preserved
 slots-preserved g c =
@@ -35,27 +37,34 @@ slots-preserved g c =
     let order = g.S.SlotStore.order c.args.store.now in
     let next : Some c.in-Some.slot ≡ next_in order c.slots.at = sym c.in-Some.is ∙ c.next_full.ensures.next in
     record {
-      full = λ slot is. last-found (IsFull slots) c.in-Some.slot slot (found-member order (is_full slots) c.next_full.ensures.lists c.slots.at c.in-Some.slot next) is;
+      full = λ slot is. last-found (IsFull slots) c.in-Some.slot slot
+          (found-member order (is_full slots) c.next_full.ensures.lists c.slots.at c.in-Some.slot next) is;
       rest = behind-next order (is_full slots) c.next_full.ensures.lists (passes slots c.args.offset) c.slots.at c.in-Some.slot c.slots.invariant.rest next
-          (ap (λ (x : Cap). nat_lt c.args.offset (end_of x)) (sym c.capability.ensures.value) ∙ ap (nat_lt c.args.offset) (sym c.end_of.ensures) ∙ not-less c.args.offset c.end_of.result c.if-offset-end_of.false);
+          (ap (λ (x : Cap). nat_lt c.args.offset (end_of x)) (sym c.capability.ensures.value) ∙ ap (nat_lt c.args.offset) (sym c.end_of.ensures)
+          ∙ not-less c.args.offset c.end_of.result c.if-offset-end_of.false);
     }
 
 pub prove-unreachable-requires : goal.prove-unreachable-requires
 prove-unreachable-requires g c =
     let slots : Slots = g.S.SlotMap.slots c.args.store.now in
     let full : IsFull slots c.in-Some.slot =
-    found-member (g.S.SlotStore.order c.args.store.now) (is_full slots) c.next_full.ensures.lists c.slots.at c.in-Some.slot (sym c.in-Some.is ∙ c.next_full.ensures.next)
+    found-member (g.S.SlotStore.order c.args.store.now) (is_full slots) c.next_full.ensures.lists c.slots.at c.in-Some.slot
+    (sym c.in-Some.is ∙ c.next_full.ensures.next)
     in
     omega (arith, c.if-prove.true, c.count.ensures.near c.in-Some.slot (full-open slots c.in-Some.slot full), c.number.ensures.value)
 
 pub returns-in_default : goal.returns-in_default
 returns-in_default g c =
     let slots : Slots = g.S.SlotMap.slots c.args.store.now in
-    let none = none-passes (g.S.SlotStore.order c.args.store.now) (is_full slots) c.next_full.ensures.lists (passes slots c.args.offset) c.slots.at c.slots.invariant.rest
-    (sym c.in_default.is ∙ c.next_full.ensures.next) (passes-full slots (λ (held : Cap). nat_lt c.args.offset (end_of held)) (not-less c.args.offset 0 (omega arith))) in
+    let none = none-passes (g.S.SlotStore.order c.args.store.now) (is_full slots) c.next_full.ensures.lists (passes slots c.args.offset) c.slots.at
+    c.slots.invariant.rest
+    (sym c.in_default.is ∙ c.next_full.ensures.next)
+    (passes-full slots (λ (held : Cap). nat_lt c.args.offset (end_of held)) (not-less c.args.offset 0 (omega arith))) in
     sym (some-none 0 (length (g.S.SlotStore.memory c.args.store.now) / 16) (passes slots c.args.offset) (λ index _. none (0 + index)))
 
 pub returns-then-offset-end_of : goal.returns-then-offset-end_of
 returns-then-offset-end_of g c =
-    store-some c.count.result (length (g.S.SlotStore.memory c.args.store.now)) c.in-Some.slot (passes (g.S.SlotMap.slots c.args.store.now) c.args.offset) c.count.ensures.value (omega (arith, c.if-prove.false, c.number.ensures.value))
-    (ap (λ (x : Cap). nat_lt c.args.offset (end_of x)) (sym c.capability.ensures.value) ∙ ap (nat_lt c.args.offset) (sym c.end_of.ensures) ∙ lt-ltb c.args.offset c.end_of.result c.if-offset-end_of.true)
+    store-some c.count.result (length (g.S.SlotStore.memory c.args.store.now)) c.in-Some.slot (passes (g.S.SlotMap.slots c.args.store.now) c.args.offset)
+    c.count.ensures.value (omega (arith, c.if-prove.false, c.number.ensures.value))
+    (ap (λ (x : Cap). nat_lt c.args.offset (end_of x)) (sym c.capability.ensures.value) ∙ ap (nat_lt c.args.offset) (sym c.end_of.ensures)
+    ∙ lt-ltb c.args.offset c.end_of.result c.if-offset-end_of.true)

@@ -16,7 +16,8 @@ insert-requires-clause-empty g c =
     let of_kernel = c.live.view_is ∙ c.kernel.view_is in
     let slots : Slots = g.S.SlotMap.slots c.live.inside.store in
     let many = c.boot_slots-count.ensures.value ∙ ap (λ k. 2 ^ (state_in g.S.SlotMap.slots g.S.SlotStore.memory k).boot_radix) (sym of_kernel) in
-    ap slots c.new.ensures ∙ put-empty c.live.inside.objects slots (g.S.SlotStore.memory c.live.inside.store) c.boot_slots-count.result c.args.index c.args.capability c.is_free-free.result many c.is_free-free.ensures whole.sound c.if-not-free.false
+    ap slots c.new.ensures ∙ put-empty c.live.inside.objects slots (g.S.SlotStore.memory c.live.inside.store) c.boot_slots-count.result c.args.index
+    c.args.capability c.is_free-free.result many c.is_free-free.ensures whole.sound c.if-not-free.false
 
 pub insert-requires-clause-kin : goal.insert-requires-clause-kin
 insert-requires-clause-kin g c = λ offset slot names is. absurd (let clash : None ≡ Some offset = sym c.requires.nameless ∙ names in cc)
@@ -29,9 +30,11 @@ invariant_of-live g c =
     let slots : Slots = g.S.SlotMap.slots c.live.inside.store in
     let old = g.S.SlotStore.memory c.live.inside.store in
     let many = c.boot_slots-count.ensures.value ∙ ap (λ k. 2 ^ (state_in g.S.SlotMap.slots g.S.SlotStore.memory k).boot_radix) (sym of_kernel) in
-    let empty = put-empty o slots old c.boot_slots-count.result c.args.index c.args.capability c.is_free-free.result many c.is_free-free.ensures whole.sound c.if-not-free.false in
+    let empty = put-empty o slots old c.boot_slots-count.result c.args.index c.args.capability c.is_free-free.result many c.is_free-free.ensures whole.sound
+    c.if-not-free.false in
     let is = c.insert.ensures.slots ∙ ap (λ (n : ℕ). inserted slots n c.args.capability None) c.new.ensures in
-    let agreed = root-agrees o slots _ old _ c.args.index c.args.capability (whole.agrees, whole.stands) c.insert.ensures.bytes empty is c.requires.plain c.requires.valid in
+    let agreed = root-agrees o slots _ old _ c.args.index c.args.capability (whole.agrees, whole.stands) c.insert.ensures.bytes empty is c.requires.plain
+    c.requires.valid in
     agreed.1
 
 pub invariant_of-kernel-2 : goal.invariant_of-kernel-2
@@ -43,10 +46,13 @@ invariant_of-kernel-2 g c =
     let slots : Slots = g.S.SlotMap.slots c.live.inside.store in
     let old = g.S.SlotStore.memory c.live.inside.store in
     let many = c.boot_slots-count.ensures.value ∙ ap (λ k. 2 ^ (state_in g.S.SlotMap.slots g.S.SlotStore.memory k).boot_radix) (sym of_kernel) in
-    let empty = put-empty o slots old c.boot_slots-count.result c.args.index c.args.capability c.is_free-free.result many c.is_free-free.ensures whole.sound c.if-not-free.false in
-    let passed = put-passed o slots old c.boot_slots-count.result c.args.index c.args.capability c.is_free-free.result many c.is_free-free.ensures c.if-not-free.false in
+    let empty = put-empty o slots old c.boot_slots-count.result c.args.index c.args.capability c.is_free-free.result many c.is_free-free.ensures whole.sound
+    c.if-not-free.false in
+    let passed = put-passed o slots old c.boot_slots-count.result c.args.index c.args.capability c.is_free-free.result many c.is_free-free.ensures
+    c.if-not-free.false in
     let is = c.insert.ensures.slots ∙ ap (λ (n : ℕ). inserted slots n c.args.capability None) c.new.ensures in
-    let agreed = root-agrees o slots _ old _ c.args.index c.args.capability (whole.agrees, whole.stands) c.insert.ensures.bytes empty is c.requires.plain c.requires.valid in
+    let agreed = root-agrees o slots _ old _ c.args.index c.args.capability (whole.agrees, whole.stands) c.insert.ensures.bytes empty is c.requires.plain
+    c.requires.valid in
     record {
       sound = subst IsSound (sym (root-state o slots _ old _ c.args.index c.args.capability (whole.agrees, whole.stands) c.insert.ensures.bytes empty is))
           (c.requires.sound _ (subst (λ k. IsSound (state_in g.S.SlotMap.slots g.S.SlotStore.memory k)) of_kernel whole.sound)
@@ -63,15 +69,19 @@ returns-clause-outcome g c =
     let slots : Slots = g.S.SlotMap.slots c.live.inside.store in
     let old = g.S.SlotStore.memory c.live.inside.store in
     let many = c.boot_slots-count.ensures.value ∙ ap (λ k. 2 ^ (state_in g.S.SlotMap.slots g.S.SlotStore.memory k).boot_radix) (sym of_kernel) in
-    let empty = put-empty o slots old c.boot_slots-count.result c.args.index c.args.capability c.is_free-free.result many c.is_free-free.ensures whole.sound c.if-not-free.false in
-    let passed = put-passed o slots old c.boot_slots-count.result c.args.index c.args.capability c.is_free-free.result many c.is_free-free.ensures c.if-not-free.false in
+    let empty = put-empty o slots old c.boot_slots-count.result c.args.index c.args.capability c.is_free-free.result many c.is_free-free.ensures whole.sound
+    c.if-not-free.false in
+    let passed = put-passed o slots old c.boot_slots-count.result c.args.index c.args.capability c.is_free-free.result many c.is_free-free.ensures
+    c.if-not-free.false in
     let is = c.insert.ensures.slots ∙ ap (λ (n : ℕ). inserted slots n c.args.capability None) c.new.ensures in
     let after = root-state o slots _ old _ c.args.index c.args.capability (whole.agrees, whole.stands) c.insert.ensures.bytes empty is in
-    ap (λ k. put_in_boot_slot (state_in g.S.SlotMap.slots g.S.SlotStore.memory k) c.args.index c.args.capability) (sym of_kernel) ∙ passed ∙ ap (λ (s : State). Some s) (sym after)
+    ap (λ k. put_in_boot_slot (state_in g.S.SlotMap.slots g.S.SlotStore.memory k) c.args.index c.args.capability) (sym of_kernel) ∙ passed
+    ∙ ap (λ (s : State). Some s) (sym after)
 
 pub returns-then-not-free-clause-outcome : goal.returns-then-not-free-clause-outcome
 returns-then-not-free-clause-outcome g c =
     let of_kernel = c.live.view_is ∙ c.kernel.view_is in
     let many = c.boot_slots-count.ensures.value ∙ ap (λ k. 2 ^ (state_in g.S.SlotMap.slots g.S.SlotStore.memory k).boot_radix) (sym of_kernel) in
-    let refused = put-refused c.live.inside.objects (g.S.SlotMap.slots c.live.inside.store) (g.S.SlotStore.memory c.live.inside.store) c.boot_slots-count.result c.args.index c.args.capability c.is_free-free.result many c.is_free-free.ensures c.if-not-free.true in
+    let refused = put-refused c.live.inside.objects (g.S.SlotMap.slots c.live.inside.store) (g.S.SlotStore.memory c.live.inside.store) c.boot_slots-count.result
+    c.args.index c.args.capability c.is_free-free.result many c.is_free-free.ensures c.if-not-free.true in
     ap (λ k. put_in_boot_slot (state_in g.S.SlotMap.slots g.S.SlotStore.memory k) c.args.index c.args.capability) (sym of_kernel) ∙ refused

@@ -34,7 +34,8 @@ loop-event-preserved g c =
     let event : Event = slice_index_or all done Step in
     let left = trace now (drop done all) in
     let rest = trace after (drop (done + 1) all) in
-    let room = front_put labels old left c.loop-event.piece.items held (g.S.Sink.contents c.loop-event.sink) new c.loop-event.invariant.0 c.in_ok-make_room.ensures.ok in
+    let room = front_put labels old left c.loop-event.piece.items held (g.S.Sink.contents c.loop-event.sink) new c.loop-event.invariant.0
+    c.in_ok-make_room.ensures.ok in
     let next = next_label now after c.step.result all done event c.step.ensures.state c.step.ensures.label (next_event all done Step c.loop-event-test.true) in (
       one_held labels old left rest c.step.result held c.push_line.new.piece.items new room next c.push_line.ensures,
       c.in_ok-make_room.ensures.counted ∙ c.loop-event.invariant.1,

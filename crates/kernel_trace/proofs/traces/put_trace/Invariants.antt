@@ -7,5 +7,6 @@ use Rattle.kernel_trace.proofs.traces.put_trace.Given as goal
 
 abbrev pub invariant-loop-event : goal.invariant-loop-event
 invariant-loop-event g l =
-    ArePut (trace (state_in l.fn.system) l.events) (g.S.Sink.contents l.fn.sink) (trace (state_in l.system) (drop l.event-index l.events)) l.piece.items (g.S.Sink.contents l.sink)
+    ArePut (trace (state_in l.fn.system) l.events) (g.S.Sink.contents l.fn.sink) (trace (state_in l.system) (drop l.event-index l.events)) l.piece.items
+    (g.S.Sink.contents l.sink)
     × (g.S.Sink.failures l.sink ≡ g.S.Sink.failures l.fn.sink)

@@ -8,7 +8,8 @@ use Rattle.loader.proofs.systems.boot.Goals as goal
 
 pub returns-in-Ok-clause-state : goal.returns-in-Ok-clause-state
 returns-in-Ok-clause-state c =
-    let told = c.image.ensures in boots-into c.image.result.now c.args.accepted.now told.value told.fits told.formed (state_in c.in-Ok.system) c.in-Ok.ensures.booted
+    let told = c.image.ensures in boots-into c.image.result.now c.args.accepted.now told.value told.fits told.formed (state_in c.in-Ok.system)
+    c.in-Ok.ensures.booted
 
 pub returns-in-Ok-clause-calls : goal.returns-in-Ok-clause-calls
 returns-in-Ok-clause-calls c = let told = c.image.ensures in c.well_formed_images_boot.ensures.boots c.args.accepted.now told.fits told.formed

@@ -7,5 +7,6 @@ use Rattle.measure.proofs.extremes.greatest.Given as goal
 
 abbrev pub invariant-loop-variable : goal.invariant-loop-variable
 invariant-loop-variable g l =
-    (l.sum ≡ sum_of (map (λ (variable : ℕ). greatest_term ((g.L.Linear.form l.form).coefficient variable) (range_at l.before l.behind variable)) (range_with_len 0 l.variable)))
+    (l.sum ≡ sum_of (map (λ (variable : ℕ). greatest_term ((g.L.Linear.form l.form).coefficient variable) (range_at l.before l.behind variable))
+    (range_with_len 0 l.variable)))
     × IsSmall (l.variable * 2 ^ 97) l.sum

@@ -8,5 +8,6 @@ use Rattle.measure.proofs.extremes.least_of.Given as goal
 
 abbrev pub invariant-loop-number : goal.invariant-loop-number
 invariant-loop-number g l =
-    (l.sum ≡ sum_of (map (λ (number : ℕ). least_term ((g.L.Linear.form l.form).coefficient number) (range_of l.bounds (register_numbered number))) (range_with_len 0 l.number)))
+    (l.sum ≡ sum_of (map (λ (number : ℕ). least_term ((g.L.Linear.form l.form).coefficient number) (range_of l.bounds (register_numbered number)))
+    (range_with_len 0 l.number)))
     × IsSmall (l.number * 2 ^ 97) l.sum

@@ -14,7 +14,8 @@ loop-term-preserved g c = λ variable less no.
     let both = c.add_value.ensures variable less no in
     let kept = c.loop-term.invariant variable less both.0 in (
       kept.0,
-      coefficient-kept (g.S.Step.value_of c.args.step.now) variable c.terms-terms.result.now c.loop-term.term-index (record { register = 0; coefficient = pos 0 }) c.loop-term-test.true
+      coefficient-kept (g.S.Step.value_of c.args.step.now) variable c.terms-terms.result.now c.loop-term.term-index
+          (record { register = 0; coefficient = pos 0 }) c.loop-term-test.true
           kept.1 (ap (λ (f : Form). f.coefficient variable) (sym c.value.ensures) ∙ both.1),
     )
 

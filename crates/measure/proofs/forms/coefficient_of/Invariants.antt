@@ -4,4 +4,5 @@ use Rattle.measure.specs.Sums.{IsSmall, coefficient_sum}
 use Rattle.measure.proofs.forms.coefficient_of.Given as goal
 
 abbrev pub invariant-loop-term : goal.invariant-loop-term
-invariant-loop-term g l = (l.sum ≡ coefficient_sum (g.S.Step.value_of l.step) l.variable (pos 0) (take l.term-index l.terms)) × IsSmall (l.term-index * 2 ^ 39) l.sum
+invariant-loop-term g l = (l.sum ≡ coefficient_sum (g.S.Step.value_of l.step) l.variable (pos 0) (take l.term-index l.terms))
+    × IsSmall (l.term-index * 2 ^ 39) l.sum

@@ -9,16 +9,20 @@ use Rattle.model_laws.proofs.authority_laws.a_badge_is_that_of_the_named_capabil
 pub returns-clause-endpoint : goal.returns-clause-endpoint
 returns-clause-endpoint c = λ image t s after slot other endpoint badge r old new differ named holds is waits nobody now changed stays wrong within.
     wrong (receivers_badge s after (self_of image t) (CallNames image t s) other endpoint badge old new waits nobody stays
-    (λ e b h. let same : Endpoint e h.such.allowed b ≡ Endpoint endpoint r badge = sym h.such.is ∙ named-capability s (self_of image t) h.slot slot h.named named ∙ holds in cc)
+    (λ e b h. let same : Endpoint e h.such.allowed b ≡ Endpoint endpoint r badge = sym h.such.is
+    ∙ named-capability s (self_of image t) h.slot slot h.named named ∙ holds in cc)
     (λ n b h. no-signal s n b endpoint badge r (capability_at s.slots h.slot) (named-capability s (self_of image t) h.slot slot h.named named ∙ holds) h.such)
     (within.threads other old new differ is now changed))
 
 pub returns-clause-notification : goal.returns-clause-notification
 returns-clause-notification c = λ image t s after slot other notification badge r old new differ named holds is waits now changed stays wrong within.
     wrong (waiters_badge s after (self_of image t) (CallNames image t s) other notification badge old new waits stays
-    (λ n b h. one-signal s n b notification badge r (capability_at s.slots h.slot) (named-capability s (self_of image t) h.slot slot h.named named ∙ holds) h.such)
-    (λ e b h. let same : Endpoint e h.such.allowed b ≡ Notification notification r badge = sym h.such.is ∙ named-capability s (self_of image t) h.slot slot h.named named ∙ holds in cc)
-    (λ e h. let same : Endpoint e h.such.allowed h.such.badge ≡ Notification notification r badge = sym h.such.is ∙ named-capability s (self_of image t) h.slot slot h.named named ∙ holds in cc)
+    (λ n b h. one-signal s n b notification badge r (capability_at s.slots h.slot) (named-capability s (self_of image t) h.slot slot h.named named ∙ holds)
+    h.such)
+    (λ e b h. let same : Endpoint e h.such.allowed b ≡ Notification notification r badge = sym h.such.is
+    ∙ named-capability s (self_of image t) h.slot slot h.named named ∙ holds in cc)
+    (λ e h. let same : Endpoint e h.such.allowed h.such.badge ≡ Notification notification r badge = sym h.such.is
+    ∙ named-capability s (self_of image t) h.slot slot h.named named ∙ holds in cc)
     (within.threads other old new differ is now changed))
 
 pub returns-clause-nothing : goal.returns-clause-nothing

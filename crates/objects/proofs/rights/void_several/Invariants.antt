@@ -5,5 +5,6 @@ use Rattle.objects.proofs.rights.void_several.Given as goal
 
 abbrev pub invariant-threads : goal.invariant-threads
 invariant-threads g l =
-    VoidedSoFar l.initial.held l.gone (g.S.SlotMap.slots l.initial.store) (g.S.SlotMap.slots l.store) (g.S.SlotStore.memory l.initial.store) (g.S.SlotStore.memory l.store) l.number
+    VoidedSoFar l.initial.held l.gone (g.S.SlotMap.slots l.initial.store) (g.S.SlotMap.slots l.store) (g.S.SlotStore.memory l.initial.store)
+    (g.S.SlotStore.memory l.store) l.number
     × (g.S.SlotStore.order l.store ≡ g.S.SlotStore.order l.initial.store)

@@ -13,5 +13,6 @@ returns-in-Some c =
 pub returns-in-None : goal.returns-in-None
 returns-in-None c =
     let p : Packed = packing c.args.memory.now c.args.open_slots.now c.args.first.now in
-    subst (λ (o : Option ℕ). IsChanged p (packing c.insert_first.new.memory p.open_slots (Some c.args.slot)) (inserted (packed_slots p) c.args.slot c.args.capability o))
+    subst (λ (o : Option ℕ). IsChanged p (packing c.insert_first.new.memory p.open_slots (Some c.args.slot))
+    (inserted (packed_slots p) c.args.slot c.args.capability o))
     (sym c.in-None.is) c.insert_first.ensures

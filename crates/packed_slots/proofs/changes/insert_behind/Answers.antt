@@ -64,5 +64,6 @@ returns c =
     (sym (c.link_behind.ensures.bytes
     ∙ ap (λ d. linked_behind c.put_capability.new.memory parent slot (d + 1)) (c.depth-above.ensures.value ∙ depth)
     ∙ ap (λ m. linked_behind m parent slot ((words_in p.memory).depth parent + 1)) c.put_capability.ensures.bytes))
-    (inserted_behind p slot parent c.args.capability c.requires.packed c.requires.empty c.requires.valid c.requires.some c.requires.full c.requires.room c.requires.kin
+    (inserted_behind p slot parent c.args.capability c.requires.packed c.requires.empty c.requires.valid c.requires.some c.requires.full c.requires.room
+    c.requires.kin
     c.put_capability.ensures.head c.put_capability.ensures.tail)

@@ -53,7 +53,8 @@ take_out-requires-clause-few c =
 pub take_out-requires-clause-inside : goal.take_out-requires-clause-inside
 take_out-requires-clause-inside c =
     let p : Packed = packing c.args.memory.now c.args.open_slots.now c.args.first.now in
-    inside-as p c.args.from c.link_behind.new.memory c.requires.packed (full-open p c.args.from c.requires.full) (c.link_behind.ensures.size ∙ c.copy_capability.ensures.size)
+    inside-as p c.args.from c.link_behind.new.memory c.requires.packed (full-open p c.args.from c.requires.full)
+    (c.link_behind.ensures.size ∙ c.copy_capability.ensures.size)
 
 pub link_behind-requires-clause-behind : goal.link_behind-requires-clause-behind
 link_behind-requires-clause-behind c =
@@ -68,7 +69,8 @@ take_out-requires-clause-behind c =
     let p : Packed = packing c.args.memory.now c.args.open_slots.now c.args.first.now in
     let behind = c.link_behind.ensures.bytes
     ∙ ap (λ m. linked_behind m c.args.from c.args.to c.depth-own_depth.result) c.copy_capability.ensures.bytes
-    ∙ ap (λ d. linked_behind (with_cap p.memory c.args.to ((words_in p.memory).head c.args.from) ((words_in p.memory).tail c.args.from)) c.args.from c.args.to d) c.depth-own_depth.ensures.value in
+    ∙ ap (λ d. linked_behind (with_cap p.memory c.args.to ((words_in p.memory).head c.args.from) ((words_in p.memory).tail c.args.from)) c.args.from c.args.to
+    d) c.depth-own_depth.ensures.value in
     λ s. (behind-near p c.args.from c.args.to s c.link_behind.new.memory c.requires.packed c.requires.full c.requires.empty
     c.copy_capability.ensures.head c.copy_capability.ensures.tail behind).0
 
@@ -77,7 +79,8 @@ take_out-requires-clause-before c =
     let p : Packed = packing c.args.memory.now c.args.open_slots.now c.args.first.now in
     let behind = c.link_behind.ensures.bytes
     ∙ ap (λ m. linked_behind m c.args.from c.args.to c.depth-own_depth.result) c.copy_capability.ensures.bytes
-    ∙ ap (λ d. linked_behind (with_cap p.memory c.args.to ((words_in p.memory).head c.args.from) ((words_in p.memory).tail c.args.from)) c.args.from c.args.to d) c.depth-own_depth.ensures.value in
+    ∙ ap (λ d. linked_behind (with_cap p.memory c.args.to ((words_in p.memory).head c.args.from) ((words_in p.memory).tail c.args.from)) c.args.from c.args.to
+    d) c.depth-own_depth.ensures.value in
     λ s. (behind-near p c.args.from c.args.to s c.link_behind.new.memory c.requires.packed c.requires.full c.requires.empty
     c.copy_capability.ensures.head c.copy_capability.ensures.tail behind).1
 
@@ -86,7 +89,9 @@ returns c =
     let p : Packed = packing c.args.memory.now c.args.open_slots.now c.args.first.now in
     let behind = c.link_behind.ensures.bytes
     ∙ ap (λ m. linked_behind m c.args.from c.args.to c.depth-own_depth.result) c.copy_capability.ensures.bytes
-    ∙ ap (λ d. linked_behind (with_cap p.memory c.args.to ((words_in p.memory).head c.args.from) ((words_in p.memory).tail c.args.from)) c.args.from c.args.to d) c.depth-own_depth.ensures.value in
-    let is = moved-is p c.args.from c.args.to c.link_behind.new.memory c.take_out.new.memory c.take_out.result behind c.take_out.ensures.bytes c.take_out.ensures.first in
+    ∙ ap (λ d. linked_behind (with_cap p.memory c.args.to ((words_in p.memory).head c.args.from) ((words_in p.memory).tail c.args.from)) c.args.from c.args.to
+    d) c.depth-own_depth.ensures.value in
+    let is = moved-is p c.args.from c.args.to c.link_behind.new.memory c.take_out.new.memory c.take_out.result behind c.take_out.ensures.bytes
+    c.take_out.ensures.first in
     subst (λ (q : Packed). IsChanged p q (relocated (packed_slots p) c.args.from c.args.to)) (sym is)
     (moved p c.args.from c.args.to c.requires.packed c.requires.full c.requires.empty c.copy_capability.ensures.head c.copy_capability.ensures.tail)

@@ -31,7 +31,8 @@ returns-clause-changed c =
     ∙ ap (λ d. lowered_memory d c.len.result c.next-after.result p.memory) c.depth-own_depth.ensures.value
     ∙ ap (λ n. lowered_memory ((words_in p.memory).depth c.args.slot) n c.next-after.result p.memory) c.len.ensures.value
     ∙ ap (λ o. lowered_memory ((words_in p.memory).depth c.args.slot) (length p.open_slots) o p.memory) c.next-after.ensures in
-    let is = spliced-is p c.args.slot c.lower.new.memory c.take_out.new.memory c.take_out.result c.requires.packed lowered c.take_out.ensures.bytes c.take_out.ensures.first in
+    let is = spliced-is p c.args.slot c.lower.new.memory c.take_out.new.memory c.take_out.result c.requires.packed lowered c.take_out.ensures.bytes
+    c.take_out.ensures.first in
     subst (λ (q : Packed). IsChanged p q (spliced (packed_slots p) c.args.slot)) (sym is) (spliced_out p c.args.slot c.requires.packed c.requires.full)
 
 pub returns-clause-order : goal.returns-clause-order
@@ -41,5 +42,6 @@ returns-clause-order c =
     ∙ ap (λ d. lowered_memory d c.len.result c.next-after.result p.memory) c.depth-own_depth.ensures.value
     ∙ ap (λ n. lowered_memory ((words_in p.memory).depth c.args.slot) n c.next-after.result p.memory) c.len.ensures.value
     ∙ ap (λ o. lowered_memory ((words_in p.memory).depth c.args.slot) (length p.open_slots) o p.memory) c.next-after.ensures in
-    let is = spliced-is p c.args.slot c.lower.new.memory c.take_out.new.memory c.take_out.result c.requires.packed lowered c.take_out.ensures.bytes c.take_out.ensures.first in
+    let is = spliced-is p c.args.slot c.lower.new.memory c.take_out.new.memory c.take_out.result c.requires.packed lowered c.take_out.ensures.bytes
+    c.take_out.ensures.first in
     ap packed_order is ∙ spliced_order p c.args.slot c.requires.packed c.requires.full

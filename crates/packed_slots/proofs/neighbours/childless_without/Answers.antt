@@ -28,7 +28,8 @@ returns-then-is_as_deep-2 c =
     let less = less-deep w (w.depth c.args.slot) c.in-Some.before
     (sym (c.is_as_deep.ensures ∙ ap (λ d. is_as_deep w d (Some c.in-Some.before)) c.depth-own_depth.ensures.value) ∙ c.if-is_as_deep.false) in
     let found = some-deep w (w.depth c.args.slot) (w.next c.args.slot)
-    (sym (c.is_as_deep-2.ensures ∙ ap (λ d. is_as_deep w d c.next.result) c.depth-own_depth.ensures.value ∙ ap (is_as_deep w (w.depth c.args.slot)) c.next.ensures) ∙ c.if-is_as_deep-2.true) in
+    (sym (c.is_as_deep-2.ensures ∙ ap (λ d. is_as_deep w d c.next.result) c.depth-own_depth.ensures.value
+    ∙ ap (is_as_deep w (w.depth c.args.slot)) c.next.ensures) ∙ c.if-is_as_deep-2.true) in
     beside-next p c.args.slot c.requires.packed c.requires.full c.in-Some.before back less found.0 found.1 found.2
 
 pub returns : goal.returns
@@ -38,6 +39,8 @@ returns c =
     let back = sym c.previous.ensures ∙ c.in-Some.is in
     let less = less-deep w (w.depth c.args.slot) c.in-Some.before
     (sym (c.is_as_deep.ensures ∙ ap (λ d. is_as_deep w d (Some c.in-Some.before)) c.depth-own_depth.ensures.value) ∙ c.if-is_as_deep.false) in
-    let none = sym (c.is_as_deep-2.ensures ∙ ap (λ d. is_as_deep w d c.next.result) c.depth-own_depth.ensures.value ∙ ap (is_as_deep w (w.depth c.args.slot)) c.next.ensures) ∙ c.if-is_as_deep-2.false in
+    let none = sym (c.is_as_deep-2.ensures ∙ ap (λ d. is_as_deep w d c.next.result) c.depth-own_depth.ensures.value
+    ∙ ap (is_as_deep w (w.depth c.args.slot)) c.next.ensures) ∙ c.if-is_as_deep-2.false in
     beside-none p c.args.slot c.requires.packed c.requires.full c.in-Some.before back less
-    (no-deeper w (w.depth c.args.slot) (w.depth c.in-Some.before) (w.next c.args.slot) (one-deeper p c.args.slot c.requires.packed c.requires.full c.in-Some.before back less) none)
+    (no-deeper w (w.depth c.args.slot) (w.depth c.in-Some.before) (w.next c.args.slot)
+    (one-deeper p c.args.slot c.requires.packed c.requires.full c.in-Some.before back less) none)

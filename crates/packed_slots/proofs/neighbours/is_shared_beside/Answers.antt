@@ -7,9 +7,11 @@ use Rattle.packed_slots.proofs.neighbours.is_shared_beside.Goals as goal
 pub returns-clause-shared : goal.returns-clause-shared
 returns-clause-shared c =
     let p : Packed = packing c.args.memory.now c.args.open_slots.now c.args.first.now in
-    λ is. beside-so p c.args.root c.args.last c.args.slot c.requires.packed c.requires.below c.requires.last_below c.requires.none_behind (sym c.has_like_edge.ensures ∙ is)
+    λ is. beside-so p c.args.root c.args.last c.args.slot c.requires.packed c.requires.below c.requires.last_below c.requires.none_behind
+    (sym c.has_like_edge.ensures ∙ is)
 
 pub returns-clause-alone : goal.returns-clause-alone
 returns-clause-alone c =
     let p : Packed = packing c.args.memory.now c.args.open_slots.now c.args.first.now in
-    λ is. none-beside p c.args.root c.args.last c.args.slot c.requires.packed c.requires.below c.requires.last_below c.requires.none_behind (sym c.has_like_edge.ensures ∙ is)
+    λ is. none-beside p c.args.root c.args.last c.args.slot c.requires.packed c.requires.below c.requires.last_below c.requires.none_behind
+    (sym c.has_like_edge.ensures ∙ is)

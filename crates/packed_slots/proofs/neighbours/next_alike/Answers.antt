@@ -9,4 +9,5 @@ use Rattle.packed_slots.proofs.neighbours.next_alike.Goals as goal
 pub returns-in-None-None : goal.returns-in-None-None
 returns-in-None-None c =
     let p : Packed = packing c.args.memory.now c.args.open_slots.now c.args.first.now in
-    none-alike p c.args.offset (c.requires.none c.in-None-None.is-1) ∙ ap (next_in (naming (packed_order p) (packed_slots p) c.args.offset)) (sym c.in-None-None.is-0)
+    none-alike p c.args.offset (c.requires.none c.in-None-None.is-1)
+    ∙ ap (next_in (naming (packed_order p) (packed_slots p) c.args.offset)) (sym c.in-None-None.is-0)

@@ -8,4 +8,5 @@ use Rattle.packed_slots.proofs.neighbours.next_naming.Goals as goal
 pub returns : goal.returns
 returns c =
     let p : Packed = packing c.args.memory.now c.args.open_slots.now c.args.first.now in
-    c.if_naming.ensures ∙ ap (if_naming (packed_slots p) c.args.offset) c.next.ensures ∙ next-naming p c.args.offset c.requires.packed c.args.slot c.requires.known
+    c.if_naming.ensures ∙ ap (if_naming (packed_slots p) c.args.offset) c.next.ensures
+    ∙ next-naming p c.args.offset c.requires.packed c.args.slot c.requires.known

@@ -7,7 +7,8 @@ use Rattle.packed_slots.proofs.open_slots.set_range.Goals as goal
 
 pub range-preserved : goal.range-preserved
 range-preserved l =
-    one-more l.args.words.now l.range.words l.set_one.new.words l.args.first l.range.place l.args.value (omega (arith, l.range.auto.place)) l.set_one.ensures.own l.set_one.ensures.others
+    one-more l.args.words.now l.range.words l.set_one.new.words l.args.first l.range.place l.args.value (omega (arith, l.range.auto.place))
+    l.set_one.ensures.own l.set_one.ensures.others
     l.range.invariant
 
 pub returns : goal.returns

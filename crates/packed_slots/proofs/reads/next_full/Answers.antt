@@ -8,4 +8,5 @@ use Rattle.packed_slots.proofs.reads.next_full.Goals as goal
 pub returns-in-Some : goal.returns-in-Some
 returns-in-Some c =
     let p : Packed = packing c.args.memory.now c.args.open_slots.now c.args.first.now in
-    c.next.ensures ∙ next-found p c.in-Some.slot c.requires.packed (c.requires.full c.in-Some.slot c.in-Some.is) ∙ ap (next_in (packed_order p)) (sym c.in-Some.is)
+    c.next.ensures ∙ next-found p c.in-Some.slot c.requires.packed (c.requires.full c.in-Some.slot c.in-Some.is)
+    ∙ ap (next_in (packed_order p)) (sym c.in-Some.is)

@@ -35,14 +35,19 @@ invariant_of-program c =
       listed = own ∙ ap (λ (i : Image). image_slots i t) image-is ∙ ap (λ (u : Thread). image_slots space.image.now u) thread-is;
       rising = subst (λ (l : List NotedSlot). Rise l) (sym c.deref.ensures.value) c.in_ok-slots.ensures.rise;
       unlinked = subst (λ (l : List NotedSlot). AreUnlinked l) (sym own) (image-unlinked image t);
-      told = c.lists_stray.ensures ∙ ap (λ (slots : List NotedSlot). list_any (is_stray_in space []) slots) (c.deref-2.ensures.value ∙ sym c.deref.ensures.value);
-      loaded = subst (λ (l : List PageRun). AreRuns (λ page. list_any (maps_for Load space.thread.now page) space.image.now.frames) l) (sym c.deref-3.ensures.value)
+      told = c.lists_stray.ensures ∙ ap (λ (slots : List NotedSlot). list_any (is_stray_in space []) slots)
+          (c.deref-2.ensures.value ∙ sym c.deref.ensures.value);
+      loaded = subst (λ (l : List PageRun). AreRuns (λ page. list_any (maps_for Load space.thread.now page) space.image.now.frames) l)
+          (sym c.deref-3.ensures.value)
           (subst (λ (i : Image). AreRuns (λ page. list_any (maps_for Load space.thread.now page) i.frames) c.in_ok-loads.loads.items) image-is
           (subst (λ (u : Thread). AreRuns (λ page. list_any (maps_for Load u page) image.frames) c.in_ok-loads.loads.items) thread-is c.in_ok-loads.ensures));
-      stored = subst (λ (l : List PageRun). AreRuns (λ page. list_any (maps_for Store space.thread.now page) space.image.now.frames) l) (sym c.deref-4.ensures.value)
+      stored = subst (λ (l : List PageRun). AreRuns (λ page. list_any (maps_for Store space.thread.now page) space.image.now.frames) l)
+          (sym c.deref-4.ensures.value)
           (subst (λ (i : Image). AreRuns (λ page. list_any (maps_for Store space.thread.now page) i.frames) c.in_ok-stores.stores.items) image-is
-          (subst (λ (u : Thread). AreRuns (λ page. list_any (maps_for Store u page) image.frames) c.in_ok-stores.stores.items) thread-is c.in_ok-stores.ensures));
-      fits = subst (λ (u : Thread). CertificateFits u) thread-is (c.certificates_that_fit_keep_their_limits.ensures image c.args.number t c.header.ensures.fits c.requires.listed);
+          (subst (λ (u : Thread). AreRuns (λ page. list_any (maps_for Store u page) image.frames) c.in_ok-stores.stores.items) thread-is
+          c.in_ok-stores.ensures));
+      fits = subst (λ (u : Thread). CertificateFits u) thread-is
+          (c.certificates_that_fit_keep_their_limits.ensures image c.args.number t c.header.ensures.fits c.requires.listed);
       inside = subst (λ (u : Thread). u.header.base + 4 * u.header.words ≤ 2 ^ 31) thread-is places.0;
       entry = subst (λ (u : Thread). u.header.entry < u.header.words) thread-is places.1;
     }

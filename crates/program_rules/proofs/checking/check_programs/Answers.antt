@@ -11,7 +11,8 @@ use Rattle.program_rules.proofs.checking.check_programs.Goals as goal
 pub threads-init : goal.threads-init
 unfolding program_rules
 threads-init c =
-    let same : c.into_iter-thread-iterator.result ≡ c.args.image.now.threads = c.into_iter-thread-iterator.ensures.into_iter_gives ∙ c.threads-thread-items.ensures in
+    let same : c.into_iter-thread-iterator.result ≡ c.args.image.now.threads = c.into_iter-thread-iterator.ensures.into_iter_gives
+    ∙ c.threads-thread-items.ensures in
     record {
       rest = sym same;
       left = ap (λ (ts : List Thread). first_broken (rules_from c.args.image.now 0 ts)) same;
@@ -25,7 +26,8 @@ pub returns-in_err-check_program : goal.returns-in_err-check_program
 returns-in_err-check_program c =
     let refusal = c.in_err-check_program.field-0.0 in
     passed-on _ c.from_residual-in_err-check_program.result refusal c.from_residual-in_err-check_program.ensures.1
-    (one-refused c.args.image.now c.threads.number c.in-Some.thread c.next.new.self (first_broken (program_rules c.args.image.now)) refusal c.in_err-check_program.ensures
+    (one-refused c.args.image.now c.threads.number c.in-Some.thread c.next.new.self (first_broken (program_rules c.args.image.now)) refusal
+    c.in_err-check_program.ensures
     (ap (λ (ts : List Thread). first_broken (rules_from c.args.image.now c.threads.number ts)) (sym c.in-Some.ensures.steps) ∙ c.threads.invariant.left))
 
 pub overflow_add-number : goal.overflow_add-number
@@ -42,6 +44,7 @@ threads-preserved c =
     let here = head-of c.threads.number c.args.image.now.threads c.next.new.self c.in-Some.thread (c.threads.invariant.rest ∙ c.in-Some.ensures.steps) in
     record {
       rest = here.1;
-      left = next-kept c.args.image.now c.threads.number c.in-Some.thread c.next.new.self (first_broken (program_rules c.args.image.now)) c.in_ok-check_program.ensures
+      left = next-kept c.args.image.now c.threads.number c.in-Some.thread c.next.new.self (first_broken (program_rules c.args.image.now))
+          c.in_ok-check_program.ensures
           (ap (λ (ts : List Thread). first_broken (rules_from c.args.image.now c.threads.number ts)) (sym c.in-Some.ensures.steps) ∙ c.threads.invariant.left);
     }

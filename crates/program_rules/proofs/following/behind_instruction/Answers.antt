@@ -9,7 +9,8 @@ use Rattle.typestate.specs.Replays.{replayed}
 
 pub returns-clause-same : goal.returns-clause-same
 returns-clause-same c = λ slots log.
-    ap (noted_by slots log) c.keep.ensures ∙ kept-same slots log c.follows.result c.args.known.now.part c.args.known.now.is_clean ∙ c.follows.ensures (replayed slots (part_of log c.args.known.now.part))
+    ap (noted_by slots log) c.keep.ensures ∙ kept-same slots log c.follows.result c.args.known.now.part c.args.known.now.is_clean
+    ∙ c.follows.ensures (replayed slots (part_of log c.args.known.now.part))
 
 pub returns-clause-sound : goal.returns-clause-sound
 returns-clause-sound c = λ log point sound.
@@ -21,4 +22,5 @@ returns-clause-sound c = λ log point sound.
 
 pub returns-clause-clean : goal.returns-clause-clean
 returns-clause-clean c = λ image t slots log none.
-    subst (IsCleanIn image t slots log) (sym c.keep.ensures) (kept-clean image t slots log c.follows.result c.args.known.now.part c.args.known.now.is_clean none)
+    subst (IsCleanIn image t slots log) (sym c.keep.ensures)
+    (kept-clean image t slots log c.follows.result c.args.known.now.part c.args.known.now.is_clean none)

@@ -6,4 +6,5 @@ use Rattle.program_rules.proofs.Recorded.{with_entry}
 use Rattle.program_rules.proofs.records.bounds_of.Given as goal
 
 abbrev pub invariant-loop-entry : goal.invariant-loop-entry
-invariant-loop-entry l = (fold with_entry l.bounds l.entry-iterator ≡ record_ranges l.fn.noted) × (length l.bounds ≡ 31) × All (λ e. e.low ≤ e.high) l.entry-iterator
+invariant-loop-entry l = (fold with_entry l.bounds l.entry-iterator ≡ record_ranges l.fn.noted) × (length l.bounds ≡ 31)
+    × All (λ e. e.low ≤ e.high) l.entry-iterator

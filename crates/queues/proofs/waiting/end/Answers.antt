@@ -5,7 +5,8 @@ use Rattle.queues.proofs.waiting.end.Goals as goal
 
 pub threads-smaller : goal.threads-smaller
 threads-smaller g c =
-    fewer-threads (g.L.Layout.places c.args.layout.now) c.args.queue c.in-Some.thread (g.S.SlotStore.memory c.threads.store) (g.S.SlotStore.memory c.leave.new.store)
+    fewer-threads (g.L.Layout.places c.args.layout.now) c.args.queue c.in-Some.thread (g.S.SlotStore.memory c.threads.store)
+    (g.S.SlotStore.memory c.leave.new.store)
     c.threads.invariant.fewer.stands (sym c.first.ensures ∙ c.in-Some.is) c.leave.ensures.queues
 
 pub threads-preserved : goal.threads-preserved

@@ -43,7 +43,8 @@ pub returns-in-Some-head-clause-queues : goal.returns-in-Some-head-clause-queues
 returns-in-Some-head-clause-queues g c =
     let places = g.L.Layout.places c.args.layout.now in
     let m = g.S.SlotStore.memory c.args.store.now in
-    let path = left-memory m _ _ c.in-Some-head.head c.args.thread _ _ c.read_ends-before.ensures c.unlink-behind.ensures.bytes c.unlink-behind.ensures.ends c.put_ends.ensures.bytes in
+    let path = left-memory m _ _ c.in-Some-head.head c.args.thread _ _ c.read_ends-before.ensures c.unlink-behind.ensures.bytes c.unlink-behind.ensures.ends
+    c.put_ends.ensures.bytes in
     λ other. ap (λ (memory : List ℕ). queue_of places memory other) path
     ∙ leave-queues places (g.S.SlotMap.slots c.args.store.now) m c.requires.laid c.requires.stands c.in-Some.queue c.in-Some-head.head c.args.thread
     (sym c.head.ensures ∙ c.in-Some-head.is) (sym c.queue_of_thread.ensures ∙ c.in-Some.is) other
@@ -52,7 +53,8 @@ pub returns-in-Some-head-clause-stands : goal.returns-in-Some-head-clause-stands
 returns-in-Some-head-clause-stands g c =
     let places = g.L.Layout.places c.args.layout.now in
     let m = g.S.SlotStore.memory c.args.store.now in
-    let path = left-memory m _ _ c.in-Some-head.head c.args.thread _ _ c.read_ends-before.ensures c.unlink-behind.ensures.bytes c.unlink-behind.ensures.ends c.put_ends.ensures.bytes in
+    let path = left-memory m _ _ c.in-Some-head.head c.args.thread _ _ c.read_ends-before.ensures c.unlink-behind.ensures.bytes c.unlink-behind.ensures.ends
+    c.put_ends.ensures.bytes in
     subst (QueuesStand places) (sym path)
     (leave-stands places (g.S.SlotMap.slots c.args.store.now) m c.requires.laid c.requires.stands c.in-Some.queue c.in-Some-head.head c.args.thread
     (sym c.head.ensures ∙ c.in-Some-head.is) (sym c.queue_of_thread.ensures ∙ c.in-Some.is))
@@ -61,7 +63,8 @@ pub returns-in-Some-head-clause-bytes : goal.returns-in-Some-head-clause-bytes
 returns-in-Some-head-clause-bytes g c =
     let places = g.L.Layout.places c.args.layout.now in
     let m = g.S.SlotStore.memory c.args.store.now in
-    let path = left-memory m _ _ c.in-Some-head.head c.args.thread _ _ c.read_ends-before.ensures c.unlink-behind.ensures.bytes c.unlink-behind.ensures.ends c.put_ends.ensures.bytes in
+    let path = left-memory m _ _ c.in-Some-head.head c.args.thread _ _ c.read_ends-before.ensures c.unlink-behind.ensures.bytes c.unlink-behind.ensures.ends
+    c.put_ends.ensures.bytes in
     subst (λ (memory : List ℕ). SameBesideWaiting places (queue_of places m) m memory) (sym path)
     (leave-bytes places (g.S.SlotMap.slots c.args.store.now) m c.requires.laid c.requires.stands c.in-Some.queue c.in-Some-head.head c.args.thread
     (sym c.head.ensures ∙ c.in-Some-head.is) (sym c.queue_of_thread.ensures ∙ c.in-Some.is))

@@ -22,7 +22,8 @@ returns-in-Some-clause-queues g c =
     let slots = g.S.SlotMap.slots c.args.store.now in
     let m = g.S.SlotStore.memory c.args.store.now in
     let is : places.heads c.args.queue ≡ Some c.in-Some.head = sym c.head.ensures ∙ c.in-Some.is in
-    let path = push-memory m _ _ c.in-Some.head c.args.queue c.args.thread _ _ c.read_ends-before.ensures c.link_last-behind.ensures.bytes c.link_last-behind.ensures.ends c.put_ends.ensures.bytes in
+    let path = push-memory m _ _ c.in-Some.head c.args.queue c.args.thread _ _ c.read_ends-before.ensures c.link_last-behind.ensures.bytes
+    c.link_last-behind.ensures.ends c.put_ends.ensures.bytes in
     λ other. ap (λ (memory : List ℕ). queue_of places memory other) path
     ∙ push-queues places slots m c.requires.laid c.requires.stands c.args.queue c.in-Some.head c.args.thread is c.requires.there c.requires.apart other
 
@@ -32,7 +33,8 @@ returns-in-Some-clause-stands g c =
     let slots = g.S.SlotMap.slots c.args.store.now in
     let m = g.S.SlotStore.memory c.args.store.now in
     let is : places.heads c.args.queue ≡ Some c.in-Some.head = sym c.head.ensures ∙ c.in-Some.is in
-    let path = push-memory m _ _ c.in-Some.head c.args.queue c.args.thread _ _ c.read_ends-before.ensures c.link_last-behind.ensures.bytes c.link_last-behind.ensures.ends c.put_ends.ensures.bytes in
+    let path = push-memory m _ _ c.in-Some.head c.args.queue c.args.thread _ _ c.read_ends-before.ensures c.link_last-behind.ensures.bytes
+    c.link_last-behind.ensures.ends c.put_ends.ensures.bytes in
     subst (QueuesStand places) (sym path)
     (push-stands places slots m c.requires.laid c.requires.stands c.args.queue c.in-Some.head c.args.thread is c.requires.there c.requires.apart)
 
@@ -42,7 +44,8 @@ returns-in-Some-clause-bytes g c =
     let slots = g.S.SlotMap.slots c.args.store.now in
     let m = g.S.SlotStore.memory c.args.store.now in
     let is : places.heads c.args.queue ≡ Some c.in-Some.head = sym c.head.ensures ∙ c.in-Some.is in
-    let path = push-memory m _ _ c.in-Some.head c.args.queue c.args.thread _ _ c.read_ends-before.ensures c.link_last-behind.ensures.bytes c.link_last-behind.ensures.ends c.put_ends.ensures.bytes in
+    let path = push-memory m _ _ c.in-Some.head c.args.queue c.args.thread _ _ c.read_ends-before.ensures c.link_last-behind.ensures.bytes
+    c.link_last-behind.ensures.ends c.put_ends.ensures.bytes in
     subst (λ (memory : List ℕ). SameBesideWaiting places (queue_of places memory) m memory) (sym path)
     (push-bytes places slots m c.requires.laid c.requires.stands c.args.queue c.in-Some.head c.args.thread is c.requires.there c.requires.apart)
 

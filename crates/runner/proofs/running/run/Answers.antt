@@ -29,7 +29,11 @@ returns-clause-output g c = λ is.
     let new = g.S.Sink.contents c.put_lines.new.sink in
     let r = c.put_lines.result in
     let begun = subst (λ (s : State). OnErr r (GrowsByBeginning old new (lines_of (trace s events)))) c.in_ok-system.ensures.state c.put_lines.ensures.err in (
-      (image, c.accepted_images_run_safely.ensures bytes image events told.accepted, of-err r Output (GrowsByBeginning old new (lines_of (trace_of image events))) begun is),
+      (
+        image,
+        c.accepted_images_run_safely.ensures bytes image events told.accepted,
+        of-err r Output (GrowsByBeginning old new (lines_of (trace_of image events))) begun is,
+      ),
       of-err r Output (Failed (g.S.Sink.failures c.args.sink.now) (g.S.Sink.failures c.put_lines.new.sink)) c.put_lines.ensures.failed is,
     )
 

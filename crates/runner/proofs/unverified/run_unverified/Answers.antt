@@ -60,7 +60,8 @@ pub returns-in_err-system-clause-enough : goal.returns-in_err-system-clause-enou
 returns-in_err-system-clause-enough g c = λ is.
     let e = c.in_err-system.field-0.0 in
     let p = err_from_is_err_and c.from_residual-in_err-system.result c.from_residual-in_err-system.ensures.1 in
-    (boot-tells e).no-refusal refusals.OutOfMemory (fault-is c.from_residual-in_err-system.result p.0 (boot_fault_of e) (Refused refusals.OutOfMemory) p.1 p.2 is)
+    (boot-tells e).no-refusal refusals.OutOfMemory
+    (fault-is c.from_residual-in_err-system.result p.0 (boot_fault_of e) (Refused refusals.OutOfMemory) p.1 p.2 is)
 
 pub returns-in_err-system-clause-room : goal.returns-in_err-system-clause-room
 returns-in_err-system-clause-room g c = λ is.
@@ -74,15 +75,18 @@ returns-clause-ok g c =
     let events = c.args.events.now in
     let old = g.S.Sink.contents c.args.sink.now in
     let new = g.S.Sink.contents c.put_lines.new.sink in
-    let boots : BootsInto c.args.bytes.now start = record { image = c.in_ok-image.image; read = sym c.read.ensures ∙ c.in_ok-image.was; booted = c.in_ok-system.ensures.booted } in
-    on-ok c.put_lines.result (Grows old new (lines_of (trace start events))) (PutsTrace c.args.bytes.now events old new) (λ grown. (start, boots, grown)) c.put_lines.ensures.ok
+    let boots : BootsInto c.args.bytes.now start =
+    record { image = c.in_ok-image.image; read = sym c.read.ensures ∙ c.in_ok-image.was; booted = c.in_ok-system.ensures.booted } in
+    on-ok c.put_lines.result (Grows old new (lines_of (trace start events))) (PutsTrace c.args.bytes.now events old new) (λ grown. (start, boots, grown))
+    c.put_lines.ensures.ok
 
 pub returns-clause-output : goal.returns-clause-output
 returns-clause-output g c = λ is.
     let start = state_in c.in_ok-system.system in
     let old = g.S.Sink.contents c.args.sink.now in
     let new = g.S.Sink.contents c.put_lines.new.sink in
-    let boots : BootsInto c.args.bytes.now start = record { image = c.in_ok-image.image; read = sym c.read.ensures ∙ c.in_ok-image.was; booted = c.in_ok-system.ensures.booted } in
+    let boots : BootsInto c.args.bytes.now start =
+    record { image = c.in_ok-image.image; read = sym c.read.ensures ∙ c.in_ok-image.was; booted = c.in_ok-system.ensures.booted } in
     let r = c.put_lines.result in (
       (start, boots, of-err r Output (GrowsByBeginning old new (lines_of (trace start c.args.events.now))) c.put_lines.ensures.err is),
       of-err r Output (Failed (g.S.Sink.failures c.args.sink.now) (g.S.Sink.failures c.put_lines.new.sink)) c.put_lines.ensures.failed is,

@@ -19,7 +19,8 @@ up-preserved c =
     let size : 256 - c.up.depth ≡ suc left = omega arith in
     let above : parents c.up.here ≡ Some c.number-here.result = sym c.parent_at.ensures ∙ c.in-Some.is ∙ ap (λ s. Some s) (sym c.number-here.ensures.value) in
     let step = ap (λ n. depth_within n parents c.up.here) size ∙ depth-some left parents c.up.here c.number-here.result above in
-    let goal' : (c.up.depth + 1) + depth_within left parents c.number-here.result ≡ depth_of (table_slots c.args.records.now) c.args.slot = omega (arith, all, step) in
+    let goal' : (c.up.depth + 1) + depth_within left parents c.number-here.result ≡ depth_of (table_slots c.args.records.now) c.args.slot =
+    omega (arith, all, step) in
     goal'
 
 pub returns : goal.returns

@@ -8,5 +8,6 @@ use Rattle.slots.proofs.table.first_full.Goals as goal
 pub slots-preserved : goal.slots-preserved
 slots-preserved c =
     let n = length c.args.records.now in
-    let skip = full_from-skip (table_slots c.args.records.now) c.slots.slot (n - c.slots.slot) (n - (c.slots.slot + 1)) (omega arith) (sym c.is_full.ensures ∙ c.if-is_full.false) in
+    let skip = full_from-skip (table_slots c.args.records.now) c.slots.slot (n - c.slots.slot) (n - (c.slots.slot + 1)) (omega arith)
+    (sym c.is_full.ensures ∙ c.if-is_full.false) in
     sym (ap first_of skip) ∙ c.slots.invariant

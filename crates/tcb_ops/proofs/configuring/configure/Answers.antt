@@ -55,7 +55,10 @@ set_fault_address-requires g c =
     let there = thread-there _ _ _ c.args.thread whole.sound held in
     let k = c.args.spaces in
     let may = may-configure _ c.args.thread whole.sound there c.args.root k.guard k.cspace k.vspace c.in_ok-from.from c.in_ok-from.ensures in
-    record { there = thread-still _ _ _ _ c.args.thread k.guard c.in_ok-from.from (whole.agrees, whole.stands) c.put_spaces.ensures.bytes may _ c.put_spaces.ensures.slots there }
+    record {
+      there = thread-still _ _ _ _ c.args.thread k.guard c.in_ok-from.from (whole.agrees, whole.stands) c.put_spaces.ensures.bytes may _
+          c.put_spaces.ensures.slots there;
+    }
 
 pub invariant_of-live : goal.invariant_of-live
 unfolding state_of
@@ -76,10 +79,13 @@ returns-clause-outcome g c =
     let k = c.args.spaces in
     let may = may-configure _ c.args.thread whole.sound there c.args.root k.guard k.cspace k.vspace c.in_ok-from.from c.in_ok-from.ensures in
     let t : State = state_in g.S.SlotMap.slots g.S.SlotStore.memory c.set_fault_address.new.self in
-    let passes = configure-passes (state_of c.live.inside.objects (g.S.SlotMap.slots c.live.inside.store) (g.S.SlotStore.memory c.live.inside.store)) c.args.root c.args.thread k.guard k.fault_address k.cspace k.vspace c.in_ok-from.from c.in_ok-from.ensures
-    ∙ ap (λ (x : State). Ok x) (configured-state _ _ _ _ c.args.thread k.guard c.in_ok-from.from (whole.agrees, whole.stands) c.put_spaces.ensures.bytes may _ t k.fault_address
+    let passes = configure-passes (state_of c.live.inside.objects (g.S.SlotMap.slots c.live.inside.store) (g.S.SlotStore.memory c.live.inside.store))
+    c.args.root c.args.thread k.guard k.fault_address k.cspace k.vspace c.in_ok-from.from c.in_ok-from.ensures
+    ∙ ap (λ (x : State). Ok x) (configured-state _ _ _ _ c.args.thread k.guard c.in_ok-from.from (whole.agrees, whole.stands) c.put_spaces.ensures.bytes may _ t
+    k.fault_address
     c.put_spaces.ensures.slots c.set_fault_address.ensures.state) in
-    subst (λ x. configure (state_in g.S.SlotMap.slots g.S.SlotStore.memory x) c.args.root c.args.thread k.guard k.fault_address k.cspace k.vspace ≡ Ok t) c.kernel.view_is
+    subst (λ x. configure (state_in g.S.SlotMap.slots g.S.SlotStore.memory x) c.args.root c.args.thread k.guard k.fault_address k.cspace k.vspace ≡ Ok t)
+    c.kernel.view_is
     (subst (λ x. configure (state_in g.S.SlotMap.slots g.S.SlotStore.memory x) c.args.root c.args.thread k.guard k.fault_address k.cspace k.vspace ≡ Ok t)
     c.live.view_is passes)
 
@@ -92,10 +98,13 @@ invariant_of-kernel-2 g c =
     let k = c.args.spaces in
     let may = may-configure _ c.args.thread whole.sound there c.args.root k.guard k.cspace k.vspace c.in_ok-from.from c.in_ok-from.ensures in
     let t : State = state_in g.S.SlotMap.slots g.S.SlotStore.memory c.set_fault_address.new.self in
-    let passes = configure-passes (state_of c.live.inside.objects (g.S.SlotMap.slots c.live.inside.store) (g.S.SlotStore.memory c.live.inside.store)) c.args.root c.args.thread k.guard k.fault_address k.cspace k.vspace c.in_ok-from.from c.in_ok-from.ensures
-    ∙ ap (λ (x : State). Ok x) (configured-state _ _ _ _ c.args.thread k.guard c.in_ok-from.from (whole.agrees, whole.stands) c.put_spaces.ensures.bytes may _ t k.fault_address
+    let passes = configure-passes (state_of c.live.inside.objects (g.S.SlotMap.slots c.live.inside.store) (g.S.SlotStore.memory c.live.inside.store))
+    c.args.root c.args.thread k.guard k.fault_address k.cspace k.vspace c.in_ok-from.from c.in_ok-from.ensures
+    ∙ ap (λ (x : State). Ok x) (configured-state _ _ _ _ c.args.thread k.guard c.in_ok-from.from (whole.agrees, whole.stands) c.put_spaces.ensures.bytes may _ t
+    k.fault_address
     c.put_spaces.ensures.slots c.set_fault_address.ensures.state) in
-    let agrees = put-agrees _ _ _ _ c.args.thread k.guard c.in_ok-from.from (whole.agrees, whole.stands) c.put_spaces.ensures.bytes may _ c.put_spaces.ensures.slots in
+    let agrees = put-agrees _ _ _ _ c.args.thread k.guard c.in_ok-from.from (whole.agrees, whole.stands) c.put_spaces.ensures.bytes may _
+    c.put_spaces.ensures.slots in
     record {
       sound = configure-whole _ t c.args.root c.args.thread k.guard k.fault_address k.cspace k.vspace whole.sound there (omega arith) passes;
       agrees = thread-agrees _ _ c.args.thread _ _ _ agrees.0 c.set_fault_address.ensures.beside.bytes c.set_fault_address.ensures.state;

@@ -21,7 +21,8 @@ insert-requires-2-clause-room g c = λ x same.
     let slots : Slots = g.S.SlotMap.slots c.args.store.now in
     let now : Slots = g.S.SlotMap.slots c.insert.new.self in
     let room : depth_of now c.args.from.vspace < 255 =
-    room-still slots now c.new.result c.with_guard-node.result (Some c.args.from.cspace) c.args.thread c.args.from.vspace c.requires.may.derivation c.requires.may.first
+    room-still slots now c.new.result c.with_guard-node.result (Some c.args.from.cspace) c.args.thread c.args.from.vspace c.requires.may.derivation
+    c.requires.may.first
     c.new.ensures c.requires.may.vspace_full c.requires.may.vspace_room c.insert.ensures.slots in
     let e : c.args.from.vspace ≡ x = cc in
     subst (λ (y : ℕ). depth_of now y < 255) e room
@@ -37,5 +38,6 @@ insert-requires-2-clause-kin g c =
     let slots : Slots = g.S.SlotMap.slots c.args.store.now in
     let now : Slots = g.S.SlotMap.slots c.insert.new.self in
     inl (ap object_of c.capability-table.ensures.value
-    ∙ sym (object-still slots now c.new.result c.with_guard-node.result (Some c.args.from.cspace) c.args.thread c.args.from.vspace c.requires.may.first c.new.ensures c.requires.may.vspace_full
+    ∙ sym (object-still slots now c.new.result c.with_guard-node.result (Some c.args.from.cspace) c.args.thread c.args.from.vspace c.requires.may.first
+    c.new.ensures c.requires.may.vspace_full
     c.insert.ensures.slots))

@@ -21,7 +21,8 @@ wake-requires g c = record {
 pub invariant_of-kernel : goal.invariant_of-kernel
 invariant_of-kernel g c =
     let there = thread-there _ _ _ c.args.thread c.kernel.invariant.sound (held-inside g.S.SlotMap.slots c.args.thread c.kernel.view_is c.requires.held) in
-    kept _ c.kernel.invariant (beside-then c.leave.ensures.beside c.wake.ensures.beside) (search rules) (resume-whole _ c.kernel.invariant.sound c.args.thread there)
+    kept _ c.kernel.invariant (beside-then c.leave.ensures.beside c.wake.ensures.beside) (search rules)
+    (resume-whole _ c.kernel.invariant.sound c.args.thread there)
     (resume-machine _ c.args.thread)
 
 pub returns-in-Inactive : goal.returns-in-Inactive

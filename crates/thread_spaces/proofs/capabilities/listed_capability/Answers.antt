@@ -10,7 +10,8 @@ use Rattle.thread_spaces.proofs.capabilities.listed_capability.Goals as goal
 
 pub returns-then-header-entry-clause-valid : goal.returns-then-header-entry-clause-valid
 returns-then-header-entry-clause-valid c =
-    subst (λ (held : Cap). IsCapability held) (sym c.handler.ensures) (listed-valid c.args.image.now c.header.ensures.fits c.requires.formed c.args.entry c.requires.listed)
+    subst (λ (held : Cap). IsCapability held) (sym c.handler.ensures)
+    (listed-valid c.args.image.now c.header.ensures.fits c.requires.formed c.args.entry c.requires.listed)
 
 pub object_capability-requires-clause-few : goal.object_capability-requires-clause-few
 object_capability-requires-clause-few c = rights-few c.args.image.now c.args.entry c.header.ensures.fits c.requires.formed c.requires.listed
@@ -20,7 +21,8 @@ returns-clause-value c =
     let objects = ap (λ (h : ImageHeader). h.objects) c.header.ensures.value in
     let less : c.args.entry.source < c.args.image.now.header.objects = (let behind = c.if-header-entry.false in omega (arith, behind, objects)) in
     c.object_capability.ensures
-    ∙ listed-object c.args.image.now c.args.entry c.header.ensures.fits c.requires.formed c.requires.listed c.object_of-object.result _ less c.object_of-object.ensures.there (c.requires.offsets.place c.args.entry.source less)
+    ∙ listed-object c.args.image.now c.args.entry c.header.ensures.fits c.requires.formed c.requires.listed c.object_of-object.result _ less
+    c.object_of-object.ensures.there (c.requires.offsets.place c.args.entry.source less)
 
 pub returns-clause-valid : goal.returns-clause-valid
 returns-clause-valid c =
@@ -28,5 +30,6 @@ returns-clause-valid c =
     let less : c.args.entry.source < c.args.image.now.header.objects = (let behind = c.if-header-entry.false in omega (arith, behind, objects)) in
     let value : c.object_capability.result ≡ listed_capability c.args.image.now c.args.entry =
     c.object_capability.ensures
-    ∙ listed-object c.args.image.now c.args.entry c.header.ensures.fits c.requires.formed c.requires.listed c.object_of-object.result _ less c.object_of-object.ensures.there (c.requires.offsets.place c.args.entry.source less) in
+    ∙ listed-object c.args.image.now c.args.entry c.header.ensures.fits c.requires.formed c.requires.listed c.object_of-object.result _ less
+    c.object_of-object.ensures.there (c.requires.offsets.place c.args.entry.source less) in
     subst (λ (held : Cap). IsCapability held) (sym value) (listed-valid c.args.image.now c.header.ensures.fits c.requires.formed c.args.entry c.requires.listed)

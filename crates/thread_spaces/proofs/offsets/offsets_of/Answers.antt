@@ -19,7 +19,8 @@ placed-place-requires-clause-used c =
     let inside = c.object_of-untyped.ensures.fits.untyped in
     let few = c.header_of-number-end.ensures.small.untypeds in
     let header = ap (λ (h : ImageHeader). h.untypeds) c.header_of-number-end.ensures.value in
-    used-there c.args.image.now c.loop-number.number o c.loop-number.used c.object_of-untyped.ensures.there (omega (arith, inside, few, header)) c.loop-number.invariant.used
+    used-there c.args.image.now c.loop-number.number o c.loop-number.used c.object_of-untyped.ensures.there (omega (arith, inside, few, header))
+    c.loop-number.invariant.used
 
 pub loop-number-preserved : goal.loop-number-preserved
 loop-number-preserved c =
@@ -34,7 +35,8 @@ loop-number-preserved c =
     let many = c.loop-number.invariant.size in
     record {
       size = length-set used o.untyped c.placed-place.result.used ∙ many;
-      used = used-after image n o used c.placed-place.result.used c.object_of-untyped.ensures.there near many c.loop-number.invariant.used c.placed-place.ensures.used;
+      used = used-after image n o used c.placed-place.result.used c.object_of-untyped.ensures.there near many c.loop-number.invariant.used
+          c.placed-place.ensures.used;
       placed = subst (AreOffsets image (n + 1)) (sym c.in_ok-push.ensures.items)
           (placed-after image n c.placed-place.result.offset c.loop-number.offsets.items c.placed-place.ensures.offset c.loop-number.invariant.placed);
     }

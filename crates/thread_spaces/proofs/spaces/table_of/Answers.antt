@@ -11,4 +11,5 @@ bounds-offsets-header c =
 
 pub returns : goal.returns
 returns c =
-    table-place c.args.image.now c.args.thread.now c.header.ensures.fits c.requires.listed c.header-2.result c.header-2.ensures c.args.offsets.now c.requires.offsets
+    table-place c.args.image.now c.args.thread.now c.header.ensures.fits c.requires.listed c.header-2.result c.header-2.ensures c.args.offsets.now
+    c.requires.offsets

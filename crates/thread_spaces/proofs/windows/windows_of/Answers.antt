@@ -9,12 +9,14 @@ use Rattle.thread_spaces.proofs.windows.windows_of.Goals as goal
 
 pub window_of-requires-clause-cnode : goal.window_of-requires-clause-cnode
 window_of-requires-clause-cnode c =
-    cnode-at c.args.image.now c.args.thread.now c.cnodes.place c.at.result c.args.cnodes.now c.header.ensures.fits c.requires.formed c.requires.listed c.requires.cnodes c.at.ensures
+    cnode-at c.args.image.now c.args.thread.now c.cnodes.place c.at.result c.args.cnodes.now c.header.ensures.fits c.requires.formed c.requires.listed
+    c.requires.cnodes c.at.ensures
 
 pub cnodes-preserved : goal.cnodes-preserved
 cnodes-preserved c =
     subst (AreWindows c.args.image.now (take (c.cnodes.place + 1) c.args.cnodes.now)) (sym c.in_ok-push.ensures.items)
-    (windows-more c.args.image.now c.args.cnodes.now c.cnodes.windows.items c.cnodes.place c.at.result c.window_of.result c.at.ensures c.cnodes.invariant c.window_of.ensures)
+    (windows-more c.args.image.now c.args.cnodes.now c.cnodes.windows.items c.cnodes.place c.at.result c.window_of.result c.at.ensures c.cnodes.invariant
+    c.window_of.ensures)
 
 pub new-requires : goal.new-requires
 new-requires c =
@@ -24,7 +26,8 @@ new-requires c =
     let windows = c.cnodes.windows.items in
     let place = c.cnodes.place in
     let all : length c.args.cnodes.now ≤ place = subst (λ (n : ℕ). n ≤ place) c.len-place-end.ensures c.cnodes-test.false in
-    windows-apart image t windows apart (subst (λ (cnodes : List ℕ). AreWindows image cnodes windows) (take_all place c.args.cnodes.now all ∙ c.requires.cnodes) c.cnodes.invariant)
+    windows-apart image t windows apart (subst (λ (cnodes : List ℕ). AreWindows image cnodes windows) (take_all place c.args.cnodes.now all ∙ c.requires.cnodes)
+    c.cnodes.invariant)
 
 pub returns : goal.returns
 returns c =

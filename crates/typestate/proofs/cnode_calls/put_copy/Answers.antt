@@ -16,7 +16,8 @@ pub returns-then-not-may_have_child : goal.returns-then-not-may_have_child
 returns-then-not-may_have_child c = λ image t root name x y stand own are.
     let slots = slots_of c.args.slots.now in
     ap (λ (r : Result Cap KError). allowed_slots image t c.args.at (may_travel c.args.ends.held) (with_child (noted_slots image t slots) x y r)) c.in-Ok.is
-    ∙ too-deep image t c.args.at slots root name x y c.args.ends stand own are c.in-Ok.capability (may_travel c.args.ends.held) (sym c.if-not-may_have_child.ensures)
+    ∙ too-deep image t c.args.at slots root name x y c.args.ends stand own are c.in-Ok.capability (may_travel c.args.ends.held)
+    (sym c.if-not-may_have_child.ensures)
 
 pub returns : goal.returns
 returns c = λ image t root name x y stand own are.
@@ -24,4 +25,5 @@ returns c = λ image t root name x y stand own are.
     ap (λ (r : Result Cap KError). allowed_slots image t c.args.at (may_travel c.args.ends.held) (with_child (noted_slots image t slots) x y r)) c.in-Ok.is
     ∙ child-put image t c.args.at slots root name x y c.args.ends stand own are c.in-Ok.capability (may_travel c.args.ends.held)
     (changes-rise c.args.slots.now.image.now c.args.slots.now.changes.now (from-first c.args.slots.now.image.now c.args.slots.now.rising))
-    (subst (λ (r : Result Cap KError). IfOk r (λ capability. is_empty capability ≡ false)) c.in-Ok.is c.requires.made) (sym c.if-not-may_have_child.ensures) (sym c.if-not-may_travel.ensures)
+    (subst (λ (r : Result Cap KError). IfOk r (λ capability. is_empty capability ≡ false)) c.in-Ok.is c.requires.made) (sym c.if-not-may_have_child.ensures)
+    (sym c.if-not-may_travel.ensures)

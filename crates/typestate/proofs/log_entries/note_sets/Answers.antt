@@ -8,8 +8,10 @@ loop-change-init c = no-entry (λ s. Sets s) c.args.changes.now c.args.made.now.
 
 pub loop-change-preserved : goal.loop-change-preserved
 loop-change-preserved c =
-    one-more-entry (λ s. Sets s) c.args.changes.now c.loop-change.change-index c.change-item.result c.args.made.now.items c.loop-change.made.items c.push.new.self.items c.loop-change-test.true c.change-item.is
+    one-more-entry (λ s. Sets s) c.args.changes.now c.loop-change.change-index c.change-item.result c.args.made.now.items c.loop-change.made.items
+    c.push.new.self.items c.loop-change-test.true c.change-item.is
     c.loop-change.invariant c.in_ok-push.ensures.items
 
 pub returns : goal.returns
-returns c = all-entries (λ s. Sets s) c.args.changes.now c.loop-change.change-index c.args.made.now.items c.loop-change.made.items c.loop-change-test.false c.loop-change.invariant
+returns c = all-entries (λ s. Sets s) c.args.changes.now c.loop-change.change-index c.args.made.now.items c.loop-change.made.items c.loop-change-test.false
+    c.loop-change.invariant

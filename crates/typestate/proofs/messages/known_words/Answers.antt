@@ -14,8 +14,10 @@ returns-in-Err-clause-words c = λ slots measure.
     let regs = take c.args.count word_registers in
     let long : length regs ≡ c.args.count = count-words c.args.count c.requires in
     let inside : c.loop-index.index < length regs = omega arith in
-    let register : c.word_register.result ≡ get_or regs c.loop-index.index a0 = c.word_register.ensures.value ∙ sym (get_or-take c.args.count word_registers c.loop-index.index a0 c.loop-index-test.true) in
-    no-word c.args.at state regs c.loop-index.index c.loop-index.words c.in-Err.refusal inside (c.in-Err.ensures slots measure ∙ ap (known c.args.at state) register) (c.loop-index.invariant.known slots measure)
+    let register : c.word_register.result ≡ get_or regs c.loop-index.index a0 = c.word_register.ensures.value
+    ∙ sym (get_or-take c.args.count word_registers c.loop-index.index a0 c.loop-index-test.true) in
+    no-word c.args.at state regs c.loop-index.index c.loop-index.words c.in-Err.refusal inside
+    (c.in-Err.ensures slots measure ∙ ap (known c.args.at state) register) (c.loop-index.invariant.known slots measure)
 
 pub loop-index-preserved : goal.loop-index-preserved
 loop-index-preserved c = record {
@@ -26,10 +28,13 @@ loop-index-preserved c = record {
       let long : length regs ≡ c.args.count = count-words c.args.count c.requires in
       let inside : c.loop-index.index < length regs = omega arith in
       let room : c.loop-index.index < length c.loop-index.words = omega (arith, c.loop-index.invariant.long) in
-      let register : c.word_register.result ≡ get_or regs c.loop-index.index a0 = c.word_register.ensures.value ∙ sym (get_or-take c.args.count word_registers c.loop-index.index a0 c.loop-index-test.true) in
-      one-word c.args.at state regs c.loop-index.index c.loop-index.words c.in-Ok.value inside room (c.in-Ok.ensures slots measure ∙ ap (known c.args.at state) register) (c.loop-index.invariant.known slots measure);
+      let register : c.word_register.result ≡ get_or regs c.loop-index.index a0 = c.word_register.ensures.value
+      ∙ sym (get_or-take c.args.count word_registers c.loop-index.index a0 c.loop-index-test.true) in
+      one-word c.args.at state regs c.loop-index.index c.loop-index.words c.in-Ok.value inside room
+      (c.in-Ok.ensures slots measure ∙ ap (known c.args.at state) register) (c.loop-index.invariant.known slots measure);
 }
 
 pub returns-clause-words : goal.returns-clause-words
 returns-clause-words c = λ slots measure.
-    all-words c.args.at (known_with c.args.bounds.now slots measure) c.args.count c.loop-index.index c.loop-index.words c.requires (omega arith) (c.loop-index.invariant.known slots measure)
+    all-words c.args.at (known_with c.args.bounds.now slots measure) c.args.count c.loop-index.index c.loop-index.words c.requires (omega arith)
+    (c.loop-index.invariant.known slots measure)

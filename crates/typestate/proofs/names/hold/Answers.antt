@@ -10,4 +10,5 @@ returns-in_ok-insert-in-None-clause-same c = λ n.
     held-same c.args.map.now.entries c.insert.new.self.entries c.args.number n none (c.in_ok-insert-in-None.ensures.updates.0 n)
 
 pub returns-in_ok-insert-in-None-clause-kept : goal.returns-in_ok-insert-in-None-clause-kept
-returns-in_ok-insert-in-None-clause-kept c = λ n. held-kept c.args.map.now.entries c.insert.new.self.entries c.args.number c.args.number n (c.in_ok-insert-in-None.ensures.updates.0 n)
+returns-in_ok-insert-in-None-clause-kept c = λ n. held-kept c.args.map.now.entries c.insert.new.self.entries c.args.number c.args.number n
+    (c.in_ok-insert-in-None.ensures.updates.0 n)

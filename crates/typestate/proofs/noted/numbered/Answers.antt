@@ -9,7 +9,8 @@ pub returns-in-Ok : goal.returns-in-Ok
 returns-in-Ok c =
     let slots = c.args.slots.now in
     let by_key = c.in-Ok.ensures.position (λ (s : NotedSlot). number_of s.key) (answers_always _ _ _ (λ f a r g called. search rules)) in
-    ap (λ (s : NotedSlot). Some s) c.index-slots-place.is ∙ sym (searched-number slots c.args.number (Ok c.in-Ok.place) c.requires c.in-Ok.ensures.bound by_key c.index-slots-place.result)
+    ap (λ (s : NotedSlot). Some s) c.index-slots-place.is
+    ∙ sym (searched-number slots c.args.number (Ok c.in-Ok.place) c.requires c.in-Ok.ensures.bound by_key c.index-slots-place.result)
 
 pub returns-in-Err : goal.returns-in-Err
 returns-in-Err c =

@@ -8,8 +8,10 @@ use Rattle.typestate.proofs.records.capability_of.Goals as goal
 
 pub returns-in-Some-clause-value : goal.returns-in-Some-clause-value
 returns-in-Some-clause-value c =
-    ap (λ (found : Option Cap). option_map_or (λ capability. capability) found Empty) (sym (unpacked-same c.args.word0 c.args.word1 (Some c.in-Some.capability) c.in-Some.ensures.some c.in-Some.ensures.only))
+    ap (λ (found : Option Cap). option_map_or (λ capability. capability) found Empty)
+    (sym (unpacked-same c.args.word0 c.args.word1 (Some c.in-Some.capability) c.in-Some.ensures.some c.in-Some.ensures.only))
 
 pub returns-in-None-clause-value : goal.returns-in-None-clause-value
 returns-in-None-clause-value c =
-    ap (λ (found : Option Cap). option_map_or (λ capability. capability) found Empty) (sym (unpacked-same c.args.word0 c.args.word1 None c.in-None.ensures.some c.in-None.ensures.only))
+    ap (λ (found : Option Cap). option_map_or (λ capability. capability) found Empty)
+    (sym (unpacked-same c.args.word0 c.args.word1 None c.in-None.ensures.some c.in-None.ensures.only))

@@ -7,4 +7,5 @@ use Rattle.typestate.proofs.slot_changes.changes_make_slots.Goals as goal
 
 pub returns : goal.returns
 returns g = λ image t n change are.
-    changes-make n change (changes-rise n.image.now n.changes.now (from-first n.image.now n.rising)) (λ key s found. (found-own image t (slots_of n) key s are found).full)
+    changes-make n change (changes-rise n.image.now n.changes.now (from-first n.image.now n.rising))
+    (λ key s found. (found-own image t (slots_of n) key s are found).full)

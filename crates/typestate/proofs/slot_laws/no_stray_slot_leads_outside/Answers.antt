@@ -14,10 +14,12 @@ none-behind : (a b : Bool) → (a || b) ≡ false → b ≡ false
 none-behind true b clash = absurd (let no : true ≡ false = clash in cc)
 none-behind false b none = none
 
-less-passes : (some more : NotedSlot → Bool) → ((s : NotedSlot) → more s ≡ false → some s ≡ false) → (slots : List NotedSlot) → list_any more slots ≡ false → list_any some slots ≡ false
+less-passes : (some more : NotedSlot → Bool) → ((s : NotedSlot) → more s ≡ false → some s ≡ false) → (slots : List NotedSlot) → list_any more slots ≡ false →
+    list_any some slots ≡ false
 less-passes some more less [] none = refl
 less-passes some more less (s ∷ rest) none =
-    ap (λ b. b || list_any some rest) (less s (none-first (more s) (list_any more rest) none)) ∙ less-passes some more less rest (none-behind (more s) (list_any more rest) none)
+    ap (λ b. b || list_any some rest) (less s (none-first (more s) (list_any more rest) none))
+    ∙ less-passes some more less rest (none-behind (more s) (list_any more rest) none)
 
 pub returns : goal.returns
 unfolding has_stray_slots

@@ -6,7 +6,8 @@ use Rattle.untyped.proofs.placing.place.Goals as goal
 
 pub returns-then-end-size_of_bits-clause-aligned : goal.returns-then-end-size_of_bits-clause-aligned
 returns-then-end-size_of_bits-clause-aligned c =
-    let first : c.align_up-first.result ≡ align c.args.watermark (2 ^ c.args.object_bits) = cc (c.align_up-first.ensures, c.from.ensures, c.size_of_bits-object_size.ensures.value) in
+    let first : c.align_up-first.result ≡ align c.args.watermark (2 ^ c.args.object_bits) =
+    cc (c.align_up-first.ensures, c.from.ensures, c.size_of_bits-object_size.ensures.value) in
     λ i. sum_is_multiple _ _ i (2 ^ c.args.object_bits) first
 
 pub returns-then-end-size_of_bits-clause-within : goal.returns-then-end-size_of_bits-clause-within

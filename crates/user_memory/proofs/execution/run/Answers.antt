@@ -18,13 +18,17 @@ keep_reached-requires-clause-agree g c =
     let slots = g.S.SlotMap.slots in
     let memory = g.S.SlotStore.memory in
     kernel-leaves slots memory c.args.root table of_kernel
-    (usable-kernel slots memory c.args.thread c.args.root of_kernel whole (root-inside g.S.SlotMap.slots g.S.SlotStore.memory c.args.thread c.args.root of_kernel c.requires.root)) is
+    (usable-kernel slots memory c.args.thread c.args.root of_kernel whole
+    (root-inside g.S.SlotMap.slots g.S.SlotStore.memory c.args.thread c.args.root of_kernel c.requires.root)) is
 
 pub invariant_of-memory : goal.invariant_of-memory
 invariant_of-memory g c =
     let whole = whole-of g.S.SlotMap.slots g.S.SlotStore.memory c.live.inside.objects c.live.inside.store c.kernel.invariant c.live.view_is c.live.invariant in
     let of_kernel = c.live.view_is ∙ c.kernel.view_is in
-    record { usable = usable-kept g.S.SlotMap.slots g.S.SlotStore.memory c.args.thread c.args.root c.keep_reached.ensures whole (root-inside g.S.SlotMap.slots g.S.SlotStore.memory c.args.thread c.args.root of_kernel c.requires.root) }
+    record {
+      usable = usable-kept g.S.SlotMap.slots g.S.SlotStore.memory c.args.thread c.args.root c.keep_reached.ensures whole
+          (root-inside g.S.SlotMap.slots g.S.SlotStore.memory c.args.thread c.args.root of_kernel c.requires.root);
+    }
 
 pub returns-clause-outcome : goal.returns-clause-outcome
 returns-clause-outcome g c =
@@ -58,7 +62,8 @@ returns-clause-state g c =
     let view = c.exec.new.view in
     let left = state-left o view.kernel.now.tables (g.S.SlotMap.slots kept) (g.S.SlotMap.slots view.kernel.now.store) (g.S.SlotStore.memory kept)
     (g.S.SlotStore.memory view.kernel.now.store) c.args.root view.root _ _ c.exec.ensures.rest stood _ c.exec.ensures.content in
-    in-the-end (λ k. state_in g.S.SlotMap.slots g.S.SlotStore.memory k ≡ with_content s (effect c.args.registers.now (content_of s c.args.thread) c.args.instruction).content)
+    in-the-end (λ k. state_in g.S.SlotMap.slots g.S.SlotStore.memory k ≡ with_content s
+    (effect c.args.registers.now (content_of s c.args.thread) c.args.instruction).content)
     _ view.kernel.now _ view.kernel.ghost_name (search rules) (sym (ap (λ (b : Beside). b.store) c.exec.ensures.rest))
     (left
     ∙ ap (λ k. let t = state_in g.S.SlotMap.slots g.S.SlotStore.memory k in

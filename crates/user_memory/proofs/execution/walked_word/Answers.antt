@@ -18,19 +18,26 @@ keep_page-requires g c =
     let slots = g.S.SlotMap.slots in
     let memory = g.S.SlotStore.memory in
     kernel-leaves slots memory c.args.root table of_kernel
-    (usable-kernel slots memory c.args.thread c.args.root of_kernel whole (root-inside g.S.SlotMap.slots g.S.SlotStore.memory c.args.thread c.args.root of_kernel c.requires.root)) is
+    (usable-kernel slots memory c.args.thread c.args.root of_kernel whole
+    (root-inside g.S.SlotMap.slots g.S.SlotStore.memory c.args.thread c.args.root of_kernel c.requires.root)) is
 
 pub invariant_of-space : goal.invariant_of-space
 invariant_of-space g c =
     let whole = whole-of g.S.SlotMap.slots g.S.SlotStore.memory c.live.inside.objects c.live.inside.store c.kernel.invariant c.live.view_is c.live.invariant in
     let of_kernel = c.live.view_is ∙ c.kernel.view_is in
-    record { usable = usable-kept g.S.SlotMap.slots g.S.SlotStore.memory c.args.thread c.args.root c.keep_page.ensures whole (root-inside g.S.SlotMap.slots g.S.SlotStore.memory c.args.thread c.args.root of_kernel c.requires.root) }
+    record {
+      usable = usable-kept g.S.SlotMap.slots g.S.SlotStore.memory c.args.thread c.args.root c.keep_page.ensures whole
+          (root-inside g.S.SlotMap.slots g.S.SlotStore.memory c.args.thread c.args.root of_kernel c.requires.root);
+    }
 
 pub invariant_of-space-else-address-eq0 : goal.invariant_of-space-else-address-eq0
 invariant_of-space-else-address-eq0 g c =
     let whole = whole-of g.S.SlotMap.slots g.S.SlotStore.memory c.live.inside.objects c.live.inside.store c.kernel.invariant c.live.view_is c.live.invariant in
     let of_kernel = c.live.view_is ∙ c.kernel.view_is in
-    record { usable = usable-kept g.S.SlotMap.slots g.S.SlotStore.memory c.args.thread c.args.root c.keep_page.ensures whole (root-inside g.S.SlotMap.slots g.S.SlotStore.memory c.args.thread c.args.root of_kernel c.requires.root) }
+    record {
+      usable = usable-kept g.S.SlotMap.slots g.S.SlotStore.memory c.args.thread c.args.root c.keep_page.ensures whole
+          (root-inside g.S.SlotMap.slots g.S.SlotStore.memory c.args.thread c.args.root of_kernel c.requires.root);
+    }
 
 pub returns-then-address-eq0-clause-value : goal.returns-then-address-eq0-clause-value
 returns-then-address-eq0-clause-value g c =

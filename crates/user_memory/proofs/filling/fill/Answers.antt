@@ -12,7 +12,8 @@ use Rattle.cnode_ops.proofs.Laws.{consistent-of, whole-of}
 
 pub returns-then-not-may_fill-clause-outcome : goal.returns-then-not-may_fill-clause-outcome
 returns-then-not-may_fill-clause-outcome g c =
-    not-filled (state_in g.S.SlotMap.slots g.S.SlotStore.memory c.args.kernel.now) c.args.offset c.args.bytes.now (sym c.may_fill.ensures ∙ c.if-not-may_fill.true)
+    not-filled (state_in g.S.SlotMap.slots g.S.SlotStore.memory c.args.kernel.now) c.args.offset c.args.bytes.now
+    (sym c.may_fill.ensures ∙ c.if-not-may_fill.true)
 
 pub write_bytes-requires-clause-within : goal.write_bytes-requires-clause-within
 write_bytes-requires-clause-within g c =
@@ -20,7 +21,8 @@ write_bytes-requires-clause-within g c =
     let of_kernel = c.live.view_is ∙ c.kernel.view_is in
     let may = subst (λ k. may_fill (state_in g.S.SlotMap.slots g.S.SlotStore.memory k) c.args.offset (length c.args.bytes.now) ≡ true) (sym of_kernel)
     (sym c.may_fill.ensures ∙ c.if-not-may_fill.false) in
-    fill-within (state_of c.live.inside.objects (g.S.SlotMap.slots c.live.inside.store) (g.S.SlotStore.memory c.live.inside.store)) (g.S.SlotStore.memory c.live.inside.store)
+    fill-within (state_of c.live.inside.objects (g.S.SlotMap.slots c.live.inside.store) (g.S.SlotStore.memory c.live.inside.store))
+    (g.S.SlotStore.memory c.live.inside.store)
     c.args.offset (length c.args.bytes.now) whole.agrees whole.sound may
 
 pub write_bytes-requires-clause-most : goal.write_bytes-requires-clause-most
@@ -29,7 +31,8 @@ write_bytes-requires-clause-most g c =
     let of_kernel = c.live.view_is ∙ c.kernel.view_is in
     let may = subst (λ k. may_fill (state_in g.S.SlotMap.slots g.S.SlotStore.memory k) c.args.offset (length c.args.bytes.now) ≡ true) (sym of_kernel)
     (sym c.may_fill.ensures ∙ c.if-not-may_fill.false) in
-    fill-most (state_of c.live.inside.objects (g.S.SlotMap.slots c.live.inside.store) (g.S.SlotStore.memory c.live.inside.store)) (g.S.SlotStore.memory c.live.inside.store)
+    fill-most (state_of c.live.inside.objects (g.S.SlotMap.slots c.live.inside.store) (g.S.SlotStore.memory c.live.inside.store))
+    (g.S.SlotStore.memory c.live.inside.store)
     c.args.offset (length c.args.bytes.now) whole.agrees whole.sound may
 
 pub write_bytes-requires-clause-outside : goal.write_bytes-requires-clause-outside
@@ -39,7 +42,8 @@ write_bytes-requires-clause-outside g c =
     let of_kernel = c.live.view_is ∙ c.kernel.view_is in
     let may = subst (λ k. may_fill (state_in g.S.SlotMap.slots g.S.SlotStore.memory k) c.args.offset (length c.args.bytes.now) ≡ true) (sym of_kernel)
     (sym c.may_fill.ensures ∙ c.if-not-may_fill.false) in
-    fill-outside (state_of c.live.inside.objects (g.S.SlotMap.slots c.live.inside.store) (g.S.SlotStore.memory c.live.inside.store)) (g.S.SlotStore.memory c.live.inside.store)
+    fill-outside (state_of c.live.inside.objects (g.S.SlotMap.slots c.live.inside.store) (g.S.SlotStore.memory c.live.inside.store))
+    (g.S.SlotStore.memory c.live.inside.store)
     c.args.offset (length c.args.bytes.now) whole.agrees whole.sound may
 
 pub returns-clause-outcome : goal.returns-clause-outcome
@@ -50,7 +54,8 @@ returns-clause-outcome g c =
     (sym c.may_fill.ensures ∙ c.if-not-may_fill.false) in
     subst (λ k. fill (state_in g.S.SlotMap.slots g.S.SlotStore.memory k) c.args.offset c.args.bytes.now
     ≡ Some (state_of c.live.inside.objects (g.S.SlotMap.slots c.write_bytes.new.store) (g.S.SlotStore.memory c.write_bytes.new.store))) of_kernel
-    (fill-done c.live.inside.objects (g.S.SlotMap.slots c.live.inside.store) (g.S.SlotStore.memory c.live.inside.store) (g.S.SlotStore.memory c.write_bytes.new.store)
+    (fill-done c.live.inside.objects (g.S.SlotMap.slots c.live.inside.store) (g.S.SlotStore.memory c.live.inside.store)
+    (g.S.SlotStore.memory c.write_bytes.new.store)
     c.args.offset c.args.bytes.now c.write_bytes.ensures.bytes whole.agrees whole.sound whole.stands may
     ∙ ap (λ (n : Slots). Some (state_of c.live.inside.objects n (g.S.SlotStore.memory c.write_bytes.new.store))) (sym c.write_bytes.ensures.slots))
 
@@ -62,7 +67,8 @@ invariant_of-live g c =
     let may = subst (λ k. may_fill (state_in g.S.SlotMap.slots g.S.SlotStore.memory k) c.args.offset (length c.args.bytes.now) ≡ true) (sym of_kernel)
     (sym c.may_fill.ensures ∙ c.if-not-may_fill.false) in
     subst (λ (n : Slots). IsWhole c.live.inside.objects n (g.S.SlotStore.memory c.write_bytes.new.store)) (sym c.write_bytes.ensures.slots)
-    (filled-whole c.live.inside.objects (g.S.SlotMap.slots c.live.inside.store) (g.S.SlotStore.memory c.live.inside.store) (g.S.SlotStore.memory c.write_bytes.new.store)
+    (filled-whole c.live.inside.objects (g.S.SlotMap.slots c.live.inside.store) (g.S.SlotStore.memory c.live.inside.store)
+    (g.S.SlotStore.memory c.write_bytes.new.store)
     c.args.offset c.args.bytes.now c.write_bytes.ensures.bytes whole (all-small c.args.bytes.now (λ i. omega (arith, c.type_inv.bytes i))) may)).stands
 
 pub invariant_of-kernel : goal.invariant_of-kernel
@@ -73,5 +79,6 @@ invariant_of-kernel g c =
     let may = subst (λ k. may_fill (state_in g.S.SlotMap.slots g.S.SlotStore.memory k) c.args.offset (length c.args.bytes.now) ≡ true) (sym of_kernel)
     (sym c.may_fill.ensures ∙ c.if-not-may_fill.false) in
     subst (λ (n : Slots). IsWhole c.live.inside.objects n (g.S.SlotStore.memory c.write_bytes.new.store)) (sym c.write_bytes.ensures.slots)
-    (filled-whole c.live.inside.objects (g.S.SlotMap.slots c.live.inside.store) (g.S.SlotStore.memory c.live.inside.store) (g.S.SlotStore.memory c.write_bytes.new.store)
+    (filled-whole c.live.inside.objects (g.S.SlotMap.slots c.live.inside.store) (g.S.SlotStore.memory c.live.inside.store)
+    (g.S.SlotStore.memory c.write_bytes.new.store)
     c.args.offset c.args.bytes.now c.write_bytes.ensures.bytes whole (all-small c.args.bytes.now (λ i. omega (arith, c.type_inv.bytes i))) may))

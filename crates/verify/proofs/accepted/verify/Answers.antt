@@ -12,29 +12,34 @@ use Rattle.verify.proofs.accepted.verify.Goals as goal
 pub returns-in_err-image-clause-refused : goal.returns-in_err-image-clause-refused
 returns-in_err-image-clause-refused c =
     let p = err_from_is_err_and c.from_residual.result c.from_residual.ensures.1 in
-    told (λ refusal. (refusal ≡ OutOfMemory) ⊎ (first_breach c.args.bytes.now ≡ Some refusal)) c.from_residual.result c.in_err-image.field-0.0 (p.1 ∙ ap (λ (r : Refusal). Err r) p.2)
+    told (λ refusal. (refusal ≡ OutOfMemory) ⊎ (first_breach c.args.bytes.now ≡ Some refusal)) c.from_residual.result c.in_err-image.field-0.0
+    (p.1 ∙ ap (λ (r : Refusal). Err r) p.2)
     (inr (unread-first c.args.bytes.now c.in_err-image.field-0.0 (sym c.in_err-image.was ∙ c.read.ensures)))
 
 pub returns-in_err-image-clause-complete : goal.returns-in_err-image-clause-complete
 returns-in_err-image-clause-complete c = λ image is.
     let p = err_from_is_err_and c.from_residual.result c.from_residual.ensures.1 in
     told (λ refusal. refusal ≡ OutOfMemory) c.from_residual.result c.in_err-image.field-0.0 (p.1 ∙ ap (λ (r : Refusal). Err r) p.2)
-    (only-memory c.args.bytes.now image c.in_err-image.field-0.0 (inr (unread-first c.args.bytes.now c.in_err-image.field-0.0 (sym c.in_err-image.was ∙ c.read.ensures))) is)
+    (only-memory c.args.bytes.now image c.in_err-image.field-0.0
+    (inr (unread-first c.args.bytes.now c.in_err-image.field-0.0 (sym c.in_err-image.was ∙ c.read.ensures))) is)
 
 pub returns-in_err-image-clause-unread : goal.returns-in_err-image-clause-unread
 returns-in_err-image-clause-unread c =
     let bytes = c.args.bytes.now in
     let r = c.from_residual.result in
     let p = err_from_is_err_and r c.from_residual.ensures.1 in
-    told (λ (refusal : Refusal). r ≡ Err refusal) (reading whole_image bytes) c.in_err-image.field-0.0 (sym (sym c.in_err-image.was ∙ c.read.ensures)) (p.1 ∙ ap (λ (refusal : Refusal). Err refusal) p.2)
+    told (λ (refusal : Refusal). r ≡ Err refusal) (reading whole_image bytes) c.in_err-image.field-0.0 (sym (sym c.in_err-image.was ∙ c.read.ensures))
+    (p.1 ∙ ap (λ (refusal : Refusal). Err refusal) p.2)
 
 pub returns-in_err-check-clause-unread : goal.returns-in_err-check-clause-unread
-returns-in_err-check-clause-unread c = untold c.args.bytes.now c.in_ok-image.image (λ refusal. c.from_residual-in_err-check.result ≡ Err refusal) (sym c.in_ok-image.was ∙ c.read.ensures)
+returns-in_err-check-clause-unread c = untold c.args.bytes.now c.in_ok-image.image (λ refusal. c.from_residual-in_err-check.result ≡ Err refusal)
+    (sym c.in_ok-image.was ∙ c.read.ensures)
 
 pub returns-in_err-check-clause-refused : goal.returns-in_err-check-clause-refused
 returns-in_err-check-clause-refused c =
     let p = err_from_is_err_and c.from_residual-in_err-check.result c.from_residual-in_err-check.ensures.1 in
-    told (λ refusal. (refusal ≡ OutOfMemory) ⊎ (first_breach c.args.bytes.now ≡ Some refusal)) c.from_residual-in_err-check.result c.in_err-check.field-0.0 (p.1 ∙ ap (λ (r : Refusal). Err r) p.2)
+    told (λ refusal. (refusal ≡ OutOfMemory) ⊎ (first_breach c.args.bytes.now ≡ Some refusal)) c.from_residual-in_err-check.result c.in_err-check.field-0.0
+    (p.1 ∙ ap (λ (r : Refusal). Err r) p.2)
     (breach-told c.args.bytes.now c.in_ok-image.image c.in_err-check.field-0.0 (sym c.in_ok-image.was ∙ c.read.ensures) c.in_err-check.ensures.refused)
 
 pub returns-in_err-check-clause-complete : goal.returns-in_err-check-clause-complete
@@ -46,7 +51,8 @@ returns-in_err-check-clause-complete c = λ image is.
 
 pub returns-clause-accepted : goal.returns-clause-accepted
 returns-clause-accepted c =
-    accepted c.args.bytes.now c.in_ok-image.image (λ i. omega (arith, c.type_inv.bytes i)) (sym c.read.ensures ∙ c.in_ok-image.was) c.in_ok-check.ensures.formed c.in_ok-check.ensures.programs
+    accepted c.args.bytes.now c.in_ok-image.image (λ i. omega (arith, c.type_inv.bytes i)) (sym c.read.ensures ∙ c.in_ok-image.was) c.in_ok-check.ensures.formed
+    c.in_ok-check.ensures.programs
 
 pub returns-clause-starts : goal.returns-clause-starts
 returns-clause-starts c = λ t listed. c.threads_start_as_certified.ensures c.args.bytes.now c.in_ok-image.image t (returns-clause-accepted c) listed

@@ -33,10 +33,13 @@ slots-smaller g c =
     let now : Slots = g.S.SlotMap.slots c.slots.store in
     let next : Slots = g.S.SlotMap.slots c.end_table.new.store in
     let order : List ℕ = g.S.SlotStore.order c.slots.store in
-    let is : Some c.in-Some.slot ≡ next_in (naming order now c.args.table) c.slots.at = ◌∙◌ {c = next_in (naming order now c.args.table) c.slots.at} (sym c.in-Some.is) c.next_naming.ensures.next in
+    let is : Some c.in-Some.slot ≡ next_in (naming order now c.args.table) c.slots.at =
+    ◌∙◌ {c = next_in (naming order now c.args.table) c.slots.at} (sym c.in-Some.is) c.next_naming.ensures.next in
     let less = step-less now next c.in-Some.slot c.args.offset c.end_table.ensures.slots in
-    subst (λ (l : List ℕ). length (behind (naming l next c.args.table) (Some c.in-Some.slot)) < length (behind (naming order now c.args.table) c.slots.at)) (sym c.end_table.ensures.order)
-    (named-fewer order now c.args.table c.next_naming.ensures.lists (is_ending c.args.offset) c.slots.at c.slots.invariant.named c.in-Some.slot is next (less-names now next less c.args.table))
+    subst (λ (l : List ℕ). length (behind (naming l next c.args.table) (Some c.in-Some.slot)) < length (behind (naming order now c.args.table) c.slots.at))
+    (sym c.end_table.ensures.order)
+    (named-fewer order now c.args.table c.next_naming.ensures.lists (is_ending c.args.offset) c.slots.at c.slots.invariant.named c.in-Some.slot is next
+    (less-names now next less c.args.table))
 
 pub slots-preserved : goal.slots-preserved
 slots-preserved g c =
@@ -44,11 +47,13 @@ slots-preserved g c =
     let now : Slots = g.S.SlotMap.slots c.slots.store in
     let next : Slots = g.S.SlotMap.slots c.end_table.new.store in
     let order : List ℕ = g.S.SlotStore.order c.slots.store in
-    let is : Some c.in-Some.slot ≡ next_in (naming order now c.args.table) c.slots.at = ◌∙◌ {c = next_in (naming order now c.args.table) c.slots.at} (sym c.in-Some.is) c.next_naming.ensures.next in
+    let is : Some c.in-Some.slot ≡ next_in (naming order now c.args.table) c.slots.at =
+    ◌∙◌ {c = next_in (naming order now c.args.table) c.slots.at} (sym c.in-Some.is) c.next_naming.ensures.next in
     let less = step-less now next c.in-Some.slot c.args.offset c.end_table.ensures.slots in
     record {
       named = subst (λ (l : List ℕ). NamedSoFar (is_ending c.args.offset) l next c.args.table (Some c.in-Some.slot)) (sym c.end_table.ensures.order)
-          (named-next order now c.args.table c.next_naming.ensures.lists (is_ending c.args.offset) c.slots.at c.slots.invariant.named c.in-Some.slot is next (less-names now next less c.args.table)
+          (named-next order now c.args.table c.next_naming.ensures.lists (is_ending c.args.offset) c.slots.at c.slots.invariant.named c.in-Some.slot is next
+          (less-names now next less c.args.table)
           c.in-Some.ensures.found_known (less-ending now next less c.args.offset) (step-ended now next c.in-Some.slot c.args.offset c.end_table.ensures.slots));
       ending = goes_on now next c.in-Some.slot c.slots.invariant.ending c.end_table.ensures.slots;
       bytes = beside-then old now (g.S.SlotStore.memory c.args.store.now) (g.S.SlotStore.memory c.slots.store) (g.S.SlotStore.memory c.end_table.new.store)
@@ -60,8 +65,10 @@ slots-preserved g c =
 pub returns-in_default-clause-ended : goal.returns-in_default-clause-ended
 returns-in_default-clause-ended g c = λ slot m held.
     let is : None ≡ next_in (naming (g.S.SlotStore.order c.slots.store) (g.S.SlotMap.slots c.slots.store) c.args.table) c.slots.at =
-    ◌∙◌ {c = next_in (naming (g.S.SlotStore.order c.slots.store) (g.S.SlotMap.slots c.slots.store) c.args.table) c.slots.at} (sym c.in_default.is) c.next_naming.ensures.next in
+    ◌∙◌ {c = next_in (naming (g.S.SlotStore.order c.slots.store) (g.S.SlotMap.slots c.slots.store) c.args.table) c.slots.at} (sym c.in_default.is)
+    c.next_naming.ensures.next in
     let names = ap (names_object c.args.table) held ∙ eq-eqb c.args.table c.args.table refl in
     sym (ap (is_ending c.args.offset) held)
-    ∙ named-last (g.S.SlotStore.order c.slots.store) (g.S.SlotMap.slots c.slots.store) c.args.table c.next_naming.ensures.lists (is_ending c.args.offset) c.slots.at c.slots.invariant.named
+    ∙ named-last (g.S.SlotStore.order c.slots.store) (g.S.SlotMap.slots c.slots.store) c.args.table c.next_naming.ensures.lists (is_ending c.args.offset)
+    c.slots.at c.slots.invariant.named
     is slot names

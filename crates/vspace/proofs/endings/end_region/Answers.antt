@@ -12,7 +12,8 @@ returns-in_default-clause-slots g c = begins (g.S.SlotMap.slots c.args.store.now
 pub returns-in_default-clause-gone : goal.returns-in_default-clause-gone
 returns-in_default-clause-gone g c = λ table maps.
     let some : table_in c.mem.result.now c.args.root c.args.region ≡ Some table =
-    pointer-found (g.S.SlotMap.slots c.args.store.now) (g.S.SlotStore.memory c.args.store.now) c.mem.result.now c.args.root c.args.region table c.requires.agree c.mem.ensures maps in
+    pointer-found (g.S.SlotMap.slots c.args.store.now) (g.S.SlotStore.memory c.args.store.now) c.mem.result.now c.args.root c.args.region table c.requires.agree
+    c.mem.ensures maps in
     let none : None ≡ table_in c.mem.result.now c.args.root c.args.region = c.in_default.ensures.value in
     absurd cc
 

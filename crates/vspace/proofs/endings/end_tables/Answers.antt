@@ -36,7 +36,8 @@ regions-preserved g c =
 
 pub returns-clause-slots : goal.returns-clause-slots
 returns-clause-slots g c =
-    ending-all (g.S.SlotMap.slots c.args.store.now) (g.S.SlotStore.memory c.args.store.now) c.requires.agree c.args.offset (g.S.SlotMap.slots c.regions.store) c.regions.invariant.ending
+    ending-all (g.S.SlotMap.slots c.args.store.now) (g.S.SlotStore.memory c.args.store.now) c.requires.agree c.args.offset (g.S.SlotMap.slots c.regions.store)
+    c.regions.invariant.ending
     (none-ending (g.S.SlotMap.slots c.regions.store) (g.S.SlotStore.memory c.regions.store) c.regions.invariant.agree c.args.offset c.regions.invariant.itself
     (λ region less. c.regions.invariant.passed region (omega (arith, less, c.regions-test.false))))
 

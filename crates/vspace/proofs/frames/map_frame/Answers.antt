@@ -21,18 +21,24 @@ pub returns-clause-bytes : goal.returns-clause-bytes
 returns-clause-bytes g c =
     let found = c.in-Ok.found in
     let entry = c.in-Ok.ensures.answer.1 in
-    word-beside (g.S.SlotMap.slots c.args.store.now) (g.S.SlotMap.slots c.write32.new.self) (g.S.SlotMap.slots c.set_cap.new.self) (g.S.SlotStore.memory c.args.store.now) (g.S.SlotStore.memory c.write32.new.self) (g.S.SlotStore.memory c.set_cap.new.self) c.args.frame.slot found.0 c.leaf_word.result (Frame c.args.frame.offset c.args.frame.rights (Some found.1)) entry.table (found.1.page % 2 ^ 10) (record {
+    word-beside (g.S.SlotMap.slots c.args.store.now) (g.S.SlotMap.slots c.write32.new.self) (g.S.SlotMap.slots c.set_cap.new.self)
+    (g.S.SlotStore.memory c.args.store.now) (g.S.SlotStore.memory c.write32.new.self) (g.S.SlotStore.memory c.set_cap.new.self) c.args.frame.slot found.0
+    c.leaf_word.result (Frame c.args.frame.offset c.args.frame.rights (Some found.1)) entry.table (found.1.page % 2 ^ 10) (record {
       kept = c.write32.ensures.slots;
       wrote = c.write32.ensures.bytes;
       changed = c.set_cap.ensures.slots;
       same = c.set_cap.ensures.bytes;
-    }) (names-table (g.S.SlotMap.slots c.args.store.now) entry.maps.slot entry.table _ entry.maps.held) (table-of_page _ (g.S.SlotStore.memory c.args.store.now) found.1.root found.1.page found.0 c.requires.agree entry) (index_small found.1.page) entry.here
+    }) (names-table (g.S.SlotMap.slots c.args.store.now) entry.maps.slot entry.table _ entry.maps.held)
+    (table-of_page _ (g.S.SlotStore.memory c.args.store.now) found.1.root found.1.page found.0 c.requires.agree entry) (index_small found.1.page) entry.here
 
 pub returns-clause-agree : goal.returns-clause-agree
 returns-clause-agree g c =
     let found = c.in-Ok.found in
     let answer = c.in-Ok.ensures.answer in
-    map-done (g.S.SlotMap.slots c.args.store.now) (g.S.SlotMap.slots c.write32.new.self) (g.S.SlotMap.slots c.set_cap.new.self) (g.S.SlotStore.memory c.args.store.now) (g.S.SlotStore.memory c.write32.new.self) (g.S.SlotStore.memory c.set_cap.new.self) c.args.frame.slot c.args.frame.offset found.0 c.leaf_word.result c.args.frame.rights c.args.frame.mapping found.1 c.requires.agree answer.0 c.requires.held answer.2 c.requires.within answer.1 c.leaf_word.ensures (record {
+    map-done (g.S.SlotMap.slots c.args.store.now) (g.S.SlotMap.slots c.write32.new.self) (g.S.SlotMap.slots c.set_cap.new.self)
+    (g.S.SlotStore.memory c.args.store.now) (g.S.SlotStore.memory c.write32.new.self) (g.S.SlotStore.memory c.set_cap.new.self) c.args.frame.slot
+    c.args.frame.offset found.0 c.leaf_word.result c.args.frame.rights c.args.frame.mapping found.1 c.requires.agree answer.0 c.requires.held answer.2
+    c.requires.within answer.1 c.leaf_word.ensures (record {
       kept = c.write32.ensures.slots;
       wrote = c.write32.ensures.bytes;
       changed = c.set_cap.ensures.slots;
@@ -44,4 +50,5 @@ write32-requires-clause-outside g c =
     let found = c.in-Ok.found in
     let entry = c.in-Ok.ensures.answer.1 in
     let memory = g.S.SlotStore.memory c.args.store.now in
-    entry-outside (g.S.SlotMap.slots c.args.store.now) memory entry.table (found.1.page % 2 ^ 10) found.0 (table-of_page _ memory found.1.root found.1.page found.0 c.requires.agree entry) (index_small found.1.page) entry.here
+    entry-outside (g.S.SlotMap.slots c.args.store.now) memory entry.table (found.1.page % 2 ^ 10) found.0
+    (table-of_page _ memory found.1.root found.1.page found.0 c.requires.agree entry) (index_small found.1.page) entry.here

@@ -16,7 +16,9 @@ returns-clause-agree g c =
     let now = g.S.SlotMap.slots c.clear_region.new.store in
     let was = c.requires.held ∙ ap (λ (o : Option TableMapping). PageTable c.args.table.offset o) c.in-Some.is in
     let held = table-held old now m c.args.table.slot c.args.table.offset (Some m) c.clear_region.ensures.slots was in
-    unmap_table-done old now (g.S.SlotMap.slots c.write32.new.self) (g.S.SlotMap.slots c.set_cap.new.self) (g.S.SlotStore.memory c.clear_region.new.store) (g.S.SlotStore.memory c.write32.new.self) (g.S.SlotStore.memory c.set_cap.new.self) c.args.table.slot c.args.table.offset m c.clear_region.ensures.agree c.clear_region.ensures.slots held (record {
+    unmap_table-done old now (g.S.SlotMap.slots c.write32.new.self) (g.S.SlotMap.slots c.set_cap.new.self) (g.S.SlotStore.memory c.clear_region.new.store)
+    (g.S.SlotStore.memory c.write32.new.self) (g.S.SlotStore.memory c.set_cap.new.self) c.args.table.slot c.args.table.offset m c.clear_region.ensures.agree
+    c.clear_region.ensures.slots held (record {
       kept = c.write32.ensures.slots;
       wrote = c.write32.ensures.bytes;
       changed = c.set_cap.ensures.slots;
@@ -32,9 +34,13 @@ returns-clause-bytes g c =
     let was = c.requires.held ∙ ap (λ (o : Option TableMapping). PageTable c.args.table.offset o) c.in-Some.is in
     let held = table-held old now m c.args.table.slot c.args.table.offset (Some m) c.clear_region.ensures.slots was in
     let agree = c.clear_region.ensures.agree in
-    beside-then old now (g.S.SlotStore.memory c.args.store.now) memory (g.S.SlotStore.memory c.set_cap.new.self) (fewer-region old now m c.clear_region.ensures.slots) c.clear_region.ensures.bytes (word-beside now (g.S.SlotMap.slots c.write32.new.self) (g.S.SlotMap.slots c.set_cap.new.self) memory (g.S.SlotStore.memory c.write32.new.self) (g.S.SlotStore.memory c.set_cap.new.self) c.args.table.slot (m.root + 4 * m.region) 0 (PageTable c.args.table.offset None) m.root m.region (record {
+    beside-then old now (g.S.SlotStore.memory c.args.store.now) memory (g.S.SlotStore.memory c.set_cap.new.self)
+    (fewer-region old now m c.clear_region.ensures.slots) c.clear_region.ensures.bytes
+    (word-beside now (g.S.SlotMap.slots c.write32.new.self) (g.S.SlotMap.slots c.set_cap.new.self) memory (g.S.SlotStore.memory c.write32.new.self)
+    (g.S.SlotStore.memory c.set_cap.new.self) c.args.table.slot (m.root + 4 * m.region) 0 (PageTable c.args.table.offset None) m.root m.region (record {
       kept = c.write32.ensures.slots;
       wrote = c.write32.ensures.bytes;
       changed = c.set_cap.ensures.slots;
       same = c.set_cap.ensures.bytes;
-    }) (names-mapped_root now c.args.table.slot c.args.table.offset m held) (agree.mapped_roots c.args.table.slot c.args.table.offset m held) (region_small now memory agree c.args.table.slot c.args.table.offset m held) refl)
+    }) (names-mapped_root now c.args.table.slot c.args.table.offset m held) (agree.mapped_roots c.args.table.slot c.args.table.offset m held)
+    (region_small now memory agree c.args.table.slot c.args.table.offset m held) refl)

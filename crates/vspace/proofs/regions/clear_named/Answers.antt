@@ -31,9 +31,11 @@ slots-smaller g c =
     let now : Slots = g.S.SlotMap.slots c.slots.store in
     let next : Slots = g.S.SlotMap.slots c.clear_frame.new.store in
     let order : List ℕ = g.S.SlotStore.order c.slots.store in
-    let is : Some c.in-Some.slot ≡ next_in (naming order now c.args.frame) c.slots.at = ◌∙◌ {c = next_in (naming order now c.args.frame) c.slots.at} (sym c.in-Some.is) c.next_naming.ensures.next in
+    let is : Some c.in-Some.slot ≡ next_in (naming order now c.args.frame) c.slots.at =
+    ◌∙◌ {c = next_in (naming order now c.args.frame) c.slots.at} (sym c.in-Some.is) c.next_naming.ensures.next in
     let partly = partly-cleared now next c.in-Some.slot c.args.region c.clear_frame.ensures.slots in
-    subst (λ (l : List ℕ). length (behind (naming l next c.args.frame) (Some c.in-Some.slot)) < length (behind (naming order now c.args.frame) c.slots.at)) (sym c.clear_frame.ensures.order)
+    subst (λ (l : List ℕ). length (behind (naming l next c.args.frame) (Some c.in-Some.slot)) < length (behind (naming order now c.args.frame) c.slots.at))
+    (sym c.clear_frame.ensures.order)
     (named-fewer order now c.args.frame c.next_naming.ensures.lists (lies_in_region c.args.region) c.slots.at c.slots.invariant.named c.in-Some.slot is next
     (partly-names now next c.args.region partly c.args.frame))
 
@@ -43,19 +45,24 @@ slots-preserved g c =
     let now : Slots = g.S.SlotMap.slots c.slots.store in
     let next : Slots = g.S.SlotMap.slots c.clear_frame.new.store in
     let order : List ℕ = g.S.SlotStore.order c.slots.store in
-    let is : Some c.in-Some.slot ≡ next_in (naming order now c.args.frame) c.slots.at = ◌∙◌ {c = next_in (naming order now c.args.frame) c.slots.at} (sym c.in-Some.is) c.next_naming.ensures.next in
+    let is : Some c.in-Some.slot ≡ next_in (naming order now c.args.frame) c.slots.at =
+    ◌∙◌ {c = next_in (naming order now c.args.frame) c.slots.at} (sym c.in-Some.is) c.next_naming.ensures.next in
     let partly = partly-cleared now next c.in-Some.slot c.args.region c.clear_frame.ensures.slots in
     record {
       named = subst (λ (l : List ℕ). NamedSoFar (lies_in_region c.args.region) l next c.args.frame (Some c.in-Some.slot)) (sym c.clear_frame.ensures.order)
-          (named-next order now c.args.frame c.next_naming.ensures.lists (lies_in_region c.args.region) c.slots.at c.slots.invariant.named c.in-Some.slot is next
-          (partly-names now next c.args.region partly c.args.frame) c.in-Some.ensures.found_known (partly-outside now next c.args.region partly) (slot-cleared now next c.in-Some.slot c.args.region c.clear_frame.ensures.slots));
+          (named-next order now c.args.frame c.next_naming.ensures.lists (lies_in_region c.args.region) c.slots.at c.slots.invariant.named c.in-Some.slot is
+          next
+          (partly-names now next c.args.region partly c.args.frame) c.in-Some.ensures.found_known (partly-outside now next c.args.region partly)
+          (slot-cleared now next c.in-Some.slot c.args.region c.clear_frame.ensures.slots));
       partly = partly-then old now next c.args.region c.slots.invariant.partly partly;
-      bytes = beside-then old now (g.S.SlotStore.memory c.args.store.now) (g.S.SlotStore.memory c.slots.store) (g.S.SlotStore.memory c.clear_frame.new.store) (fewer-partly old now c.args.region c.slots.invariant.partly) c.slots.invariant.bytes c.clear_frame.ensures.bytes;
+      bytes = beside-then old now (g.S.SlotStore.memory c.args.store.now) (g.S.SlotStore.memory c.slots.store) (g.S.SlotStore.memory c.clear_frame.new.store)
+          (fewer-partly old now c.args.region c.slots.invariant.partly) c.slots.invariant.bytes c.clear_frame.ensures.bytes;
       order = c.clear_frame.ensures.order ∙ c.slots.invariant.order;
       agree = c.clear_frame.ensures.agree;
     }
 
 pub returns-in_default-clause-named : goal.returns-in_default-clause-named
 returns-in_default-clause-named g c =
-    named-last (g.S.SlotStore.order c.slots.store) (g.S.SlotMap.slots c.slots.store) c.args.frame c.next_naming.ensures.lists (lies_in_region c.args.region) c.slots.at c.slots.invariant.named
+    named-last (g.S.SlotStore.order c.slots.store) (g.S.SlotMap.slots c.slots.store) c.args.frame c.next_naming.ensures.lists (lies_in_region c.args.region)
+    c.slots.at c.slots.invariant.named
     (sym c.in_default.is ∙ c.next_naming.ensures.next)

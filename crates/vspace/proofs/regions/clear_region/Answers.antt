@@ -19,7 +19,8 @@ clear_entry-requires g c = record {
   agree = c.entries.invariant.agree;
   mapped = (
     c.requires.mapped.0,
-    partly-table (g.S.SlotMap.slots c.args.store.now) (g.S.SlotMap.slots c.entries.store) c.args.region c.entries.invariant.partly c.requires.mapped.0 c.args.table _ c.requires.mapped.1,
+    partly-table (g.S.SlotMap.slots c.args.store.now) (g.S.SlotMap.slots c.entries.store) c.args.region c.entries.invariant.partly c.requires.mapped.0
+        c.args.table _ c.requires.mapped.1,
   );
   small = omega (arith, c.entries-test.true);
 }
@@ -31,8 +32,10 @@ entries-preserved g c =
     let next = g.S.SlotMap.slots c.clear_entry.new.store in
     record {
       partly = partly-then old now next c.args.region c.entries.invariant.partly c.clear_entry.ensures.slots;
-      passed = entries-next now next c.args.region c.clear_entry.ensures.slots c.entries.number (omega (arith, c.entries-test.true)) c.entries.invariant.passed c.clear_entry.ensures.entry;
-      bytes = beside-then old now (g.S.SlotStore.memory c.args.store.now) (g.S.SlotStore.memory c.entries.store) (g.S.SlotStore.memory c.clear_entry.new.store) (fewer-partly old now c.args.region c.entries.invariant.partly) c.entries.invariant.bytes c.clear_entry.ensures.bytes;
+      passed = entries-next now next c.args.region c.clear_entry.ensures.slots c.entries.number (omega (arith, c.entries-test.true)) c.entries.invariant.passed
+          c.clear_entry.ensures.entry;
+      bytes = beside-then old now (g.S.SlotStore.memory c.args.store.now) (g.S.SlotStore.memory c.entries.store) (g.S.SlotStore.memory c.clear_entry.new.store)
+          (fewer-partly old now c.args.region c.entries.invariant.partly) c.entries.invariant.bytes c.clear_entry.ensures.bytes;
       order = c.clear_entry.ensures.order ∙ c.entries.invariant.order;
       agree = c.clear_entry.ensures.agree;
     }

@@ -9,4 +9,5 @@ pub returns : goal.returns
 returns g c = λ s near.
     c.walk.ensures
     ∙ ap (λ (memory : List ℕ). ok_or (walk memory c.args.root c.args.address c.args.access) page_fault) c.mem.ensures
-    ∙ ap (λ place. ok_or place page_fault) (walk-place s (g.S.SlotMap.slots c.args.store.now) (g.S.SlotStore.memory c.args.store.now) c.args.root c.args.address c.args.access near c.requires.agree c.requires.rooted (omega (arith, c.ranges.address.fits)))
+    ∙ ap (λ place. ok_or place page_fault) (walk-place s (g.S.SlotMap.slots c.args.store.now) (g.S.SlotStore.memory c.args.store.now) c.args.root c.args.address
+    c.args.access near c.requires.agree c.requires.rooted (omega (arith, c.ranges.address.fits)))

@@ -17,5 +17,6 @@ returns-then-signals_nothing c =
 pub loop-number-preserved : goal.loop-number-preserved
 loop-number-preserved c =
     let image = c.args.image.now in
-    next_kept (λ u. signals_nothing image u.1) (λ k. BadCap (image.header.capabilities + k)) image.interrupts c.loop-number.number c.interrupt.result _ c.interrupt.ensures
+    next_kept (λ u. signals_nothing image u.1) (λ k. BadCap (image.header.capabilities + k)) image.interrupts c.loop-number.number c.interrupt.result _
+    c.interrupt.ensures
     (sym c.signals_nothing.ensures ∙ c.if-signals_nothing.false) c.loop-number.invariant

@@ -9,5 +9,6 @@ use Rattle.wellformed.proofs.capabilities.check_interrupts.Given as goal
 
 abbrev pub invariant-loop-number : goal.invariant-loop-number
 invariant-loop-number l =
-    first_broken (map (λ i. refuse_if (signals_nothing l.fn.image i.1) (BadCap (l.fn.image.header.capabilities + i.0))) (enumerate_from l.number (drop l.number l.fn.image.interrupts)))
+    first_broken (map (λ i. refuse_if (signals_nothing l.fn.image i.1) (BadCap (l.fn.image.header.capabilities + i.0)))
+    (enumerate_from l.number (drop l.number l.fn.image.interrupts)))
     ≡ first_broken (map (λ i. refuse_if (signals_nothing l.fn.image i.1) (BadCap (l.fn.image.header.capabilities + i.0))) (numbered l.fn.image.interrupts))

@@ -17,7 +17,8 @@ loop-item-preserved c =
     let image = c.args.image.now in
     let n = c.loop-item.item in
     record {
-      sources = named-next (λ x. x.source) image.capabilities n c.capability-entry.result c.loop-item.sources c.insert.new.self c.capability-entry.ensures c.in_ok-insert.ensures.put c.loop-item.invariant.sources;
+      sources = named-next (λ x. x.source) image.capabilities n c.capability-entry.result c.loop-item.sources c.insert.new.self c.capability-entry.ensures
+          c.in_ok-insert.ensures.put c.loop-item.invariant.sources;
       left = next_kept (does_not_fit image) (λ k. BadCap k) image.capabilities n c.capability-entry.result _ c.capability-entry.ensures
           (sym c.does_not_fit.ensures ∙ c.if-does_not_fit.false) c.loop-item.invariant.left;
     }

@@ -12,7 +12,8 @@ pub has_writable_code-requires-clause-twice : goal.has_writable_code-requires-cl
 has_writable_code-requires-clause-twice c =
     let frame = c.frame-entry.result.frame in
     c.requires.twice.is frame
-    ∙ sym (mapped-twice (λ f. f.frame == frame) c.loop-number.number c.args.image.now.frames c.frame-entry.result c.frame-entry.ensures (eq-eqb frame frame refl))
+    ∙ sym (mapped-twice (λ f. f.frame == frame) c.loop-number.number c.args.image.now.frames c.frame-entry.result c.frame-entry.ensures
+    (eq-eqb frame frame refl))
 
 pub returns-then-misplaces_frame : goal.returns-then-misplaces_frame
 returns-then-misplaces_frame c =
@@ -21,7 +22,8 @@ returns-then-misplaces_frame c =
     let e = c.frame-entry.result in
     let item = image.header.tables + n in
     inr (one_broken (frame_rules image) image.frames n e _ (BadMapping item) c.frame-entry.ensures
-    (first_of_two (misplaces_frame image e) (has_writable_code image (n, e)) (BadMapping item) (WritableCode item) (sym c.misplaces_frame.ensures ∙ c.if-misplaces_frame.true)) c.loop-number.invariant
+    (first_of_two (misplaces_frame image e) (has_writable_code image (n, e)) (BadMapping item) (WritableCode item)
+    (sym c.misplaces_frame.ensures ∙ c.if-misplaces_frame.true)) c.loop-number.invariant
     ∙ ap (λ (h : ImageHeader). Some (BadMapping (h.tables + n))) (sym c.header_of-header.ensures.value))
 
 pub returns-then-has_writable_code : goal.returns-then-has_writable_code
@@ -31,7 +33,8 @@ returns-then-has_writable_code c =
     let e = c.frame-entry.result in
     let item = image.header.tables + n in
     inr (one_broken (frame_rules image) image.frames n e _ (WritableCode item) c.frame-entry.ensures
-    (second_of_two (misplaces_frame image e) (has_writable_code image (n, e)) (BadMapping item) (WritableCode item) (sym c.misplaces_frame.ensures ∙ c.if-misplaces_frame.false)
+    (second_of_two (misplaces_frame image e) (has_writable_code image (n, e)) (BadMapping item) (WritableCode item)
+    (sym c.misplaces_frame.ensures ∙ c.if-misplaces_frame.false)
     (sym c.has_writable_code.ensures ∙ c.if-has_writable_code.true)) c.loop-number.invariant
     ∙ ap (λ (h : ImageHeader). Some (WritableCode (h.tables + n))) (sym c.header_of-header.ensures.value))
 
@@ -42,5 +45,6 @@ loop-number-preserved c =
     let e = c.frame-entry.result in
     let item = image.header.tables + n in
     all_kept (frame_rules image) image.frames n e _ c.frame-entry.ensures
-    (none_of_two (misplaces_frame image e) (has_writable_code image (n, e)) (BadMapping item) (WritableCode item) (sym c.misplaces_frame.ensures ∙ c.if-misplaces_frame.false)
+    (none_of_two (misplaces_frame image e) (has_writable_code image (n, e)) (BadMapping item) (WritableCode item)
+    (sym c.misplaces_frame.ensures ∙ c.if-misplaces_frame.false)
     (sym c.has_writable_code.ensures ∙ c.if-has_writable_code.false)) c.loop-number.invariant

@@ -20,7 +20,8 @@ loop-item-preserved c =
     let image = c.args.image.now in
     let n = c.loop-item.item in
     record {
-      mapped = named-next (λ x. x.table) image.tables n c.table-entry.result c.loop-item.mapped c.insert.new.self c.table-entry.ensures c.in_ok-insert.ensures.put c.loop-item.invariant.mapped;
+      mapped = named-next (λ x. x.table) image.tables n c.table-entry.result c.loop-item.mapped c.insert.new.self c.table-entry.ensures
+          c.in_ok-insert.ensures.put c.loop-item.invariant.mapped;
       left = next_kept (misplaces_table image) (λ k. BadMapping k) image.tables n c.table-entry.result _ c.table-entry.ensures
           (sym c.misplaces_table.ensures ∙ c.if-misplaces_table.false) c.loop-item.invariant.left;
     }

@@ -25,7 +25,8 @@ returns-in_err-check_tables c =
     let image = c.args.image.now in
     let p = err_from_is_err_and c.from_residual.result c.from_residual.ensures.1 in
     told_of (mapping_rules image) _ p.0 _ p.1 p.2
-    (refused_before (of_tables image ++ of_frames image) (of_contents image) _ (refused_before (of_tables image) (of_frames image) _ c.in_err-check_tables.ensures))
+    (refused_before (of_tables image ++ of_frames image) (of_contents image) _
+    (refused_before (of_tables image) (of_frames image) _ c.in_err-check_tables.ensures))
 
 pub returns-in_err-check_frames : goal.returns-in_err-check_frames
 unfolding mapping_rules

@@ -6,5 +6,6 @@ use Rattle.wellformed.proofs.mappings.note_fills.Goals as goal
 
 pub loop-content-preserved : goal.loop-content-preserved
 loop-content-preserved c =
-    left-next (λ x. x.header.frame) c.args.image.now.contents c.loop-content.content-iterator c.next.new.self c.in-Some.content c.loop-content.filled c.insert.new.self
+    left-next (λ x. x.header.frame) c.args.image.now.contents c.loop-content.content-iterator c.next.new.self c.in-Some.content c.loop-content.filled
+    c.insert.new.self
     c.in-Some.ensures.steps (c.in_ok-insert.ensures.put ∙ ap (λ h. with_number h.frame c.loop-content.filled) c.header.ensures) c.loop-content.invariant

@@ -15,8 +15,10 @@ loop-item-preserved c =
     let frames = c.args.image.now.frames in
     let n = c.loop-item.item in
     record {
-      once = named-next (λ f. f.frame) frames n c.frame.result c.loop-item.once c.note_mapping.new.once c.frame.ensures c.in_ok-note_mapping.ensures.once c.loop-item.invariant.once;
-      twice = twice-next (λ f. f.frame) frames n c.frame.result c.loop-item.once c.loop-item.twice c.note_mapping.new.twice c.frame.ensures c.loop-item.invariant.once c.in_ok-note_mapping.ensures.twice c.loop-item.invariant.twice;
+      once = named-next (λ f. f.frame) frames n c.frame.result c.loop-item.once c.note_mapping.new.once c.frame.ensures c.in_ok-note_mapping.ensures.once
+          c.loop-item.invariant.once;
+      twice = twice-next (λ f. f.frame) frames n c.frame.result c.loop-item.once c.loop-item.twice c.note_mapping.new.twice c.frame.ensures
+          c.loop-item.invariant.once c.in_ok-note_mapping.ensures.twice c.loop-item.invariant.twice;
     }
 
 pub returns-clause-twice : goal.returns-clause-twice

@@ -25,7 +25,8 @@ returns-in_err-check_untypeds c =
     let image = c.args.image.now in
     let p = err_from_is_err_and c.from_residual.result c.from_residual.ensures.1 in
     told_of (object_rules image) _ p.0 _ p.1 p.2
-    (refused_before (of_untypeds image ++ of_objects image) (of_slots image) _ (refused_before (of_untypeds image) (of_objects image) _ c.in_err-check_untypeds.ensures))
+    (refused_before (of_untypeds image ++ of_objects image) (of_slots image) _
+    (refused_before (of_untypeds image) (of_objects image) _ c.in_err-check_untypeds.ensures))
 
 pub returns-in_err-check_room : goal.returns-in_err-check_room
 unfolding object_rules

@@ -14,11 +14,13 @@ loop-place-init c =
 
 pub returns-then-len-place-clause-found : goal.returns-then-len-place-clause-found
 returns-then-len-place-clause-found c =
-    all-reached c.args.image.now c.args.thread.now c.args.thread.now.header.cnode c.loop-place.place c.loop-place.found refl (omega (arith, c.len.ensures, c.if-len-place.true)) c.loop-place.invariant
+    all-reached c.args.image.now c.args.thread.now c.args.thread.now.header.cnode c.loop-place.place c.loop-place.found refl
+    (omega (arith, c.len.ensures, c.if-len-place.true)) c.loop-place.invariant
 
 pub loop-place-preserved : goal.loop-place-preserved
 loop-place-preserved c =
-    one-followed c.args.image.now c.args.thread.now.header.cnode c.loop-place.place c.at.result c.loop-place.found c.follow_listed.new.found c.at.ensures c.in_ok-follow_listed.ensures.found c.loop-place.invariant
+    one-followed c.args.image.now c.args.thread.now.header.cnode c.loop-place.place c.at.result c.loop-place.found c.follow_listed.new.found c.at.ensures
+    c.in_ok-follow_listed.ensures.found c.loop-place.invariant
 
 pub returns-clause-found : goal.returns-clause-found
 returns-clause-found c =

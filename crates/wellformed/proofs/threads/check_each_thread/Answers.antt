@@ -17,5 +17,6 @@ loop-thread-preserved c =
     record {
       rest = here.1;
       earlier = c.in_ok-check_thread.ensures.earlier;
-      left = all_kept (λ u. rules_of_thread image (record { number = u.0; thread = u.1 })) image.threads n c.in-Some.thread _ here.0 c.in_ok-check_thread.ensures.rules c.loop-thread.invariant.left;
+      left = all_kept (λ u. rules_of_thread image (record { number = u.0; thread = u.1 })) image.threads n c.in-Some.thread _ here.0
+          c.in_ok-check_thread.ensures.rules c.loop-thread.invariant.left;
     }

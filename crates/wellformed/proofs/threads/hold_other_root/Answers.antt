@@ -13,7 +13,8 @@ returns-then-holds_other_root c =
     let image = c.args.image.now in
     let cnodes = c.args.cnodes.now in
     sym (two-tests (λ x. is_root_type (source_type image x.source)) (λ x. not (x.source == c.args.root)) cnodes image.capabilities
-    ∙ set-found (λ x. is_root_type (source_type image x.source) && not (x.source == c.args.root)) image.capabilities cnodes c.loop-place.place c.at.result c.at.ensures
+    ∙ set-found (λ x. is_root_type (source_type image x.source) && not (x.source == c.args.root)) image.capabilities cnodes c.loop-place.place c.at.result
+    c.at.ensures
     (sym c.holds_other_root.ensures ∙ c.if-holds_other_root.true))
 
 pub loop-place-preserved : goal.loop-place-preserved
@@ -24,4 +25,5 @@ loop-place-preserved c =
     two-tests (λ x. is_root_type (source_type image x.source)) (λ x. not (x.source == c.args.root)) (take (n + 1) cnodes) image.capabilities
     ∙ set-later (λ x. is_root_type (source_type image x.source) && not (x.source == c.args.root)) image.capabilities cnodes n c.at.result c.at.ensures
     (sym c.holds_other_root.ensures ∙ c.if-holds_other_root.false)
-    (sym (two-tests (λ x. is_root_type (source_type image x.source)) (λ x. not (x.source == c.args.root)) (take n cnodes) image.capabilities) ∙ c.loop-place.invariant)
+    (sym (two-tests (λ x. is_root_type (source_type image x.source)) (λ x. not (x.source == c.args.root)) (take n cnodes) image.capabilities)
+    ∙ c.loop-place.invariant)

@@ -7,4 +7,5 @@ use Rattle.wellformed.proofs.threads.hold_other_root.Given as goal
 
 abbrev pub invariant-loop-place : goal.invariant-loop-place
 invariant-loop-place l =
-    list_any (λ c. is_member c.cnode (take l.place l.cnodes) && is_root_type (source_type l.fn.image c.source) && not (c.source == l.root)) l.fn.image.capabilities ≡ false
+    list_any (λ c. is_member c.cnode (take l.place l.cnodes) && is_root_type (source_type l.fn.image c.source) && not (c.source == l.root))
+    l.fn.image.capabilities ≡ false

@@ -12,14 +12,18 @@ loop-item-init c =
 pub returns-then-is_other_root : goal.returns-then-is_other_root
 returns-then-is_other_root c =
     let image = c.args.image.now in
-    any-found c.args.cnode (λ x. is_root_type (source_type image x.source) && not (x.source == c.args.root)) image.capabilities _ _ c.loop-item.item c.capability_of.result
-    c.listed_in-listed.ensures c.loop-item.auto.item c.loop-item-test.true c.capability_of.ensures (sym c.is_other_root.ensures ∙ c.if-is_other_root.true) c.loop-item.invariant
+    any-found c.args.cnode (λ x. is_root_type (source_type image x.source) && not (x.source == c.args.root)) image.capabilities _ _ c.loop-item.item
+    c.capability_of.result
+    c.listed_in-listed.ensures c.loop-item.auto.item c.loop-item-test.true c.capability_of.ensures (sym c.is_other_root.ensures ∙ c.if-is_other_root.true)
+    c.loop-item.invariant
 
 pub loop-item-preserved : goal.loop-item-preserved
 loop-item-preserved c =
     let image = c.args.image.now in
-    any-later c.args.cnode (λ x. is_root_type (source_type image x.source) && not (x.source == c.args.root)) image.capabilities _ _ c.loop-item.item c.capability_of.result
-    c.listed_in-listed.ensures c.loop-item.auto.item c.loop-item-test.true c.capability_of.ensures (sym c.is_other_root.ensures ∙ c.if-is_other_root.false) c.loop-item.invariant
+    any-later c.args.cnode (λ x. is_root_type (source_type image x.source) && not (x.source == c.args.root)) image.capabilities _ _ c.loop-item.item
+    c.capability_of.result
+    c.listed_in-listed.ensures c.loop-item.auto.item c.loop-item-test.true c.capability_of.ensures (sym c.is_other_root.ensures ∙ c.if-is_other_root.false)
+    c.loop-item.invariant
 
 pub returns : goal.returns
 returns c =

@@ -17,5 +17,7 @@ loop-page-preserved c =
     let below : k < (4 * t.header.words + (page_size - 1)) / page_size =
     subst (λ (h : ThreadHeader). k < (4 * h.words + (page_size - 1)) / page_size) c.header-header.ensures c.loop-page-test.true in
     let code : is_code image t (t.header.base + k * page_size) ≡ true =
-    sym (c.is_code.ensures ∙ ap (λ (h : ThreadHeader). option_map_or executes (frame_at image h.root (h.base + k * page_size)) false) c.header-header.ensures) ∙ c.if-not-is_code.false in
-    page-passes (is_code image t) (λ page. t.header.base + page * page_size) k ((4 * t.header.words + (page_size - 1)) / page_size) _ below code c.loop-page.invariant
+    sym (c.is_code.ensures ∙ ap (λ (h : ThreadHeader). option_map_or executes (frame_at image h.root (h.base + k * page_size)) false) c.header-header.ensures)
+    ∙ c.if-not-is_code.false in
+    page-passes (is_code image t) (λ page. t.header.base + page * page_size) k ((4 * t.header.words + (page_size - 1)) / page_size) _ below code
+    c.loop-page.invariant

@@ -7,8 +7,10 @@ use Rattle.wellformed.proofs.threads.share_some.Goals as goal
 
 pub returns-then-contains : goal.returns-then-contains
 returns-then-contains c =
-    sym (any-here (λ n. is_member n c.args.others.now) c.args.numbers.now c.loop-place.place c.at.result c.at.ensures (sym c.contains.ensures ∙ c.if-contains.true))
+    sym (any-here (λ n. is_member n c.args.others.now) c.args.numbers.now c.loop-place.place c.at.result c.at.ensures
+    (sym c.contains.ensures ∙ c.if-contains.true))
 
 pub loop-place-preserved : goal.loop-place-preserved
 loop-place-preserved c =
-    any-next (λ n. is_member n c.args.others.now) c.args.numbers.now c.loop-place.place c.at.result c.at.ensures (sym c.contains.ensures ∙ c.if-contains.false) c.loop-place.invariant
+    any-next (λ n. is_member n c.args.others.now) c.args.numbers.now c.loop-place.place c.at.result c.at.ensures (sym c.contains.ensures ∙ c.if-contains.false)
+    c.loop-place.invariant

@@ -12,7 +12,8 @@ pub returns-clause-refused : goal.returns-clause-refused
 returns-clause-refused c = told_breach (first_in (form_rules c.args.image.now)) c.check_phases.result c.check_phases.ensures
 
 pub returns-clause-complete : goal.returns-clause-complete
-returns-clause-complete c = λ formed. memory_alone (first_in (form_rules c.args.image.now)) c.check_phases.result (none-from c.args.image.now formed) c.check_phases.ensures
+returns-clause-complete c = λ formed. memory_alone (first_in (form_rules c.args.image.now)) c.check_phases.result (none-from c.args.image.now formed)
+    c.check_phases.ensures
 
 pub returns-clause-first : goal.returns-clause-first
 returns-clause-first c =

@@ -27,11 +27,21 @@ returns c =
       contents = c.self.inside.contents.items;
     } in
     let key : Capability → ℕ = λ (e : Capability). pair_key e.cnode e.index in
-    let entry : Capability = record { cnode = c.in_ok-cnode.cnode; index = c.args.index; source = c.in_ok-source.source; rights = c.args.rights; payload = c.args.payload } in
+    let entry : Capability = record {
+      cnode = c.in_ok-cnode.cnode;
+      index = c.args.index;
+      source = c.in_ok-source.source;
+      rights = c.args.rights;
+      payload =
+          c.args.payload;
+    } in
     let grown : List Capability → Result Declared ℕ = λ entries. Ok (record d { capabilities = entries }) in
-    let chain : placed_with d (line.Capability c.args.cnode.now c.args.index c.args.source.now c.args.rights c.args.payload) ≡ (sorted_with key 16384 entry d.capabilities >>= grown) =
+    let chain : placed_with d (line.Capability c.args.cnode.now c.args.index c.args.source.now c.args.rights c.args.payload)
+    ≡ (sorted_with key 16384 entry d.capabilities >>= grown) =
     goes (number_known d.names.objects c.args.cnode.now) _ c.in_ok-cnode.cnode _ c.in_ok-cnode.ensures
     (goes (source_known d.names c.args.source.now) _ c.in_ok-source.source _ c.in_ok-source.ensures refl) in
-    subst (λ (old : Declared). Means c.insert.result (λ _. record d { capabilities = c.insert.new.entries.items }) (placed_with old (line.Capability c.args.cnode.now c.args.index c.args.source.now c.args.rights c.args.payload))) c.self.view_is
+    subst (λ (old : Declared). Means c.insert.result (λ _. record d { capabilities = c.insert.new.entries.items })
+    (placed_with old (line.Capability c.args.cnode.now c.args.index c.args.source.now c.args.rights c.args.payload))) c.self.view_is
     (means-same c.insert.result _ _ _ (sym chain)
-    (means-on c.insert.result (λ _. c.insert.new.entries.items) (sorted_with key 16384 entry d.capabilities) grown (λ _. record d { capabilities = c.insert.new.entries.items }) (λ _. refl) c.insert.ensures))
+    (means-on c.insert.result (λ _. c.insert.new.entries.items) (sorted_with key 16384 entry d.capabilities) grown
+    (λ _. record d { capabilities = c.insert.new.entries.items }) (λ _. refl) c.insert.ensures))

@@ -31,6 +31,8 @@ returns c =
     let chain : placed_with d (line.Content c.args.frame.now c.args.words) ≡ (sorted_with key 4096 entry d.contents >>= grown) =
     goes (number_known d.names.objects c.args.frame.now) _ c.in_ok-frame.frame _ c.in_ok-frame.ensures
     (goes (words_said c.args.words) _ c.in_ok-words.words.items _ c.in_ok-words.ensures refl) in
-    subst (λ (old : Declared). Means c.insert.result (λ _. record d { contents = c.insert.new.entries.items }) (placed_with old (line.Content c.args.frame.now c.args.words))) c.self.view_is
+    subst (λ (old : Declared). Means c.insert.result (λ _. record d { contents = c.insert.new.entries.items })
+    (placed_with old (line.Content c.args.frame.now c.args.words))) c.self.view_is
     (means-same c.insert.result _ _ _ (sym chain)
-    (means-on c.insert.result (λ _. c.insert.new.entries.items) (sorted_with key 4096 entry d.contents) grown (λ _. record d { contents = c.insert.new.entries.items }) (λ _. refl) c.insert.ensures))
+    (means-on c.insert.result (λ _. c.insert.new.entries.items) (sorted_with key 4096 entry d.contents) grown
+    (λ _. record d { contents = c.insert.new.entries.items }) (λ _. refl) c.insert.ensures))

@@ -32,6 +32,8 @@ returns c =
     let chain : placed_with d (line.Frame c.args.root.now c.args.address c.args.frame.now c.args.rights) ≡ (sorted_with key 4096 entry d.frames >>= grown) =
     goes (number_known d.names.objects c.args.root.now) _ c.in_ok-root.root _ c.in_ok-root.ensures
     (goes (number_known d.names.objects c.args.frame.now) _ c.in_ok-frame.frame _ c.in_ok-frame.ensures refl) in
-    subst (λ (old : Declared). Means c.insert.result (λ _. record d { frames = c.insert.new.entries.items }) (placed_with old (line.Frame c.args.root.now c.args.address c.args.frame.now c.args.rights))) c.self.view_is
+    subst (λ (old : Declared). Means c.insert.result (λ _. record d { frames = c.insert.new.entries.items })
+    (placed_with old (line.Frame c.args.root.now c.args.address c.args.frame.now c.args.rights))) c.self.view_is
     (means-same c.insert.result _ _ _ (sym chain)
-    (means-on c.insert.result (λ _. c.insert.new.entries.items) (sorted_with key 4096 entry d.frames) grown (λ _. record d { frames = c.insert.new.entries.items }) (λ _. refl) c.insert.ensures))
+    (means-on c.insert.result (λ _. c.insert.new.entries.items) (sorted_with key 4096 entry d.frames) grown
+    (λ _. record d { frames = c.insert.new.entries.items }) (λ _. refl) c.insert.ensures))

@@ -19,7 +19,8 @@ module _ (d : Declared) (name notification : List ℕ) (number badge known : ℕ
   key e = e.line
 
   chain : free d.names name ≡ Ok tt → number_known d.names.objects notification ≡ Ok known
-      → declared_with d (line.Interrupt name number notification badge) ≡ (sorted_with (λ (e : InterruptEntry). e.line) 64 (record { line = number; notification = known; badge = badge }) d.interrupts
+      → declared_with d (line.Interrupt name number notification badge)
+      ≡ (sorted_with (λ (e : InterruptEntry). e.line) 64 (record { line = number; notification = known; badge = badge }) d.interrupts
       >>= λ (interrupts : List InterruptEntry). Ok (record d { names = with_interrupt_name d.names name number; interrupts = interrupts }))
   unfolding declared_with
   chain unused found = goes (free d.names name) _ tt _ unused (goes (number_known d.names.objects notification) _ known _ found refl)
@@ -41,7 +42,9 @@ returns-in_err-insert c =
     (free-told (is_taken d.names c.args.name.now) c.in_ok-check_free.ensures) c.in_ok-object.ensures in
     let here : declared_with c.args.self.now said ≡ declared_with d said = ap (λ (old : Declared). declared_with old said) (sym c.self.view_is) in
     refused-means c.from_residual-in_err-insert.result c.in_err-insert.field-0.0 _ _ c.from_residual-in_err-insert.ensures
-    (either-goes (λ e. here ∙ (steps ∙ ap (λ (r : Result (List InterruptEntry) ℕ). r >>= λ (interrupts : List InterruptEntry). Ok (record d { names = with_interrupt_name d.names c.args.name.now c.args.line; interrupts = interrupts })) e)) c.in_err-insert.ensures)
+    (either-goes (λ e. here
+    ∙ (steps ∙ ap (λ (r : Result (List InterruptEntry) ℕ). r >>= λ (interrupts : List InterruptEntry).
+    Ok (record d { names = with_interrupt_name d.names c.args.name.now c.args.line; interrupts = interrupts })) e)) c.in_err-insert.ensures)
 
 pub returns : goal.returns
 returns c =
@@ -60,6 +63,7 @@ returns c =
     (free-told (is_taken d.names c.args.name.now) c.in_ok-check_free.ensures) c.in_ok-object.ensures in
     let here : declared_with c.args.self.now said ≡ declared_with d said = ap (λ (old : Declared). declared_with old said) (sym c.self.view_is) in
     gives-means c.add_interrupt.result _ _ _ (λ _ named. here ∙ (steps
-    ∙ (ap (λ (r : Result (List InterruptEntry) ℕ). r >>= λ (interrupts : List InterruptEntry). Ok (record d { names = with_interrupt_name d.names c.args.name.now c.args.line; interrupts = interrupts })) c.in_ok-insert.ensures
+    ∙ (ap (λ (r : Result (List InterruptEntry) ℕ). r >>= λ (interrupts : List InterruptEntry).
+    Ok (record d { names = with_interrupt_name d.names c.args.name.now c.args.line; interrupts = interrupts })) c.in_ok-insert.ensures
     ∙ ap (λ (names : KnownNames). Ok (record d { names = names; interrupts = c.insert.new.entries.items })) (sym named))))
     (c.add_interrupt.ensures (free-false (is_taken d.names c.args.name.now) c.in_ok-check_free.ensures))

@@ -32,6 +32,8 @@ returns c =
     let chain : placed_with d (line.Table c.args.root.now c.args.address c.args.table.now) ≡ (sorted_with key 1024 entry d.tables >>= grown) =
     goes (number_known d.names.objects c.args.root.now) _ c.in_ok-root.root _ c.in_ok-root.ensures
     (goes (number_known d.names.objects c.args.table.now) _ c.in_ok-table.table _ c.in_ok-table.ensures refl) in
-    subst (λ (old : Declared). Means c.insert.result (λ _. record d { tables = c.insert.new.entries.items }) (placed_with old (line.Table c.args.root.now c.args.address c.args.table.now))) c.self.view_is
+    subst (λ (old : Declared). Means c.insert.result (λ _. record d { tables = c.insert.new.entries.items })
+    (placed_with old (line.Table c.args.root.now c.args.address c.args.table.now))) c.self.view_is
     (means-same c.insert.result _ _ _ (sym chain)
-    (means-on c.insert.result (λ _. c.insert.new.entries.items) (sorted_with key 1024 entry d.tables) grown (λ _. record d { tables = c.insert.new.entries.items }) (λ _. refl) c.insert.ensures))
+    (means-on c.insert.result (λ _. c.insert.new.entries.items) (sorted_with key 1024 entry d.tables) grown
+    (λ _. record d { tables = c.insert.new.entries.items }) (λ _. refl) c.insert.ensures))

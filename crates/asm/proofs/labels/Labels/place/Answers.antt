@@ -6,4 +6,5 @@ use Rattle.asm.proofs.Shown.{lookup-shown}
 use Rattle.asm.proofs.labels.Labels.place.Goals as goal
 
 pub returns : goal.returns
-returns c = c.copied.ensures ∙ c.get.ensures.value ∙ lookup-shown (bytes_eq c.args.name.now) c.self.inside.places.entries ∙ ap (λ (l : FoundLabels). lookup (bytes_eq c.args.name.now) l.places) c.self.view_is
+returns c = c.copied.ensures ∙ c.get.ensures.value ∙ lookup-shown (bytes_eq c.args.name.now) c.self.inside.places.entries
+    ∙ ap (λ (l : FoundLabels). lookup (bytes_eq c.args.name.now) l.places) c.self.view_is

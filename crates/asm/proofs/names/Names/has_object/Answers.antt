@@ -6,4 +6,5 @@ use Rattle.asm.proofs.Shown.{any-shown}
 use Rattle.asm.proofs.names.Names.has_object.Goals as goal
 
 pub returns : goal.returns
-returns c = c.contains.ensures ∙ any-shown (bytes_eq c.args.name.now) c.self.inside.objects.keys ∙ ap (λ (n : KnownNames). list_any (bytes_eq c.args.name.now) n.objects) c.self.view_is
+returns c = c.contains.ensures ∙ any-shown (bytes_eq c.args.name.now) c.self.inside.objects.keys
+    ∙ ap (λ (n : KnownNames). list_any (bytes_eq c.args.name.now) n.objects) c.self.view_is

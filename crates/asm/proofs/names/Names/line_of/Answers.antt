@@ -6,4 +6,5 @@ use Rattle.asm.proofs.Shown.{lookup-shown}
 use Rattle.asm.proofs.names.Names.line_of.Goals as goal
 
 pub returns : goal.returns
-returns c = c.copied.ensures ∙ c.get.ensures.value ∙ lookup-shown (bytes_eq c.args.name.now) c.self.inside.interrupts.entries ∙ ap (λ (n : KnownNames). lookup (bytes_eq c.args.name.now) n.interrupts) c.self.view_is
+returns c = c.copied.ensures ∙ c.get.ensures.value ∙ lookup-shown (bytes_eq c.args.name.now) c.self.inside.interrupts.entries
+    ∙ ap (λ (n : KnownNames). lookup (bytes_eq c.args.name.now) n.interrupts) c.self.view_is

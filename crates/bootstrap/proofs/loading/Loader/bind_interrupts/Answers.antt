@@ -22,7 +22,8 @@ loop-number-preserved c =
     let n = c.loop-number.number in
     let x = c.interrupt-entry.result in
     record {
-      same = more (signals_from image n) (signals_from image (n + 1)) (signal_calls image (n, x)) _ (progress_of c.loop-number.self) (progress_of c.bind_interrupt.new.self)
+      same = more (signals_from image n) (signals_from image (n + 1)) (signal_calls image (n, x)) _ (progress_of c.loop-number.self)
+          (progress_of c.bind_interrupt.new.self)
           (signals-next image n x c.interrupt-entry.ensures) c.loop-number.invariant.same c.in_ok-bind_interrupt.ensures.outcome;
       room = omega (arith, c.bind_interrupt.ensures.counted);
     }
@@ -31,7 +32,8 @@ pub returns-clause-outcome : goal.returns-clause-outcome
 returns-clause-outcome c =
     let image = c.args.image.now in
     done (signals_from image c.loop-number.number) _ (progress_of c.loop-number.self)
-    (signals-none image c.loop-number.number (omega (arith, ap (λ h. h.interrupts) c.header-number-end.ensures.value, c.requires.limits.interrupts.count))) c.loop-number.invariant.same
+    (signals-none image c.loop-number.number (omega (arith, ap (λ h. h.interrupts) c.header-number-end.ensures.value, c.requires.limits.interrupts.count)))
+    c.loop-number.invariant.same
 
 pub bind_interrupt-requires-clause-fits : goal.bind_interrupt-requires-clause-fits
 bind_interrupt-requires-clause-fits c = c.requires.limits.interrupts.entries c.loop-number.number c.interrupt-entry.result c.interrupt-entry.ensures

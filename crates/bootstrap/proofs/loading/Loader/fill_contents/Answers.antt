@@ -31,7 +31,8 @@ loop-content-preserved c =
       same = op-more u (f c.in-Some.content) (map f c.next.new.self) _ now (progress_of c.fill_content.new.self)
           (c.loop-content.invariant.same ∙ ap (λ xs. all_performed u now (map f xs)) c.in-Some.ensures.steps) c.in_ok-fill_content.ensures.outcome;
       calls = c.fill_content.ensures.counted ∙ c.loop-content.invariant.calls;
-      fits = (subst (λ (xs : List ImageContent). AllByRecursion (ContentFits c.args.image.now.header) xs) c.in-Some.ensures.steps c.loop-content.invariant.fits).1;
+      fits = (subst (λ (xs : List ImageContent). AllByRecursion (ContentFits c.args.image.now.header) xs) c.in-Some.ensures.steps
+          c.loop-content.invariant.fits).1;
     }
 
 pub returns-clause-outcome : goal.returns-clause-outcome

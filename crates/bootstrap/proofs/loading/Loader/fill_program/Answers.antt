@@ -14,7 +14,8 @@ returns-then-is_root_table-clause-outcome c =
     let image = c.args.image.now in
     let t = c.args.thread.now in
     let none : t.header.base % page_size ≡ 0 = ap (λ h. h.base % page_size) (sym c.header-header.ensures) ∙ c.if-header-ne0.false in
-    let aligned : (t.header.base % page_size == 0) ≡ true = elim (eqb_tells (t.header.base % page_size) 0) [ inl same ↦ same.0 | inr other ↦ absurd (other.1 none) ] in
+    let aligned : (t.header.base % page_size == 0) ≡ true = elim (eqb_tells (t.header.base % page_size) 0)
+    [ inl same ↦ same.0 | inr other ↦ absurd (other.1 none) ] in
     let root : is_root_type (type_at image t.header.root) ≡ true =
     ap (λ h. is_root_type (type_at image h.root)) (sym c.header-header.ensures) ∙ sym c.is_root_table.ensures ∙ c.if-is_root_table.true in
     subst (λ d. GivesState d c.fill_pages.result (progress_of c.fill_pages.new.self))

@@ -20,8 +20,10 @@ returns-in_err-fill_program-clause-outcome c =
     let n = c.loop-thread.number in
     let now = progress_of c.loop-thread.self in
     let p = err_from_is_err_and c.from_residual.result c.from_residual.ensures.1 in
-    rw (p.1, p.2) (op-fails image.header.untypeds (program_operation image (record { number = n; thread = c.in-Some.thread })) (programs_from image (n + 1) c.next.new.self) _ now _
-    (c.loop-thread.invariant.same ∙ ap (λ ts. all_performed image.header.untypeds now (programs_from image n ts)) c.in-Some.ensures.steps) c.in_err-fill_program.ensures.outcome)
+    rw (p.1, p.2) (op-fails image.header.untypeds (program_operation image (record { number = n; thread = c.in-Some.thread }))
+    (programs_from image (n + 1) c.next.new.self) _ now _
+    (c.loop-thread.invariant.same ∙ ap (λ ts. all_performed image.header.untypeds now (programs_from image n ts)) c.in-Some.ensures.steps)
+    c.in_err-fill_program.ensures.outcome)
 
 pub loop-thread-preserved : goal.loop-thread-preserved
 loop-thread-preserved c =
@@ -29,8 +31,10 @@ loop-thread-preserved c =
     let n = c.loop-thread.number in
     let now = progress_of c.loop-thread.self in
     record {
-      same = op-more image.header.untypeds (program_operation image (record { number = n; thread = c.in-Some.thread })) (programs_from image (n + 1) c.next.new.self) _ now (progress_of c.fill_program.new.self)
-          (c.loop-thread.invariant.same ∙ ap (λ ts. all_performed image.header.untypeds now (programs_from image n ts)) c.in-Some.ensures.steps) c.in_ok-fill_program.ensures.outcome;
+      same = op-more image.header.untypeds (program_operation image (record { number = n; thread = c.in-Some.thread }))
+          (programs_from image (n + 1) c.next.new.self) _ now (progress_of c.fill_program.new.self)
+          (c.loop-thread.invariant.same ∙ ap (λ ts. all_performed image.header.untypeds now (programs_from image n ts)) c.in-Some.ensures.steps)
+          c.in_ok-fill_program.ensures.outcome;
       calls = c.fill_program.ensures.counted ∙ c.loop-thread.invariant.calls;
       few = omega (arith, ap length c.in-Some.ensures.steps, c.loop-thread.invariant.few);
       fits = (subst (λ (ts : List Thread). AllByRecursion (ThreadFits c.args.image.now.header) ts) c.in-Some.ensures.steps c.loop-thread.invariant.fits).1;

@@ -24,7 +24,8 @@ returns-in_err-put_untypeds c =
     let m5 : List Operation = map Calls (last_calls image) in
     let p0 = progress_of c.args.self.now in
     let p = err_from_is_err_and c.from_residual.result c.from_residual.ensures.1 in
-    rw (p.1, p.2) (first-failed u (m1 ++ m2 ++ m3 ++ m4) m5 p0 _ (first-failed u (m1 ++ m2 ++ m3) m4 p0 _ (first-failed u (m1 ++ m2) m3 p0 _ (first-failed u m1 m2 p0 _ c.in_err-put_untypeds.ensures.outcome))))
+    rw (p.1, p.2) (first-failed u (m1 ++ m2 ++ m3 ++ m4) m5 p0 _
+    (first-failed u (m1 ++ m2 ++ m3) m4 p0 _ (first-failed u (m1 ++ m2) m3 p0 _ (first-failed u m1 m2 p0 _ c.in_err-put_untypeds.ensures.outcome))))
 
 pub returns-in_err-put_control : goal.returns-in_err-put_control
 unfolding operations
@@ -41,7 +42,10 @@ returns-in_err-put_control c =
     let p1 = progress_of c.put_untypeds.new.self in
     let e1 : all_performed u p0 m1 ≡ Ok p1 = c.in_ok-put_untypeds.ensures.outcome in
     let p = err_from_is_err_and c.from_residual-in_err-put_control.result c.from_residual-in_err-put_control.ensures.1 in
-    rw (p.1, p.2) (first-failed u (m1 ++ m2 ++ m3 ++ m4) m5 p0 _ (first-failed u (m1 ++ m2 ++ m3) m4 p0 _ (first-failed u (m1 ++ m2) m3 p0 _ (second-failed u m1 m2 p0 p1 _ e1 (op-fails u (PutsControl (control_slot image)) first _ p1 _ refl c.in_err-put_control.ensures.outcome)))))
+    rw (p.1, p.2) (first-failed u (m1 ++ m2 ++ m3 ++ m4) m5 p0 _
+    (first-failed u (m1 ++ m2 ++ m3) m4 p0 _
+    (first-failed u (m1 ++ m2) m3 p0 _
+    (second-failed u m1 m2 p0 p1 _ e1 (op-fails u (PutsControl (control_slot image)) first _ p1 _ refl c.in_err-put_control.ensures.outcome)))))
 
 pub returns-in_err-make_first_calls : goal.returns-in_err-make_first_calls
 unfolding operations
@@ -58,9 +62,13 @@ returns-in_err-make_first_calls c =
     let p1 = progress_of c.put_untypeds.new.self in
     let e1 : all_performed u p0 m1 ≡ Ok p1 = c.in_ok-put_untypeds.ensures.outcome in
     let p2 = progress_of c.put_control.new.self in
-    let ctl : all_performed u p1 m2 ≡ all_performed u p2 first = op-more u (PutsControl (control_slot image)) first _ p1 p2 refl c.in_ok-put_control.ensures.outcome in
+    let ctl : all_performed u p1 m2 ≡ all_performed u p2 first =
+    op-more u (PutsControl (control_slot image)) first _ p1 p2 refl c.in_ok-put_control.ensures.outcome in
     let p = err_from_is_err_and c.from_residual-in_err-make_first_calls.result c.from_residual-in_err-make_first_calls.ensures.1 in
-    rw (p.1, p.2) (first-failed u (m1 ++ m2 ++ m3 ++ m4) m5 p0 _ (first-failed u (m1 ++ m2 ++ m3) m4 p0 _ (first-failed u (m1 ++ m2) m3 p0 _ (second-failed u m1 m2 p0 p1 _ e1 (ctl ∙ all-calls u p2 (first_calls image) ∙ c.in_err-make_first_calls.ensures.outcome)))))
+    rw (p.1, p.2) (first-failed u (m1 ++ m2 ++ m3 ++ m4) m5 p0 _
+    (first-failed u (m1 ++ m2 ++ m3) m4 p0 _
+    (first-failed u (m1 ++ m2) m3 p0 _
+    (second-failed u m1 m2 p0 p1 _ e1 (ctl ∙ all-calls u p2 (first_calls image) ∙ c.in_err-make_first_calls.ensures.outcome)))))
 
 pub returns-in_err-fill_contents : goal.returns-in_err-fill_contents
 unfolding operations
@@ -77,11 +85,14 @@ returns-in_err-fill_contents c =
     let p1 = progress_of c.put_untypeds.new.self in
     let e1 : all_performed u p0 m1 ≡ Ok p1 = c.in_ok-put_untypeds.ensures.outcome in
     let p2 = progress_of c.put_control.new.self in
-    let ctl : all_performed u p1 m2 ≡ all_performed u p2 first = op-more u (PutsControl (control_slot image)) first _ p1 p2 refl c.in_ok-put_control.ensures.outcome in
+    let ctl : all_performed u p1 m2 ≡ all_performed u p2 first =
+    op-more u (PutsControl (control_slot image)) first _ p1 p2 refl c.in_ok-put_control.ensures.outcome in
     let p3 = progress_of c.make_first_calls.new.self in
-    let e3 : all_performed u p0 (m1 ++ m2) ≡ Ok p3 = both-ok u m1 m2 p0 p1 p3 e1 (ctl ∙ all-calls u p2 (first_calls image) ∙ c.in_ok-make_first_calls.ensures.outcome) in
+    let e3 : all_performed u p0 (m1 ++ m2) ≡ Ok p3 = both-ok u m1 m2 p0 p1 p3 e1
+    (ctl ∙ all-calls u p2 (first_calls image) ∙ c.in_ok-make_first_calls.ensures.outcome) in
     let p = err_from_is_err_and c.from_residual-in_err-fill_contents.result c.from_residual-in_err-fill_contents.ensures.1 in
-    rw (p.1, p.2) (first-failed u (m1 ++ m2 ++ m3 ++ m4) m5 p0 _ (first-failed u (m1 ++ m2 ++ m3) m4 p0 _ (second-failed u (m1 ++ m2) m3 p0 p3 _ e3 c.in_err-fill_contents.ensures.outcome)))
+    rw (p.1, p.2) (first-failed u (m1 ++ m2 ++ m3 ++ m4) m5 p0 _
+    (first-failed u (m1 ++ m2 ++ m3) m4 p0 _ (second-failed u (m1 ++ m2) m3 p0 p3 _ e3 c.in_err-fill_contents.ensures.outcome)))
 
 pub returns-in_err-fill_programs : goal.returns-in_err-fill_programs
 unfolding operations
@@ -98,9 +109,11 @@ returns-in_err-fill_programs c =
     let p1 = progress_of c.put_untypeds.new.self in
     let e1 : all_performed u p0 m1 ≡ Ok p1 = c.in_ok-put_untypeds.ensures.outcome in
     let p2 = progress_of c.put_control.new.self in
-    let ctl : all_performed u p1 m2 ≡ all_performed u p2 first = op-more u (PutsControl (control_slot image)) first _ p1 p2 refl c.in_ok-put_control.ensures.outcome in
+    let ctl : all_performed u p1 m2 ≡ all_performed u p2 first =
+    op-more u (PutsControl (control_slot image)) first _ p1 p2 refl c.in_ok-put_control.ensures.outcome in
     let p3 = progress_of c.make_first_calls.new.self in
-    let e3 : all_performed u p0 (m1 ++ m2) ≡ Ok p3 = both-ok u m1 m2 p0 p1 p3 e1 (ctl ∙ all-calls u p2 (first_calls image) ∙ c.in_ok-make_first_calls.ensures.outcome) in
+    let e3 : all_performed u p0 (m1 ++ m2) ≡ Ok p3 = both-ok u m1 m2 p0 p1 p3 e1
+    (ctl ∙ all-calls u p2 (first_calls image) ∙ c.in_ok-make_first_calls.ensures.outcome) in
     let p4 = progress_of c.fill_contents.new.self in
     let e4 : all_performed u p0 (m1 ++ m2 ++ m3) ≡ Ok p4 = both-ok u (m1 ++ m2) m3 p0 p3 p4 e3 c.in_ok-fill_contents.ensures.outcome in
     let p = err_from_is_err_and c.from_residual-in_err-fill_programs.result c.from_residual-in_err-fill_programs.ensures.1 in
@@ -121,9 +134,11 @@ returns c =
     let p1 = progress_of c.put_untypeds.new.self in
     let e1 : all_performed u p0 m1 ≡ Ok p1 = c.in_ok-put_untypeds.ensures.outcome in
     let p2 = progress_of c.put_control.new.self in
-    let ctl : all_performed u p1 m2 ≡ all_performed u p2 first = op-more u (PutsControl (control_slot image)) first _ p1 p2 refl c.in_ok-put_control.ensures.outcome in
+    let ctl : all_performed u p1 m2 ≡ all_performed u p2 first =
+    op-more u (PutsControl (control_slot image)) first _ p1 p2 refl c.in_ok-put_control.ensures.outcome in
     let p3 = progress_of c.make_first_calls.new.self in
-    let e3 : all_performed u p0 (m1 ++ m2) ≡ Ok p3 = both-ok u m1 m2 p0 p1 p3 e1 (ctl ∙ all-calls u p2 (first_calls image) ∙ c.in_ok-make_first_calls.ensures.outcome) in
+    let e3 : all_performed u p0 (m1 ++ m2) ≡ Ok p3 = both-ok u m1 m2 p0 p1 p3 e1
+    (ctl ∙ all-calls u p2 (first_calls image) ∙ c.in_ok-make_first_calls.ensures.outcome) in
     let p4 = progress_of c.fill_contents.new.self in
     let e4 : all_performed u p0 (m1 ++ m2 ++ m3) ≡ Ok p4 = both-ok u (m1 ++ m2) m3 p0 p3 p4 e3 c.in_ok-fill_contents.ensures.outcome in
     let p5 = progress_of c.fill_programs.new.self in

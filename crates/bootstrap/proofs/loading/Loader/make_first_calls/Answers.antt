@@ -19,7 +19,8 @@ returns-in_err-make_objects-clause-outcome c =
     let m5 : List LoaderCall = flat_map (frame_calls image) (numbered image.frames) in
     let p0 = progress_of c.args.self.now in
     let p = err_from_is_err_and c.from_residual.result c.from_residual.ensures.1 in
-    rw (p.1, p.2) (calls-fail (m1 ++ m2 ++ m3 ++ m4) m5 p0 _ (calls-fail (m1 ++ m2 ++ m3) m4 p0 _ (calls-fail (m1 ++ m2) m3 p0 _ (calls-fail (m1) m2 p0 _ c.in_err-make_objects.ensures.outcome))))
+    rw (p.1, p.2) (calls-fail (m1 ++ m2 ++ m3 ++ m4) m5 p0 _
+    (calls-fail (m1 ++ m2 ++ m3) m4 p0 _ (calls-fail (m1 ++ m2) m3 p0 _ (calls-fail (m1) m2 p0 _ c.in_err-make_objects.ensures.outcome))))
 
 pub returns-in_err-take_handlers-clause-outcome : goal.returns-in_err-take_handlers-clause-outcome
 returns-in_err-take_handlers-clause-outcome c =
@@ -33,7 +34,8 @@ returns-in_err-take_handlers-clause-outcome c =
     let p1 = progress_of c.make_objects.new.self in
     let e1 : called p0 m1 ≡ Ok p1 = c.in_ok-make_objects.ensures.outcome in
     let p = err_from_is_err_and c.from_residual-in_err-take_handlers.result c.from_residual-in_err-take_handlers.ensures.1 in
-    rw (p.1, p.2) (calls-fail (m1 ++ m2 ++ m3 ++ m4) m5 p0 _ (calls-fail (m1 ++ m2 ++ m3) m4 p0 _ (calls-fail (m1 ++ m2) m3 p0 _ (then-err (m1) m2 p0 p1 _ e1 c.in_err-take_handlers.ensures.outcome))))
+    rw (p.1, p.2) (calls-fail (m1 ++ m2 ++ m3 ++ m4) m5 p0 _
+    (calls-fail (m1 ++ m2 ++ m3) m4 p0 _ (calls-fail (m1 ++ m2) m3 p0 _ (then-err (m1) m2 p0 p1 _ e1 c.in_err-take_handlers.ensures.outcome))))
 
 pub returns-in_err-put_capabilities-clause-outcome : goal.returns-in_err-put_capabilities-clause-outcome
 returns-in_err-put_capabilities-clause-outcome c =
@@ -49,7 +51,8 @@ returns-in_err-put_capabilities-clause-outcome c =
     let p2 = progress_of c.take_handlers.new.self in
     let e2 : called p0 (m1 ++ m2) ≡ Ok p2 = then-ok (m1) m2 p0 p1 p2 e1 c.in_ok-take_handlers.ensures.outcome in
     let p = err_from_is_err_and c.from_residual-in_err-put_capabilities.result c.from_residual-in_err-put_capabilities.ensures.1 in
-    rw (p.1, p.2) (calls-fail (m1 ++ m2 ++ m3 ++ m4) m5 p0 _ (calls-fail (m1 ++ m2 ++ m3) m4 p0 _ (then-err (m1 ++ m2) m3 p0 p2 _ e2 c.in_err-put_capabilities.ensures.outcome)))
+    rw (p.1, p.2) (calls-fail (m1 ++ m2 ++ m3 ++ m4) m5 p0 _
+    (calls-fail (m1 ++ m2 ++ m3) m4 p0 _ (then-err (m1 ++ m2) m3 p0 p2 _ e2 c.in_err-put_capabilities.ensures.outcome)))
 
 pub returns-in_err-map_tables-clause-outcome : goal.returns-in_err-map_tables-clause-outcome
 returns-in_err-map_tables-clause-outcome c =

@@ -22,7 +22,8 @@ loop-number-preserved c =
     let n = c.loop-number.number in
     let x = c.frame-entry.result in
     record {
-      same = more (frames_from image n) (frames_from image (n + 1)) (frame_calls image (n, x)) _ (progress_of c.loop-number.self) (progress_of c.map_frame.new.self)
+      same = more (frames_from image n) (frames_from image (n + 1)) (frame_calls image (n, x)) _ (progress_of c.loop-number.self)
+          (progress_of c.map_frame.new.self)
           (frames-next image n x c.frame-entry.ensures) c.loop-number.invariant.same c.in_ok-map_frame.ensures.outcome;
       room = omega (arith, c.map_frame.ensures.counted);
     }
@@ -31,7 +32,8 @@ pub returns-clause-outcome : goal.returns-clause-outcome
 returns-clause-outcome c =
     let image = c.args.image.now in
     done (frames_from image c.loop-number.number) _ (progress_of c.loop-number.self)
-    (frames-none image c.loop-number.number (omega (arith, ap (λ h. h.frames) c.header-number-end.ensures.value, c.requires.limits.frames.count))) c.loop-number.invariant.same
+    (frames-none image c.loop-number.number (omega (arith, ap (λ h. h.frames) c.header-number-end.ensures.value, c.requires.limits.frames.count)))
+    c.loop-number.invariant.same
 
 pub map_frame-requires-clause-fits : goal.map_frame-requires-clause-fits
 map_frame-requires-clause-fits c = c.requires.limits.frames.entries c.loop-number.number c.frame-entry.result c.frame-entry.ensures

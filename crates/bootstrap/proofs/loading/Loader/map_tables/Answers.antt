@@ -22,7 +22,8 @@ loop-number-preserved c =
     let n = c.loop-number.number in
     let x = c.table-entry.result in
     record {
-      same = more (tables_from image n) (tables_from image (n + 1)) (table_call image x ∷ []) _ (progress_of c.loop-number.self) (progress_of c.map_table.new.self)
+      same = more (tables_from image n) (tables_from image (n + 1)) (table_call image x ∷ []) _ (progress_of c.loop-number.self)
+          (progress_of c.map_table.new.self)
           (tables-next image n x c.table-entry.ensures) c.loop-number.invariant.same c.in_ok-map_table.ensures.outcome;
       room = omega (arith, c.map_table.ensures.counted);
     }
@@ -31,7 +32,8 @@ pub returns-clause-outcome : goal.returns-clause-outcome
 returns-clause-outcome c =
     let image = c.args.image.now in
     done (tables_from image c.loop-number.number) _ (progress_of c.loop-number.self)
-    (tables-none image c.loop-number.number (omega (arith, ap (λ h. h.tables) c.header-number-end.ensures.value, c.requires.limits.tables.count))) c.loop-number.invariant.same
+    (tables-none image c.loop-number.number (omega (arith, ap (λ h. h.tables) c.header-number-end.ensures.value, c.requires.limits.tables.count)))
+    c.loop-number.invariant.same
 
 pub map_table-requires-clause-fits : goal.map_table-requires-clause-fits
 map_table-requires-clause-fits c = c.requires.limits.tables.entries c.loop-number.number c.table-entry.result c.table-entry.ensures

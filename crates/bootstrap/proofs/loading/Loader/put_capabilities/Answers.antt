@@ -22,7 +22,8 @@ loop-number-preserved c =
     let n = c.loop-number.number in
     let x = c.capability-entry.result in
     record {
-      same = more (capabilities_from image n) (capabilities_from image (n + 1)) (capability_call image x ∷ []) _ (progress_of c.loop-number.self) (progress_of c.put_capability.new.self)
+      same = more (capabilities_from image n) (capabilities_from image (n + 1)) (capability_call image x ∷ []) _ (progress_of c.loop-number.self)
+          (progress_of c.put_capability.new.self)
           (capabilities-next image n x c.capability-entry.ensures) c.loop-number.invariant.same c.in_ok-put_capability.ensures.outcome;
       room = omega (arith, c.put_capability.ensures.counted);
     }
@@ -31,7 +32,8 @@ pub returns-clause-outcome : goal.returns-clause-outcome
 returns-clause-outcome c =
     let image = c.args.image.now in
     done (capabilities_from image c.loop-number.number) _ (progress_of c.loop-number.self)
-    (capabilities-none image c.loop-number.number (omega (arith, ap (λ h. h.capabilities) c.header-number-end.ensures.value, c.requires.limits.capabilities.count))) c.loop-number.invariant.same
+    (capabilities-none image c.loop-number.number
+    (omega (arith, ap (λ h. h.capabilities) c.header-number-end.ensures.value, c.requires.limits.capabilities.count))) c.loop-number.invariant.same
 
 pub put_capability-requires-clause-fits : goal.put_capability-requires-clause-fits
 put_capability-requires-clause-fits c = c.requires.limits.capabilities.entries c.loop-number.number c.capability-entry.result c.capability-entry.ensures

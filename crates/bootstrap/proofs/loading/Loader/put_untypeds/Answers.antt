@@ -18,7 +18,8 @@ returns-in_err-put_untyped-clause-outcome c =
     let now = progress_of c.loop-number.self in
     let p = err_from_is_err_and c.from_residual.result c.from_residual.ensures.1 in
     rw (p.1, p.2) (op-fails u (PutsUntyped n c.untyped-entry.result) (untypeds_from image (n + 1)) _ now _
-    (c.loop-number.invariant.same ∙ ap (all_performed u now) (untypeds-next image n c.untyped-entry.result c.untyped-entry.ensures)) c.in_err-put_untyped.ensures.outcome)
+    (c.loop-number.invariant.same ∙ ap (all_performed u now) (untypeds-next image n c.untyped-entry.result c.untyped-entry.ensures))
+    c.in_err-put_untyped.ensures.outcome)
 
 pub loop-number-preserved : goal.loop-number-preserved
 loop-number-preserved c =
@@ -28,7 +29,8 @@ loop-number-preserved c =
     let now = progress_of c.loop-number.self in
     record {
       same = op-more u (PutsUntyped n c.untyped-entry.result) (untypeds_from image (n + 1)) _ now (progress_of c.put_untyped.new.self)
-          (c.loop-number.invariant.same ∙ ap (all_performed u now) (untypeds-next image n c.untyped-entry.result c.untyped-entry.ensures)) c.in_ok-put_untyped.ensures.outcome;
+          (c.loop-number.invariant.same ∙ ap (all_performed u now) (untypeds-next image n c.untyped-entry.result c.untyped-entry.ensures))
+          c.in_ok-put_untyped.ensures.outcome;
       calls = c.put_untyped.ensures.counted ∙ c.loop-number.invariant.calls;
     }
 
@@ -36,4 +38,5 @@ pub returns-clause-outcome : goal.returns-clause-outcome
 returns-clause-outcome c =
     let image = c.args.image.now in
     op-none image.header.untypeds (untypeds_from image c.loop-number.number) _ (progress_of c.loop-number.self)
-    (untypeds-none image c.loop-number.number (omega (arith, ap (λ h. h.untypeds) c.header-number-end.ensures.value, c.requires.limits.untypeds.count))) c.loop-number.invariant.same
+    (untypeds-none image c.loop-number.number (omega (arith, ap (λ h. h.untypeds) c.header-number-end.ensures.value, c.requires.limits.untypeds.count)))
+    c.loop-number.invariant.same

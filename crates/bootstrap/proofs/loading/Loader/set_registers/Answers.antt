@@ -16,7 +16,8 @@ pub loop-entry-preserved : goal.loop-entry-preserved
 loop-entry-preserved c =
     let f = register_call c.args.tcb in
     record {
-      same = more (map f c.loop-entry.entry-iterator) (map f c.next.new.self) (f c.in-Some.entry ∷ []) _ (progress_of c.loop-entry.self) (progress_of c.call.new.self)
+      same = more (map f c.loop-entry.entry-iterator) (map f c.next.new.self) (f c.in-Some.entry ∷ []) _ (progress_of c.loop-entry.self)
+          (progress_of c.call.new.self)
           (ap (map f) c.in-Some.ensures.steps) c.loop-entry.invariant.same c.in_ok-call.ensures.outcome;
       room = omega (arith, ap length c.in-Some.ensures.steps, c.call.ensures.counted);
     }

@@ -5,6 +5,7 @@ use Rattle.bootstrap.proofs.loading.Loader.set_registers.Given as goal
 
 abbrev pub invariant-loop-entry : goal.invariant-loop-entry
 invariant-loop-entry l = record {
-  same : called (progress_of l.fn.self) (map (register_call l.tcb) l.thread.registers) ≡ called (progress_of l.self) (map (register_call l.tcb) l.entry-iterator);
+  same : called (progress_of l.fn.self) (map (register_call l.tcb) l.thread.registers) ≡ called (progress_of l.self)
+      (map (register_call l.tcb) l.entry-iterator);
   room : l.self.calls + length l.entry-iterator ≤ l.fn.self.calls + 31;
 }

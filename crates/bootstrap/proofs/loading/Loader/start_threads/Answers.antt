@@ -25,7 +25,8 @@ pub loop-thread-preserved : goal.loop-thread-preserved
 loop-thread-preserved c =
     let f = thread_calls c.args.image.now in
     record {
-      same = more (flat_map f c.loop-thread.thread-iterator) (flat_map f c.next.new.self) (f c.in-Some.thread) _ (progress_of c.loop-thread.self) (progress_of c.start_thread.new.self)
+      same = more (flat_map f c.loop-thread.thread-iterator) (flat_map f c.next.new.self) (f c.in-Some.thread) _ (progress_of c.loop-thread.self)
+          (progress_of c.start_thread.new.self)
           (ap (flat_map f) c.in-Some.ensures.steps) c.loop-thread.invariant.same c.in_ok-start_thread.ensures.outcome;
       room = omega (arith, ap length c.in-Some.ensures.steps, c.start_thread.ensures.counted);
       fits = (subst (λ (ts : List Thread). AllByRecursion (ThreadFits c.args.image.now.header) ts) c.in-Some.ensures.steps c.loop-thread.invariant.fits).1;

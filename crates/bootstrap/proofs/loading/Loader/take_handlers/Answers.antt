@@ -22,7 +22,8 @@ loop-number-preserved c =
     let n = c.loop-number.number in
     let x = c.interrupt-entry.result in
     record {
-      same = more (handlers_from image n) (handlers_from image (n + 1)) (interrupt_call image (n, x) ∷ []) _ (progress_of c.loop-number.self) (progress_of c.take_handler.new.self)
+      same = more (handlers_from image n) (handlers_from image (n + 1)) (interrupt_call image (n, x) ∷ []) _ (progress_of c.loop-number.self)
+          (progress_of c.take_handler.new.self)
           (handlers-next image n x c.interrupt-entry.ensures) c.loop-number.invariant.same c.in_ok-take_handler.ensures.outcome;
       room = omega (arith, c.take_handler.ensures.counted);
     }
@@ -31,4 +32,5 @@ pub returns-clause-outcome : goal.returns-clause-outcome
 returns-clause-outcome c =
     let image = c.args.image.now in
     done (handlers_from image c.loop-number.number) _ (progress_of c.loop-number.self)
-    (handlers-none image c.loop-number.number (omega (arith, ap (λ h. h.interrupts) c.header-number-end.ensures.value, c.requires.limits.interrupts.count))) c.loop-number.invariant.same
+    (handlers-none image c.loop-number.number (omega (arith, ap (λ h. h.interrupts) c.header-number-end.ensures.value, c.requires.limits.interrupts.count)))
+    c.loop-number.invariant.same

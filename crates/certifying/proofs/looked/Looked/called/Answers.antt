@@ -24,7 +24,8 @@ pub invariant_of-own : goal.invariant_of-own
 invariant_of-own c =
     let given = c.self.inside.given in
     let state = known_with c.args.bounds.now (slots_of c.slots-slots.result) nothing in
-    let none = sym (c.has_stray_slots.ensures c.args.at.point state refl (bare-point given.space.thread.now c.args.at.point given.bare)) ∙ c.if-has_stray_slots.false in
+    let none = sym (c.has_stray_slots.ensures c.args.at.point state refl (bare-point given.space.thread.now c.args.at.point given.bare))
+    ∙ c.if-has_stray_slots.false in
     record {
       inside = c.no_stray_slot_leads_outside.ensures given.space.image.now given.space.thread.now c.args.at.point state none;
       own = c.slots_are_own.ensures c.args.at.point state refl none;

@@ -12,7 +12,8 @@ pub make_one-requires-clause-growing : goal.make_one-requires-clause-growing
 make_one-requires-clause-growing g c =
     let now = state_of c.objects.objects (g.S.SlotMap.slots c.objects.store) (g.S.SlotStore.memory c.objects.store) in
     subst (λ (p : ℕ). Growing now (g.S.SlotStore.memory c.objects.store) p (p + 2 ^ object_bits (new_type c.args.new.kind))) (sym c.objects.invariant.place)
-    (room-for_one _ now _ (new_objects c.args.new) c.args.at.window c.args.at.parent c.objects.index c.objects.invariant.made c.requires.laid c.objects-test.true)
+    (room-for_one _ now _ (new_objects c.args.new) c.args.at.window c.args.at.parent c.objects.index c.objects.invariant.made c.requires.laid
+    c.objects-test.true)
 
 pub make_one-requires-clause-aligned : goal.make_one-requires-clause-aligned
 make_one-requires-clause-aligned g c =
@@ -34,7 +35,8 @@ unfolding state_of
 make_one-requires-clause-unnamed g c =
     let now = state_of c.objects.objects (g.S.SlotMap.slots c.objects.store) (g.S.SlotStore.memory c.objects.store) in
     subst (λ (p : ℕ). NoneNamed (g.S.SlotMap.slots c.objects.store) p (p + 2 ^ object_bits (new_type c.args.new.kind))) (sym c.objects.invariant.place)
-    (one-unnamed _ now _ (new_objects c.args.new) c.args.at.window c.args.at.parent c.objects.index c.objects.invariant.made c.requires.laid c.objects-test.true)
+    (one-unnamed _ now _ (new_objects c.args.new) c.args.at.window c.args.at.parent c.objects.index c.objects.invariant.made c.requires.laid
+    c.objects-test.true)
 
 pub make_one-requires-clause-nameless : goal.make_one-requires-clause-nameless
 unfolding state_of
@@ -52,7 +54,8 @@ objects-preserved g c =
           made-at (state_of c.args.objects.now (g.S.SlotMap.slots c.args.store.now) (g.S.SlotStore.memory c.args.store.now))
           (state_of c.objects.objects (g.S.SlotMap.slots c.objects.store) (g.S.SlotStore.memory c.objects.store)) (g.S.SlotStore.memory c.objects.store)
           (new_objects c.args.new) c.args.at.window c.args.at.parent c.objects.index c.objects.invariant.made c.requires.laid c.objects-test.true
-          (state_of c.make_one.new.objects (g.S.SlotMap.slots c.make_one.new.store) (g.S.SlotStore.memory c.make_one.new.store)) (g.S.SlotStore.memory c.make_one.new.store)
+          (state_of c.make_one.new.objects (g.S.SlotMap.slots c.make_one.new.store) (g.S.SlotStore.memory c.make_one.new.store))
+          (g.S.SlotStore.memory c.make_one.new.store)
           c.objects.place c.new.result c.objects.invariant.place (c.new.ensures ∙ ap (λ (n : ℕ). n + c.objects.index) c.number-window.ensures.value)
           c.make_one.ensures.state c.make_one.ensures.growing;
       place =

@@ -17,5 +17,6 @@ begin-requires-clause-fits g c =
 
 pub begin-requires-clause-room : goal.begin-requires-clause-room
 begin-requires-clause-room g c =
-    subst (λ (k : NewType). IsRoom (state_of c.args.objects.now (g.S.SlotMap.slots c.args.store.now) (g.S.SlotStore.memory c.args.store.now)) (new_type k) c.args.place) c.in-Object.is
+    subst (λ (k : NewType). IsRoom (state_of c.args.objects.now (g.S.SlotMap.slots c.args.store.now) (g.S.SlotStore.memory c.args.store.now)) (new_type k)
+    c.args.place) c.in-Object.is
     c.requires.room

@@ -38,15 +38,20 @@ page kind like place slots now old new is none bits within same zeroed =
 
 pub returns-in-Frame : goal.returns-in-Frame
 returns-in-Frame g c =
-    page c.args.kind Frame c.args.place (g.S.SlotMap.slots c.args.store.now) (g.S.SlotMap.slots c.zero.new.self) (g.S.SlotStore.memory c.args.store.now) (g.S.SlotStore.memory c.zero.new.self)
+    page c.args.kind Frame c.args.place (g.S.SlotMap.slots c.args.store.now) (g.S.SlotMap.slots c.zero.new.self) (g.S.SlotStore.memory c.args.store.now)
+    (g.S.SlotStore.memory c.zero.new.self)
     c.in-Frame.is refl refl c.requires.within c.zero.ensures.slots c.zero.ensures.bytes
 
 pub returns-in-PageTable : goal.returns-in-PageTable
 returns-in-PageTable g c =
-    page c.args.kind PageTable c.args.place (g.S.SlotMap.slots c.args.store.now) (g.S.SlotMap.slots c.zero-in-PageTable.new.self) (g.S.SlotStore.memory c.args.store.now)
-    (g.S.SlotStore.memory c.zero-in-PageTable.new.self) c.in-PageTable.is refl refl c.requires.within c.zero-in-PageTable.ensures.slots c.zero-in-PageTable.ensures.bytes
+    page c.args.kind PageTable c.args.place (g.S.SlotMap.slots c.args.store.now) (g.S.SlotMap.slots c.zero-in-PageTable.new.self)
+    (g.S.SlotStore.memory c.args.store.now)
+    (g.S.SlotStore.memory c.zero-in-PageTable.new.self) c.in-PageTable.is refl refl c.requires.within c.zero-in-PageTable.ensures.slots
+    c.zero-in-PageTable.ensures.bytes
 
 pub returns-in-RootTable : goal.returns-in-RootTable
 returns-in-RootTable g c =
-    page c.args.kind RootTable c.args.place (g.S.SlotMap.slots c.args.store.now) (g.S.SlotMap.slots c.zero-in-RootTable.new.self) (g.S.SlotStore.memory c.args.store.now)
-    (g.S.SlotStore.memory c.zero-in-RootTable.new.self) c.in-RootTable.is refl refl c.requires.within c.zero-in-RootTable.ensures.slots c.zero-in-RootTable.ensures.bytes
+    page c.args.kind RootTable c.args.place (g.S.SlotMap.slots c.args.store.now) (g.S.SlotMap.slots c.zero-in-RootTable.new.self)
+    (g.S.SlotStore.memory c.args.store.now)
+    (g.S.SlotStore.memory c.zero-in-RootTable.new.self) c.in-RootTable.is refl refl c.requires.within c.zero-in-RootTable.ensures.slots
+    c.zero-in-RootTable.ensures.bytes

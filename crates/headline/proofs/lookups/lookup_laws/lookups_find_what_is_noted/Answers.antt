@@ -6,4 +6,5 @@ use Rattle.headline.proofs.facts.Laws.{is-listed}
 
 pub returns : goal.returns
 returns c = λ bytes image t s point state accepted listed same none.
-    finds-noted image t (stands-apart image t.thread accepted.spelled.fits accepted.formed (is-listed image t listed)) s point state same none accepted.formed listed
+    finds-noted image t (stands-apart image t.thread accepted.spelled.fits accepted.formed (is-listed image t listed)) s point state same none accepted.formed
+    listed

@@ -4,4 +4,5 @@ use Rattle.headline.proofs.moves.moving_laws.waits_that_end_lead_on.Goals as goa
 
 pub returns : goal.returns
 returns c = λ image t s after own point state left later alone stands ecall call wait slots passes none.
-    ends-wait c.laws_below.ensures.stand_on image t s after own point state alone stands c.laws_below.ensures.lead c.laws_below.ensures.ends left ecall call slots passes later wait none
+    ends-wait c.laws_below.ensures.stand_on image t s after own point state alone stands c.laws_below.ensures.lead c.laws_below.ensures.ends left ecall call
+    slots passes later wait none

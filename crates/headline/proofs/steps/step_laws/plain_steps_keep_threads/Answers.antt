@@ -23,9 +23,11 @@ use Rattle.headline.proofs.steps.step_laws.plain_steps_keep_threads.Goals as goa
 is-given : (bytes : List ℕ) (image : Image) (t : Numbered) → IsAccepted bytes image → Contains (numbered_threads image) t → IsGiven image t
 is-given bytes image t accepted listed = given bytes image t (λ k point state. noted-named image k t point state accepted.spelled.fits) accepted listed
 
-module _ (bytes : List ℕ) (image : Image) (events : List Event) (t : Numbered) (accepted : IsAccepted bytes image) (listed : Contains (numbered_threads image) t)
+module _ (bytes : List ℕ) (image : Image) (events : List Event) (t : Numbered) (accepted : IsAccepted bytes image)
+    (listed : Contains (numbered_threads image) t)
     (invariant : ThreadInvariant image t (state_after (described image) events) (trace (described image) events))
-    (now : current (state_after (described image) events) ≡ Some (tcb_of image t)) (free : ReachesNoCall (state_after (described image) events) (tcb_of image t)) where
+    (now : current (state_after (described image) events) ≡ Some (tcb_of image t))
+    (free : ReachesNoCall (state_after (described image) events) (tcb_of image t)) where
   abbrev s : State
   s = state_after (described image) events
 
@@ -44,7 +46,8 @@ module _ (bytes : List ℕ) (image : Image) (events : List Event) (t : Numbered)
 
 pub returns : goal.returns
 returns c = record {
-  any_state = λ bytes image t s labels accepted listed sound invariant now free. plain-keeps image t s labels (is-given bytes image t accepted listed) sound now free invariant;
+  any_state = λ bytes image t s labels accepted listed sound invariant now free.
+      plain-keeps image t s labels (is-given bytes image t accepted listed) sound now free invariant;
   behind_events = λ bytes image events t accepted listed invariant now free. behind bytes image events t accepted listed invariant now free;
   one_event_more = λ bytes image events t accepted listed invariant now free. one-more bytes image events t accepted listed invariant now free;
 }

@@ -12,24 +12,28 @@ returns-then-self-eq0-clause-steps c =
 pub invariant_of-self : goal.invariant_of-self
 invariant_of-self c =
     let r = c.self.inside in
-    let f = first_of (content_format r.objects) (λ x. x.header.frame + 1) r.least r.left (r.left - 1) r.bytes.now r.at c.in-Ok.content c.in-Ok.next (omega arith) c.self.invariant c.in-Ok.ensures in
+    let f = first_of (content_format r.objects) (λ x. x.header.frame + 1) r.least r.left (r.left - 1) r.bytes.now r.at c.in-Ok.content c.in-Ok.next
+    (omega arith) c.self.invariant c.in-Ok.ensures in
     rw (c.from.ensures, c.header.ensures) f.rest
 
 pub unreachable-requires : goal.unreachable-requires
 unreachable-requires c =
     let r = c.self.inside in
-    first_not_refused (content_format r.objects) (λ x. x.header.frame + 1) r.least r.left r.bytes.now r.at c.in-Err.field-0 (omega arith) c.self.invariant c.in-Err.ensures
+    first_not_refused (content_format r.objects) (λ x. x.header.frame + 1) r.least r.left r.bytes.now r.at c.in-Err.field-0 (omega arith) c.self.invariant
+    c.in-Err.ensures
 
 pub returns-clause-steps : goal.returns-clause-steps
 returns-clause-steps c =
     let r = c.self.inside in
-    let f = first_of (content_format r.objects) (λ x. x.header.frame + 1) r.least r.left (r.left - 1) r.bytes.now r.at c.in-Ok.content c.in-Ok.next (omega arith) c.self.invariant c.in-Ok.ensures in
+    let f = first_of (content_format r.objects) (λ x. x.header.frame + 1) r.least r.left (r.left - 1) r.bytes.now r.at c.in-Ok.content c.in-Ok.next
+    (omega arith) c.self.invariant c.in-Ok.ensures in
     sym c.self.view_is ∙ rw (c.from.ensures, c.header.ensures) f.values
 
 pub returns-clause-goes : goal.returns-clause-goes
 returns-clause-goes c =
     let r = c.self.inside in
-    let f = first_of (content_format r.objects) (λ x. x.header.frame + 1) r.least r.left (r.left - 1) r.bytes.now r.at c.in-Ok.content c.in-Ok.next (omega arith) c.self.invariant c.in-Ok.ensures in
+    let f = first_of (content_format r.objects) (λ x. x.header.frame + 1) r.least r.left (r.left - 1) r.bytes.now r.at c.in-Ok.content c.in-Ok.next
+    (omega arith) c.self.invariant c.in-Ok.ensures in
     let old = ap (λ (l : List ImageContent). length l) c.self.view_is in
     let new = ap (λ (l : List ImageContent). length l) f.values in
     rw (c.from.ensures, c.header.ensures) (record { on = λ _. (tt, tt, omega (arith, old, new)); keeps = tt; rests = λ _. tt })

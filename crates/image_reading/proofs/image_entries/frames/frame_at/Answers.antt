@@ -14,12 +14,14 @@ returns-then-header_of-place-clause-value c =
 
 pub returns-then-is_at-clause-value : goal.returns-then-is_at-clause-value
 returns-then-is_at-clause-value c =
-    sym (mapped-here c.args.image.now c.header_of.ensures.fitting c.args.root c.args.address c.frame_place-place.result c.frame-entry.result c.ranges.address.fits c.frame_place-place.ensures
+    sym (mapped-here c.args.image.now c.header_of.ensures.fitting c.args.root c.args.address c.frame_place-place.result c.frame-entry.result
+    c.ranges.address.fits c.frame_place-place.ensures
     c.frame-entry.ensures (sym c.is_at.ensures ∙ c.if-is_at.true))
 
 pub returns-clause-value : goal.returns-clause-value
 returns-clause-value c =
-    sym (mapped-other c.args.image.now c.header_of.ensures.fitting c.args.root c.args.address c.frame_place-place.result c.frame-entry.result c.ranges.address.fits c.frame_place-place.ensures
+    sym (mapped-other c.args.image.now c.header_of.ensures.fitting c.args.root c.args.address c.frame_place-place.result c.frame-entry.result
+    c.ranges.address.fits c.frame_place-place.ensures
     c.frame-entry.ensures (sym c.is_at.ensures ∙ c.if-is_at.false))
 
 pub returns-then-header_of-place-clause-only : goal.returns-then-header_of-place-clause-only

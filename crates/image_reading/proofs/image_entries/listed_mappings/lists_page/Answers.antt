@@ -7,7 +7,8 @@ use Rattle.image_reading.proofs.image_entries.listed_mappings.lists_page.Goals a
 
 pub returns-then-place-header_of : goal.returns-then-place-header_of
 returns-then-place-header_of c =
-    c.is_on.ensures ∙ sym (page-by c.args.image.now c.header_of.ensures.fitting c.args.root c.args.page c.requires c.frame_place-place.result c.frame.result c.frame_place-place.ensures c.frame.ensures)
+    c.is_on.ensures ∙ sym (page-by c.args.image.now c.header_of.ensures.fitting c.args.root c.args.page c.requires c.frame_place-place.result c.frame.result
+    c.frame_place-place.ensures c.frame.ensures)
 
 pub returns-else-place-header_of : goal.returns-else-place-header_of
 returns-else-place-header_of c =

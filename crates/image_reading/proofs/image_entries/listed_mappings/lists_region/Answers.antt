@@ -7,7 +7,8 @@ use Rattle.image_reading.proofs.image_entries.listed_mappings.lists_region.Goals
 
 pub returns-then-place-header_of : goal.returns-then-place-header_of
 returns-then-place-header_of c =
-    c.is_for.ensures ∙ sym (region-by c.args.image.now c.header_of.ensures.fitting c.args.root c.args.region c.requires c.table_place-place.result c.table.result c.table_place-place.ensures c.table.ensures)
+    c.is_for.ensures ∙ sym (region-by c.args.image.now c.header_of.ensures.fitting c.args.root c.args.region c.requires c.table_place-place.result
+    c.table.result c.table_place-place.ensures c.table.ensures)
 
 pub returns-else-place-header_of : goal.returns-else-place-header_of
 returns-else-place-header_of c =

@@ -8,5 +8,6 @@ use Rattle.std.proofs.Common.{subst}
 
 pub returns-clause-outcome : goal.returns-clause-outcome
 returns-clause-outcome c =
-    subst (λ (k : Parts). GivesState (made (state_in k) (loader_call c.args.cap c.args.label c.args.words.now)) c.call.result (state_in c.call.new.self)) c.self.view_is
+    subst (λ (k : Parts). GivesState (made (state_in k) (loader_call c.args.cap c.args.label c.args.words.now)) c.call.result (state_in c.call.new.self))
+    c.self.view_is
     c.call.ensures.outcome

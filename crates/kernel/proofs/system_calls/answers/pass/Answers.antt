@@ -6,4 +6,5 @@ use Rattle.kernel.proofs.system_calls.answers.pass.Goals as goal
 
 pub invariant_of-kernel : goal.invariant_of-kernel
 invariant_of-kernel g c =
-    kept _ c.kernel.invariant c.pass.ensures.beside c.pass.ensures.state (passes-whole _ c.kernel.invariant.sound c.args.thread (search rules)) (passes-machine _ c.args.thread)
+    kept _ c.kernel.invariant c.pass.ensures.beside c.pass.ensures.state (passes-whole _ c.kernel.invariant.sound c.args.thread (search rules))
+    (passes-machine _ c.args.thread)

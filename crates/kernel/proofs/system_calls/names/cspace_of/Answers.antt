@@ -14,7 +14,8 @@ pub new-requires : goal.new-requires
 new-requires g c =
     let whole = whole-of g.S.SlotMap.slots g.S.SlotStore.memory c.live.inside.objects c.live.inside.store c.kernel.invariant c.live.view_is c.live.invariant in
     let of_kernel = c.live.view_is ∙ c.kernel.view_is in
-    let near = thread-near _ c.args.thread (subst (λ k. IsSound (state_in g.S.SlotMap.slots g.S.SlotStore.memory k)) of_kernel whole.sound) c.requires in omega (arith, near)
+    let near = thread-near _ c.args.thread (subst (λ k. IsSound (state_in g.S.SlotMap.slots g.S.SlotStore.memory k)) of_kernel whole.sound) c.requires in
+    omega (arith, near)
 
 pub returns-clause-value : goal.returns-clause-value
 unfolding state_of
@@ -22,4 +23,5 @@ returns-clause-value g c =
     let of_kernel = c.live.view_is ∙ c.kernel.view_is in
     let at = c.new.ensures in
     let place : c.new.result ≡ cspace_slot c.args.thread = omega (arith, at) in
-    c.capability.ensures.value ∙ ap (λ (n : ℕ). capability_at (g.S.SlotMap.slots c.live.inside.store) n) place ∙ ap (λ k. cspace_of (state_in g.S.SlotMap.slots g.S.SlotStore.memory k) c.args.thread) of_kernel
+    c.capability.ensures.value ∙ ap (λ (n : ℕ). capability_at (g.S.SlotMap.slots c.live.inside.store) n) place
+    ∙ ap (λ k. cspace_of (state_in g.S.SlotMap.slots g.S.SlotStore.memory k) c.args.thread) of_kernel

@@ -6,7 +6,8 @@ use Rattle.kernel.proofs.system_calls.receives.receive_message.Goals as goal
 
 pub invariant_of-kernel : goal.invariant_of-kernel
 invariant_of-kernel g c =
-    kept _ c.kernel.invariant c.receive.ensures.beside c.receive.ensures.state (receive-whole _ c.args.endpoint c.args.thread c.kernel.invariant.sound (search rules) (search rules))
+    kept _ c.kernel.invariant c.receive.ensures.beside c.receive.ensures.state
+    (receive-whole _ c.args.endpoint c.args.thread c.kernel.invariant.sound (search rules) (search rules))
     (receive-machine _ c.args.endpoint c.args.thread)
 
 pub invariant_of-kernel-in-Polling : goal.invariant_of-kernel-in-Polling

@@ -28,7 +28,8 @@ signal_on-requires-clause-notification g c =
     let whole = whole-of g.S.SlotMap.slots g.S.SlotStore.memory c.live.inside.objects c.live.inside.store c.kernel.invariant c.live.view_is c.live.invariant in
     let of_kernel = c.live.view_is ∙ c.kernel.view_is in
     subst (λ k. kind_at (state_in g.S.SlotMap.slots g.S.SlotStore.memory k) c.in-Notification.offset ≡ Some NewNotification) of_kernel
-    (whole.sound.memory.named c.args.slot NewNotification c.in-Notification.offset (ap object_named (sym c.capability-capability.ensures.value ∙ c.in-Notification.is)))
+    (whole.sound.memory.named c.args.slot NewNotification c.in-Notification.offset
+    (ap object_named (sym c.capability-capability.ensures.value ∙ c.in-Notification.is)))
 
 pub signal_on-requires-clause-small : goal.signal_on-requires-clause-small
 unfolding state_of

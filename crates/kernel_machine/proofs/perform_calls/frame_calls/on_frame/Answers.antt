@@ -21,7 +21,8 @@ pub map_frame-requires-clause-valid : goal.map_frame-requires-clause-valid
 map_frame-requires-clause-valid g c =
     let whole = whole-of g.S.SlotMap.slots g.S.SlotStore.memory c.live.inside.objects c.live.inside.store c.kernel.invariant c.live.view_is c.live.invariant in
     let of_kernel = c.live.view_is ∙ c.kernel.view_is in
-    (may-call c.live.inside.objects (g.S.SlotMap.slots c.live.inside.store) (g.S.SlotStore.memory c.live.inside.store) (call_of c.args.call) whole (asked g.S.SlotMap.slots g.S.SlotStore.memory (call_of c.args.call) of_kernel c.requires.call)).root
+    (may-call c.live.inside.objects (g.S.SlotMap.slots c.live.inside.store) (g.S.SlotStore.memory c.live.inside.store) (call_of c.args.call) whole
+    (asked g.S.SlotMap.slots g.S.SlotStore.memory (call_of c.args.call) of_kernel c.requires.call)).root
 
 pub map_frame-requires-clause-agree : goal.map_frame-requires-clause-agree
 map_frame-requires-clause-agree g c =
@@ -34,7 +35,8 @@ map_frame-requires-clause-held g c =
     let slots = g.S.SlotMap.slots c.live.inside.store in
     let f = c.frame_of-frame.result in
     let e = c.frame_of-frame.ensures in
-    ap (capability_at slots) e.slot ∙ held-at c.live.inside.objects slots (g.S.SlotStore.memory c.live.inside.store) (call_of c.args.call) (Frame f.offset f.rights f.mapping) (asked g.S.SlotMap.slots g.S.SlotStore.memory (call_of c.args.call) of_kernel c.requires.call) e.capability refl
+    ap (capability_at slots) e.slot ∙ held-at c.live.inside.objects slots (g.S.SlotStore.memory c.live.inside.store) (call_of c.args.call)
+    (Frame f.offset f.rights f.mapping) (asked g.S.SlotMap.slots g.S.SlotStore.memory (call_of c.args.call) of_kernel c.requires.call) e.capability refl
 
 pub map_frame-requires-clause-within : goal.map_frame-requires-clause-within
 map_frame-requires-clause-within g c =
@@ -44,7 +46,8 @@ map_frame-requires-clause-within g c =
     let f = c.frame_of-frame.result in
     let e = c.frame_of-frame.ensures in
     frame-within c.live.inside.objects slots (g.S.SlotStore.memory c.live.inside.store) c.args.call.slot f.offset f.rights f.mapping whole
-    (held-at c.live.inside.objects slots (g.S.SlotStore.memory c.live.inside.store) (call_of c.args.call) (Frame f.offset f.rights f.mapping) (asked g.S.SlotMap.slots g.S.SlotStore.memory (call_of c.args.call) of_kernel c.requires.call) e.capability refl)
+    (held-at c.live.inside.objects slots (g.S.SlotStore.memory c.live.inside.store) (call_of c.args.call) (Frame f.offset f.rights f.mapping)
+    (asked g.S.SlotMap.slots g.S.SlotStore.memory (call_of c.args.call) of_kernel c.requires.call) e.capability refl)
 
 pub returns-in-MapFrame-clause-outcome : goal.returns-in-MapFrame-clause-outcome
 returns-in-MapFrame-clause-outcome g c =
@@ -57,7 +60,9 @@ returns-in-MapFrame-clause-outcome g c =
     let t = state_of c.live.inside.objects (g.S.SlotMap.slots c.map_frame.new.store) (g.S.SlotStore.memory c.map_frame.new.store) in
     given g.S.SlotMap.slots g.S.SlotStore.memory (λ s. on_frame s (call_of c.args.call) c.args.held c.args.asked) c.map_frame.result _ of_kernel
     (subst (λ (a : FrameCall). GivesState (on_frame s (call_of c.args.call) c.args.held a) c.map_frame.result t) (sym k.is)
-    (frame-mapped g.S.SlotMap.slots g.S.SlotStore.memory c.live.inside.objects c.live.inside.store c.map_frame.new.store (call_of c.args.call) f.slot f.offset f.rights c.args.held f.mapping k.root k.address k.rights c.map_frame.result e.slot e.rights whole (asked g.S.SlotMap.slots g.S.SlotStore.memory (call_of c.args.call) of_kernel c.requires.call)
+    (frame-mapped g.S.SlotMap.slots g.S.SlotStore.memory c.live.inside.objects c.live.inside.store c.map_frame.new.store (call_of c.args.call) f.slot f.offset
+    f.rights c.args.held f.mapping k.root k.address k.rights c.map_frame.result e.slot e.rights whole
+    (asked g.S.SlotMap.slots g.S.SlotStore.memory (call_of c.args.call) of_kernel c.requires.call)
     e.capability c.map_frame.ensures.bytes c.map_frame.ensures.agree c.map_frame.ensures.unchanged c.map_frame.ensures.outcome).0)
 
 pub invariant_of-live : goal.invariant_of-live
@@ -68,7 +73,9 @@ invariant_of-live g c =
     let k = c.in-MapFrame in
     let f = c.frame_of-frame.result in
     let e = c.frame_of-frame.ensures in
-    (frame-mapped g.S.SlotMap.slots g.S.SlotStore.memory c.live.inside.objects c.live.inside.store c.map_frame.new.store (call_of c.args.call) f.slot f.offset f.rights c.args.held f.mapping k.root k.address k.rights c.map_frame.result e.slot e.rights whole (asked g.S.SlotMap.slots g.S.SlotStore.memory (call_of c.args.call) of_kernel c.requires.call)
+    (frame-mapped g.S.SlotMap.slots g.S.SlotStore.memory c.live.inside.objects c.live.inside.store c.map_frame.new.store (call_of c.args.call) f.slot f.offset
+    f.rights c.args.held f.mapping k.root k.address k.rights c.map_frame.result e.slot e.rights whole
+    (asked g.S.SlotMap.slots g.S.SlotStore.memory (call_of c.args.call) of_kernel c.requires.call)
     e.capability c.map_frame.ensures.bytes c.map_frame.ensures.agree c.map_frame.ensures.unchanged c.map_frame.ensures.outcome).1).stands
 
 pub invariant_of-kernel : goal.invariant_of-kernel
@@ -79,43 +86,54 @@ invariant_of-kernel g c =
     let k = c.in-MapFrame in
     let f = c.frame_of-frame.result in
     let e = c.frame_of-frame.ensures in
-    (frame-mapped g.S.SlotMap.slots g.S.SlotStore.memory c.live.inside.objects c.live.inside.store c.map_frame.new.store (call_of c.args.call) f.slot f.offset f.rights c.args.held f.mapping k.root k.address k.rights c.map_frame.result e.slot e.rights whole (asked g.S.SlotMap.slots g.S.SlotStore.memory (call_of c.args.call) of_kernel c.requires.call)
+    (frame-mapped g.S.SlotMap.slots g.S.SlotStore.memory c.live.inside.objects c.live.inside.store c.map_frame.new.store (call_of c.args.call) f.slot f.offset
+    f.rights c.args.held f.mapping k.root k.address k.rights c.map_frame.result e.slot e.rights whole
+    (asked g.S.SlotMap.slots g.S.SlotStore.memory (call_of c.args.call) of_kernel c.requires.call)
     e.capability c.map_frame.ensures.bytes c.map_frame.ensures.agree c.map_frame.ensures.unchanged c.map_frame.ensures.outcome).1)
 
 pub unmap-requires : goal.unmap-requires
 unmap-requires g c =
-    let whole = whole-of g.S.SlotMap.slots g.S.SlotStore.memory c.live-in-UnmapFrame.inside.objects c.live-in-UnmapFrame.inside.store c.kernel.invariant c.live-in-UnmapFrame.view_is c.live-in-UnmapFrame.invariant in
+    let whole = whole-of g.S.SlotMap.slots g.S.SlotStore.memory c.live-in-UnmapFrame.inside.objects c.live-in-UnmapFrame.inside.store c.kernel.invariant
+    c.live-in-UnmapFrame.view_is c.live-in-UnmapFrame.invariant in
     record { agree = (whole.agrees, whole.stands) }
 
 pub returns-in-UnmapFrame-clause-outcome : goal.returns-in-UnmapFrame-clause-outcome
 returns-in-UnmapFrame-clause-outcome g c =
-    let whole = whole-of g.S.SlotMap.slots g.S.SlotStore.memory c.live-in-UnmapFrame.inside.objects c.live-in-UnmapFrame.inside.store c.kernel.invariant c.live-in-UnmapFrame.view_is c.live-in-UnmapFrame.invariant in
+    let whole = whole-of g.S.SlotMap.slots g.S.SlotStore.memory c.live-in-UnmapFrame.inside.objects c.live-in-UnmapFrame.inside.store c.kernel.invariant
+    c.live-in-UnmapFrame.view_is c.live-in-UnmapFrame.invariant in
     let of_kernel = c.live-in-UnmapFrame.view_is ∙ c.kernel.view_is in
     let k = c.in-UnmapFrame in
     let a = c.requires.applies in
     let call : Call = call_of c.args.call in
-    let s = state_of c.live-in-UnmapFrame.inside.objects (g.S.SlotMap.slots c.live-in-UnmapFrame.inside.store) (g.S.SlotStore.memory c.live-in-UnmapFrame.inside.store) in
+    let s = state_of c.live-in-UnmapFrame.inside.objects (g.S.SlotMap.slots c.live-in-UnmapFrame.inside.store)
+    (g.S.SlotStore.memory c.live-in-UnmapFrame.inside.store) in
     let t = state_of c.unmap.new.self (g.S.SlotMap.slots c.unmap.new.store) (g.S.SlotStore.memory c.unmap.new.store) in
-    subst (λ p. on_frame (state_in g.S.SlotMap.slots g.S.SlotStore.memory p) call c.args.held c.args.asked ≡ Ok t) of_kernel (subst (λ (a : FrameCall). on_frame s call c.args.held a ≡ Ok t) (sym k.is) (ap (λ (x : State). Ok x)
-    (frame-unmapped g.S.SlotMap.slots g.S.SlotStore.memory c.live-in-UnmapFrame.inside.objects c.unmap.new.self c.live-in-UnmapFrame.inside.store c.unmap.new.store call a.0 c.args.held a.1 whole (asked g.S.SlotMap.slots g.S.SlotStore.memory (call_of c.args.call) of_kernel c.requires.call) a.2
+    subst (λ p. on_frame (state_in g.S.SlotMap.slots g.S.SlotStore.memory p) call c.args.held c.args.asked ≡ Ok t) of_kernel
+    (subst (λ (a : FrameCall). on_frame s call c.args.held a ≡ Ok t) (sym k.is) (ap (λ (x : State). Ok x)
+    (frame-unmapped g.S.SlotMap.slots g.S.SlotStore.memory c.live-in-UnmapFrame.inside.objects c.unmap.new.self c.live-in-UnmapFrame.inside.store
+    c.unmap.new.store call a.0 c.args.held a.1 whole (asked g.S.SlotMap.slots g.S.SlotStore.memory (call_of c.args.call) of_kernel c.requires.call) a.2
     c.unmap.ensures.slots c.unmap.ensures.state c.unmap.ensures.agree).0))
 
 pub invariant_of-live-in-UnmapFrame : goal.invariant_of-live-in-UnmapFrame
 invariant_of-live-in-UnmapFrame g c =
-    let whole = whole-of g.S.SlotMap.slots g.S.SlotStore.memory c.live-in-UnmapFrame.inside.objects c.live-in-UnmapFrame.inside.store c.kernel.invariant c.live-in-UnmapFrame.view_is c.live-in-UnmapFrame.invariant in
+    let whole = whole-of g.S.SlotMap.slots g.S.SlotStore.memory c.live-in-UnmapFrame.inside.objects c.live-in-UnmapFrame.inside.store c.kernel.invariant
+    c.live-in-UnmapFrame.view_is c.live-in-UnmapFrame.invariant in
     let of_kernel = c.live-in-UnmapFrame.view_is ∙ c.kernel.view_is in
     (
     let a = c.requires.applies in
     let call : Call = call_of c.args.call in
-    (frame-unmapped g.S.SlotMap.slots g.S.SlotStore.memory c.live-in-UnmapFrame.inside.objects c.unmap.new.self c.live-in-UnmapFrame.inside.store c.unmap.new.store call a.0 c.args.held a.1 whole (asked g.S.SlotMap.slots g.S.SlotStore.memory (call_of c.args.call) of_kernel c.requires.call) a.2
+    (frame-unmapped g.S.SlotMap.slots g.S.SlotStore.memory c.live-in-UnmapFrame.inside.objects c.unmap.new.self c.live-in-UnmapFrame.inside.store
+    c.unmap.new.store call a.0 c.args.held a.1 whole (asked g.S.SlotMap.slots g.S.SlotStore.memory (call_of c.args.call) of_kernel c.requires.call) a.2
     c.unmap.ensures.slots c.unmap.ensures.state c.unmap.ensures.agree).1).stands
 
 pub invariant_of-kernel-in-UnmapFrame : goal.invariant_of-kernel-in-UnmapFrame
 invariant_of-kernel-in-UnmapFrame g c =
-    let whole = whole-of g.S.SlotMap.slots g.S.SlotStore.memory c.live-in-UnmapFrame.inside.objects c.live-in-UnmapFrame.inside.store c.kernel.invariant c.live-in-UnmapFrame.view_is c.live-in-UnmapFrame.invariant in
+    let whole = whole-of g.S.SlotMap.slots g.S.SlotStore.memory c.live-in-UnmapFrame.inside.objects c.live-in-UnmapFrame.inside.store c.kernel.invariant
+    c.live-in-UnmapFrame.view_is c.live-in-UnmapFrame.invariant in
     let of_kernel = c.live-in-UnmapFrame.view_is ∙ c.kernel.view_is in
     consistent-of (
     let a = c.requires.applies in
     let call : Call = call_of c.args.call in
-    (frame-unmapped g.S.SlotMap.slots g.S.SlotStore.memory c.live-in-UnmapFrame.inside.objects c.unmap.new.self c.live-in-UnmapFrame.inside.store c.unmap.new.store call a.0 c.args.held a.1 whole (asked g.S.SlotMap.slots g.S.SlotStore.memory (call_of c.args.call) of_kernel c.requires.call) a.2
+    (frame-unmapped g.S.SlotMap.slots g.S.SlotStore.memory c.live-in-UnmapFrame.inside.objects c.unmap.new.self c.live-in-UnmapFrame.inside.store
+    c.unmap.new.store call a.0 c.args.held a.1 whole (asked g.S.SlotMap.slots g.S.SlotStore.memory (call_of c.args.call) of_kernel c.requires.call) a.2
     c.unmap.ensures.slots c.unmap.ensures.state c.unmap.ensures.agree).1)

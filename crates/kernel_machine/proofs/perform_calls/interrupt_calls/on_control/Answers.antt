@@ -11,7 +11,8 @@ get_handler-requires-clause-root g c = c.requires.call.root
 pub get_handler-requires-clause-held : goal.get_handler-requires-clause-held
 get_handler-requires-clause-held g c =
     let kernel = c.args.kernel.now in
-    held-at kernel.tables (g.S.SlotMap.slots kernel.store) (g.S.SlotStore.memory kernel.store) (call_of c.args.call) InterruptControl c.requires.call c.requires.applies refl
+    held-at kernel.tables (g.S.SlotMap.slots kernel.store) (g.S.SlotStore.memory kernel.store) (call_of c.args.call) InterruptControl c.requires.call
+    c.requires.applies refl
 
 pub returns-clause-outcome : goal.returns-clause-outcome
 returns-clause-outcome g c = c.get_handler.ensures.outcome (call_of c.args.call) refl refl

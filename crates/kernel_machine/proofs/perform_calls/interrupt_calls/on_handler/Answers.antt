@@ -31,15 +31,18 @@ clear-requires g c = record {
 pub returns-in-Acknowledge-clause-outcome : goal.returns-in-Acknowledge-clause-outcome
 returns-in-Acknowledge-clause-outcome g c =
     let t = state_in g.S.SlotMap.slots g.S.SlotStore.memory c.ack.new.kernel in
-    subst (λ (a : HandlerCall). on_handler (state_in g.S.SlotMap.slots g.S.SlotStore.memory c.args.kernel.now) (call_of c.args.call) c.args.line a ≡ Ok t) (sym c.in-Acknowledge.is)
+    subst (λ (a : HandlerCall). on_handler (state_in g.S.SlotMap.slots g.S.SlotStore.memory c.args.kernel.now) (call_of c.args.call) c.args.line a ≡ Ok t)
+    (sym c.in-Acknowledge.is)
     (ap (λ (x : State). Ok x) (sym c.ack.ensures.state))
 
 pub returns-in-SetNotification-clause-outcome : goal.returns-in-SetNotification-clause-outcome
 returns-in-SetNotification-clause-outcome g c =
-    subst (λ (a : HandlerCall). GivesState (on_handler (state_in g.S.SlotMap.slots g.S.SlotStore.memory c.args.kernel.now) (call_of c.args.call) c.args.line a) c.bind.result
+    subst (λ (a : HandlerCall). GivesState (on_handler (state_in g.S.SlotMap.slots g.S.SlotStore.memory c.args.kernel.now) (call_of c.args.call) c.args.line a)
+    c.bind.result
     (state_in g.S.SlotMap.slots g.S.SlotStore.memory c.bind.new.kernel)) (sym c.in-SetNotification.is) (c.bind.ensures.outcome (call_of c.args.call) refl)
 
 pub returns-in-Clear-clause-outcome : goal.returns-in-Clear-clause-outcome
 returns-in-Clear-clause-outcome g c =
-    subst (λ (a : HandlerCall). GivesState (on_handler (state_in g.S.SlotMap.slots g.S.SlotStore.memory c.args.kernel.now) (call_of c.args.call) c.args.line a) c.clear.result
+    subst (λ (a : HandlerCall). GivesState (on_handler (state_in g.S.SlotMap.slots g.S.SlotStore.memory c.args.kernel.now) (call_of c.args.call) c.args.line a)
+    c.clear.result
     (state_in g.S.SlotMap.slots g.S.SlotStore.memory c.clear.new.kernel)) (sym c.in-Clear.is) c.clear.ensures.outcome

@@ -11,10 +11,12 @@ use Rattle.model.specs.declared.errors.KError.{KError}
 use Rattle.objects.specs.Lives.{state_in}
 
 pub returns-in_default-clause-outcome : goal.returns-in_default-clause-outcome
-returns-in_default-clause-outcome g c = guarded-none (state_in g.S.SlotMap.slots g.S.SlotStore.memory c.args.kernel.now) (call_of c.args.call) c.args.words.now c.thread_of.result c.thread_of.ensures c.in_default.is
+returns-in_default-clause-outcome g c = guarded-none (state_in g.S.SlotMap.slots g.S.SlotStore.memory c.args.kernel.now) (call_of c.args.call) c.args.words.now
+    c.thread_of.result c.thread_of.ensures c.in_default.is
 
 pub returns-then-words-lt6-clause-outcome : goal.returns-then-words-lt6-clause-outcome
-returns-then-words-lt6-clause-outcome g c = guarded-short (state_in g.S.SlotMap.slots g.S.SlotStore.memory c.args.kernel.now) (call_of c.args.call) c.args.words.now c.thread_of.result c.in-Some.thread c.thread_of.ensures c.in-Some.is c.if-words-lt6.true
+returns-then-words-lt6-clause-outcome g c = guarded-short (state_in g.S.SlotMap.slots g.S.SlotStore.memory c.args.kernel.now) (call_of c.args.call)
+    c.args.words.now c.thread_of.result c.in-Some.thread c.thread_of.ensures c.in-Some.is c.if-words-lt6.true
 
 pub configure-requires-clause-valid : goal.configure-requires-clause-valid
 configure-requires-clause-valid g c sound = root-valid _ c.args.call.root sound c.requires.call.root
@@ -33,7 +35,8 @@ returns-clause-outcome g c =
     let k = c.spaces_of-spaces.result in
     let e = c.spaces_of-spaces.ensures in
     let t : State = state_in g.S.SlotMap.slots g.S.SlotStore.memory c.configure.new.kernel in
-    let same = guarded-long s call c.args.words.now c.thread_of.result thread c.thread_of.ensures c.in-Some.is c.if-words-lt6.false k.guard k.fault_address k.cspace k.vspace
+    let same = guarded-long s call c.args.words.now c.thread_of.result thread c.thread_of.ensures c.in-Some.is c.if-words-lt6.false k.guard k.fault_address
+    k.cspace k.vspace
     e.guard e.fault_address e.cspace e.vspace
     in
     subst (λ (d : Result State KError). GivesState d c.configure.result t) (sym same)

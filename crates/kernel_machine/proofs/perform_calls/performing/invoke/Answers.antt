@@ -21,11 +21,13 @@ returns-in-Ok-clause-outcome g c =
     let t = state_in g.S.SlotMap.slots g.S.SlotStore.memory c.perform.new.kernel in
     let call = call_of c.args.call in
     subst (λ (d : Result State KError). GivesState d c.perform.result t)
-    (sym (invoked-by s call c.args.label c.args.extra c.args.words.now c.decode_call.result c.decode_call.ensures ∙ ap (λ (r : Result Invocation KError). r >>= perform s call) c.in-Ok.is))
+    (sym (invoked-by s call c.args.label c.args.extra c.args.words.now c.decode_call.result c.decode_call.ensures
+    ∙ ap (λ (r : Result Invocation KError). r >>= perform s call) c.in-Ok.is))
     c.perform.ensures.outcome
 
 pub returns-in-Err-clause-outcome : goal.returns-in-Err-clause-outcome
 returns-in-Err-clause-outcome g c =
     let s = state_in g.S.SlotMap.slots g.S.SlotStore.memory c.args.kernel.now in
     let call = call_of c.args.call in
-    invoked-by s call c.args.label c.args.extra c.args.words.now c.decode_call.result c.decode_call.ensures ∙ ap (λ (r : Result Invocation KError). r >>= perform s call) c.in-Err.is
+    invoked-by s call c.args.label c.args.extra c.args.words.now c.decode_call.result c.decode_call.ensures
+    ∙ ap (λ (r : Result Invocation KError). r >>= perform s call) c.in-Err.is

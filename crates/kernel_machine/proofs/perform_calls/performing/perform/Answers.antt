@@ -27,35 +27,42 @@ on_handler-requires-clause-applies g c = subst (AppliesTo c.args.call.capability
 
 pub returns-in-OnUntyped-clause-outcome : goal.returns-in-OnUntyped-clause-outcome
 returns-in-OnUntyped-clause-outcome g c =
-    subst (λ (i : Invocation). GivesState (perform (state_in g.S.SlotMap.slots g.S.SlotStore.memory c.args.kernel.now) (call_of c.args.call) i) c.on_untyped.result
+    subst (λ (i : Invocation). GivesState (perform (state_in g.S.SlotMap.slots g.S.SlotStore.memory c.args.kernel.now) (call_of c.args.call) i)
+    c.on_untyped.result
     (state_in g.S.SlotMap.slots g.S.SlotStore.memory c.on_untyped.new.kernel)) (sym c.in-OnUntyped.is) c.on_untyped.ensures.outcome
 
 pub returns-in-OnThread-clause-outcome : goal.returns-in-OnThread-clause-outcome
 returns-in-OnThread-clause-outcome g c =
-    subst (λ (i : Invocation). GivesState (perform (state_in g.S.SlotMap.slots g.S.SlotStore.memory c.args.kernel.now) (call_of c.args.call) i) c.on_thread.result
+    subst (λ (i : Invocation). GivesState (perform (state_in g.S.SlotMap.slots g.S.SlotStore.memory c.args.kernel.now) (call_of c.args.call) i)
+    c.on_thread.result
     (state_in g.S.SlotMap.slots g.S.SlotStore.memory c.on_thread.new.kernel)) (sym c.in-OnThread.is) c.on_thread.ensures.outcome
 
 pub returns-in-OnCNode-clause-outcome : goal.returns-in-OnCNode-clause-outcome
 returns-in-OnCNode-clause-outcome g c =
-    subst (λ (i : Invocation). GivesState (perform (state_in g.S.SlotMap.slots g.S.SlotStore.memory c.args.kernel.now) (call_of c.args.call) i) c.on_cnode.result
+    subst (λ (i : Invocation). GivesState (perform (state_in g.S.SlotMap.slots g.S.SlotStore.memory c.args.kernel.now) (call_of c.args.call) i)
+    c.on_cnode.result
     (state_in g.S.SlotMap.slots g.S.SlotStore.memory c.on_cnode.new.kernel)) (sym c.in-OnCNode.is) c.on_cnode.ensures.outcome
 
 pub returns-in-OnFrame-clause-outcome : goal.returns-in-OnFrame-clause-outcome
 returns-in-OnFrame-clause-outcome g c =
-    subst (λ (i : Invocation). GivesState (perform (state_in g.S.SlotMap.slots g.S.SlotStore.memory c.args.kernel.now) (call_of c.args.call) i) c.on_frame.result
+    subst (λ (i : Invocation). GivesState (perform (state_in g.S.SlotMap.slots g.S.SlotStore.memory c.args.kernel.now) (call_of c.args.call) i)
+    c.on_frame.result
     (state_in g.S.SlotMap.slots g.S.SlotStore.memory c.on_frame.new.kernel)) (sym c.in-OnFrame.is) c.on_frame.ensures.outcome
 
 pub returns-in-OnTable-clause-outcome : goal.returns-in-OnTable-clause-outcome
 returns-in-OnTable-clause-outcome g c =
-    subst (λ (i : Invocation). GivesState (perform (state_in g.S.SlotMap.slots g.S.SlotStore.memory c.args.kernel.now) (call_of c.args.call) i) c.on_table.result
+    subst (λ (i : Invocation). GivesState (perform (state_in g.S.SlotMap.slots g.S.SlotStore.memory c.args.kernel.now) (call_of c.args.call) i)
+    c.on_table.result
     (state_in g.S.SlotMap.slots g.S.SlotStore.memory c.on_table.new.kernel)) (sym c.in-OnTable.is) c.on_table.ensures.outcome
 
 pub returns-in-OnControl-clause-outcome : goal.returns-in-OnControl-clause-outcome
 returns-in-OnControl-clause-outcome g c =
-    subst (λ (i : Invocation). GivesState (perform (state_in g.S.SlotMap.slots g.S.SlotStore.memory c.args.kernel.now) (call_of c.args.call) i) c.on_control.result
+    subst (λ (i : Invocation). GivesState (perform (state_in g.S.SlotMap.slots g.S.SlotStore.memory c.args.kernel.now) (call_of c.args.call) i)
+    c.on_control.result
     (state_in g.S.SlotMap.slots g.S.SlotStore.memory c.on_control.new.kernel)) (sym c.in-OnControl.is) c.on_control.ensures.outcome
 
 pub returns-in-OnHandler-clause-outcome : goal.returns-in-OnHandler-clause-outcome
 returns-in-OnHandler-clause-outcome g c =
-    subst (λ (i : Invocation). GivesState (perform (state_in g.S.SlotMap.slots g.S.SlotStore.memory c.args.kernel.now) (call_of c.args.call) i) c.on_handler.result
+    subst (λ (i : Invocation). GivesState (perform (state_in g.S.SlotMap.slots g.S.SlotStore.memory c.args.kernel.now) (call_of c.args.call) i)
+    c.on_handler.result
     (state_in g.S.SlotMap.slots g.S.SlotStore.memory c.on_handler.new.kernel)) (sym c.in-OnHandler.is) c.on_handler.ensures.outcome

@@ -15,13 +15,15 @@ pub retype-requires-clause-there : goal.retype-requires-clause-there
 retype-requires-clause-there g c =
     let whole = whole-of g.S.SlotMap.slots g.S.SlotStore.memory c.live.inside.objects c.live.inside.store c.kernel.invariant c.live.view_is c.live.invariant in
     let of_kernel = c.live.view_is ∙ c.kernel.view_is in
-    (may-call c.live.inside.objects (g.S.SlotMap.slots c.live.inside.store) (g.S.SlotStore.memory c.live.inside.store) (call_of c.args.call) whole (asked g.S.SlotMap.slots g.S.SlotStore.memory (call_of c.args.call) of_kernel c.requires.call)).there
+    (may-call c.live.inside.objects (g.S.SlotMap.slots c.live.inside.store) (g.S.SlotStore.memory c.live.inside.store) (call_of c.args.call) whole
+    (asked g.S.SlotMap.slots g.S.SlotStore.memory (call_of c.args.call) of_kernel c.requires.call)).there
 
 pub retype-requires-clause-held : goal.retype-requires-clause-held
 retype-requires-clause-held g c =
     let of_kernel = c.live.view_is ∙ c.kernel.view_is in
     let memory = c.args.memory in
-    held-at c.live.inside.objects (g.S.SlotMap.slots c.live.inside.store) (g.S.SlotStore.memory c.live.inside.store) (call_of c.args.call) (Untyped memory.offset memory.bits memory.watermark)
+    held-at c.live.inside.objects (g.S.SlotMap.slots c.live.inside.store) (g.S.SlotStore.memory c.live.inside.store) (call_of c.args.call)
+    (Untyped memory.offset memory.bits memory.watermark)
     (asked g.S.SlotMap.slots g.S.SlotStore.memory (call_of c.args.call) of_kernel c.requires.call) c.requires.applies refl
 
 pub invariant_of-live : goal.invariant_of-live
@@ -32,10 +34,13 @@ invariant_of-live g c =
     let s = state_of c.live.inside.objects (g.S.SlotMap.slots c.live.inside.store) (g.S.SlotStore.memory c.live.inside.store) in
     let call : Call = call_of c.args.call in
     let memory = c.args.memory in
-    let at = invoked-at s call (Untyped memory.offset memory.bits memory.watermark) (asked g.S.SlotMap.slots g.S.SlotStore.memory (call_of c.args.call) of_kernel c.requires.call).invoked c.requires.applies refl in
-    still-whole g.S.SlotMap.slots g.S.SlotStore.memory _ c.retype.result c.live.inside.store c.retype.new.store c.live.inside.objects c.retype.new.begins whole c.retype.ensures.outcome
+    let at = invoked-at s call (Untyped memory.offset memory.bits memory.watermark)
+    (asked g.S.SlotMap.slots g.S.SlotStore.memory (call_of c.args.call) of_kernel c.requires.call).invoked c.requires.applies refl in
+    still-whole g.S.SlotMap.slots g.S.SlotStore.memory _ c.retype.result c.live.inside.store c.retype.new.store c.live.inside.objects c.retype.new.begins whole
+    c.retype.ensures.outcome
     c.retype.ensures.unchanged c.retype.ensures.same
-    (λ t is. retype-whole s t call.root call.slot memory c.args.asked whole.sound (asked g.S.SlotMap.slots g.S.SlotStore.memory (call_of c.args.call) of_kernel c.requires.call).root at.at is) c.retype.ensures.agree).stands
+    (λ t is. retype-whole s t call.root call.slot memory c.args.asked whole.sound
+    (asked g.S.SlotMap.slots g.S.SlotStore.memory (call_of c.args.call) of_kernel c.requires.call).root at.at is) c.retype.ensures.agree).stands
 
 pub invariant_of-kernel : goal.invariant_of-kernel
 invariant_of-kernel g c =
@@ -45,10 +50,13 @@ invariant_of-kernel g c =
     let s = state_of c.live.inside.objects (g.S.SlotMap.slots c.live.inside.store) (g.S.SlotStore.memory c.live.inside.store) in
     let call : Call = call_of c.args.call in
     let memory = c.args.memory in
-    let at = invoked-at s call (Untyped memory.offset memory.bits memory.watermark) (asked g.S.SlotMap.slots g.S.SlotStore.memory (call_of c.args.call) of_kernel c.requires.call).invoked c.requires.applies refl in
-    still-whole g.S.SlotMap.slots g.S.SlotStore.memory _ c.retype.result c.live.inside.store c.retype.new.store c.live.inside.objects c.retype.new.begins whole c.retype.ensures.outcome
+    let at = invoked-at s call (Untyped memory.offset memory.bits memory.watermark)
+    (asked g.S.SlotMap.slots g.S.SlotStore.memory (call_of c.args.call) of_kernel c.requires.call).invoked c.requires.applies refl in
+    still-whole g.S.SlotMap.slots g.S.SlotStore.memory _ c.retype.result c.live.inside.store c.retype.new.store c.live.inside.objects c.retype.new.begins whole
+    c.retype.ensures.outcome
     c.retype.ensures.unchanged c.retype.ensures.same
-    (λ t is. retype-whole s t call.root call.slot memory c.args.asked whole.sound (asked g.S.SlotMap.slots g.S.SlotStore.memory (call_of c.args.call) of_kernel c.requires.call).root at.at is) c.retype.ensures.agree)
+    (λ t is. retype-whole s t call.root call.slot memory c.args.asked whole.sound
+    (asked g.S.SlotMap.slots g.S.SlotStore.memory (call_of c.args.call) of_kernel c.requires.call).root at.at is) c.retype.ensures.agree)
 
 pub retype-requires-clause-agree : goal.retype-requires-clause-agree
 retype-requires-clause-agree g c =

@@ -11,6 +11,21 @@ returns-clause-state g c = (c.unready.ensures.state ∙ ap (λ (s : State). unre
 
 pub returns-clause-bytes : goal.returns-clause-bytes
 returns-clause-bytes g c =
-    let first = (moved-to (state_of c.args.self.now (g.S.SlotMap.slots c.args.store.now) (g.S.SlotStore.memory c.args.store.now)) (state_of c.set_status_at.new.self (g.S.SlotMap.slots c.set_status_at.new.store) (g.S.SlotStore.memory c.set_status_at.new.store)) _ c.set_status_at.ensures.state (one-put (state_of c.args.self.now (g.S.SlotMap.slots c.args.store.now) (g.S.SlotStore.memory c.args.store.now)) c.args.thread (ThreadObject _) c.requires.there)) in
-    same-objects (state_of c.args.self.now (g.S.SlotMap.slots c.args.store.now) (g.S.SlotStore.memory c.args.store.now)) _ _ _ (moved-to (state_of c.args.self.now (g.S.SlotMap.slots c.args.store.now) (g.S.SlotStore.memory c.args.store.now)) _ _ (c.unready.ensures.state ∙ ap (λ (s : State). unready s c.args.thread) c.set_status_at.ensures.state) (record { kinds = kind-put ((state_of c.args.self.now (g.S.SlotMap.slots c.args.store.now) (g.S.SlotStore.memory c.args.store.now)).objects) c.args.thread (ThreadObject _) c.requires.there; bytes = refl; slots = refl; bits = refl }))
-    (records-then (state_of c.args.self.now (g.S.SlotMap.slots c.args.store.now) (g.S.SlotStore.memory c.args.store.now)) (state_of c.set_status_at.new.self (g.S.SlotMap.slots c.set_status_at.new.store) (g.S.SlotStore.memory c.set_status_at.new.store)) (g.S.SlotStore.memory c.args.store.now) (g.S.SlotStore.memory c.set_status_at.new.store) _ (λ offset kind is. sym (first.kinds offset) ∙ is) c.set_status_at.ensures.bytes c.unready.ensures.bytes)
+    let first = (moved-to (state_of c.args.self.now (g.S.SlotMap.slots c.args.store.now) (g.S.SlotStore.memory c.args.store.now))
+    (state_of c.set_status_at.new.self (g.S.SlotMap.slots c.set_status_at.new.store) (g.S.SlotStore.memory c.set_status_at.new.store)) _
+    c.set_status_at.ensures.state (one-put (state_of c.args.self.now (g.S.SlotMap.slots c.args.store.now) (g.S.SlotStore.memory c.args.store.now))
+    c.args.thread (ThreadObject _) c.requires.there)) in
+    same-objects (state_of c.args.self.now (g.S.SlotMap.slots c.args.store.now) (g.S.SlotStore.memory c.args.store.now)) _ _ _
+    (moved-to (state_of c.args.self.now (g.S.SlotMap.slots c.args.store.now) (g.S.SlotStore.memory c.args.store.now)) _ _
+    (c.unready.ensures.state ∙ ap (λ (s : State). unready s c.args.thread) c.set_status_at.ensures.state)
+    (record {
+      kinds = kind-put ((state_of c.args.self.now (g.S.SlotMap.slots c.args.store.now) (g.S.SlotStore.memory c.args.store.now)).objects)
+          c.args.thread (ThreadObject _) c.requires.there;
+      bytes = refl;
+      slots = refl;
+      bits = refl;
+    }))
+    (records-then (state_of c.args.self.now (g.S.SlotMap.slots c.args.store.now) (g.S.SlotStore.memory c.args.store.now))
+    (state_of c.set_status_at.new.self (g.S.SlotMap.slots c.set_status_at.new.store) (g.S.SlotStore.memory c.set_status_at.new.store))
+    (g.S.SlotStore.memory c.args.store.now) (g.S.SlotStore.memory c.set_status_at.new.store) _ (λ offset kind is. sym (first.kinds offset) ∙ is)
+    c.set_status_at.ensures.bytes c.unready.ensures.bytes)

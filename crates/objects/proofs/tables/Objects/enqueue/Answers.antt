@@ -18,7 +18,8 @@ use Rattle.objects.proofs.tables.Objects.enqueue.Goals as goal
 pub push-requires-clause-laid : goal.push-requires-clause-laid
 push-requires-clause-laid g c =
     let stands = rw (← c.self.view_is) at c.set_sending_at.ensures.stands in
-    laid-here (the_view c.self.inside) c.self.invariant (g.S.SlotMap.slots c.set_sending_at.new.store) (g.S.SlotStore.memory c.set_sending_at.new.store) stands.fits
+    laid-here (the_view c.self.inside) c.self.invariant (g.S.SlotMap.slots c.set_sending_at.new.store) (g.S.SlotStore.memory c.set_sending_at.new.store)
+    stands.fits
 
 pub push-requires-clause-stands : goal.push-requires-clause-stands
 push-requires-clause-stands g c =
@@ -30,19 +31,23 @@ push-requires-clause-apart g c =
     let stands = rw (← c.self.view_is) at c.set_sending_at.ensures.stands in
     let still = rw (← c.self.view_is) at c.set_sending_at.ensures.state in
     let apart = subst (λ (s : State). StandsNowhere s.objects c.args.thread) (sym still) (rw (← c.self.view_is) at c.requires.may_wait.apart) in
-    nowhere-here (the_view c.self.inside) (g.S.SlotMap.slots c.set_sending_at.new.store) (g.S.SlotStore.memory c.set_sending_at.new.store) stands c.args.thread apart
+    nowhere-here (the_view c.self.inside) (g.S.SlotMap.slots c.set_sending_at.new.store) (g.S.SlotStore.memory c.set_sending_at.new.store) stands c.args.thread
+    apart
 
 pub push-requires-clause-there : goal.push-requires-clause-there
 push-requires-clause-there g c =
     let still = rw (← c.self.view_is) at c.set_sending_at.ensures.state in
     let there = ap (λ (s : State). kind_at s c.args.thread) still ∙ (rw (← c.self.view_is) at c.requires.may_wait.there) in
-    ap is_thread_kind (of-state (the_view c.self.inside) (g.S.SlotMap.slots c.set_sending_at.new.store) (g.S.SlotStore.memory c.set_sending_at.new.store) c.args.thread there)
+    ap is_thread_kind (of-state (the_view c.self.inside) (g.S.SlotMap.slots c.set_sending_at.new.store) (g.S.SlotStore.memory c.set_sending_at.new.store)
+    c.args.thread there)
 
 pub push-requires-clause-waited : goal.push-requires-clause-waited
 push-requires-clause-waited g c =
     let still = rw (← c.self.view_is) at c.set_sending_at.ensures.state in
     let queue = ap (λ (s : State). has_waiting (kind_at s c.args.queue)) still ∙ (rw (← c.self.view_is) at c.requires.queue) in
-    head-at-point (kind_in (the_view c.self.inside) c.args.queue) c.args.queue (ap has_waiting (sym (kind-state (the_view c.self.inside) c.args.queue (g.S.SlotMap.slots c.set_sending_at.new.store) (g.S.SlotStore.memory c.set_sending_at.new.store))) ∙ queue)
+    head-at-point (kind_in (the_view c.self.inside) c.args.queue) c.args.queue
+    (ap has_waiting (sym (kind-state (the_view c.self.inside) c.args.queue (g.S.SlotMap.slots c.set_sending_at.new.store)
+    (g.S.SlotStore.memory c.set_sending_at.new.store))) ∙ queue)
 
 pub returns-clause-state : goal.returns-clause-state
 returns-clause-state g c =
@@ -52,8 +57,16 @@ returns-clause-state g c =
     let there = ap (λ (s : State). kind_at s c.args.thread) still ∙ (rw (← c.self.view_is) at c.requires.may_wait.there) in
     let queue = ap (λ (s : State). has_waiting (kind_at s c.args.queue)) still ∙ (rw (← c.self.view_is) at c.requires.queue) in
     let sends = rw (← c.self.view_is) at c.set_sending_at.ensures.sending in
-    let is = of-state (the_view c.self.inside) (g.S.SlotMap.slots c.set_sending_at.new.store) (g.S.SlotStore.memory c.set_sending_at.new.store) c.args.thread there in
-    rw (← c.self.view_is) ((enqueue-done (the_view c.self.inside) (g.S.SlotMap.slots c.set_sending_at.new.store) (g.S.SlotMap.slots c.push.new.store) (g.S.SlotStore.memory c.set_sending_at.new.store) (g.S.SlotStore.memory c.push.new.store) stands c.push.ensures.slots c.self.invariant c.args.queue c.args.thread (thread_words.thread_at (g.S.SlotStore.memory c.set_sending_at.new.store) c.args.thread) c.args.sending (thread-here (the_view c.self.inside) (g.S.SlotStore.memory c.set_sending_at.new.store) c.args.thread is) (sends-there (the_view c.self.inside) (g.S.SlotMap.slots c.set_sending_at.new.store) (g.S.SlotStore.memory c.set_sending_at.new.store) c.args.thread (ap is_thread_kind is) ∙ sends) queue apart c.push.ensures.queues c.push.ensures.stands c.push.ensures.bytes).0.state ∙ ap (λ (s : State). changed_at s c.args.queue (joined c.args.thread c.args.sending)) still)
+    let is = of-state (the_view c.self.inside) (g.S.SlotMap.slots c.set_sending_at.new.store) (g.S.SlotStore.memory c.set_sending_at.new.store) c.args.thread
+    there in
+    rw (← c.self.view_is)
+    ((enqueue-done (the_view c.self.inside) (g.S.SlotMap.slots c.set_sending_at.new.store) (g.S.SlotMap.slots c.push.new.store)
+    (g.S.SlotStore.memory c.set_sending_at.new.store) (g.S.SlotStore.memory c.push.new.store) stands c.push.ensures.slots c.self.invariant c.args.queue
+    c.args.thread (thread_words.thread_at (g.S.SlotStore.memory c.set_sending_at.new.store) c.args.thread) c.args.sending
+    (thread-here (the_view c.self.inside) (g.S.SlotStore.memory c.set_sending_at.new.store) c.args.thread is)
+    (sends-there (the_view c.self.inside) (g.S.SlotMap.slots c.set_sending_at.new.store) (g.S.SlotStore.memory c.set_sending_at.new.store) c.args.thread
+    (ap is_thread_kind is) ∙ sends) queue apart c.push.ensures.queues c.push.ensures.stands c.push.ensures.bytes).0.state
+    ∙ ap (λ (s : State). changed_at s c.args.queue (joined c.args.thread c.args.sending)) still)
 
 pub returns-clause-stands : goal.returns-clause-stands
 returns-clause-stands g c =
@@ -63,8 +76,14 @@ returns-clause-stands g c =
     let there = ap (λ (s : State). kind_at s c.args.thread) still ∙ (rw (← c.self.view_is) at c.requires.may_wait.there) in
     let queue = ap (λ (s : State). has_waiting (kind_at s c.args.queue)) still ∙ (rw (← c.self.view_is) at c.requires.queue) in
     let sends = rw (← c.self.view_is) at c.set_sending_at.ensures.sending in
-    let is = of-state (the_view c.self.inside) (g.S.SlotMap.slots c.set_sending_at.new.store) (g.S.SlotStore.memory c.set_sending_at.new.store) c.args.thread there in
-    rw (← c.self.view_is) (enqueue-done (the_view c.self.inside) (g.S.SlotMap.slots c.set_sending_at.new.store) (g.S.SlotMap.slots c.push.new.store) (g.S.SlotStore.memory c.set_sending_at.new.store) (g.S.SlotStore.memory c.push.new.store) stands c.push.ensures.slots c.self.invariant c.args.queue c.args.thread (thread_words.thread_at (g.S.SlotStore.memory c.set_sending_at.new.store) c.args.thread) c.args.sending (thread-here (the_view c.self.inside) (g.S.SlotStore.memory c.set_sending_at.new.store) c.args.thread is) (sends-there (the_view c.self.inside) (g.S.SlotMap.slots c.set_sending_at.new.store) (g.S.SlotStore.memory c.set_sending_at.new.store) c.args.thread (ap is_thread_kind is) ∙ sends) queue apart c.push.ensures.queues c.push.ensures.stands c.push.ensures.bytes).0.stands
+    let is = of-state (the_view c.self.inside) (g.S.SlotMap.slots c.set_sending_at.new.store) (g.S.SlotStore.memory c.set_sending_at.new.store) c.args.thread
+    there in
+    rw (← c.self.view_is) (enqueue-done (the_view c.self.inside) (g.S.SlotMap.slots c.set_sending_at.new.store) (g.S.SlotMap.slots c.push.new.store)
+    (g.S.SlotStore.memory c.set_sending_at.new.store) (g.S.SlotStore.memory c.push.new.store) stands c.push.ensures.slots c.self.invariant c.args.queue
+    c.args.thread (thread_words.thread_at (g.S.SlotStore.memory c.set_sending_at.new.store) c.args.thread) c.args.sending
+    (thread-here (the_view c.self.inside) (g.S.SlotStore.memory c.set_sending_at.new.store) c.args.thread is)
+    (sends-there (the_view c.self.inside) (g.S.SlotMap.slots c.set_sending_at.new.store) (g.S.SlotStore.memory c.set_sending_at.new.store) c.args.thread
+    (ap is_thread_kind is) ∙ sends) queue apart c.push.ensures.queues c.push.ensures.stands c.push.ensures.bytes).0.stands
 
 pub returns-clause-bytes : goal.returns-clause-bytes
 returns-clause-bytes g c =
@@ -74,6 +93,16 @@ returns-clause-bytes g c =
     let there = ap (λ (s : State). kind_at s c.args.thread) still ∙ (rw (← c.self.view_is) at c.requires.may_wait.there) in
     let queue = ap (λ (s : State). has_waiting (kind_at s c.args.queue)) still ∙ (rw (← c.self.view_is) at c.requires.queue) in
     let sends = rw (← c.self.view_is) at c.set_sending_at.ensures.sending in
-    let is = of-state (the_view c.self.inside) (g.S.SlotMap.slots c.set_sending_at.new.store) (g.S.SlotStore.memory c.set_sending_at.new.store) c.args.thread there in
+    let is = of-state (the_view c.self.inside) (g.S.SlotMap.slots c.set_sending_at.new.store) (g.S.SlotStore.memory c.set_sending_at.new.store) c.args.thread
+    there in
     let first = rw (← c.self.view_is) at c.set_sending_at.ensures.bytes in
-    rw (← c.self.view_is) (records-then (state_of (the_view c.self.inside) (g.S.SlotMap.slots c.args.store.now) (g.S.SlotStore.memory c.args.store.now)) (state_of (the_view c.self.inside) (g.S.SlotMap.slots c.set_sending_at.new.store) (g.S.SlotStore.memory c.set_sending_at.new.store)) (g.S.SlotStore.memory c.args.store.now) (g.S.SlotStore.memory c.set_sending_at.new.store) _ (λ offset kind found. sym (ap (λ (s : State). kind_at s offset) still) ∙ found) first (enqueue-done (the_view c.self.inside) (g.S.SlotMap.slots c.set_sending_at.new.store) (g.S.SlotMap.slots c.push.new.store) (g.S.SlotStore.memory c.set_sending_at.new.store) (g.S.SlotStore.memory c.push.new.store) stands c.push.ensures.slots c.self.invariant c.args.queue c.args.thread (thread_words.thread_at (g.S.SlotStore.memory c.set_sending_at.new.store) c.args.thread) c.args.sending (thread-here (the_view c.self.inside) (g.S.SlotStore.memory c.set_sending_at.new.store) c.args.thread is) (sends-there (the_view c.self.inside) (g.S.SlotMap.slots c.set_sending_at.new.store) (g.S.SlotStore.memory c.set_sending_at.new.store) c.args.thread (ap is_thread_kind is) ∙ sends) queue apart c.push.ensures.queues c.push.ensures.stands c.push.ensures.bytes).1)
+    rw (← c.self.view_is) (records-then (state_of (the_view c.self.inside) (g.S.SlotMap.slots c.args.store.now) (g.S.SlotStore.memory c.args.store.now))
+    (state_of (the_view c.self.inside) (g.S.SlotMap.slots c.set_sending_at.new.store) (g.S.SlotStore.memory c.set_sending_at.new.store))
+    (g.S.SlotStore.memory c.args.store.now) (g.S.SlotStore.memory c.set_sending_at.new.store) _
+    (λ offset kind found. sym (ap (λ (s : State). kind_at s offset) still) ∙ found) first
+    (enqueue-done (the_view c.self.inside) (g.S.SlotMap.slots c.set_sending_at.new.store) (g.S.SlotMap.slots c.push.new.store)
+    (g.S.SlotStore.memory c.set_sending_at.new.store) (g.S.SlotStore.memory c.push.new.store) stands c.push.ensures.slots c.self.invariant c.args.queue
+    c.args.thread (thread_words.thread_at (g.S.SlotStore.memory c.set_sending_at.new.store) c.args.thread) c.args.sending
+    (thread-here (the_view c.self.inside) (g.S.SlotStore.memory c.set_sending_at.new.store) c.args.thread is)
+    (sends-there (the_view c.self.inside) (g.S.SlotMap.slots c.set_sending_at.new.store) (g.S.SlotStore.memory c.set_sending_at.new.store) c.args.thread
+    (ap is_thread_kind is) ∙ sends) queue apart c.push.ensures.queues c.push.ensures.stands c.push.ensures.bytes).1)

@@ -7,4 +7,6 @@ use Rattle.objects.specs.Tables.{contents_of}
 use Rattle.objects.proofs.tables.Objects.is_frame.Goals as goal
 
 pub returns : goal.returns
-returns g c = c.has_frame.ensures (g.S.SlotStore.memory c.args.store.now) (contents.waiting_of (contents_of c.args.self.now (g.S.SlotStore.memory c.args.store.now)) (g.S.SlotStore.memory c.args.store.now)) ∙ ap is_frame_object (sym (objects-of c.args.self.now (g.S.SlotMap.slots c.args.store.now) (g.S.SlotStore.memory c.args.store.now) c.args.offset))
+returns g c = c.has_frame.ensures (g.S.SlotStore.memory c.args.store.now)
+    (contents.waiting_of (contents_of c.args.self.now (g.S.SlotStore.memory c.args.store.now)) (g.S.SlotStore.memory c.args.store.now))
+    ∙ ap is_frame_object (sym (objects-of c.args.self.now (g.S.SlotMap.slots c.args.store.now) (g.S.SlotStore.memory c.args.store.now) c.args.offset))

@@ -33,5 +33,6 @@ returns-clause-state c = λ slots memory.
 pub returns-clause-stands : goal.returns-clause-stands
 returns-clause-stands c = λ slots memory size.
     subst (λ (o : Tables). Standing o slots memory) (made c)
-    (fresh-stands c.args.bits c.args.radix c.new-2.result c.new-2.ensures.empty (fresh-tables c.args.bits c.args.radix c.new-2.result c.requires.least c.requires.most c.requires.radix) slots memory
+    (fresh-stands c.args.bits c.args.radix c.new-2.result c.new-2.ensures.empty
+    (fresh-tables c.args.bits c.args.radix c.new-2.result c.requires.least c.requires.most c.requires.radix) slots memory
     c.new-2.ensures.stands size)

@@ -17,4 +17,5 @@ returns-clause-state g c =
 pub returns-clause-bytes : goal.returns-clause-bytes
 returns-clause-bytes g c =
     let before = state_of c.args.self.now (g.S.SlotMap.slots c.args.store.now) (g.S.SlotStore.memory c.args.store.now) in
-    same-objects before _ _ _ (moved-to before _ _ c.enqueue.ensures.state (one-changed before c.args.endpoint (joined c.args.thread None) (kind-joined c.args.thread None))) c.enqueue.ensures.bytes
+    same-objects before _ _ _ (moved-to before _ _ c.enqueue.ensures.state
+    (one-changed before c.args.endpoint (joined c.args.thread None) (kind-joined c.args.thread None))) c.enqueue.ensures.bytes

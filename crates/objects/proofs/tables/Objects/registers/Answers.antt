@@ -5,10 +5,18 @@ use Rattle.objects.proofs.OneThread.{inside, read-none, read-there}
 use Rattle.objects.proofs.tables.Objects.registers.Goals as goal
 
 pub registers-requires : goal.registers-requires
-registers-requires g c = record { within = inside c.args.self.now (g.S.SlotMap.slots c.args.store.now) (g.S.SlotStore.memory c.args.store.now) c.requires c.args.thread (sym c.has_thread.ensures ∙ c.if-has_thread.true) }
+registers-requires g c =
+    record {
+      within = inside c.args.self.now (g.S.SlotMap.slots c.args.store.now) (g.S.SlotStore.memory c.args.store.now) c.requires c.args.thread
+          (sym c.has_thread.ensures ∙ c.if-has_thread.true);
+    }
 
 pub returns-then-has_thread : goal.returns-then-has_thread
-returns-then-has_thread g c = c.registers.ensures ∙ ap (λ (t : ThreadState). t.registers) (sym (read-there c.args.self.now (g.S.SlotMap.slots c.args.store.now) (g.S.SlotStore.memory c.args.store.now) c.args.thread (sym c.has_thread.ensures ∙ c.if-has_thread.true)))
+returns-then-has_thread g c = c.registers.ensures ∙ ap (λ (t : ThreadState). t.registers)
+    (sym (read-there c.args.self.now (g.S.SlotMap.slots c.args.store.now) (g.S.SlotStore.memory c.args.store.now) c.args.thread
+    (sym c.has_thread.ensures ∙ c.if-has_thread.true)))
 
 pub returns-else-has_thread : goal.returns-else-has_thread
-returns-else-has_thread g c = c.new.ensures ∙ ap (λ (t : ThreadState). t.registers) (sym (read-none c.args.self.now (g.S.SlotMap.slots c.args.store.now) (g.S.SlotStore.memory c.args.store.now) c.args.thread (sym c.has_thread.ensures ∙ c.if-has_thread.false)))
+returns-else-has_thread g c = c.new.ensures ∙ ap (λ (t : ThreadState). t.registers)
+    (sym (read-none c.args.self.now (g.S.SlotMap.slots c.args.store.now) (g.S.SlotStore.memory c.args.store.now) c.args.thread
+    (sym c.has_thread.ensures ∙ c.if-has_thread.false)))

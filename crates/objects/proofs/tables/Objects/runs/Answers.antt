@@ -9,10 +9,16 @@ use Rattle.objects.specs.declared.thread_records.records.Status.{Status}
 use Rattle.objects.proofs.tables.Objects.runs.Goals as goal
 
 pub status-requires : goal.status-requires
-status-requires g c = record { within = (place-there c.args.self.now (g.S.SlotMap.slots c.args.store.now) (g.S.SlotStore.memory c.args.store.now) c.requires.stands c.args.offset c.requires.there).within }
+status-requires g c =
+    record {
+      within = (place-there c.args.self.now (g.S.SlotMap.slots c.args.store.now) (g.S.SlotStore.memory c.args.store.now) c.requires.stands c.args.offset
+          c.requires.there).within;
+    }
 
 pub returns : goal.returns
 returns g c =
     c.is_running.ensures ∙ ap (λ (x : Status). is_runnable (status_of x)) c.status.ensures
     ∙ ap (λ (t : ThreadState). is_runnable t.status)
-    (sym (read-there c.args.self.now (g.S.SlotMap.slots c.args.store.now) (g.S.SlotStore.memory c.args.store.now) c.args.offset (ap is_thread_kind (of-state c.args.self.now (g.S.SlotMap.slots c.args.store.now) (g.S.SlotStore.memory c.args.store.now) c.args.offset c.requires.there))))
+    (sym (read-there c.args.self.now (g.S.SlotMap.slots c.args.store.now) (g.S.SlotStore.memory c.args.store.now) c.args.offset
+    (ap is_thread_kind (of-state c.args.self.now (g.S.SlotMap.slots c.args.store.now) (g.S.SlotStore.memory c.args.store.now) c.args.offset
+    c.requires.there))))

@@ -4,10 +4,15 @@ use Rattle.objects.proofs.OneThread.{inside, sends-none, sends-there}
 use Rattle.objects.proofs.tables.Objects.sending_of.Goals as goal
 
 pub sending-requires : goal.sending-requires
-sending-requires g c = record { within = inside c.args.self.now (g.S.SlotMap.slots c.args.store.now) (g.S.SlotStore.memory c.args.store.now) c.requires c.args.thread (sym c.has_thread.ensures ∙ c.if-has_thread.true) }
+sending-requires g c = record {
+  within = inside c.args.self.now (g.S.SlotMap.slots c.args.store.now) (g.S.SlotStore.memory c.args.store.now) c.requires
+      c.args.thread (sym c.has_thread.ensures ∙ c.if-has_thread.true);
+}
 
 pub returns-then-has_thread : goal.returns-then-has_thread
-returns-then-has_thread g c = c.sending.ensures ∙ sends-there c.args.self.now (g.S.SlotMap.slots c.args.store.now) (g.S.SlotStore.memory c.args.store.now) c.args.thread (sym c.has_thread.ensures ∙ c.if-has_thread.true)
+returns-then-has_thread g c = c.sending.ensures ∙ sends-there c.args.self.now (g.S.SlotMap.slots c.args.store.now) (g.S.SlotStore.memory c.args.store.now)
+    c.args.thread (sym c.has_thread.ensures ∙ c.if-has_thread.true)
 
 pub returns-else-has_thread : goal.returns-else-has_thread
-returns-else-has_thread g c = sends-none c.args.self.now (g.S.SlotMap.slots c.args.store.now) (g.S.SlotStore.memory c.args.store.now) c.args.thread (sym c.has_thread.ensures ∙ c.if-has_thread.false)
+returns-else-has_thread g c = sends-none c.args.self.now (g.S.SlotMap.slots c.args.store.now) (g.S.SlotStore.memory c.args.store.now) c.args.thread
+    (sym c.has_thread.ensures ∙ c.if-has_thread.false)

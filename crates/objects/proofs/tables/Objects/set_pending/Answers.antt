@@ -13,8 +13,11 @@ pub returns-clause-bytes : goal.returns-clause-bytes
 returns-clause-bytes g c =
     let before = state_of c.args.self.now (g.S.SlotMap.slots c.args.store.now) (g.S.SlotStore.memory c.args.store.now) in
     same-objects before _ (g.S.SlotStore.memory c.args.store.now) (g.S.SlotStore.memory c.args.store.now)
-    (moved-to before _ _ (c.set_pending_at.ensures.state _ _) (record { kinds = λ offset. refl; bytes = refl; slots = refl; bits = refl })) (same-records before (g.S.SlotStore.memory c.args.store.now))
+    (moved-to before _ _ (c.set_pending_at.ensures.state _ _) (record { kinds = λ offset. refl; bytes = refl; slots = refl; bits = refl }))
+    (same-records before (g.S.SlotStore.memory c.args.store.now))
 
 pub returns-clause-stands : goal.returns-clause-stands
 returns-clause-stands g c =
-    subst (λ (o : Tables). Standing o (g.S.SlotMap.slots c.args.store.now) (g.S.SlotStore.memory c.args.store.now)) (sym c.set_pending_at.ensures.tables) (lines-stand c.args.self.now c.args.self.now.masked c.set_pending_at.new.self.pending (g.S.SlotMap.slots c.args.store.now) (g.S.SlotStore.memory c.args.store.now) c.requires.stands)
+    subst (λ (o : Tables). Standing o (g.S.SlotMap.slots c.args.store.now) (g.S.SlotStore.memory c.args.store.now)) (sym c.set_pending_at.ensures.tables)
+    (lines-stand c.args.self.now c.args.self.now.masked c.set_pending_at.new.self.pending (g.S.SlotMap.slots c.args.store.now)
+    (g.S.SlotStore.memory c.args.store.now) c.requires.stands)

@@ -6,10 +6,17 @@ use Rattle.objects.specs.thread_records.Threads.{status_of}
 use Rattle.objects.proofs.tables.Objects.status.Goals as goal
 
 pub status-requires : goal.status-requires
-status-requires g c = record { within = inside c.args.self.now (g.S.SlotMap.slots c.args.store.now) (g.S.SlotStore.memory c.args.store.now) c.requires c.args.thread (sym c.has_thread.ensures ∙ c.if-has_thread.true) }
+status-requires g c = record {
+  within = inside c.args.self.now (g.S.SlotMap.slots c.args.store.now) (g.S.SlotStore.memory c.args.store.now) c.requires
+      c.args.thread (sym c.has_thread.ensures ∙ c.if-has_thread.true);
+}
 
 pub returns-then-has_thread : goal.returns-then-has_thread
-returns-then-has_thread g c = ap status_of c.status.ensures ∙ ap (λ (t : ThreadState). t.status) (sym (read-there c.args.self.now (g.S.SlotMap.slots c.args.store.now) (g.S.SlotStore.memory c.args.store.now) c.args.thread (sym c.has_thread.ensures ∙ c.if-has_thread.true)))
+returns-then-has_thread g c = ap status_of c.status.ensures ∙ ap (λ (t : ThreadState). t.status)
+    (sym (read-there c.args.self.now (g.S.SlotMap.slots c.args.store.now) (g.S.SlotStore.memory c.args.store.now) c.args.thread
+    (sym c.has_thread.ensures ∙ c.if-has_thread.true)))
 
 pub returns-else-has_thread : goal.returns-else-has_thread
-returns-else-has_thread g c = ap (λ (t : ThreadState). t.status) (sym (read-none c.args.self.now (g.S.SlotMap.slots c.args.store.now) (g.S.SlotStore.memory c.args.store.now) c.args.thread (sym c.has_thread.ensures ∙ c.if-has_thread.false)))
+returns-else-has_thread g c = ap (λ (t : ThreadState). t.status)
+    (sym (read-none c.args.self.now (g.S.SlotMap.slots c.args.store.now) (g.S.SlotStore.memory c.args.store.now) c.args.thread
+    (sym c.has_thread.ensures ∙ c.if-has_thread.false)))

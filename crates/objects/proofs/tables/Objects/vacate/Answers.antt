@@ -23,7 +23,10 @@ returns-clause-state g c =
     let waits_not = rw (← c.self.view_is) at c.requires.gone.waits_not in
     let ready_not = rw (← c.self.view_is) at c.requires.gone.ready_not in
     let rights_not = rw (← c.self.view_is) at c.requires.gone.rights_not in
-    rw (← c.self.view_is) (vacate-done (the_view c.self.inside) (g.S.SlotMap.slots c.args.store.now) (g.S.SlotMap.slots c.end.new.store) (g.S.SlotStore.memory c.args.store.now) stands c.end.ensures.slots c.self.invariant c.clear.new.self c.args.offset (g.S.SlotStore.memory c.end.new.store) c.clear.ensures.long c.clear.ensures.entries waits_not ready_not rights_not c.end.ensures.queues c.end.ensures.stands c.end.ensures.bytes).0.state
+    rw (← c.self.view_is) (vacate-done (the_view c.self.inside) (g.S.SlotMap.slots c.args.store.now) (g.S.SlotMap.slots c.end.new.store)
+    (g.S.SlotStore.memory c.args.store.now) stands c.end.ensures.slots c.self.invariant c.clear.new.self c.args.offset
+    (g.S.SlotStore.memory c.end.new.store) c.clear.ensures.long c.clear.ensures.entries waits_not ready_not rights_not c.end.ensures.queues
+    c.end.ensures.stands c.end.ensures.bytes).0.state
 
 pub returns-clause-bytes : goal.returns-clause-bytes
 returns-clause-bytes g c =
@@ -31,7 +34,10 @@ returns-clause-bytes g c =
     let waits_not = rw (← c.self.view_is) at c.requires.gone.waits_not in
     let ready_not = rw (← c.self.view_is) at c.requires.gone.ready_not in
     let rights_not = rw (← c.self.view_is) at c.requires.gone.rights_not in
-    rw (← c.self.view_is) (vacate-done (the_view c.self.inside) (g.S.SlotMap.slots c.args.store.now) (g.S.SlotMap.slots c.end.new.store) (g.S.SlotStore.memory c.args.store.now) stands c.end.ensures.slots c.self.invariant c.clear.new.self c.args.offset (g.S.SlotStore.memory c.end.new.store) c.clear.ensures.long c.clear.ensures.entries waits_not ready_not rights_not c.end.ensures.queues c.end.ensures.stands c.end.ensures.bytes).1
+    rw (← c.self.view_is) (vacate-done (the_view c.self.inside) (g.S.SlotMap.slots c.args.store.now) (g.S.SlotMap.slots c.end.new.store)
+    (g.S.SlotStore.memory c.args.store.now) stands c.end.ensures.slots c.self.invariant c.clear.new.self c.args.offset
+    (g.S.SlotStore.memory c.end.new.store) c.clear.ensures.long c.clear.ensures.entries waits_not ready_not rights_not c.end.ensures.queues
+    c.end.ensures.stands c.end.ensures.bytes).1
 
 pub returns-clause-stands : goal.returns-clause-stands
 returns-clause-stands g c =
@@ -39,4 +45,6 @@ returns-clause-stands g c =
     let waits_not = rw (← c.self.view_is) at c.requires.gone.waits_not in
     let ready_not = rw (← c.self.view_is) at c.requires.gone.ready_not in
     let rights_not = rw (← c.self.view_is) at c.requires.gone.rights_not in
-    (vacate-done (the_view c.self.inside) (g.S.SlotMap.slots c.args.store.now) (g.S.SlotMap.slots c.end.new.store) (g.S.SlotStore.memory c.args.store.now) stands c.end.ensures.slots c.self.invariant c.clear.new.self c.args.offset (g.S.SlotStore.memory c.end.new.store) c.clear.ensures.long c.clear.ensures.entries waits_not ready_not rights_not c.end.ensures.queues c.end.ensures.stands c.end.ensures.bytes).0.stands
+    (vacate-done (the_view c.self.inside) (g.S.SlotMap.slots c.args.store.now) (g.S.SlotMap.slots c.end.new.store) (g.S.SlotStore.memory c.args.store.now)
+    stands c.end.ensures.slots c.self.invariant c.clear.new.self c.args.offset (g.S.SlotStore.memory c.end.new.store) c.clear.ensures.long
+    c.clear.ensures.entries waits_not ready_not rights_not c.end.ensures.queues c.end.ensures.stands c.end.ensures.bytes).0.stands

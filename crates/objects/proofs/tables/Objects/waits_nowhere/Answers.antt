@@ -10,4 +10,5 @@ use Rattle.objects.proofs.tables.Objects.waits_nowhere.Goals as goal
 pub returns-in-Blocked : goal.returns-in-Blocked
 unfolding state_of told_by
 returns-in-Blocked c = λ slots memory.
-    ap not (c.is_there.ensures memory (contents.waiting_of (contents_of c.args.self.now memory) memory)) ∙ ap (λ x. waits_nowhere (state_of c.args.self.now slots memory) (status_of x)) (sym c.in-Blocked.is)
+    ap not (c.is_there.ensures memory (contents.waiting_of (contents_of c.args.self.now memory) memory))
+    ∙ ap (λ x. waits_nowhere (state_of c.args.self.now slots memory) (status_of x)) (sym c.in-Blocked.is)

@@ -8,7 +8,22 @@ use Rattle.objects.proofs.tables.Objects.wake_at.Goals as goal
 
 pub returns-clause-bytes : goal.returns-clause-bytes
 returns-clause-bytes g c =
-    let first = (moved-to (state_of c.args.self.now (g.S.SlotMap.slots c.args.store.now) (g.S.SlotStore.memory c.args.store.now)) (state_of c.set_status_at.new.self (g.S.SlotMap.slots c.set_status_at.new.store) (g.S.SlotStore.memory c.set_status_at.new.store)) _ c.set_status_at.ensures.state (one-put (state_of c.args.self.now (g.S.SlotMap.slots c.args.store.now) (g.S.SlotStore.memory c.args.store.now)) c.args.offset (ThreadObject _) c.requires.there)) in
-    let second = moved-to (state_of c.set_status_at.new.self (g.S.SlotMap.slots c.set_status_at.new.store) (g.S.SlotStore.memory c.set_status_at.new.store)) (state_of c.set_slice_at.new.self (g.S.SlotMap.slots c.set_slice_at.new.store) (g.S.SlotStore.memory c.set_slice_at.new.store)) _ c.set_slice_at.ensures.state (one-put (state_of c.set_status_at.new.self (g.S.SlotMap.slots c.set_status_at.new.store) (g.S.SlotStore.memory c.set_status_at.new.store)) c.args.offset (ThreadObject _) (replaced-there (state_of c.args.self.now (g.S.SlotMap.slots c.args.store.now) (g.S.SlotStore.memory c.args.store.now)) (state_of c.set_status_at.new.self (g.S.SlotMap.slots c.set_status_at.new.store) (g.S.SlotStore.memory c.set_status_at.new.store)) c.args.offset _ c.set_status_at.ensures.state)) in
-    records-then (state_of c.args.self.now (g.S.SlotMap.slots c.args.store.now) (g.S.SlotStore.memory c.args.store.now)) (state_of c.set_status_at.new.self (g.S.SlotMap.slots c.set_status_at.new.store) (g.S.SlotStore.memory c.set_status_at.new.store)) (g.S.SlotStore.memory c.args.store.now) (g.S.SlotStore.memory c.set_status_at.new.store) _ (λ offset kind is. sym (first.kinds offset) ∙ is) c.set_status_at.ensures.bytes
-    (records-then (state_of c.set_status_at.new.self (g.S.SlotMap.slots c.set_status_at.new.store) (g.S.SlotStore.memory c.set_status_at.new.store)) (state_of c.set_slice_at.new.self (g.S.SlotMap.slots c.set_slice_at.new.store) (g.S.SlotStore.memory c.set_slice_at.new.store)) (g.S.SlotStore.memory c.set_status_at.new.store) (g.S.SlotStore.memory c.set_slice_at.new.store) _ (λ offset kind is. sym (second.kinds offset) ∙ is) c.set_slice_at.ensures.bytes c.to_tail_at.ensures.bytes)
+    let first = (moved-to (state_of c.args.self.now (g.S.SlotMap.slots c.args.store.now) (g.S.SlotStore.memory c.args.store.now))
+    (state_of c.set_status_at.new.self (g.S.SlotMap.slots c.set_status_at.new.store) (g.S.SlotStore.memory c.set_status_at.new.store)) _
+    c.set_status_at.ensures.state (one-put (state_of c.args.self.now (g.S.SlotMap.slots c.args.store.now) (g.S.SlotStore.memory c.args.store.now))
+    c.args.offset (ThreadObject _) c.requires.there)) in
+    let second = moved-to (state_of c.set_status_at.new.self (g.S.SlotMap.slots c.set_status_at.new.store) (g.S.SlotStore.memory c.set_status_at.new.store))
+    (state_of c.set_slice_at.new.self (g.S.SlotMap.slots c.set_slice_at.new.store) (g.S.SlotStore.memory c.set_slice_at.new.store)) _
+    c.set_slice_at.ensures.state
+    (one-put (state_of c.set_status_at.new.self (g.S.SlotMap.slots c.set_status_at.new.store) (g.S.SlotStore.memory c.set_status_at.new.store))
+    c.args.offset (ThreadObject _) (replaced-there (state_of c.args.self.now (g.S.SlotMap.slots c.args.store.now) (g.S.SlotStore.memory c.args.store.now))
+    (state_of c.set_status_at.new.self (g.S.SlotMap.slots c.set_status_at.new.store) (g.S.SlotStore.memory c.set_status_at.new.store)) c.args.offset _
+    c.set_status_at.ensures.state)) in
+    records-then (state_of c.args.self.now (g.S.SlotMap.slots c.args.store.now) (g.S.SlotStore.memory c.args.store.now))
+    (state_of c.set_status_at.new.self (g.S.SlotMap.slots c.set_status_at.new.store) (g.S.SlotStore.memory c.set_status_at.new.store))
+    (g.S.SlotStore.memory c.args.store.now) (g.S.SlotStore.memory c.set_status_at.new.store) _ (λ offset kind is. sym (first.kinds offset) ∙ is)
+    c.set_status_at.ensures.bytes
+    (records-then (state_of c.set_status_at.new.self (g.S.SlotMap.slots c.set_status_at.new.store) (g.S.SlotStore.memory c.set_status_at.new.store))
+    (state_of c.set_slice_at.new.self (g.S.SlotMap.slots c.set_slice_at.new.store) (g.S.SlotStore.memory c.set_slice_at.new.store))
+    (g.S.SlotStore.memory c.set_status_at.new.store) (g.S.SlotStore.memory c.set_slice_at.new.store) _ (λ offset kind is. sym (second.kinds offset) ∙ is)
+    c.set_slice_at.ensures.bytes c.to_tail_at.ensures.bytes)

@@ -10,20 +10,25 @@ use Rattle.objects.proofs.tables.Objects.word.Goals as goal
 pub overflow_add-notification : goal.overflow_add-notification
 overflow_add-notification g c =
     let stands = rw (← c.self.view_is) at c.requires in
-    let inside = word-inside (the_view c.self.inside) (g.S.SlotMap.slots c.args.store.now) (g.S.SlotStore.memory c.args.store.now) stands c.args.notification (ap kind_of_entry (sym c.get.ensures ∙ c.in-Notification.is)) in
+    let inside = word-inside (the_view c.self.inside) (g.S.SlotMap.slots c.args.store.now) (g.S.SlotStore.memory c.args.store.now) stands c.args.notification
+    (ap kind_of_entry (sym c.get.ensures ∙ c.in-Notification.is)) in
     let few = stands.placed.few in
     omega (arith, inside, few)
 
 pub read32-requires : goal.read32-requires
 read32-requires g c =
     let stands = rw (← c.self.view_is) at c.requires in
-    let inside = word-inside (the_view c.self.inside) (g.S.SlotMap.slots c.args.store.now) (g.S.SlotStore.memory c.args.store.now) stands c.args.notification (ap kind_of_entry (sym c.get.ensures ∙ c.in-Notification.is)) in
+    let inside = word-inside (the_view c.self.inside) (g.S.SlotMap.slots c.args.store.now) (g.S.SlotStore.memory c.args.store.now) stands c.args.notification
+    (ap kind_of_entry (sym c.get.ensures ∙ c.in-Notification.is)) in
     subst (λ (m : List ℕ). c.args.notification + 8 + 4 ≤ length m) (sym c.mem.ensures) inside
 
 pub returns-in-Notification : goal.returns-in-Notification
 returns-in-Notification g c =
-    rw (← c.self.view_is) (c.read32.ensures ∙ ap (λ (m : List ℕ). word_at m (c.args.notification + 8)) c.mem.ensures ∙ word-there (the_view c.self.inside) (g.S.SlotMap.slots c.args.store.now) (g.S.SlotStore.memory c.args.store.now) c.args.notification (sym c.get.ensures ∙ c.in-Notification.is))
+    rw (← c.self.view_is) (c.read32.ensures ∙ ap (λ (m : List ℕ). word_at m (c.args.notification + 8)) c.mem.ensures
+    ∙ word-there (the_view c.self.inside) (g.S.SlotMap.slots c.args.store.now) (g.S.SlotStore.memory c.args.store.now) c.args.notification
+    (sym c.get.ensures ∙ c.in-Notification.is))
 
 pub returns-in_default : goal.returns-in_default
 returns-in_default g c =
-    rw (← c.self.view_is) (word-nowhere (the_view c.self.inside) (g.S.SlotMap.slots c.args.store.now) (g.S.SlotStore.memory c.args.store.now) c.args.notification (λ is. c.in_default.not-Notification (c.get.ensures ∙ is)))
+    rw (← c.self.view_is) (word-nowhere (the_view c.self.inside) (g.S.SlotMap.slots c.args.store.now) (g.S.SlotStore.memory c.args.store.now)
+    c.args.notification (λ is. c.in_default.not-Notification (c.get.ensures ∙ is)))

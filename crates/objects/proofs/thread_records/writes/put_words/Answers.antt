@@ -27,4 +27,6 @@ returns-clause-there g c =
     let at = c.args.thread + c.args.place in
     let slots = g.S.SlotMap.slots c.args.store.now in
     subst (λ slots. IsRecordAt slots (length (g.S.SlotStore.memory c.write_words.new.self)) c.args.thread) (sym c.write_words.ensures.slots)
-    (subst (λ (size : ℕ). IsRecordAt slots size c.args.thread) (sym (same-size m (g.S.SlotStore.memory c.write_words.new.self) at (c.args.words.now) c.write_words.ensures.bytes (omega (arith, c.requires.there.within, c.requires.inside)))) c.requires.there)
+    (subst (λ (size : ℕ). IsRecordAt slots size c.args.thread)
+    (sym (same-size m (g.S.SlotStore.memory c.write_words.new.self) at (c.args.words.now) c.write_words.ensures.bytes
+    (omega (arith, c.requires.there.within, c.requires.inside)))) c.requires.there)

@@ -16,5 +16,6 @@ returns-clause-record g c =
     let count : length words ≡ 32 = search rules in
     words-set one n t words (subst (λ (k : ℕ). SameBeside (t + 64) (t + (64 + 4 * k)) one n) count c.put_words-2.ensures.others)
     (subst (λ (k : ℕ). words_at n (t + 64) k ≡ words) count c.put_words-2.ensures.read)
-    ∙ ap (λ (x : Thread). record x { registers = record { pc = x.registers.pc; words = words } }) (pc-set m one t c.pc.result c.put_words.ensures.others c.put_words.ensures.read)
+    ∙ ap (λ (x : Thread). record x { registers = record { pc = x.registers.pc; words = words } })
+    (pc-set m one t c.pc.result c.put_words.ensures.others c.put_words.ensures.read)
     ∙ (λ i. record (thread_at m t) { registers = record { pc = c.pc.ensures i; words = c.words.ensures i } })

@@ -5,8 +5,10 @@ use Rattle.objects.proofs.thread_records.writes.set_slice.Goals as goal
 
 pub returns-clause-record : goal.returns-clause-record
 returns-clause-record g c =
-    slice-set (g.S.SlotStore.memory c.args.store.now) (g.S.SlotStore.memory c.put_byte.new.store) c.args.thread c.args.slice c.put_byte.ensures.others c.put_byte.ensures.read
+    slice-set (g.S.SlotStore.memory c.args.store.now) (g.S.SlotStore.memory c.put_byte.new.store) c.args.thread c.args.slice c.put_byte.ensures.others
+    c.put_byte.ensures.read
 
 pub returns-clause-bytes : goal.returns-clause-bytes
 returns-clause-bytes g c =
-    beside-record (g.S.SlotStore.memory c.args.store.now) (g.S.SlotStore.memory c.put_byte.new.store) c.args.thread 56 57 c.put_byte.ensures.others (omega arith) (omega arith)
+    beside-record (g.S.SlotStore.memory c.args.store.now) (g.S.SlotStore.memory c.put_byte.new.store) c.args.thread 56 57 c.put_byte.ensures.others
+    (omega arith) (omega arith)

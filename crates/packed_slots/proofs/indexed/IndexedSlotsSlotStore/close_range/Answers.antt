@@ -9,7 +9,8 @@ use Rattle.packed_slots.proofs.indexed.IndexedSlotsSlotStore.close_range.Goals a
 
 pub close_range-requires-clause-empty : goal.close_range-requires-clause-empty
 close_range-requires-clause-empty c =
-    subst (λ (p : Packed). (x : ℕ) → c.args.first ≤ x → x < c.args.first + c.args.count → packed_slots p x ≡ Some empty_entry) (sym c.self.view_is) c.requires.empty
+    subst (λ (p : Packed). (x : ℕ) → c.args.first ≤ x → x < c.args.first + c.args.count → packed_slots p x ≡ Some empty_entry) (sym c.self.view_is)
+    c.requires.empty
 
 pub returns-clause-slots : goal.returns-clause-slots
 returns-clause-slots c = c.close_range.ensures.slots ∙ ap (λ (p : Packed). closed (packed_slots p) c.args.first c.args.count) c.self.view_is
@@ -21,7 +22,8 @@ pub invariant_of-self : goal.invariant_of-self
 invariant_of-self c =
     let slots : Slots = packed_slots c.self.inside.store in
     let was =
-    subst (λ (p : Packed). (x : ℕ) → c.args.first ≤ x → x < c.args.first + c.args.count → packed_slots p x ≡ Some empty_entry) (sym c.self.view_is) c.requires.empty
+    subst (λ (p : Packed). (x : ℕ) → c.args.first ≤ x → x < c.args.first + c.args.count → packed_slots p x ≡ Some empty_entry) (sym c.self.view_is)
+    c.requires.empty
     in
     subst (λ (s : Slots). IsIndexed s c.self.inside.handlers c.self.inside.named) (sym c.close_range.ensures.slots) (record {
       counted = counted-closed slots c.self.inside.handlers c.args.first c.args.count was c.self.invariant.counted;

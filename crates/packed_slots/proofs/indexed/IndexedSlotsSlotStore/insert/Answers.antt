@@ -34,6 +34,7 @@ invariant_of-self c =
     let slots : Slots = packed_slots c.self.inside.store in
     let empty = subst (λ (p : Packed). packed_slots p c.args.slot ≡ Some empty_entry) (sym c.self.view_is) c.requires.empty in
     subst (λ (s : Slots). IsIndexed s c.add.new.self c.note.new.self) (sym c.insert.ensures.slots) (record {
-      counted = counted-inserted slots c.self.inside.handlers c.add.new.self c.args.slot c.args.capability c.args.parent c.are_near.ensures.one empty c.add.ensures c.self.invariant.counted;
+      counted = counted-inserted slots c.self.inside.handlers c.add.new.self c.args.slot c.args.capability c.args.parent c.are_near.ensures.one empty
+          c.add.ensures c.self.invariant.counted;
       known = named-inserted slots c.self.inside.named c.note.new.self c.args.slot c.args.capability c.args.parent empty c.note.ensures c.self.invariant.known;
     })

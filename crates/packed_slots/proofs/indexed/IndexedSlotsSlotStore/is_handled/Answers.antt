@@ -7,6 +7,7 @@ use Rattle.packed_slots.proofs.indexed.IndexedSlotsSlotStore.is_handled.Goals as
 
 pub returns : goal.returns
 returns c =
-    handled-counted (packed_slots c.self.inside.store) c.self.inside.handlers c.args.line c.count-count.result (length c.self.inside.store.memory) c.count.result c.requires
+    handled-counted (packed_slots c.self.inside.store) c.self.inside.handlers c.args.line c.count-count.result (length c.self.inside.store.memory)
+    c.count.result c.requires
     c.self.invariant.counted c.count-count.ensures.value c.count-count.ensures.most c.count-count.ensures.near c.count.ensures
     ∙ ap (λ (p : Packed). is_handled (packed_slots p) (length p.memory / 16) c.args.line) c.self.view_is

@@ -6,4 +6,5 @@ use Rattle.packed_slots.proofs.indexed.IndexedSlotsSlotStore.is_shared_beside.Go
 
 pub is_shared_beside-requires-clause-none_behind : goal.is_shared_beside-requires-clause-none_behind
 is_shared_beside-requires-clause-none_behind c =
-    subst (λ (p : Packed). next_in (descendants (packed_order p) (packed_slots p) c.args.root) (Some c.args.last) ≡ None) (sym c.self.view_is) c.requires.none_behind
+    subst (λ (p : Packed). next_in (descendants (packed_order p) (packed_slots p) c.args.root) (Some c.args.last) ≡ None) (sym c.self.view_is)
+    c.requires.none_behind

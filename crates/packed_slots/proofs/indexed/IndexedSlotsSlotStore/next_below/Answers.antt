@@ -18,4 +18,5 @@ returns-clause-derivation c = subst (λ (p : Packed). IsDerivation (packed_slots
 
 pub returns-clause-found_known : goal.returns-clause-found_known
 returns-clause-found_known c =
-    subst (λ (p : Packed). IfSome c.next_below.result (λ s. IsTrue (is_descendant (packed_slots p) c.args.root s))) c.self.view_is c.next_below.ensures.found_known
+    subst (λ (p : Packed). IfSome c.next_below.result (λ s. IsTrue (is_descendant (packed_slots p) c.args.root s))) c.self.view_is
+    c.next_below.ensures.found_known

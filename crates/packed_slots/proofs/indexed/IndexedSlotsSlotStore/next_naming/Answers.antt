@@ -8,7 +8,8 @@ use Rattle.packed_slots.proofs.NamedChanges.{known-names, unknown-names}
 use Rattle.packed_slots.proofs.indexed.IndexedSlotsSlotStore.next_naming.Goals as goal
 
 pub next_alike-requires-clause-names : goal.next_alike-requires-clause-names
-next_alike-requires-clause-names c = λ s is. subst (λ (p : Packed). IsTrue (is_naming (packed_slots p) c.args.object s)) (sym c.self.view_is) (c.requires.known s is)
+next_alike-requires-clause-names c = λ s is. subst (λ (p : Packed). IsTrue (is_naming (packed_slots p) c.args.object s)) (sym c.self.view_is)
+    (c.requires.known s is)
 
 pub next_alike-requires-clause-some : goal.next_alike-requires-clause-some
 next_alike-requires-clause-some c = λ s is.
@@ -16,7 +17,8 @@ next_alike-requires-clause-some c = λ s is.
 
 pub next_alike-requires-clause-none : goal.next_alike-requires-clause-none
 next_alike-requires-clause-none c = λ none s.
-    unknown-names (packed_slots c.self.inside.store) c.self.inside.named c.args.object s c.self.invariant.known c.requires.page (sym c.find-known.ensures ∙ none)
+    unknown-names (packed_slots c.self.inside.store) c.self.inside.named c.args.object s c.self.invariant.known c.requires.page
+    (sym c.find-known.ensures ∙ none)
 
 pub returns-clause-next : goal.returns-clause-next
 returns-clause-next c =
@@ -30,4 +32,5 @@ returns-clause-found_full c = subst (λ (p : Packed). IfSome c.next_alike.result
 
 pub returns-clause-found_known : goal.returns-clause-found_known
 returns-clause-found_known c =
-    subst (λ (p : Packed). IfSome c.next_alike.result (λ s. IsTrue (is_naming (packed_slots p) c.args.object s))) c.self.view_is c.next_alike.ensures.found_known
+    subst (λ (p : Packed). IfSome c.next_alike.result (λ s. IsTrue (is_naming (packed_slots p) c.args.object s))) c.self.view_is
+    c.next_alike.ensures.found_known

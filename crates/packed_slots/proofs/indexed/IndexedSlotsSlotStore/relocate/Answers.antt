@@ -28,7 +28,9 @@ invariant_of-self c =
     let full = subst (λ (p : Packed). IsFull (packed_slots p) c.args.from) (sym c.self.view_is) c.requires.full in
     let empty = subst (λ (p : Packed). packed_slots p c.args.to ≡ Some empty_entry) (sym c.self.view_is) c.requires.empty in
     subst (λ (s : Slots). IsIndexed s c.self.inside.handlers c.replace.new.self) (sym c.relocate.ensures.slots) (record {
-      counted = counted-relocated slots c.self.inside.handlers c.args.from c.args.to c.are_near.ensures.one c.are_near.ensures.other full empty c.self.invariant.counted;
-      known = named-relocated slots c.self.inside.named c.replace.new.self c.args.from c.args.to c.capability-capability.result full empty c.capability-capability.ensures.value c.replace.ensures
+      counted = counted-relocated slots c.self.inside.handlers c.args.from c.args.to c.are_near.ensures.one c.are_near.ensures.other full empty
+          c.self.invariant.counted;
+      known = named-relocated slots c.self.inside.named c.replace.new.self c.args.from c.args.to c.capability-capability.result full empty
+          c.capability-capability.ensures.value c.replace.ensures
           c.self.invariant.known;
     })

@@ -11,7 +11,8 @@ use Rattle.packed_slots.proofs.indexed.IndexedSlotsSlotStore.set_cap.Goals as go
 
 pub take-requires-clause-held : goal.take-requires-clause-held
 take-requires-clause-held c =
-    held-counted (packed_slots c.self.inside.store) c.self.inside.handlers c.args.slot c.capability.result c.are_near.ensures.one c.capability.ensures.value c.self.invariant.counted
+    held-counted (packed_slots c.self.inside.store) c.self.inside.handlers c.args.slot c.capability.result c.are_near.ensures.one c.capability.ensures.value
+    c.self.invariant.counted
 
 pub add-requires-clause-room : goal.add-requires-clause-room
 add-requires-clause-room c = λ line few.
@@ -21,7 +22,8 @@ pub set_cap-requires-clause-full : goal.set_cap-requires-clause-full
 set_cap-requires-clause-full c = subst (λ (p : Packed). IsFull (packed_slots p) c.args.slot) (sym c.self.view_is) c.requires.full
 
 pub set_cap-requires-clause-alike : goal.set_cap-requires-clause-alike
-set_cap-requires-clause-alike c = subst (λ (p : Packed). object_of c.args.capability ≡ object_at (packed_slots p) c.args.slot) (sym c.self.view_is) c.requires.alike
+set_cap-requires-clause-alike c = subst (λ (p : Packed). object_of c.args.capability ≡ object_at (packed_slots p) c.args.slot) (sym c.self.view_is)
+    c.requires.alike
 
 pub returns-clause-slots : goal.returns-clause-slots
 returns-clause-slots c = c.set_cap.ensures.slots ∙ ap (λ (p : Packed). recapped (packed_slots p) c.args.slot c.args.capability) c.self.view_is
@@ -37,7 +39,8 @@ invariant_of-self c =
     let slots : Slots = packed_slots c.self.inside.store in
     let alike = subst (λ (p : Packed). object_of c.args.capability ≡ object_at (packed_slots p) c.args.slot) (sym c.self.view_is) c.requires.alike in
     subst (λ (s : Slots). IsIndexed s c.add.new.self c.self.inside.named) (sym c.set_cap.ensures.slots) (record {
-      counted = counted-recapped slots c.self.inside.handlers c.take.new.self c.add.new.self c.args.slot c.capability.result c.args.capability c.are_near.ensures.one c.capability.ensures.value
+      counted = counted-recapped slots c.self.inside.handlers c.take.new.self c.add.new.self c.args.slot c.capability.result c.args.capability
+          c.are_near.ensures.one c.capability.ensures.value
           c.take.ensures c.add.ensures c.self.invariant.counted;
       known = named-recapped slots c.self.inside.named c.args.slot c.args.capability alike c.self.invariant.known;
     })

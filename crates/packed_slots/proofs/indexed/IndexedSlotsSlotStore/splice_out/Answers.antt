@@ -10,7 +10,8 @@ use Rattle.packed_slots.proofs.indexed.IndexedSlotsSlotStore.splice_out.Goals as
 
 pub take-requires-clause-held : goal.take-requires-clause-held
 take-requires-clause-held c =
-    held-counted (packed_slots c.self.inside.store) c.self.inside.handlers c.args.slot c.capability-capability.result c.are_near.ensures.one c.capability-capability.ensures.value
+    held-counted (packed_slots c.self.inside.store) c.self.inside.handlers c.args.slot c.capability-capability.result c.are_near.ensures.one
+    c.capability-capability.ensures.value
     c.self.invariant.counted
 
 pub splice_out-requires : goal.splice_out-requires
@@ -33,7 +34,9 @@ invariant_of-self c =
     let slots : Slots = packed_slots c.self.inside.store in
     let capability = c.capability-capability.result in
     subst (λ (s : Slots). IsIndexed s c.take.new.self c.replace.new.self) (sym c.splice_out.ensures.slots) (record {
-      counted = counted-spliced slots c.self.inside.handlers c.take.new.self c.args.slot capability c.are_near.ensures.one c.capability-capability.ensures.value c.take.ensures c.self.invariant.counted;
-      known = named-spliced slots c.self.inside.named c.replace.new.self c.args.slot capability c.other_alike-other.result c.capability-capability.ensures.value c.other_alike-other.ensures
+      counted = counted-spliced slots c.self.inside.handlers c.take.new.self c.args.slot capability c.are_near.ensures.one c.capability-capability.ensures.value
+          c.take.ensures c.self.invariant.counted;
+      known = named-spliced slots c.self.inside.named c.replace.new.self c.args.slot capability c.other_alike-other.result c.capability-capability.ensures.value
+          c.other_alike-other.ensures
           c.replace.ensures c.self.invariant.known;
     })

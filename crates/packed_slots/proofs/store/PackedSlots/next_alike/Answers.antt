@@ -7,13 +7,16 @@ use Rattle.packed_slots.proofs.Naming.{found-naming, naming-full}
 use Rattle.packed_slots.proofs.store.PackedSlots.next_alike.Goals as goal
 
 pub next_alike-requires-clause-names : goal.next_alike-requires-clause-names
-next_alike-requires-clause-names c = λ s is. subst (λ (p : Packed). IsTrue (is_naming (packed_slots p) c.args.object s)) (sym c.self.view_is) (c.requires.names s is)
+next_alike-requires-clause-names c = λ s is. subst (λ (p : Packed). IsTrue (is_naming (packed_slots p) c.args.object s)) (sym c.self.view_is)
+    (c.requires.names s is)
 
 pub next_alike-requires-clause-some : goal.next_alike-requires-clause-some
-next_alike-requires-clause-some c = λ s is. subst (λ (p : Packed). IsTrue (is_naming (packed_slots p) c.args.object s)) (sym c.self.view_is) (c.requires.some s is)
+next_alike-requires-clause-some c = λ s is. subst (λ (p : Packed). IsTrue (is_naming (packed_slots p) c.args.object s)) (sym c.self.view_is)
+    (c.requires.some s is)
 
 pub next_alike-requires-clause-none : goal.next_alike-requires-clause-none
-next_alike-requires-clause-none c = λ none s. subst (λ (p : Packed). is_naming (packed_slots p) c.args.object s ≡ false) (sym c.self.view_is) (c.requires.none none s)
+next_alike-requires-clause-none c = λ none s. subst (λ (p : Packed). is_naming (packed_slots p) c.args.object s ≡ false) (sym c.self.view_is)
+    (c.requires.none none s)
 
 pub returns-clause-next : goal.returns-clause-next
 returns-clause-next c =

@@ -29,7 +29,8 @@ returns-then-point-first c = λ less.
     let far = c.if-point-first.true in
     let same : first.point ≡ next = omega (arith, near, far) in
     subst (λ (n : ℕ). IsKeptAt image t slots c.args.log.now n first.kept) same
-    (subst (λ (k : KeptPoint). IsKeptAt image t slots c.args.log.now k.point k.kept) (sym c.index-first.ensures) (c.requires.all.each place first placed.inside))
+    (subst (λ (k : KeptPoint). IsKeptAt image t slots c.args.log.now k.point k.kept) (sym c.index-first.ensures)
+    (c.requires.all.each place first placed.inside))
 
 pub behind_plain-requires-clause-plain : goal.behind_plain-requires-clause-plain
 behind_plain-requires-clause-plain c =
@@ -56,5 +57,6 @@ returns c = λ less.
     let near = c.if-point-first.false in
     let from : first.point ≤ c.args.point = omega (arith, near) in
     let plain = placed.plain first c.args.point (subst (λ (k : KeptPoint). k.point ≤ c.args.point) c.index-first.ensures from) (omega arith) in
-    next-point c.args.program.now.space.image.now (thread_of c.args.program.now) c.args.program.now.slots.now c.args.log.now c.args.point c.args.kept.now c.behind_plain.result
+    next-point c.args.program.now.space.image.now (thread_of c.args.program.now) c.args.program.now.slots.now c.args.log.now c.args.point c.args.kept.now
+    c.behind_plain.result
     plain c.requires.kept c.behind_plain.ensures.same c.behind_plain.ensures.sound c.behind_plain.ensures.clean

@@ -15,10 +15,12 @@ steps-init c =
     let within = c.requires.within in
     let count = c.requires.count in
     let less : c.args.point < length c.args.self.now.places.items = omega (arith, within, count) in
-    let placed = c.requires.kept.placed c.args.point c.index.result.now (some-place c.args.self.now.places.items c.args.point c.index.result.now less ∙ ap (λ (n : ℕ). Some n) (sym c.index.ensures)) in
+    let placed = c.requires.kept.placed c.args.point c.index.result.now
+    (some-place c.args.self.now.places.items c.args.point c.index.result.now less ∙ ap (λ (n : ℕ). Some n) (sym c.index.ensures)) in
     let first = c.index-first.result.now in
     let near = subst (λ (k : KeptPoint). k.point ≤ c.args.point) (sym c.index-first.ensures) (placed.before first) in (
-      subst (λ (k : KeptPoint). IsKeptAt image t slots c.args.log.now k.point k.kept) (sym c.index-first.ensures) (c.requires.kept.each c.index.result.now first placed.inside),
+      subst (λ (k : KeptPoint). IsKeptAt image t slots c.args.log.now k.point k.kept) (sym c.index-first.ensures)
+          (c.requires.kept.each c.index.result.now first placed.inside),
       omega arith,
       near,
     )
@@ -28,7 +30,8 @@ behind_plain-kept-requires-clause-plain c =
     let within = c.requires.within in
     let count = c.requires.count in
     let less : c.args.point < length c.args.self.now.places.items = omega (arith, within, count) in
-    let placed = c.requires.kept.placed c.args.point c.index.result.now (some-place c.args.self.now.places.items c.args.point c.index.result.now less ∙ ap (λ (n : ℕ). Some n) (sym c.index.ensures)) in
+    let placed = c.requires.kept.placed c.args.point c.index.result.now
+    (some-place c.args.self.now.places.items c.args.point c.index.result.now less ∙ ap (λ (n : ℕ). Some n) (sym c.index.ensures)) in
     let first = c.index-first.result.now in
     (placed.plain first c.steps.before (subst (λ (k : KeptPoint). k.point ≤ c.steps.before) c.index-first.ensures c.steps.invariant.1) c.steps-test.true).plain
 
@@ -37,12 +40,15 @@ steps-preserved c =
     let within = c.requires.within in
     let count = c.requires.count in
     let less : c.args.point < length c.args.self.now.places.items = omega (arith, within, count) in
-    let placed = c.requires.kept.placed c.args.point c.index.result.now (some-place c.args.self.now.places.items c.args.point c.index.result.now less ∙ ap (λ (n : ℕ). Some n) (sym c.index.ensures)) in
+    let placed = c.requires.kept.placed c.args.point c.index.result.now
+    (some-place c.args.self.now.places.items c.args.point c.index.result.now less ∙ ap (λ (n : ℕ). Some n) (sym c.index.ensures)) in
     let first = c.index-first.result.now in
-    let plain = placed.plain first c.steps.before (subst (λ (k : KeptPoint). k.point ≤ c.steps.before) c.index-first.ensures c.steps.invariant.1) c.steps-test.true in
+    let plain = placed.plain first c.steps.before (subst (λ (k : KeptPoint). k.point ≤ c.steps.before) c.index-first.ensures c.steps.invariant.1)
+    c.steps-test.true in
     let from = c.steps.invariant.1 in
     let near = c.steps-test.true in (
-      next-point c.args.program.now.space.image.now (thread_of c.args.program.now) c.args.program.now.slots.now c.args.log.now c.steps.before c.steps.kept c.behind_plain-kept.result
+      next-point c.args.program.now.space.image.now (thread_of c.args.program.now) c.args.program.now.slots.now c.args.log.now c.steps.before c.steps.kept
+          c.behind_plain-kept.result
           plain c.steps.invariant.0 c.behind_plain-kept.ensures.same c.behind_plain-kept.ensures.sound c.behind_plain-kept.ensures.clean,
       omega (arith, from),
       omega (arith, near),
@@ -53,4 +59,5 @@ returns c =
     let near = c.steps.invariant.2 in
     let done = c.steps-test.false in
     let same : c.steps.before ≡ c.args.point = omega (arith, near, done) in
-    subst (λ (n : ℕ). IsKeptAt c.args.program.now.space.image.now (thread_of c.args.program.now) c.args.program.now.slots.now c.args.log.now n c.steps.kept) same c.steps.invariant.0
+    subst (λ (n : ℕ). IsKeptAt c.args.program.now.space.image.now (thread_of c.args.program.now) c.args.program.now.slots.now c.args.log.now n c.steps.kept)
+    same c.steps.invariant.0

@@ -13,7 +13,8 @@ returns c = λ test runs run.
     let longer = c.joined_at-longer.result in
     let before : AreRuns test c.extend_from_slice.new.self.items =
     subst (λ (l : List PageRun). AreRuns test l) (sym c.in_ok-extend_from_slice.ensures.items)
-    (All-append (IsRun test) c.new-all.result.items (take place rs) (subst (λ (l : List PageRun). AreRuns test l) (sym c.new-all.ensures.items) (All-nil (IsRun test)))
+    (All-append (IsRun test) c.new-all.result.items (take place rs)
+    (subst (λ (l : List PageRun). AreRuns test l) (sym c.new-all.ensures.items) (All-nil (IsRun test)))
     (All-take (IsRun test) place rs runs)) in
     let with : AreRuns test c.push.new.self.items =
     subst (λ (l : List PageRun). AreRuns test l) (sym c.in_ok-push.ensures.items)

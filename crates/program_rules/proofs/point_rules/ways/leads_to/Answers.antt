@@ -10,4 +10,5 @@ use Rattle.program_rules.proofs.point_rules.ways.leads_to.Goals as goal
 pub returns-in-Known : goal.returns-in-Known
 returns-in-Known g c = λ t address budget.
     c.kept_at.ensures t address budget
-    ∙ ap (λ (n : Noted). first_broken (edge_rules t c.args.at (measure_of c.args.measure.now) (edge_of address (g.S.Step.value_of c.args.step.now) c.args.way.now) (noted_of n))) (sym c.in-Known.is)
+    ∙ ap (λ (n : Noted). first_broken (edge_rules t c.args.at (measure_of c.args.measure.now)
+    (edge_of address (g.S.Step.value_of c.args.step.now) c.args.way.now) (noted_of n))) (sym c.in-Known.is)

@@ -55,7 +55,8 @@ returns-clause-read c =
     ∙ ap (λ (all : List NotedSlot). noted_or image own (record_of own point) (noted_by all old c.args.derived)) (sym c.args.program.now.listed)
     ∙ noted-or-same image own (record_of own point) (noted_by slots old c.args.derived) (states_before image t point) before.same
     ∙ sym (noted-is image t point) in
-    let is : IsKeptAt image t slots log point state = record { same = same; sound = c.looked_at-state.ensures.sound; clean = c.looked_at-state.ensures.clean } in
+    let is : IsKeptAt image t slots log point state =
+    record { same = same; sound = c.looked_at-state.ensures.sound; clean = c.looked_at-state.ensures.clean } in
     let more = c.in_ok-push.ensures.kept image t slots log refl is (grown image t slots old log kept c.in_ok-found.ensures.others before.noted) in
     record {
       count = c.in_ok-push.ensures.count;

@@ -29,7 +29,8 @@ note-requires-clause-noted c =
 
 pub note-requires-clause-next : goal.note-requires-clause-next
 note-requires-clause-next c =
-    is-next c.args.program.now.space.thread.now c.notes.point c.notes.records c.take-noted.new.self c.is_next-is_next_noted.result c.notes.invariant.1 c.take-noted.ensures.left
+    is-next c.args.program.now.space.thread.now c.notes.point c.notes.records c.take-noted.new.self c.is_next-is_next_noted.result c.notes.invariant.1
+    c.take-noted.ensures.left
     c.is_next-is_next_noted.ensures
 
 pub notes-preserved : goal.notes-preserved

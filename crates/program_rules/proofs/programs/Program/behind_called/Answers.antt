@@ -28,12 +28,14 @@ returns-clause-same c =
     ∙ ap (λ (all : List NotedSlot). behind_call own m (behind_with all b))
     (c.in_ok-part.ensures.same slots c.args.self.now.rising ∙ ap (replayed (replayed slots part)) c.deref.ensures.value)
     ∙ ap (follows_call own m) (sym (call-made c.args.self.now.space.image.now (thread_of c.args.self.now) c.args.point c.args.known.now.bounds m
-    (slots_of c.slots-slots.result) (replayed slots part) c.called.new.made.items c.in_ok-called.called b (c.slots-slots.ensures.slots ∙ c.requires.shown.same slots c.args.self.now.rising c.args.self.now.unlinked)
+    (slots_of c.slots-slots.result) (replayed slots part) c.called.new.made.items c.in_ok-called.called b
+    (c.slots-slots.ensures.slots ∙ c.requires.shown.same slots c.args.self.now.rising c.args.self.now.unlinked)
     (c.in-Some-Ok.is ∙ ap Some c.in-Some-Ok.field-0-is) (c.in_ok-called.ensures.left m)))
 
 pub returns-clause-sound : goal.returns-clause-sound
 returns-clause-sound c =
-    c.behind_call.ensures.sound c.follow.new.self c.args.self.now.space.thread.now c.args.point (sym (ap (λ h. h.budget) c.header.ensures)) c.in_ok-part.ensures.held c.requires.sound.1
+    c.behind_call.ensures.sound c.follow.new.self c.args.self.now.space.thread.now c.args.point (sym (ap (λ h. h.budget) c.header.ensures))
+    c.in_ok-part.ensures.held c.requires.sound.1
 
 pub returns-clause-clean : goal.returns-clause-clean
 returns-clause-clean c =
@@ -43,6 +45,8 @@ returns-clause-clean c =
     let old = c.args.log.now in
     let part = part_of old c.args.known.now.part in
     c.behind_call.ensures.clean image t.thread slots c.follow.new.self
-    (clean-made image t.thread (slots_of c.slots-slots.result) (replayed slots part) c.called.new.made.items (replayed slots (part_of c.follow.new.self c.in_ok-part.part)) c.in_ok-called.called c.in-Some-Ok.behind
-    (c.slots-slots.ensures.slots ∙ c.requires.shown.same slots c.args.self.now.rising c.args.self.now.unlinked) (c.in-Some-Ok.is ∙ ap Some c.in-Some-Ok.field-0-is) c.in_ok-called.ensures.clean
+    (clean-made image t.thread (slots_of c.slots-slots.result) (replayed slots part) c.called.new.made.items
+    (replayed slots (part_of c.follow.new.self c.in_ok-part.part)) c.in_ok-called.called c.in-Some-Ok.behind
+    (c.slots-slots.ensures.slots ∙ c.requires.shown.same slots c.args.self.now.rising c.args.self.now.unlinked)
+    (c.in-Some-Ok.is ∙ ap Some c.in-Some-Ok.field-0-is) c.in_ok-called.ensures.clean
     (c.in_ok-part.ensures.same slots c.args.self.now.rising ∙ ap (replayed (replayed slots part)) c.deref.ensures.value))

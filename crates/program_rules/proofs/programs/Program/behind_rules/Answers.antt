@@ -37,7 +37,8 @@ returns-clause-read c =
     let t = thread_of c.args.self.now in
     let slots = c.args.self.now.slots.now in
     let kept = c.args.points.now.kept in
-    always (IsRead image t slots c.follow.new.self kept) c.way_behind.result (grown-read image t slots c.args.points.now.log c.follow.new.self kept c.in_ok-part.ensures.others c.requires.read)
+    always (IsRead image t slots c.follow.new.self kept) c.way_behind.result
+    (grown-read image t slots c.args.points.now.log c.follow.new.self kept c.in_ok-part.ensures.others c.requires.read)
 
 pub returns-clause-others : goal.returns-clause-others
 returns-clause-others c = always (KeepsParts c.args.points.now.log c.follow.new.self) c.way_behind.result c.in_ok-part.ensures.others

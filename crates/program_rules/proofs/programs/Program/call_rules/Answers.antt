@@ -24,11 +24,13 @@ use Rattle.typestate.specs.declared.log_entries.LogEntry.{LogEntry}
 pub called-requires-clause-clean : goal.called-requires-clause-clean
 called-requires-clause-clean c = λ is.
     subst (λ (all : List NotedSlot). NoneStray c.args.self.now.space.image.now c.args.self.now.space.thread.now all)
-    (sym (c.slots-slots.ensures.slots ∙ c.requires.shown.same c.args.self.now.slots.now c.args.self.now.rising c.args.self.now.unlinked)) (c.requires.kept.clean is)
+    (sym (c.slots-slots.ensures.slots ∙ c.requires.shown.same c.args.self.now.slots.now c.args.self.now.rising c.args.self.now.unlinked))
+    (c.requires.kept.clean is)
 
 pub returns-then-leaves_next-clause-broken : goal.returns-then-leaves_next-clause-broken
 returns-then-leaves_next-clause-broken c =
-    c.leaves_next.ensures.call (state_by c.args.self.now.slots.now c.args.points.now.log c.args.known.now) c.if-leaves_next.true c.requires.kept.same c.requires.is
+    c.leaves_next.ensures.call (state_by c.args.self.now.slots.now c.args.points.now.log c.args.known.now) c.if-leaves_next.true c.requires.kept.same
+    c.requires.is
 
 pub returns-then-leaves_next-clause-shown : goal.returns-then-leaves_next-clause-shown
 returns-then-leaves_next-clause-shown c = some-shown c.args.points.now.log c.args.known.now.part c.args.shown.now c.requires.shown
@@ -44,7 +46,9 @@ returns-in-None-clause-broken c =
     let all = replayed c.args.self.now.slots.now (part_of c.args.points.now.log c.args.known.now.part) in
     call-told image t c.args.point (state_by c.args.self.now.slots.now c.args.points.now.log c.args.known.now) None
     c.requires.is
-    (call-any image t c.args.point c.args.known.now.bounds m (slots_of c.slots-slots.result) all c.called.new.made.items c.in_ok-called.field-0 (c.slots-slots.ensures.slots ∙ c.requires.shown.same c.args.self.now.slots.now c.args.self.now.rising c.args.self.now.unlinked) (c.in_ok-called.ensures.left m)
+    (call-any image t c.args.point c.args.known.now.bounds m (slots_of c.slots-slots.result) all c.called.new.made.items c.in_ok-called.field-0
+    (c.slots-slots.ensures.slots ∙ c.requires.shown.same c.args.self.now.slots.now c.args.self.now.rising c.args.self.now.unlinked)
+    (c.in_ok-called.ensures.left m)
     ∙ ap (option_map (left_with all c.called.new.made.items)) c.in-None.is)
 
 pub returns-clause-broken : goal.returns-clause-broken
@@ -61,8 +65,11 @@ returns-clause-broken c =
     (noted_at image t (address_of t.thread c.args.point + 4))) in
     subst (λ (x : Option Refusal). Answers x c.behind_rules.result)
     (ap by c.deref.ensures.value
-    ∙ sym (call-told image t c.args.point (state_by c.args.self.now.slots.now c.args.points.now.log c.args.known.now) (Some (Ok (behind_with (replayed all made) b)))
+    ∙ sym (call-told image t c.args.point (state_by c.args.self.now.slots.now c.args.points.now.log c.args.known.now)
+    (Some (Ok (behind_with (replayed all made) b)))
     c.requires.is
-    (call-any image t c.args.point bounds m (slots_of c.slots-slots.result) all made c.in_ok-called.field-0 (c.slots-slots.ensures.slots ∙ c.requires.shown.same c.args.self.now.slots.now c.args.self.now.rising c.args.self.now.unlinked) (c.in_ok-called.ensures.left m)
+    (call-any image t c.args.point bounds m (slots_of c.slots-slots.result) all made c.in_ok-called.field-0
+    (c.slots-slots.ensures.slots ∙ c.requires.shown.same c.args.self.now.slots.now c.args.self.now.rising c.args.self.now.unlinked)
+    (c.in_ok-called.ensures.left m)
     ∙ ap (option_map (left_with all made)) (c.in-Some-Ok.is ∙ ap Some c.in-Some-Ok.field-0-is))))
     c.behind_rules.ensures.broken

@@ -10,12 +10,14 @@ use Rattle.typestate.specs.Differences.{slots_of}
 pub returns-then-has_stray_slots-clause-left : goal.returns-then-has_stray_slots-clause-left
 returns-then-has_stray_slots-clause-left c = λ measure.
     not-looked-at c.args.self.now.space.image.now (thread_of c.args.self.now) c.args.point
-    (known_with c.args.bounds.now (slots_of c.args.slots.now) measure) c.has_stray_slots.result (c.has_stray_slots.ensures c.args.bounds.now measure) c.if-has_stray_slots.true
+    (known_with c.args.bounds.now (slots_of c.args.slots.now) measure) c.has_stray_slots.result (c.has_stray_slots.ensures c.args.bounds.now measure)
+    c.if-has_stray_slots.true
 
 pub returns-clause-left : goal.returns-clause-left
 returns-clause-left c = λ measure.
     looked-at c.args.self.now.space.image.now (thread_of c.args.self.now) c.args.point
-    (known_with c.args.bounds.now (slots_of c.args.slots.now) measure) c.has_stray_slots.result (c.has_stray_slots.ensures c.args.bounds.now measure) c.if-has_stray_slots.false
+    (known_with c.args.bounds.now (slots_of c.args.slots.now) measure) c.has_stray_slots.result (c.has_stray_slots.ensures c.args.bounds.now measure)
+    c.if-has_stray_slots.false
     ∙ ap Some (c.in_ok-after_call.ensures.left measure)
 
 pub returns-clause-clean : goal.returns-clause-clean

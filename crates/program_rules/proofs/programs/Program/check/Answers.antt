@@ -29,4 +29,5 @@ returns c =
     let t = thread_of c.args.self.now in
     let entry = first_broken (entry_rules image t (noted image t t.thread.header.entry)) in
     let points = first_broken (flat_map (point_rules image t) (range_with_len 0 t.thread.header.words)) in
-    subst (λ (x : Option Refusal). Answers x c.points_rules.result) (sym (program-first image t)) (kept-first entry points c.points_rules.result c.in_ok-entry_rules.ensures c.points_rules.ensures)
+    subst (λ (x : Option Refusal). Answers x c.points_rules.result) (sym (program-first image t))
+    (kept-first entry points c.points_rules.result c.in_ok-entry_rules.ensures c.points_rules.ensures)

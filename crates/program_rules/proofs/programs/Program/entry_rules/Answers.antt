@@ -25,7 +25,8 @@ returns-in-Known c =
     let is = c.at-kept.ensures in
     told _ c.entered.result (c.entered.ensures image t refl (at-entry t c.header-entry.result.entry c.at.result entry c.at.ensures)
     (c.slots-start.ensures.slots ∙ ap (changed c.args.self.now.slots.now) c.new-nothing.ensures.none ∙ c.args.self.now.listed)
-    ∙ ap (λ (n : Noted). first_broken (entry_rules image t n)) (ap noted_of (sym c.in-Known.is) ∙ c.noted.ensures.noted c.args.points.now.log c.in_ok-shown.ensures.own ∙ is.same ∙ ap (noted image t) entry))
+    ∙ ap (λ (n : Noted). first_broken (entry_rules image t n)) (ap noted_of (sym c.in-Known.is)
+    ∙ c.noted.ensures.noted c.args.points.now.log c.in_ok-shown.ensures.own ∙ is.same ∙ ap (noted image t) entry))
 
 pub returns : goal.returns
 returns c =
@@ -36,8 +37,10 @@ returns c =
     let at = at-entry t c.header-entry.result.entry c.at-in-Missing.result entry c.at-in-Missing.ensures in
     let same = c.noted.ensures.noted c.args.points.now.log c.in_ok-shown.ensures.own ∙ is.same ∙ ap (noted image t) entry in
     elim c.in-Missing.is [
-      | inl missing ↦ inr (sym (ap (λ (p : Point). Some (RangeNotKept p)) at ∙ ap (λ (n : Noted). first_broken (entry_rules image t n)) (ap noted_of (sym missing) ∙ same)))
-      | inr unmeasured ↦ inr (sym (ap (λ (p : Point). Some (RangeNotKept p)) at ∙ ap (λ (n : Noted). first_broken (entry_rules image t n)) (ap noted_of (sym unmeasured) ∙ same)))
+      | inl missing ↦ inr (sym (ap (λ (p : Point). Some (RangeNotKept p)) at
+          ∙ ap (λ (n : Noted). first_broken (entry_rules image t n)) (ap noted_of (sym missing) ∙ same)))
+      | inr unmeasured ↦ inr
+          (sym (ap (λ (p : Point). Some (RangeNotKept p)) at ∙ ap (λ (n : Noted). first_broken (entry_rules image t n)) (ap noted_of (sym unmeasured) ∙ same)))
     ]
 
 pub slots-start-requires-clause-shown : goal.slots-start-requires-clause-shown

@@ -12,4 +12,5 @@ returns-in-Some-clause-held c = has-part c.args.points.now.log c.in-Some.point c
 pub returns-in-Some-clause-noted : goal.returns-in-Some-clause-noted
 returns-in-Some-clause-noted c =
     c.at.ensures.same
-    ∙ sym (ap (λ (p : Option ℕ). option_map_or (noted c.args.self.now.space.image.now (thread_of c.args.self.now)) p Missing) (sym c.point_at.ensures.value ∙ c.in-Some.is))
+    ∙ sym (ap (λ (p : Option ℕ). option_map_or (noted c.args.self.now.space.image.now (thread_of c.args.self.now)) p Missing)
+    (sym c.point_at.ensures.value ∙ c.in-Some.is))

@@ -11,7 +11,8 @@ returns-then-next-point-clause-plain c = λ s instr yes known is plain.
     let t = thread_of c.args.self.now in
     let own = c.args.self.now.space.thread.now in
     let found = next-found image t c.args.point c.in-Some.next c.address.result
-    (c.has_state.ensures yes image t c.args.self.now.slots.now c.args.points.now.log c.requires.read.noted) c.if-next-point.true c.in-Some.ensures.value c.address.ensures in
+    (c.has_state.ensures yes image t c.args.self.now.slots.now c.args.points.now.log c.requires.read.noted) c.if-next-point.true c.in-Some.ensures.value
+    c.address.ensures in
     let inside = c.args.self.now.inside in
     let before = c.requires.within in
     let less : address_of own c.args.point + 4 < 2 ^ 32 = omega (arith, inside, before) in
@@ -23,5 +24,6 @@ returns-then-next-point-clause-call c = λ s yes known is.
     let t = thread_of c.args.self.now in
     let own = c.args.self.now.space.thread.now in
     let found = next-found image t c.args.point c.in-Some.next c.address.result
-    (c.has_state.ensures yes image t c.args.self.now.slots.now c.args.points.now.log c.requires.read.noted) c.if-next-point.true c.in-Some.ensures.value c.address.ensures in
+    (c.has_state.ensures yes image t c.args.self.now.slots.now c.args.points.now.log c.requires.read.noted) c.if-next-point.true c.in-Some.ensures.value
+    c.address.ensures in
     next-call-kept c.left_calls_are_kept.ensures image t c.args.point s known is (c.requires.next c.if-is_next_noted.false) found.0 found.1

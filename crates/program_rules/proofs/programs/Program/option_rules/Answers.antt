@@ -13,7 +13,8 @@ use Rattle.wellformed.specs.Answering.{Answers}
 pub returns-in-Some-clause-answers : goal.returns-in-Some-clause-answers
 returns-in-Some-clause-answers c = λ edge is before.
     elim edge as (λ e. option_map way_of e ≡ c.args.way.now → IsBefore c.args.instr c.args.known.now.bounds e
-    → Answers (first_broken (way_rules c.args.self.now.space.image.now (thread_of c.args.self.now) c.args.point (state_by c.args.self.now.slots.now c.args.points.now.log c.args.known.now) c.args.instr e)) c.way_rules.result) [
+    → Answers (first_broken (way_rules c.args.self.now.space.image.now (thread_of c.args.self.now) c.args.point
+    (state_by c.args.self.now.slots.now c.args.points.now.log c.args.known.now) c.args.instr e)) c.way_rules.result) [
       | None ↦ λ is before. absurd (let clash : ◌≡◌ {A = Option Way} None (Some c.in-Some.way) = is ∙ c.in-Some.is in cc)
       | Some e ↦ λ is before. c.way_rules.ensures.answers e (same_Some (way_of e) c.in-Some.way (is ∙ c.in-Some.is)) before
     ] is before
@@ -21,7 +22,8 @@ returns-in-Some-clause-answers c = λ edge is before.
 pub returns-in-None-clause-answers : goal.returns-in-None-clause-answers
 returns-in-None-clause-answers c = λ edge is before.
     elim edge as (λ e. option_map way_of e ≡ c.args.way.now
-    → first_broken (way_rules c.args.self.now.space.image.now (thread_of c.args.self.now) c.args.point (state_by c.args.self.now.slots.now c.args.points.now.log c.args.known.now) c.args.instr e) ≡ None) [
+    → first_broken (way_rules c.args.self.now.space.image.now (thread_of c.args.self.now) c.args.point
+    (state_by c.args.self.now.slots.now c.args.points.now.log c.args.known.now) c.args.instr e) ≡ None) [
       | None ↦ λ is. refl
       | Some e ↦ λ is. absurd (let clash : ◌≡◌ {A = Option Way} (Some (way_of e)) None = is ∙ c.in-None.is in cc)
     ] is

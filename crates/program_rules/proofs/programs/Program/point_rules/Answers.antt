@@ -33,7 +33,8 @@ returns-in-Missing c =
     record {
       broken = elim c.in-Missing.is [
         | inl missing ↦ sym (noted-rules image t c.args.point Missing (ap (noted_by c.args.self.now.slots.now c.args.points.now.log) (sym missing) ∙ is.same))
-        | inr unmeasured ↦ sym (noted-rules image t c.args.point Unmeasured (ap (noted_by c.args.self.now.slots.now c.args.points.now.log) (sym unmeasured) ∙ is.same))
+        | inr unmeasured ↦ sym (noted-rules image t c.args.point Unmeasured
+            (ap (noted_by c.args.self.now.slots.now c.args.points.now.log) (sym unmeasured) ∙ is.same))
       ];
       same = c.requires.same;
       found = c.requires.found;

@@ -35,18 +35,21 @@ pub after-kept-requires-clause-kept : goal.after-kept-requires-clause-kept
 after-kept-requires-clause-kept c =
     let least = c.rules-test.true in
     let count = c.word_count-point-end.ensures.value in
-    grown-at c.args.self.now.space.image.now (thread_of c.args.self.now) c.args.self.now.slots.now c.rules.points.log c.point_rules.new.points.log c.rules.point c.rules.kept
+    grown-at c.args.self.now.space.image.now (thread_of c.args.self.now) c.args.self.now.slots.now c.rules.points.log c.point_rules.new.points.log c.rules.point
+    c.rules.kept
     c.in_ok-point_rules.ensures.others (c.rules.invariant.6 (omega (arith, least, count)))
 
 pub point_rules-requires-clause-noted : goal.point_rules-requires-clause-noted
 point_rules-requires-clause-noted c =
-    c.as_ref.ensures.value ∙ c.take-noted.ensures.record ∙ sym (next-record c.args.self.now.space.thread.now c.rules.point c.rules.records c.rules.invariant.1).0
+    c.as_ref.ensures.value ∙ c.take-noted.ensures.record
+    ∙ sym (next-record c.args.self.now.space.thread.now c.rules.point c.rules.records c.rules.invariant.1).0
 
 pub returns-in_err-point_rules : goal.returns-in_err-point_rules
 returns-in_err-point_rules c =
     passed-on _ c.from_residual.result c.in_err-point_rules.field-0.0 c.from_residual.ensures.1
     (refused-here (point_rules c.args.self.now.space.image.now (thread_of c.args.self.now)) c.rules.point c.args.self.now.space.thread.now.header.words
-    c.in_err-point_rules.field-0.0 c.rules.invariant.2 (omega (arith, c.rules-test.true, c.word_count-point-end.ensures.value)) c.in_err-point_rules.ensures.broken)
+    c.in_err-point_rules.field-0.0 c.rules.invariant.2 (omega (arith, c.rules-test.true, c.word_count-point-end.ensures.value))
+    c.in_err-point_rules.ensures.broken)
 
 pub rules-preserved : goal.rules-preserved
 rules-preserved c =
@@ -54,7 +57,8 @@ rules-preserved c =
     let t = thread_of c.args.self.now in
     let own = c.args.self.now.space.thread.now in (
       c.in_ok-point_rules.ensures.read,
-      subst (λ (rs : List StateRecord). AreLeft own (c.rules.point + 1) rs) (sym c.take-noted.ensures.left) (next-record own c.rules.point c.rules.records c.rules.invariant.1).1,
+      subst (λ (rs : List StateRecord). AreLeft own (c.rules.point + 1) rs) (sym c.take-noted.ensures.left)
+          (next-record own c.rules.point c.rules.records c.rules.invariant.1).1,
       one-more-kept (point_rules image t) c.rules.point c.rules.invariant.2 c.in_ok-point_rules.ensures.broken,
       c.in_ok-point_rules.ensures.shown,
       c.in_ok-point_rules.ensures.same,

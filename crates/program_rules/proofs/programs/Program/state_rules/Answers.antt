@@ -26,7 +26,8 @@ use Rattle.wellformed.specs.Answering.{Answers}
 pub own_rules-requires-clause-clean : goal.own_rules-requires-clause-clean
 own_rules-requires-clause-clean c = λ is.
     subst (λ (all : List NotedSlot). NoneStray c.args.self.now.space.image.now c.args.self.now.space.thread.now all)
-    (sym (c.slots-slots.ensures.slots ∙ c.requires.part.same c.args.self.now.slots.now c.args.self.now.rising c.args.self.now.unlinked)) (c.requires.kept.clean is)
+    (sym (c.slots-slots.ensures.slots ∙ c.requires.part.same c.args.self.now.slots.now c.args.self.now.rising c.args.self.now.unlinked))
+    (c.requires.kept.clean is)
 
 pub returns-in_err-own_rules-clause-broken : goal.returns-in_err-own_rules-clause-broken
 returns-in_err-own_rules-clause-broken c =
@@ -37,7 +38,8 @@ returns-in_err-own_rules-clause-broken c =
     let refusal = c.in_err-own_rules.field-0.0 in
     let own : Some refusal ≡ first_broken (own_rules image t c.args.point s instr) =
     c.in_err-own_rules.ensures.broken
-    ∙ ap (λ (all : List NotedSlot). first_broken (own_rules image t c.args.point (known_with c.args.known.now.bounds all (measure_of c.args.known.now.measure)) instr))
+    ∙ ap (λ (all : List NotedSlot).
+    first_broken (own_rules image t c.args.point (known_with c.args.known.now.bounds all (measure_of c.args.known.now.measure)) instr))
     (c.slots-slots.ensures.slots ∙ c.requires.part.same c.args.self.now.slots.now c.args.self.now.rising c.args.self.now.unlinked) in
     passed-on _ c.from_residual.result refusal c.from_residual.ensures.1
     (inr (state-first image t c.args.point s instr (ap decoded (sym c.word.ensures) ∙ sym c.decode-instr.ensures.value)
@@ -51,13 +53,15 @@ returns-in-Some-Ecall-clause-broken c =
     later-answers c.args.self.now.space.image.now (thread_of c.args.self.now) c.args.point (known_with bounds (slots_of c.slots-slots.result) m)
     (state_by c.args.self.now.slots.now c.args.points.now.log c.args.known.now) c.decode-instr.result (Some Ecall) c.call_rules.result
     (ap decoded (sym c.word.ensures) ∙ sym c.decode-instr.ensures.value) call
-    (ap (λ (all : List NotedSlot). known_with bounds all m) (c.slots-slots.ensures.slots ∙ c.requires.part.same c.args.self.now.slots.now c.args.self.now.rising c.args.self.now.unlinked))
+    (ap (λ (all : List NotedSlot). known_with bounds all m) (c.slots-slots.ensures.slots
+    ∙ c.requires.part.same c.args.self.now.slots.now c.args.self.now.rising c.args.self.now.unlinked))
     c.in_ok-own_rules.ensures.broken c.call_rules.ensures.broken
 
 pub returns-in-None-clause-broken : goal.returns-in-None-clause-broken
 returns-in-None-clause-broken c =
     absurd (illegal-breaks c.args.self.now.space.image.now (thread_of c.args.self.now) c.args.point
-    (known_with c.args.known.now.bounds (slots_of c.slots-slots.result) (measure_of c.args.known.now.measure)) c.decode-instr.result c.in-None.is c.in_ok-own_rules.ensures.broken)
+    (known_with c.args.known.now.bounds (slots_of c.slots-slots.result) (measure_of c.args.known.now.measure)) c.decode-instr.result c.in-None.is
+    c.in_ok-own_rules.ensures.broken)
 
 pub returns-in-Some-clause-broken : goal.returns-in-Some-clause-broken
 returns-in-Some-clause-broken c =
@@ -69,9 +73,11 @@ returns-in-Some-clause-broken c =
     let plain : c.in-Some.instr ≢ Ecall = search rules in
     later-answers image t c.args.point (known_with bounds (slots_of c.slots-slots.result) m) s c.decode-instr.result (Some c.in-Some.instr) c.ways_rules.result
     (ap decoded (sym c.word.ensures) ∙ sym c.decode-instr.ensures.value) c.in-Some.is
-    (ap (λ (all : List NotedSlot). known_with bounds all m) (c.slots-slots.ensures.slots ∙ c.requires.part.same c.args.self.now.slots.now c.args.self.now.rising c.args.self.now.unlinked))
+    (ap (λ (all : List NotedSlot). known_with bounds all m) (c.slots-slots.ensures.slots
+    ∙ c.requires.part.same c.args.self.now.slots.now c.args.self.now.rising c.args.self.now.unlinked))
     c.in_ok-own_rules.ensures.broken
-    (subst (λ (broken : Option Refusal). Answers broken c.ways_rules.result) (sym (plain-later image t c.args.point s c.in-Some.instr plain)) c.ways_rules.ensures.answers)
+    (subst (λ (broken : Option Refusal). Answers broken c.ways_rules.result) (sym (plain-later image t c.args.point s c.in-Some.instr plain))
+    c.ways_rules.ensures.answers)
 
 pub returns-in-Some-clause-shown : goal.returns-in-Some-clause-shown
 returns-in-Some-clause-shown c =
@@ -87,14 +93,16 @@ returns-in-Some-Ecall-clause-same c =
     let slots = c.args.self.now.slots.now in
     let old = c.args.points.now.log in
     let new = c.call_rules.new.points.log in
-    follows-from (λ _. KeepsParts old new) (λ _. AreSame slots new c.args.same.now) c.call_rules.result (λ _ keeps. same-grown slots old new c.args.same.now keeps c.requires.same) c.call_rules.ensures.others
+    follows-from (λ _. KeepsParts old new) (λ _. AreSame slots new c.args.same.now) c.call_rules.result
+    (λ _ keeps. same-grown slots old new c.args.same.now keeps c.requires.same) c.call_rules.ensures.others
 
 pub own_rules-requires-clause-found : goal.own_rules-requires-clause-found
 own_rules-requires-clause-found c =
     let image = c.args.self.now.space.image.now in
     let own = c.args.self.now.space.thread.now in
     let slots = c.args.self.now.slots.now in
-    subst (λ (all : List NotedSlot). AreMapped image own all c.args.found.now) (sym (c.slots-slots.ensures.slots ∙ c.requires.part.same slots c.args.self.now.rising c.args.self.now.unlinked))
+    subst (λ (all : List NotedSlot). AreMapped image own all c.args.found.now)
+    (sym (c.slots-slots.ensures.slots ∙ c.requires.part.same slots c.args.self.now.rising c.args.self.now.unlinked))
     (at-part image own slots c.args.points.now.log c.args.known.now.part c.args.found.now c.requires.found_part c.requires.found)
 
 pub returns-in-Some-clause-found : goal.returns-in-Some-clause-found
@@ -106,7 +114,8 @@ returns-in-Some-clause-found c =
     let found = c.own_rules.new.found in
     always (AreFound image own slots log found) c.ways_rules.result
     (still-found image own slots log c.args.known.now.part found c.requires.part.held (c.in_ok-own_rules.ensures.part ∙ c.requires.found_part)
-    (subst (λ (all : List NotedSlot). AreMapped image own all found) (c.slots-slots.ensures.slots ∙ c.requires.part.same slots c.args.self.now.rising c.args.self.now.unlinked) c.in_ok-own_rules.ensures.found))
+    (subst (λ (all : List NotedSlot). AreMapped image own all found)
+    (c.slots-slots.ensures.slots ∙ c.requires.part.same slots c.args.self.now.rising c.args.self.now.unlinked) c.in_ok-own_rules.ensures.found))
 
 pub returns-in-None-clause-found : goal.returns-in-None-clause-found
 returns-in-None-clause-found c =
@@ -116,7 +125,8 @@ returns-in-None-clause-found c =
     let log = c.args.points.now.log in
     let found = c.own_rules.new.found in
     still-found image own slots log c.args.known.now.part found c.requires.part.held (c.in_ok-own_rules.ensures.part ∙ c.requires.found_part)
-    (subst (λ (all : List NotedSlot). AreMapped image own all found) (c.slots-slots.ensures.slots ∙ c.requires.part.same slots c.args.self.now.rising c.args.self.now.unlinked) c.in_ok-own_rules.ensures.found)
+    (subst (λ (all : List NotedSlot). AreMapped image own all found)
+    (c.slots-slots.ensures.slots ∙ c.requires.part.same slots c.args.self.now.rising c.args.self.now.unlinked) c.in_ok-own_rules.ensures.found)
 
 pub returns-in-Some-Ecall-clause-found : goal.returns-in-Some-Ecall-clause-found
 returns-in-Some-Ecall-clause-found c =
@@ -129,5 +139,6 @@ returns-in-Some-Ecall-clause-found c =
     follows-from (λ _. KeepsParts old new) (λ _. AreFound image own slots new found) c.call_rules.result
     (λ _ keeps. found-grown image own slots old new found keeps
     (still-found image own slots old c.args.known.now.part found c.requires.part.held (c.in_ok-own_rules.ensures.part ∙ c.requires.found_part)
-    (subst (λ (all : List NotedSlot). AreMapped image own all found) (c.slots-slots.ensures.slots ∙ c.requires.part.same slots c.args.self.now.rising c.args.self.now.unlinked) c.in_ok-own_rules.ensures.found)))
+    (subst (λ (all : List NotedSlot). AreMapped image own all found)
+    (c.slots-slots.ensures.slots ∙ c.requires.part.same slots c.args.self.now.rising c.args.self.now.unlinked) c.in_ok-own_rules.ensures.found)))
     c.call_rules.ensures.others

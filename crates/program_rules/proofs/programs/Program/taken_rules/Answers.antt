@@ -14,13 +14,15 @@ use Rattle.wellformed.specs.Answering.{Answers}
 pub returns-then-takes_no_way-clause-answers : goal.returns-then-takes_no_way-clause-answers
 returns-then-takes_no_way-clause-answers c =
     let broken : Option Edge → Option Refusal =
-    λ e. first_broken (way_rules c.args.self.now.space.image.now (thread_of c.args.self.now) c.args.point (state_by c.args.self.now.slots.now c.args.points.now.log c.args.known.now) c.args.instr e) in
+    λ e. first_broken (way_rules c.args.self.now.space.image.now (thread_of c.args.self.now) c.args.point
+    (state_by c.args.self.now.slots.now c.args.points.now.log c.args.known.now) c.args.instr e) in
     ap broken (c.takes_no_way.ensures (address_of c.args.self.now.space.thread.now c.args.point) c.args.known.now.bounds c.if-takes_no_way.true)
 
 pub returns-clause-answers : goal.returns-clause-answers
 returns-clause-answers c =
     let broken : Option Edge → Option Refusal =
-    λ e. first_broken (way_rules c.args.self.now.space.image.now (thread_of c.args.self.now) c.args.point (state_by c.args.self.now.slots.now c.args.points.now.log c.args.known.now) c.args.instr e) in
+    λ e. first_broken (way_rules c.args.self.now.space.image.now (thread_of c.args.self.now) c.args.point
+    (state_by c.args.self.now.slots.now c.args.points.now.log c.args.known.now) c.args.instr e) in
     let bounds = c.args.known.now.bounds in
     let here = after c.address.result c.args.instr bounds in
     subst (λ (x : Option Refusal). Answers x c.option_rules.result) (ap (λ (n : ℕ). broken (after n c.args.instr bounds).taken) c.address.ensures)

@@ -11,6 +11,7 @@ returns-then-branch-clause-answers g c = λ t a budget.
     let log = c.args.points.now.log in
     let slots = c.args.self.now.slots.now in
     let there = replayed slots (part_of log c.args.known.now.part) in
-    let same = ap (λ (l : List NotedSlot). are_same_slots l there) (c.requires.slots ∙ c.requires.shown.same slots c.args.self.now.rising c.args.self.now.unlinked)
+    let same = ap (λ (l : List NotedSlot). are_same_slots l there)
+    (c.requires.slots ∙ c.requires.shown.same slots c.args.self.now.rising c.args.self.now.unlinked)
     ∙ c.in_ok-has_same_slots.ensures.is c.if-branch.true in
     told _ c.way_within.result (c.way_within.ensures log t a same budget)

@@ -13,13 +13,15 @@ returns-in_default-clause-queues g c =
 
 pub bounds-self-inside-priority : goal.bounds-self-inside-priority
 bounds-self-inside-priority g c =
-    let known = numbered (g.L.Layout.places c.args.layout.now) c.args.self.now (g.S.SlotStore.memory c.args.store.now) c.args.thread c.in-Some.priority c.requires.stands
+    let known = numbered (g.L.Layout.places c.args.layout.now) c.args.self.now (g.S.SlotStore.memory c.args.store.now) c.args.thread c.in-Some.priority
+    c.requires.stands
     (sym c.queue_of_thread.ensures ∙ c.in-Some.is) in
     omega (arith, known, c.self.invariant.long, ap (λ (l : List Ends). length l) c.self.view_is)
 
 pub put-requires : goal.put-requires
 put-requires g c =
-    let known = numbered (g.L.Layout.places c.args.layout.now) c.args.self.now (g.S.SlotStore.memory c.args.store.now) c.args.thread c.in-Some.priority c.requires.stands
+    let known = numbered (g.L.Layout.places c.args.layout.now) c.args.self.now (g.S.SlotStore.memory c.args.store.now) c.args.thread c.in-Some.priority
+    c.requires.stands
     (sym c.queue_of_thread.ensures ∙ c.in-Some.is) in
     omega (arith, known, c.self.invariant.long, ap (λ (l : List Ends). length l) c.self.view_is)
 

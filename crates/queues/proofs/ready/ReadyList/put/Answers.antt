@@ -5,4 +5,5 @@ use Rattle.queues.proofs.ready.ReadyList.put.Goals as goal
 
 pub invariant_of-self : goal.invariant_of-self
 invariant_of-self c =
-    marked-put c.self.inside.ends c.self.inside.marks c.mark.new.marks c.args.priority c.args.ends c.self.invariant c.requires (c.mark.ensures.own ∙ c.is_some.ensures) c.mark.ensures.others
+    marked-put c.self.inside.ends c.self.inside.marks c.mark.new.marks c.args.priority c.args.ends c.self.invariant c.requires
+    (c.mark.ensures.own ∙ c.is_some.ensures) c.mark.ensures.others

@@ -17,8 +17,10 @@ invariant_of-self c =
     let size : length c.put.new.records ≡ c.self.inside.records.len = omega (arith, c.put.auto.records, c.deref_mut.ensures.len) in
     let kept : length c.put.new.records ≡ length base = omega (arith, c.put.auto.records, ap length lent) in
     table-changed c.self.inside.memory _ _ base c.put.new.records (inserted slots c.args.slot c.args.capability c.args.parent) table kept size
-    (λ s. c.put.ensures s ∙ ap (λ r. inserted (table_slots r) c.number.result c.args.capability c.args.parent s) lent ∙ ap (λ n. inserted slots n c.args.capability c.args.parent s) c.number.ensures.value)
-    (derivation-inserted slots c.args.slot c.args.capability c.args.parent table.derivation c.requires.empty c.requires.valid c.requires.some c.requires.full c.requires.room)
+    (λ s. c.put.ensures s ∙ ap (λ r. inserted (table_slots r) c.number.result c.args.capability c.args.parent s) lent
+    ∙ ap (λ n. inserted slots n c.args.capability c.args.parent s) c.number.ensures.value)
+    (derivation-inserted slots c.args.slot c.args.capability c.args.parent table.derivation c.requires.empty c.requires.valid c.requires.some c.requires.full
+    c.requires.room)
 
 pub returns-clause-slots : goal.returns-clause-slots
 returns-clause-slots c =
@@ -28,4 +30,5 @@ returns-clause-slots c =
     let lent : c.deref_mut.result.now ≡ base = c.deref_mut.ensures.value ∙ items in
     let size : length c.put.new.records ≡ c.self.inside.records.len = omega (arith, c.put.auto.records, c.deref_mut.ensures.len) in
     slots-changed _ _ c.put.new.records (inserted slots c.args.slot c.args.capability c.args.parent) size
-    (λ s. c.put.ensures s ∙ ap (λ r. inserted (table_slots r) c.number.result c.args.capability c.args.parent s) lent ∙ ap (λ n. inserted slots n c.args.capability c.args.parent s) c.number.ensures.value)
+    (λ s. c.put.ensures s ∙ ap (λ r. inserted (table_slots r) c.number.result c.args.capability c.args.parent s) lent
+    ∙ ap (λ n. inserted slots n c.args.capability c.args.parent s) c.number.ensures.value)

@@ -18,5 +18,8 @@ invariant_of-self c =
     let size : length c.put_range.new.records ≡ c.self.inside.records.len = omega (arith, c.put_range.auto.records, c.deref_mut.ensures.len) in
     let kept : length c.put_range.new.records ≡ length base = omega (arith, c.put_range.auto.records, ap length lent) in
     table-changed c.self.inside.memory _ _ base c.put_range.new.records (opened slots c.args.first c.args.count) table kept size
-    (λ s. c.put_range.ensures s ∙ ap (λ held. if is_within c.number.result c.args.count s then Some held else table_slots c.deref_mut.result.now s) c.nothing.ensures ∙ ap (λ r. opened (table_slots r) c.number.result c.args.count s) lent ∙ ap (λ n. opened slots n c.args.count s) c.number.ensures.value)
-    (derivation-opened slots c.args.first c.args.count table.derivation (λ t inside. let bounds = within-bounds c.args.first c.args.count t inside in c.requires.closed t bounds.0 bounds.1))
+    (λ s. c.put_range.ensures s ∙ ap (λ held. if is_within c.number.result c.args.count s then Some held else table_slots c.deref_mut.result.now s)
+    c.nothing.ensures ∙ ap (λ r. opened (table_slots r) c.number.result c.args.count s) lent
+    ∙ ap (λ n. opened slots n c.args.count s) c.number.ensures.value)
+    (derivation-opened slots c.args.first c.args.count table.derivation
+    (λ t inside. let bounds = within-bounds c.args.first c.args.count t inside in c.requires.closed t bounds.0 bounds.1))

@@ -17,7 +17,8 @@ invariant_of-self c =
     let size : length c.move_entry.new.records ≡ c.self.inside.records.len = omega (arith, c.move_entry.auto.records, c.deref_mut.ensures.len) in
     let kept : length c.move_entry.new.records ≡ length base = omega (arith, c.move_entry.auto.records, ap length lent) in
     table-changed c.self.inside.memory _ _ base c.move_entry.new.records (relocated slots c.args.from c.args.to) table kept size
-    (λ s. c.move_entry.ensures s ∙ ap (λ r. relocated (table_slots r) c.number.result c.args.to s) lent ∙ ap (λ n. relocated slots n c.args.to s) c.number.ensures.value)
+    (λ s. c.move_entry.ensures s ∙ ap (λ r. relocated (table_slots r) c.number.result c.args.to s) lent
+    ∙ ap (λ n. relocated slots n c.args.to s) c.number.ensures.value)
     (derivation-relocated slots c.args.from c.args.to table.derivation c.requires.full c.requires.empty)
 
 pub returns-clause-slots : goal.returns-clause-slots
@@ -28,4 +29,5 @@ returns-clause-slots c =
     let lent : c.deref_mut.result.now ≡ base = c.deref_mut.ensures.value ∙ items in
     let size : length c.move_entry.new.records ≡ c.self.inside.records.len = omega (arith, c.move_entry.auto.records, c.deref_mut.ensures.len) in
     slots-changed _ _ c.move_entry.new.records (relocated slots c.args.from c.args.to) size
-    (λ s. c.move_entry.ensures s ∙ ap (λ r. relocated (table_slots r) c.number.result c.args.to s) lent ∙ ap (λ n. relocated slots n c.args.to s) c.number.ensures.value)
+    (λ s. c.move_entry.ensures s ∙ ap (λ r. relocated (table_slots r) c.number.result c.args.to s) lent
+    ∙ ap (λ n. relocated slots n c.args.to s) c.number.ensures.value)

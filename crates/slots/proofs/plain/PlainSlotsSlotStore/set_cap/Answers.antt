@@ -18,7 +18,8 @@ invariant_of-self c =
     let size : length c.recap.new.records ≡ c.self.inside.records.len = omega (arith, c.recap.auto.records, c.deref_mut.ensures.len) in
     let kept : length c.recap.new.records ≡ length base = omega (arith, c.recap.auto.records, ap length lent) in
     table-changed c.self.inside.memory _ _ base c.recap.new.records (recapped slots c.args.slot c.args.capability) table kept size
-    (λ s. c.recap.ensures s ∙ ap (λ r. recapped (table_slots r) c.number.result c.args.capability s) lent ∙ ap (λ n. recapped slots n c.args.capability s) c.number.ensures.value)
+    (λ s. c.recap.ensures s ∙ ap (λ r. recapped (table_slots r) c.number.result c.args.capability s) lent
+    ∙ ap (λ n. recapped slots n c.args.capability s) c.number.ensures.value)
     (derivation-recapped slots c.args.slot c.args.capability table.derivation c.requires.valid c.requires.some)
 
 pub returns-clause-slots : goal.returns-clause-slots
@@ -29,7 +30,8 @@ returns-clause-slots c =
     let lent : c.deref_mut.result.now ≡ base = c.deref_mut.ensures.value ∙ items in
     let size : length c.recap.new.records ≡ c.self.inside.records.len = omega (arith, c.recap.auto.records, c.deref_mut.ensures.len) in
     slots-changed _ _ c.recap.new.records (recapped slots c.args.slot c.args.capability) size
-    (λ s. c.recap.ensures s ∙ ap (λ r. recapped (table_slots r) c.number.result c.args.capability s) lent ∙ ap (λ n. recapped slots n c.args.capability s) c.number.ensures.value)
+    (λ s. c.recap.ensures s ∙ ap (λ r. recapped (table_slots r) c.number.result c.args.capability s) lent
+    ∙ ap (λ n. recapped slots n c.args.capability s) c.number.ensures.value)
 
 pub returns-clause-order : goal.returns-clause-order
 returns-clause-order c =
@@ -38,5 +40,6 @@ returns-clause-order c =
     let lent : c.deref_mut.result.now ≡ base = c.deref_mut.ensures.value ∙ items in
     let size : length c.recap.new.records ≡ length base = omega (arith, c.recap.auto.records, ap length lent) in
     let same : c.self.inside.records.len ≡ length c.recap.new.records = omega (arith, c.recap.auto.records, c.deref_mut.ensures.len) in
-    order-changed c.self.inside.records.len _ base c.recap.new.records (recapped (table_slots base) c.args.slot c.args.capability) (returns-clause-slots c) size (sym same)
+    order-changed c.self.inside.records.len _ base c.recap.new.records (recapped (table_slots base) c.args.slot c.args.capability) (returns-clause-slots c) size
+    (sym same)
     (full-recapped (table_slots base) c.args.slot c.args.capability c.requires.full c.requires.some)

@@ -38,5 +38,6 @@ returns-clause-order c =
     let lent : c.deref_mut.result.now ≡ base = c.deref_mut.ensures.value ∙ items in
     let size : length c.splice.new.records ≡ length base = omega (arith, c.splice.auto.records, ap length lent) in
     let same : c.self.inside.records.len ≡ length c.splice.new.records = omega (arith, c.splice.auto.records, c.deref_mut.ensures.len) in
-    order-taken_out c.self.inside.records.len _ base c.splice.new.records (spliced (table_slots base) c.args.slot) c.args.slot (returns-clause-slots c) size (sym same)
+    order-taken_out c.self.inside.records.len _ base c.splice.new.records (spliced (table_slots base) c.args.slot) c.args.slot (returns-clause-slots c) size
+    (sym same)
     (empty-spliced (table_slots base) c.args.slot) (full-spliced (table_slots base) c.args.slot)

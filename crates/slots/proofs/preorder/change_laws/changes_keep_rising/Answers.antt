@@ -4,4 +4,10 @@ use Rattle.slots.proofs.preorder.change_laws.changes_keep_rising.Goals as goal
 
 pub returns : goal.returns
 returns c =
-    record { put = λ rows parent slot. rises-put_behind rows 0 parent slot; first = rises-first; taken = λ rows gone. rises-taken_out rows 0 gone; moved = λ rows from to. rises-renamed rows 0 from to }
+    record {
+      put = λ rows parent slot. rises-put_behind rows 0 parent slot;
+      first = rises-first;
+      taken = λ rows gone. rises-taken_out rows 0 gone;
+      moved =
+          λ rows from to. rises-renamed rows 0 from to;
+    }

@@ -5,4 +5,9 @@ use Rattle.slots.proofs.preorder.walk_laws.next_below_is_linked.Goals as goal
 
 pub returns : goal.returns
 returns c =
-    record { first = λ rows next previous depths root linked there. behind-first rows next previous depths None root linked.chain linked.deep there; behind = λ rows next previous depths root s linked there. behind-next rows next previous depths None root s linked.chain linked.deep there; none = behind-none }
+    record {
+      first = λ rows next previous depths root linked there. behind-first rows next previous depths None root linked.chain linked.deep there;
+      behind =
+          λ rows next previous depths root s linked there. behind-next rows next previous depths None root s linked.chain linked.deep there;
+      none = behind-none;
+    }

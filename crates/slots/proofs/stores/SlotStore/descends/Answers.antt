@@ -19,7 +19,8 @@ returns-then-number-clause-test g c =
     let size : c.depth-depth.result - c.up._step ≡ suc left = omega arith in
     let above : parent_at slots c.up.here ≡ Some c.in-Some.parent = parent-held slots c.up.here _ c.get-held.ensures.held ∙ c.in-Some.is in
     let same : c.in-Some.parent ≡ c.args.root = sym c.number.ensures.value ∙ c.if-number.true ∙ c.number-in-Some.ensures.value in
-    sym (ap (λ n. descends_within n (parent_at slots) c.args.root c.up.here) size ∙ descends-root left (parent_at slots) c.args.root c.up.here c.in-Some.parent above same) ∙ c.up.invariant.rest
+    sym (ap (λ n. descends_within n (parent_at slots) c.args.root c.up.here) size
+    ∙ descends-root left (parent_at slots) c.args.root c.up.here c.in-Some.parent above same) ∙ c.up.invariant.rest
 
 pub up-preserved : goal.up-preserved
 up-preserved g c =
@@ -30,7 +31,8 @@ up-preserved g c =
     let other : c.in-Some.parent ≢ c.args.root = λ same. c.if-number.false (c.number.ensures.value ∙ same ∙ sym c.number-in-Some.ensures.value) in
     record {
       here_open = full-open slots c.in-Some.parent (c.depth-depth.ensures.derivation.parent_full c.up.here c.in-Some.parent above);
-      rest = sym (ap (λ n. descends_within n (parent_at slots) c.args.root c.up.here) size ∙ descends-on left (parent_at slots) c.args.root c.up.here c.in-Some.parent above (ne_eqb c.in-Some.parent c.args.root other)) ∙ c.up.invariant.rest;
+      rest = sym (ap (λ n. descends_within n (parent_at slots) c.args.root c.up.here) size
+          ∙ descends-on left (parent_at slots) c.args.root c.up.here c.in-Some.parent above (ne_eqb c.in-Some.parent c.args.root other)) ∙ c.up.invariant.rest;
     }
 
 pub returns-clause-test : goal.returns-clause-test

@@ -1,5 +1,6 @@
 -- Who shares the object is after the slot that was looked at last, or nobody does.
-use Rattle.std.proofs.Common.{ℕ, ◌≡◌, ◌≢◌, ◌∙◌, ◌==◌, ◌+◌, ◌<◌, ◌&&◌, not, true, false, if◌then◌else◌, Option, Some, List, [], ◌∷◌, length, refl, sym, ap, subst, arith}
+use Rattle.std.proofs.Common.{ℕ, ◌≡◌, ◌≢◌, ◌∙◌, ◌==◌, ◌+◌, ◌<◌, ◌&&◌, not, true, false, if◌then◌else◌, Option, Some, List, [], ◌∷◌, length, refl, sym, ap}
+use Rattle.std.proofs.Common.{subst, arith}
 use Rattle.std.proofs.lemmas.Bool.{eq-eqb, ne_eqb}
 use Rattle.std.specs.Option.{option_map_or}
 use Rattle.model.specs.Capabilities.CapabilityKinds.{object_of}
@@ -53,6 +54,7 @@ slots-preserved g c =
       rest = λ lists s apart has.
           let was : 0 < times_in (other ∷ found.0) s = subst (λ l. 0 < times_in l s) found.1 (c.slots.invariant.rest lists s apart has) in
           let off : other ≢ s = λ same. absurd (let clash : true ≡ false =
-          sym (c.names_too.ensures ∙ too _ c.in-Some.offset other c.args.slot (λ at. apart (sym same ∙ at)) (c.object_of-in-slots.ensures ∙ names ∙ ap (object_at slots) same ∙ has)) ∙ c.if-names_too.false in cc) in
+          sym (c.names_too.ensures ∙ too _ c.in-Some.offset other c.args.slot (λ at. apart (sym same ∙ at))
+          (c.object_of-in-slots.ensures ∙ names ∙ ap (object_at slots) same ∙ has)) ∙ c.if-names_too.false in cc) in
           subst (λ l. 0 < times_in l s) (sym step) (later other found.0 s off was);
     }

@@ -73,6 +73,7 @@ slots-preserved g c =
           let was : 0 < times_in (other ∷ found.0) s = subst (λ l. 0 < times_in l s) found.1 (c.slots.invariant.rest lists s beside has) in
           let off : other ≢ s = λ same. absurd (let clash : true ≡ false =
           sym (c.names_beside.ensures ∙ so-beside c.object_of-in-slots.result c.in-Some.offset c.descends-is_below.result
-          (c.descends-is_below.ensures.test ∙ ap (is_descendant slots c.args.root) same ∙ beside) (names ∙ ap (object_at slots) same ∙ has)) ∙ c.if-names_beside.false in cc) in
+          (c.descends-is_below.ensures.test ∙ ap (is_descendant slots c.args.root) same ∙ beside) (names ∙ ap (object_at slots) same ∙ has))
+          ∙ c.if-names_beside.false in cc) in
           subst (λ l. 0 < times_in l s) (sym step) (later other found.0 s off was);
     }

@@ -28,7 +28,8 @@ descends-requires g c =
     let slots : Slots = g.Self.SlotMap.slots c.args.self.now in
     let order = g.Self.SlotStore.order c.args.self.now in
     let found = first-some _ c.in-Some.slot (sym (after-behind order c.slots.at) ∙ sym c.next_full.ensures.next ∙ c.in-Some.is) in
-    full-open slots c.in-Some.slot (listed-full order slots c.in-Some.slot c.next_full.ensures.lists (times-behind order c.slots.at c.in-Some.slot found.0 found.1))
+    full-open slots c.in-Some.slot (listed-full order slots c.in-Some.slot c.next_full.ensures.lists
+    (times-behind order c.slots.at c.in-Some.slot found.0 found.1))
 
 pub returns-then-descends-clause-next : goal.returns-then-descends-clause-next
 returns-then-descends-clause-next g c =
@@ -62,7 +63,8 @@ slots-preserved g c =
     let order = g.Self.SlotStore.order c.args.self.now in
     let test = is_descendant slots c.args.root in
     let found = first-some _ c.in-Some.slot (sym (after-behind order c.slots.at) ∙ sym c.next_full.ensures.next ∙ c.in-Some.is) in
-    let full : IsFull slots c.in-Some.slot = listed-full order slots c.in-Some.slot c.next_full.ensures.lists (times-behind order c.slots.at c.in-Some.slot found.0 found.1) in
+    let full : IsFull slots c.in-Some.slot = listed-full order slots c.in-Some.slot c.next_full.ensures.lists
+    (times-behind order c.slots.at c.in-Some.slot found.0 found.1) in
     let step = behind-step order c.slots.at c.in-Some.slot found.0 (order-once order slots c.next_full.ensures.lists) found.1 in
     let part = filter test found.0 in
     let no : test c.in-Some.slot ≡ false = sym c.descends.ensures.test ∙ c.if-descends.false in

@@ -60,7 +60,8 @@ slots-preserved g c =
     let order = g.Self.SlotStore.order c.args.self.now in
     let test = is_naming slots c.args.object in
     let found = first-some _ c.in-Some.slot (sym (after-behind order c.slots.at) ∙ sym c.next_full.ensures.next ∙ c.in-Some.is) in
-    let full : IsFull slots c.in-Some.slot = listed-full order slots c.in-Some.slot c.next_full.ensures.lists (times-behind order c.slots.at c.in-Some.slot found.0 found.1) in
+    let full : IsFull slots c.in-Some.slot = listed-full order slots c.in-Some.slot c.next_full.ensures.lists
+    (times-behind order c.slots.at c.in-Some.slot found.0 found.1) in
     let step = behind-step order c.slots.at c.in-Some.slot found.0 (order-once order slots c.next_full.ensures.lists) found.1 in
     let part = filter test found.0 in
     let no : test c.in-Some.slot ≡ false = ap (names_object c.args.object) (sym c.capability.ensures.value) ∙ sym c.names.ensures ∙ c.if-names.false in

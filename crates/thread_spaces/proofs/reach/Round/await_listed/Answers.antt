@@ -21,5 +21,6 @@ loop-number-preserved c =
 
 pub returns-clause-listed : goal.returns-clause-listed
 returns-clause-listed c =
-    up-to-end c.args.image.now c.args.cnode c.listed_in-listed.result.first c.listed_in-listed.result.end c.listed_in-listed.ensures c.loop-number.number c.loop-number.self
+    up-to-end c.args.image.now c.args.cnode c.listed_in-listed.result.first c.listed_in-listed.result.end c.listed_in-listed.ensures c.loop-number.number
+    c.loop-number.self
     (omega (arith, c.loop-number-test.false)) c.loop-number.invariant.2

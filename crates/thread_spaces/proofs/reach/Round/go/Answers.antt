@@ -1,7 +1,8 @@
 -- The next capability, and what is left of the round.
 use Rattle.std.proofs.Common.{◌∙◌, ◌+◌, refl, sym, arith}
 use Rattle.thread_spaces.specs.declared.reach.Round.{Round}
-use Rattle.thread_spaces.proofs.Awaited.{followed-all, followed-place, followed-rest, next-begins, none-ahead, none-behind, none-left, popped-inside, popped-within, round-begun}
+use Rattle.thread_spaces.proofs.Awaited.{followed-all, followed-place, followed-rest, next-begins, none-ahead, none-behind, none-left, popped-inside}
+use Rattle.thread_spaces.proofs.Awaited.{popped-within, round-begun}
 use Rattle.thread_spaces.proofs.reach.Round.go.Goals as goal
 
 pub round-init : goal.round-init
@@ -14,7 +15,8 @@ overflow_add-self c =
     let k = c.in-Some.number in
     let s : Round = record { place = k + 1; ahead = c.pop_first.new.self; passed = r.passed } in
     let known = c.in-Some.ensures in
-    let inside = popped-inside image c.round.found r s k c.pop_first.new.self.keys c.round.invariant.0 c.round.invariant.1 known.removal known.all_above refl refl refl in
+    let inside = popped-inside image c.round.found r s k c.pop_first.new.self.keys c.round.invariant.0 c.round.invariant.1 known.removal known.all_above refl
+    refl refl in
     let size = c.header_of.ensures.small.capabilities in
     let count = c.header_of.ensures.counts.capabilities in
     omega (arith, inside.1, size, count)
@@ -44,8 +46,10 @@ round-smaller c =
     let k = c.in-Some.number in
     let s : Round = record { place = k + 1; ahead = c.pop_first.new.self; passed = r.passed } in
     let known = c.in-Some.ensures in
-    let inside = popped-inside image c.round.found r s k c.pop_first.new.self.keys c.round.invariant.0 c.round.invariant.1 known.removal known.all_above refl refl refl in
-    let place = followed-place image c.round.found r s k c.pop_first.new.self.keys c.round.invariant.0 c.round.invariant.1 known.removal known.all_above refl refl refl c.follow.new.found c.follow.new.self c.in_ok-follow.ensures.more c.in_ok-follow.ensures.found in
+    let inside = popped-inside image c.round.found r s k c.pop_first.new.self.keys c.round.invariant.0 c.round.invariant.1 known.removal known.all_above refl
+    refl refl in
+    let place = followed-place image c.round.found r s k c.pop_first.new.self.keys c.round.invariant.0 c.round.invariant.1 known.removal known.all_above refl
+    refl refl c.follow.new.found c.follow.new.self c.in_ok-follow.ensures.more c.in_ok-follow.ensures.found in
     omega (arith, inside.0, inside.1, place)
 
 pub round-preserved : goal.round-preserved
@@ -58,16 +62,20 @@ round-preserved c =
     let more = c.in_ok-follow.ensures.more in
     let follows = c.in_ok-follow.ensures.found in (
       c.in_ok-follow.ensures.within,
-      followed-all image c.round.found r s k c.pop_first.new.self.keys c.round.invariant.0 c.round.invariant.1 known.removal known.all_above refl refl refl c.follow.new.found c.follow.new.self more follows,
-      followed-rest image c.round.found r s k c.pop_first.new.self.keys c.round.invariant.0 c.round.invariant.1 known.removal known.all_above refl refl refl c.follow.new.found c.follow.new.self more follows _ c.round.invariant.2,
+      followed-all image c.round.found r s k c.pop_first.new.self.keys c.round.invariant.0 c.round.invariant.1 known.removal known.all_above refl refl refl
+          c.follow.new.found c.follow.new.self more follows,
+      followed-rest image c.round.found r s k c.pop_first.new.self.keys c.round.invariant.0 c.round.invariant.1 known.removal known.all_above refl refl refl
+          c.follow.new.found c.follow.new.self more follows _ c.round.invariant.2,
     )
 
 pub returns-clause-found : goal.returns-clause-found
 returns-clause-found c =
     let image = c.args.image.now in
     let found = c.round.found in
-    sym (none-behind image found image.capabilities c.round.self.place (none-ahead image found c.round.self (none-left c.round.self.ahead.keys c.in_default.ensures.variant.1) c.round.invariant.1)) ∙ c.round.invariant.2
+    sym (none-behind image found image.capabilities c.round.self.place
+    (none-ahead image found c.round.self (none-left c.round.self.ahead.keys c.in_default.ensures.variant.1) c.round.invariant.1)) ∙ c.round.invariant.2
 
 pub returns-clause-next : goal.returns-clause-next
 returns-clause-next c =
-    next-begins c.args.image.now c.round.found c.round.self _ (none-left c.round.self.ahead.keys c.in_default.ensures.variant.1) refl refl c.in_default.ensures.unchanged c.round.invariant.0 c.round.invariant.1
+    next-begins c.args.image.now c.round.found c.round.self _ (none-left c.round.self.ahead.keys c.in_default.ensures.variant.1) refl refl
+    c.in_default.ensures.unchanged c.round.invariant.0 c.round.invariant.1

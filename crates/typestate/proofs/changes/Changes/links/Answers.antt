@@ -20,6 +20,7 @@ returns c =
     ap (λ (l : List (ℕ × ℕ)). filter_map (λ (q : ℕ × ℕ). child_at c.args.self.now parent q.1) l)
     (c.named.ensures.links ∙ ap (λ (m : ℕ). filter (λ (q : ℕ × ℕ). q.0 == m) links) is)
     ∙ linked-children c.args.self.now parent (renamed names.names.entries (number_of parent)) links c.requires
-    (subst (λ (l : List NotedSlot). (slot : ℕ) → option_map_or (λ s. has_parent parent (left_by s)) (found l slot) false ≡ true → has_link links (renamed names.names.entries (number_of parent)) slot ≡ true) c.self.view_is
+    (subst (λ (l : List NotedSlot). (slot : ℕ) → option_map_or (λ s. has_parent parent (left_by s)) (found l slot) false ≡ true →
+    has_link links (renamed names.names.entries (number_of parent)) slot ≡ true) c.self.view_is
     (child-linked names.slots.entries names.names.entries es links parent c.self.invariant.0 c.self.invariant.1))
     c.named.ensures.ordered

@@ -13,7 +13,8 @@ pub invariant_of-self-in-Some : goal.invariant_of-self-in-Some
 invariant_of-self-in-Some c =
     let links = c.self.inside.families.links.keys in (
       c.self.invariant.0,
-      put-linked c.self.inside.packed.entries c.insert.new.self.entries c.number-number.result c.of-packed.result links c.replace.new.self.links.keys c.in_ok-before.ensures.updates.0 c.self.invariant.1
+      put-linked c.self.inside.packed.entries c.insert.new.self.entries c.number-number.result c.of-packed.result links c.replace.new.self.links.keys
+          c.in_ok-before.ensures.updates.0 c.self.invariant.1
           (λ name child off is. c.replace.ensures.others name child off (c.add.ensures.kept name child is))
           (λ name has. c.replace.ensures.own name has (c.in_ok-add.ensures.added name has)),
     )
@@ -22,7 +23,8 @@ pub invariant_of-self-in-None : goal.invariant_of-self-in-None
 invariant_of-self-in-None c =
     let links = c.self.inside.families.links.keys in (
       c.self.invariant.0,
-      put-linked c.self.inside.packed.entries c.insert.new.self.entries c.number-number.result c.of-packed.result links c.add.new.self.links.keys c.in_ok-before.ensures.updates.0 c.self.invariant.1
+      put-linked c.self.inside.packed.entries c.insert.new.self.entries c.number-number.result c.of-packed.result links c.add.new.self.links.keys
+          c.in_ok-before.ensures.updates.0 c.self.invariant.1
           (λ name child off is. c.add.ensures.kept name child is) c.in_ok-add.ensures.added,
     )
 
@@ -39,12 +41,14 @@ returns-in-Some-clause-before c =
 pub returns-in-Some-clause-rising : goal.returns-in-Some-clause-rising
 returns-in-Some-clause-rising c =
     let new = c.insert.new.self.entries in
-    subst (λ (ns : List ℕ). IsStrictlyIncreasing ns) (sym (numbers-are c.self.inside.names.slots.entries new)) (IsStrictlyIncreasing-from_sorted (keys_of new) c.in_ok-before.ensures.ordered)
+    subst (λ (ns : List ℕ). IsStrictlyIncreasing ns) (sym (numbers-are c.self.inside.names.slots.entries new))
+    (IsStrictlyIncreasing-from_sorted (keys_of new) c.in_ok-before.ensures.ordered)
 
 pub returns-in-Some-clause-same : goal.returns-in-Some-clause-same
 returns-in-Some-clause-same c = λ key.
     let n-is = c.number-number.ensures ∙ ap (λ (s : NotedSlot). number_of s.key) c.change.view_is in
-    put-found c.self.inside.names.slots.entries c.self.inside.packed.entries c.insert.new.self.entries c.number-number.result (number_of key) c.of-packed.result c.args.change n-is c.of-packed.ensures
+    put-found c.self.inside.names.slots.entries c.self.inside.packed.entries c.insert.new.self.entries c.number-number.result (number_of key) c.of-packed.result
+    c.args.change n-is c.of-packed.ensures
     (c.in_ok-before.ensures.updates.0 (number_of key))
     ∙ ap (λ (l : List NotedSlot). if is_same_key c.args.change.key key then Some c.args.change else slot_at l key) c.self.view_is
 
@@ -63,12 +67,14 @@ returns-in-None-clause-before c =
 pub returns-in-None-clause-rising : goal.returns-in-None-clause-rising
 returns-in-None-clause-rising c =
     let new = c.insert.new.self.entries in
-    subst (λ (ns : List ℕ). IsStrictlyIncreasing ns) (sym (numbers-are c.self.inside.names.slots.entries new)) (IsStrictlyIncreasing-from_sorted (keys_of new) c.in_ok-before.ensures.ordered)
+    subst (λ (ns : List ℕ). IsStrictlyIncreasing ns) (sym (numbers-are c.self.inside.names.slots.entries new))
+    (IsStrictlyIncreasing-from_sorted (keys_of new) c.in_ok-before.ensures.ordered)
 
 pub returns-in-None-clause-same : goal.returns-in-None-clause-same
 returns-in-None-clause-same c = λ key.
     let n-is = c.number-number.ensures ∙ ap (λ (s : NotedSlot). number_of s.key) c.change.view_is in
-    put-found c.self.inside.names.slots.entries c.self.inside.packed.entries c.insert.new.self.entries c.number-number.result (number_of key) c.of-packed.result c.args.change n-is c.of-packed.ensures
+    put-found c.self.inside.names.slots.entries c.self.inside.packed.entries c.insert.new.self.entries c.number-number.result (number_of key) c.of-packed.result
+    c.args.change n-is c.of-packed.ensures
     (c.in_ok-before.ensures.updates.0 (number_of key))
     ∙ ap (λ (l : List NotedSlot). if is_same_key c.args.change.key key then Some c.args.change else slot_at l key) c.self.view_is
 

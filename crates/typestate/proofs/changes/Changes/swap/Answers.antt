@@ -15,7 +15,8 @@ returns-clause-swapped c =
     let low = ap (λ (k : SlotKey). nat_lt k.index (2 ^ 32)) (sym c.one.view_is) ∙ c.low.ensures in
     let low2 = ap (λ (k : SlotKey). nat_lt k.index (2 ^ 32)) (sym c.other.view_is) ∙ c.low-2.ensures in
     let numbers = ap (λ (n : ℕ). turned_number n c.number-2.result) c.number.ensures ∙ ap (turned_number (number_of one)) c.number-2.ensures in
-    exchanged-entries old new one other low low2 (λ n. c.in_ok-swap.ensures.swapped n ∙ ap (λ (f : ℕ → ℕ). f (renamed old n)) numbers) c.self.inside.packed.entries
+    exchanged-entries old new one other low low2 (λ n. c.in_ok-swap.ensures.swapped n ∙ ap (λ (f : ℕ → ℕ). f (renamed old n)) numbers)
+    c.self.inside.packed.entries
     ∙ ap (λ (l : List NotedSlot). map (exchanged one other) l) c.self.view_is
 
 pub returns-clause-narrow : goal.returns-clause-narrow

@@ -20,4 +20,5 @@ returns-in-Ok-clause-left c = λ measure.
 pub returns-in-Err-clause-left : goal.returns-in-Err-clause-left
 returns-in-Err-clause-left c = λ measure.
     let slots = slots_of c.args.self.now.own.slots in
-    ap (leaves (known_with c.args.bounds.now slots measure) c.args.answers) (c.in_ok-is_tidy.ensures.made ∙ ap (made_or_refused slots c.invoked.new.made.items) c.in-Err.is)
+    ap (leaves (known_with c.args.bounds.now slots measure) c.args.answers)
+    (c.in_ok-is_tidy.ensures.made ∙ ap (made_or_refused slots c.invoked.new.made.items) c.in-Err.is)

@@ -20,10 +20,14 @@ returns-in-UnmapFrame c =
     let image = c.args.self.now.own.space.image.now in
     let t = c.args.self.now.own.space.thread.now in
     let slots = slots_of c.args.self.now.own.slots in
-    let rises = changes-rise c.args.self.now.own.slots.image.now c.args.self.now.own.slots.changes.now (from-first c.args.self.now.own.slots.image.now c.args.self.now.own.slots.rising) in
+    let rises = changes-rise c.args.self.now.own.slots.image.now c.args.self.now.own.slots.changes.now
+    (from-first c.args.self.now.own.slots.image.now c.args.self.now.own.slots.rising) in
     ap (λ (call : FrameCall). held_after image t c.args.at slots c.args.self.now.held.now (OnFrame c.args.allowed call)) c.in-UnmapFrame.is
-    ∙ unmap-goes image t c.args.at slots c.args.self.now.held.now (apart-of c.args.self.now.own.space) c.args.self.now.own.own rises c.args.self.now.there c.args.allowed
+    ∙ unmap-goes image t c.args.at slots c.args.self.now.held.now (apart-of c.args.self.now.own.space) c.args.self.now.own.own rises c.args.self.now.there
+    c.args.allowed
     (subst (λ (call : FrameCall). IsCallOn c.args.self.now.held.now.capability (OnFrame c.args.allowed call)) c.in-UnmapFrame.is c.requires)
-    ∙ ap (λ (x : Cap). let r : Result (List NotedSlot) Refusal = Ok (with_noted slots (record { key = c.args.self.now.held.now.key; capability = x; parent = c.args.self.now.held.now.parent })) in r)
+    ∙ ap (λ (x : Cap). let r : Result (List NotedSlot) Refusal =
+    Ok (with_noted slots (record { key = c.args.self.now.held.now.key; capability = x; parent = c.args.self.now.held.now.parent })) in
+    r)
     (ap (λ (h : NotedSlot). with_frame_mapping h.capability None) (sym c.held.view_is) ∙ sym c.with_mapping.ensures.value)
     ∙ ap (λ (x : SlotChange). let r : Result (List NotedSlot) Refusal = Ok (slots_left slots x) in r) (sym c.recapped.ensures)

@@ -20,7 +20,8 @@ returns-in-Err c =
     let t = c.args.self.now.own.space.thread.now in
     let slots = slots_of c.args.self.now.own.slots in
     map-refused image t c.args.at slots c.args.self.now.held.now c.args.allowed c.args.root c.args.address c.args.rights c.in-Err.error
-    (ap (λ (m : Option FrameMapping). mapping_made image t slots m c.args.allowed c.args.root c.args.address c.args.rights) (ap (λ (h : NotedSlot). frame_mapping h.capability) (sym c.held.view_is) ∙ sym c.mapping_of-mapping.ensures) ∙ sym c.in-Err.ensures.value)
+    (ap (λ (m : Option FrameMapping). mapping_made image t slots m c.args.allowed c.args.root c.args.address c.args.rights)
+    (ap (λ (h : NotedSlot). frame_mapping h.capability) (sym c.held.view_is) ∙ sym c.mapping_of-mapping.ensures) ∙ sym c.in-Err.ensures.value)
 
 pub returns-then-not-is_data : goal.returns-then-not-is_data
 returns-then-not-is_data c =
@@ -28,16 +29,24 @@ returns-then-not-is_data c =
     let t = c.args.self.now.own.space.thread.now in
     let slots = slots_of c.args.self.now.own.slots in
     map-executes image t c.args.at slots c.args.self.now.held.now c.args.allowed c.args.root c.args.address c.args.rights c.in-Ok.mapping
-    (ap (λ (m : Option FrameMapping). mapping_made image t slots m c.args.allowed c.args.root c.args.address c.args.rights) (ap (λ (h : NotedSlot). frame_mapping h.capability) (sym c.held.view_is) ∙ sym c.mapping_of-mapping.ensures) ∙ sym c.in-Ok.ensures.value) (sym c.if-not-is_data.ensures)
+    (ap (λ (m : Option FrameMapping). mapping_made image t slots m c.args.allowed c.args.root c.args.address c.args.rights)
+    (ap (λ (h : NotedSlot). frame_mapping h.capability) (sym c.held.view_is) ∙ sym c.mapping_of-mapping.ensures) ∙ sym c.in-Ok.ensures.value)
+    (sym c.if-not-is_data.ensures)
 
 pub returns-else-not-is_data : goal.returns-else-not-is_data
 returns-else-not-is_data c =
     let image = c.args.self.now.own.space.image.now in
     let t = c.args.self.now.own.space.thread.now in
     let slots = slots_of c.args.self.now.own.slots in
-    let rises = changes-rise c.args.self.now.own.slots.image.now c.args.self.now.own.slots.changes.now (from-first c.args.self.now.own.slots.image.now c.args.self.now.own.slots.rising) in
-    map-goes image t c.args.at slots c.args.self.now.held.now (apart-of c.args.self.now.own.space) c.args.self.now.own.own rises c.args.self.now.there c.args.allowed c.args.root c.args.address c.args.rights c.in-Ok.mapping
-    (ap (λ (m : Option FrameMapping). mapping_made image t slots m c.args.allowed c.args.root c.args.address c.args.rights) (ap (λ (h : NotedSlot). frame_mapping h.capability) (sym c.held.view_is) ∙ sym c.mapping_of-mapping.ensures) ∙ sym c.in-Ok.ensures.value) (sym c.if-not-is_data.ensures) c.requires
-    ∙ ap (λ (x : Cap). let r : Result (List NotedSlot) Refusal = Ok (with_noted slots (record { key = c.args.self.now.held.now.key; capability = x; parent = c.args.self.now.held.now.parent })) in r)
+    let rises = changes-rise c.args.self.now.own.slots.image.now c.args.self.now.own.slots.changes.now
+    (from-first c.args.self.now.own.slots.image.now c.args.self.now.own.slots.rising) in
+    map-goes image t c.args.at slots c.args.self.now.held.now (apart-of c.args.self.now.own.space) c.args.self.now.own.own rises c.args.self.now.there
+    c.args.allowed c.args.root c.args.address c.args.rights c.in-Ok.mapping
+    (ap (λ (m : Option FrameMapping). mapping_made image t slots m c.args.allowed c.args.root c.args.address c.args.rights)
+    (ap (λ (h : NotedSlot). frame_mapping h.capability) (sym c.held.view_is) ∙ sym c.mapping_of-mapping.ensures) ∙ sym c.in-Ok.ensures.value)
+    (sym c.if-not-is_data.ensures) c.requires
+    ∙ ap (λ (x : Cap). let r : Result (List NotedSlot) Refusal =
+    Ok (with_noted slots (record { key = c.args.self.now.held.now.key; capability = x; parent = c.args.self.now.held.now.parent })) in
+    r)
     (ap (λ (h : NotedSlot). with_frame_mapping h.capability (Some c.in-Ok.mapping)) (sym c.held.view_is) ∙ sym c.with_mapping.ensures.value)
     ∙ ap (λ (x : SlotChange). let r : Result (List NotedSlot) Refusal = Ok (slots_left slots x) in r) (sym c.recapped.ensures)

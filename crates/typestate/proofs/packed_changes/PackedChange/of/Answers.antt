@@ -15,9 +15,13 @@ pub returns : goal.returns
 returns c =
     let change : NotedSlot = c.args.change in
     let valid = subst IsCapability (ap (λ (s : NotedSlot). s.capability) c.change.view_is) c.change.invariant in
-    let words = c.pack.ensures ∙ ap (λ (s : Inside). words_of s.capability) c.change-inside.view_is ∙ ap (λ (s : NotedSlot). words_of s.capability) c.change.view_is in
-    let low = ap (λ (s : NotedSlot). nat_lt s.key.index (2 ^ 32)) (sym c.change.view_is) ∙ ap (λ (s : Inside). nat_lt s.key.index (2 ^ 32)) (sym c.change-inside.view_is) ∙ c.low.ensures in
-    unpacked-is c.args.names.now.slots.entries (record { head = slice_index_or c.pack.result 0 0; word = slice_index_or c.pack.result 1 0; parent = c.parent_name.result }) change
+    let words = c.pack.ensures ∙ ap (λ (s : Inside). words_of s.capability) c.change-inside.view_is
+    ∙ ap (λ (s : NotedSlot). words_of s.capability) c.change.view_is in
+    let low = ap (λ (s : NotedSlot). nat_lt s.key.index (2 ^ 32)) (sym c.change.view_is)
+    ∙ ap (λ (s : Inside). nat_lt s.key.index (2 ^ 32)) (sym c.change-inside.view_is) ∙ c.low.ensures in
+    unpacked-is c.args.names.now.slots.entries
+    (record { head = slice_index_or c.pack.result 0 0; word = slice_index_or c.pack.result 1 0; parent = c.parent_name.result }) change
     (key-back change.key low)
-    (ap (λ (l : List ℕ). cap_of (slice_index_or l 0 0) (slice_index_or l 1 0)) words ∙ ap (λ o. option_map_or (λ (k : Cap). k) o Empty) (words-back change.capability valid))
+    (ap (λ (l : List ℕ). cap_of (slice_index_or l 0 0) (slice_index_or l 1 0)) words
+    ∙ ap (λ o. option_map_or (λ (k : Cap). k) o Empty) (words-back change.capability valid))
     (c.parent_name.ensures.back c.requires ∙ ap (λ (s : Inside). s.parent) c.change-inside.view_is ∙ ap (λ (s : NotedSlot). s.parent) c.change.view_is)

@@ -10,18 +10,23 @@ range-next a n less = ap (range_with_len a) (let one : n - a ≡ suc (n - (a + 1
 
 pub loop-i-preserved : goal.loop-i-preserved
 loop-i-preserved c =
-    let f : ℕ → Bool = λ i. is_some (slot_at (slots_of c.args.self.now) (record { cnode = c.args.run.now.first.cnode; index = c.args.run.now.first.index + i })) in
+    let f : ℕ → Bool = λ i.
+    is_some (slot_at (slots_of c.args.self.now) (record { cnode = c.args.run.now.first.cnode; index = c.args.run.now.first.index + i })) in
     let i = c.loop-i.i in
     record {
       within = omega (arith, c.loop-i-test.true);
-      left = ap (λ b. b || list_any f (range_with_len (i + 1) (c.args.run.now.count - (i + 1)))) (sym c.if-is_some.false ∙ c.is_some.ensures ∙ ap (λ (o : Option NotedSlot). is_some o) c.at.ensures ∙ ap (λ (k : SlotKey). is_some (slot_at (slots_of c.args.self.now) k)) c.key.ensures)
+      left = ap (λ b. b || list_any f (range_with_len (i + 1) (c.args.run.now.count - (i + 1))))
+          (sym c.if-is_some.false ∙ c.is_some.ensures ∙ ap (λ (o : Option NotedSlot). is_some o) c.at.ensures
+          ∙ ap (λ (k : SlotKey). is_some (slot_at (slots_of c.args.self.now) k)) c.key.ensures)
           ∙ ap (list_any f) (sym (range-next i c.args.run.now.count c.loop-i-test.true)) ∙ c.loop-i.invariant.left;
     }
 
 pub returns-then-is_some : goal.returns-then-is_some
 returns-then-is_some c =
-    let f : ℕ → Bool = λ i. is_some (slot_at (slots_of c.args.self.now) (record { cnode = c.args.run.now.first.cnode; index = c.args.run.now.first.index + i })) in
+    let f : ℕ → Bool = λ i.
+    is_some (slot_at (slots_of c.args.self.now) (record { cnode = c.args.run.now.first.cnode; index = c.args.run.now.first.index + i })) in
     let i = c.loop-i.i in
-    let full : f i ≡ true = sym (c.is_some.ensures ∙ ap (λ (o : Option NotedSlot). is_some o) c.at.ensures ∙ ap (λ (k : SlotKey). is_some (slot_at (slots_of c.args.self.now) k)) c.key.ensures) ∙ c.if-is_some.true in
+    let full : f i ≡ true = sym (c.is_some.ensures ∙ ap (λ (o : Option NotedSlot). is_some o) c.at.ensures
+    ∙ ap (λ (k : SlotKey). is_some (slot_at (slots_of c.args.self.now) k)) c.key.ensures) ∙ c.if-is_some.true in
     sym (ap (λ b. b || list_any f (range_with_len (i + 1) (c.args.run.now.count - (i + 1)))) full)
     ∙ ap (list_any f) (sym (range-next i c.args.run.now.count c.loop-i-test.true)) ∙ c.loop-i.invariant.left

@@ -9,5 +9,6 @@ use Rattle.typestate.proofs.points.NotedSlots.is_any_full.Given as goal
 abbrev pub invariant-loop-i : goal.invariant-loop-i
 invariant-loop-i l = record {
   within : l.i ≤ l.fn.run.count;
-  left : list_any (λ i. is_some (slot_at (slots_of l.fn.self) (record { cnode = l.fn.run.first.cnode; index = l.fn.run.first.index + i }))) (range_with_len l.i (l.fn.run.count - l.i)) ≡ some_full (slots_of l.fn.self) l.fn.run.first l.fn.run.count;
+  left : list_any (λ i. is_some (slot_at (slots_of l.fn.self) (record { cnode = l.fn.run.first.cnode; index = l.fn.run.first.index + i })))
+      (range_with_len l.i (l.fn.run.count - l.i)) ≡ some_full (slots_of l.fn.self) l.fn.run.first l.fn.run.count;
 }

@@ -12,7 +12,8 @@ returns-then-mine c =
     let more = c.args.other.now.changes.now in
     let first : are_same_at mine theirs c.args.self.now.changes.now ≡ true = sym c.agrees_at-mine.ensures ∙ c.if-mine.true in
     c.agrees_at-theirs.ensures ∙ ap (λ b. b && are_same_at mine theirs more) (sym first)
-    ∙ compared-with c.args.self.now.image.now c.args.other.now.image.now c.args.self.now.changes.now more c.requires (from-first c.args.self.now.image.now c.args.self.now.rising)
+    ∙ compared-with c.args.self.now.image.now c.args.other.now.image.now c.args.self.now.changes.now more c.requires
+    (from-first c.args.self.now.image.now c.args.self.now.rising)
 
 pub returns-else-mine : goal.returns-else-mine
 returns-else-mine c =
@@ -21,4 +22,5 @@ returns-else-mine c =
     let more = c.args.other.now.changes.now in
     let first : are_same_at mine theirs c.args.self.now.changes.now ≡ false = sym c.agrees_at-mine.ensures ∙ c.if-mine.false in
     c.if-mine.false ∙ ap (λ b. b && are_same_at mine theirs more) (sym first)
-    ∙ compared-with c.args.self.now.image.now c.args.other.now.image.now c.args.self.now.changes.now more c.requires (from-first c.args.self.now.image.now c.args.self.now.rising)
+    ∙ compared-with c.args.self.now.image.now c.args.other.now.image.now c.args.self.now.changes.now more c.requires
+    (from-first c.args.self.now.image.now c.args.self.now.rising)

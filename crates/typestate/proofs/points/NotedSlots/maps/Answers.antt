@@ -15,4 +15,5 @@ returns c =
     let n : NotedSlots = c.args.self.now in
     let test : NotedSlot → Bool = holds_for c.args.access c.args.root c.args.page in
     let first = from-first n.image.now n.rising in
-    c.one_holds.ensures ∙ any-own test (slots_of n) n.changes.now (hold-own n.image.now n.changes.now 0 (from-first n.changes.now n.ordered)) ∙ changes-held test n.image.now n.changes.now first (none-maps c.args.access c.args.root c.args.page n.image.now n.unlinked)
+    c.one_holds.ensures ∙ any-own test (slots_of n) n.changes.now (hold-own n.image.now n.changes.now 0 (from-first n.changes.now n.ordered))
+    ∙ changes-held test n.image.now n.changes.now first (none-maps c.args.access c.args.root c.args.page n.image.now n.unlinked)

@@ -10,12 +10,15 @@ use Rattle.typestate.proofs.points.NotedSlots.note_children_of.Goals as goal
 pub loop-link-init : goal.loop-link-init
 loop-link-init c =
     let changes = c.args.self.now.changes.now in
-    ap (λ (l : List (ℕ × ℕ)). c.args.found.now.items ++ filter_map (λ (q : ℕ × ℕ). child_at changes c.args.parent q.1) l) c.into_iter-link-iterator.ensures.into_iter_gives
+    ap (λ (l : List (ℕ × ℕ)). c.args.found.now.items ++ filter_map (λ (q : ℕ × ℕ). child_at changes c.args.parent q.1) l)
+    c.into_iter-link-iterator.ensures.into_iter_gives
     ∙ ap (λ (l : List NotedSlot). c.args.found.now.items ++ l) c.links-link-items.ensures
 
 pub loop-link-preserved : goal.loop-link-preserved
 loop-link-preserved c =
     let changes = c.args.self.now.changes.now in
     let look : ℕ × ℕ → Option NotedSlot = λ (q : ℕ × ℕ). child_at changes c.args.parent q.1 in
-    one-more-found (ℕ × ℕ) look c.in-Some.link.now c.loop-link.link-iterator c.next.new.self c.loop-link.found.items c.note_found.new.list.items (c.args.found.now.items ++ children_of changes c.args.parent)
-    c.in-Some.ensures.steps c.loop-link.invariant (c.in_ok-note_found.ensures ∙ ap (λ (o : Option NotedSlot). c.loop-link.found.items ++ option_to_list o) c.child-change.ensures)
+    one-more-found (ℕ × ℕ) look c.in-Some.link.now c.loop-link.link-iterator c.next.new.self c.loop-link.found.items c.note_found.new.list.items
+    (c.args.found.now.items ++ children_of changes c.args.parent)
+    c.in-Some.ensures.steps c.loop-link.invariant (c.in_ok-note_found.ensures
+    ∙ ap (λ (o : Option NotedSlot). c.loop-link.found.items ++ option_to_list o) c.child-change.ensures)

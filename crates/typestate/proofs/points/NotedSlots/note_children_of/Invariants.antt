@@ -6,4 +6,5 @@ use Rattle.typestate.proofs.points.NotedSlots.note_children_of.Given as goal
 
 abbrev pub invariant-loop-link : goal.invariant-loop-link
 invariant-loop-link l =
-    l.found.items ++ filter_map (λ (q : ℕ × ℕ). child_at l.fn.self.changes.now l.parent q.1) l.link-iterator ≡ l.fn.found.items ++ children_of l.fn.self.changes.now l.parent
+    l.found.items ++ filter_map (λ (q : ℕ × ℕ). child_at l.fn.self.changes.now l.parent q.1) l.link-iterator ≡ l.fn.found.items
+    ++ children_of l.fn.self.changes.now l.parent

@@ -14,4 +14,5 @@ returns c =
     let follow : NotedSlot → NotedSlot = followed c.args.from c.args.to in
     let all = children_of c.args.self.now.changes.now c.args.to in
     let found = c.deref.ensures.value ∙ c.in_ok-note_children_of.ensures ∙ ap (λ (l : List NotedSlot). l ++ all) c.new-children.ensures.items in
-    c.in_ok-note_followed.ensures ∙ ap (λ (l : List NotedSlot). before ++ map (λ s. Sets (follow s)) l) found ∙ ap (λ (l : List LogEntry). before ++ l) (sets-of follow all)
+    c.in_ok-note_followed.ensures ∙ ap (λ (l : List NotedSlot). before ++ map (λ s. Sets (follow s)) l) found
+    ∙ ap (λ (l : List LogEntry). before ++ l) (sets-of follow all)

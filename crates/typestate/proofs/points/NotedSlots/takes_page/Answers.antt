@@ -15,4 +15,5 @@ returns c =
     let n : NotedSlots = c.args.self.now in
     let test : NotedSlot → Bool = λ s. maps_page c.args.root c.args.page s.capability in
     let first = from-first n.image.now n.rising in
-    c.one_takes.ensures ∙ any-own test (slots_of n) n.changes.now (hold-own n.image.now n.changes.now 0 (from-first n.changes.now n.ordered)) ∙ changes-held test n.image.now n.changes.now first (none-takes c.args.root c.args.page n.image.now n.unlinked)
+    c.one_takes.ensures ∙ any-own test (slots_of n) n.changes.now (hold-own n.image.now n.changes.now 0 (from-first n.changes.now n.ordered))
+    ∙ changes-held test n.image.now n.changes.now first (none-takes c.args.root c.args.page n.image.now n.unlinked)

@@ -22,7 +22,8 @@ returns-in_default-clause-made c =
     let image = c.args.self.now.own.space.image.now in
     let t = c.args.self.now.own.space.thread.now in
     let slots = slots_of c.args.self.now.own.slots in
-    never-made image t (apart-of c.args.self.now.own.space) slots c.args.self.now.own.own c.args.self.now.held.now c.args.self.now.memory c.args.call c.in-Ok.new c.args.self.now.there c.args.self.now.pool c.in-Ok.ensures c.args.at (c.in_default.ensures c.args.call.size)
+    never-made image t (apart-of c.args.self.now.own.space) slots c.args.self.now.own.own c.args.self.now.held.now c.args.self.now.memory c.args.call
+    c.in-Ok.new c.args.self.now.there c.args.self.now.pool c.in-Ok.ensures c.args.at (c.in_default.ensures c.args.call.size)
 
 pub invariant_of-push : goal.invariant_of-push
 invariant_of-push c =
@@ -30,7 +31,8 @@ invariant_of-push c =
     let t = c.args.self.now.own.space.thread.now in
     let slots = slots_of c.args.self.now.own.slots in
     let valid = (test-decides (Untyped c.args.self.now.memory.offset c.args.self.now.memory.bits c.args.self.now.memory.watermark) c.args.self.now.valid) in
-    let below = (placing image t (apart-of c.args.self.now.own.space) slots c.args.self.now.own.own c.args.self.now.held.now c.args.self.now.memory c.args.call c.in-Ok.new c.args.self.now.there c.args.self.now.pool c.in-Ok.ensures).below in
+    let below = (placing image t (apart-of c.args.self.now.own.space) slots c.args.self.now.own.own c.args.self.now.held.now c.args.self.now.memory c.args.call
+    c.in-Ok.new c.args.self.now.there c.args.self.now.pool c.in-Ok.ensures).below in
     (valid.0, valid.1, valid.2, below)
 
 pub invariant_of-objects-2 : goal.invariant_of-objects-2
@@ -38,10 +40,12 @@ invariant_of-objects-2 c =
     let image = c.args.self.now.own.space.image.now in
     let t = c.args.self.now.own.space.thread.now in
     let slots = slots_of c.args.self.now.own.slots in
-    let room = room-is image t (apart-of c.args.self.now.own.space) slots c.args.self.now.own.own c.args.self.now.held.now c.args.self.now.memory c.args.call c.in-Ok.new c.args.self.now.there c.args.self.now.pool c.in-Ok.ensures in
+    let room = room-is image t (apart-of c.args.self.now.own.space) slots c.args.self.now.own.own c.args.self.now.held.now c.args.self.now.memory c.args.call
+    c.in-Ok.new c.args.self.now.there c.args.self.now.pool c.in-Ok.ensures in
     record {
       few = (fits-node c.in-Ok.ensures.w.radix c.args.call.index c.args.call.count room.fits).1;
-      places = places-valid image t (apart-of c.args.self.now.own.space) slots c.args.self.now.own.own c.args.self.now.held.now c.args.self.now.memory c.args.call c.in-Ok.new c.args.self.now.there c.args.self.now.pool c.in-Ok.ensures c.in-Some.kind (c.in-Some.ensures c.args.call.size)
+      places = places-valid image t (apart-of c.args.self.now.own.space) slots c.args.self.now.own.own c.args.self.now.held.now c.args.self.now.memory
+          c.args.call c.in-Ok.new c.args.self.now.there c.args.self.now.pool c.in-Ok.ensures c.in-Some.kind (c.in-Some.ensures c.args.call.size)
           (test-decides (Untyped c.args.self.now.memory.offset c.args.self.now.memory.bits c.args.self.now.memory.watermark) c.args.self.now.valid);
     }
 
@@ -50,21 +54,29 @@ returns-clause-made c =
     let image = c.args.self.now.own.space.image.now in
     let t = c.args.self.now.own.space.thread.now in
     let slots = slots_of c.args.self.now.own.slots in
-    let rises = changes-rise c.args.self.now.own.slots.image.now c.args.self.now.own.slots.changes.now (from-first c.args.self.now.own.slots.image.now c.args.self.now.own.slots.rising) in
+    let rises = changes-rise c.args.self.now.own.slots.image.now c.args.self.now.own.slots.changes.now
+    (from-first c.args.self.now.own.slots.image.now c.args.self.now.own.slots.rising) in
     let done : List NotedSlot → Result (List NotedSlot) Refusal = λ l. Ok (changed slots l) in
     let kept : List NotedSlot → Result (List NotedSlot) Refusal = λ l. Ok l in
     let new = c.in-Ok.new in
     let made : SlotKey → List NotedSlot = λ k. slots_made new.slot k (new_of c.in-Some.kind) new.offset c.args.call.count in
     let listed : NotedSlot → List NotedSlot = λ h. pool_used h c.args.self.now.memory new.watermark ∷ made h.key in
-    let first : NotedSlot = record { key = c.held.inside.key; capability = Untyped c.args.self.now.memory.offset c.args.self.now.memory.bits new.watermark; parent = c.held.inside.parent } in
-    let items = c.in_ok-note.ensures ∙ ap (λ (l : List NotedSlot). l ++ made c.held.inside.key) (c.in_ok-push.ensures.items ∙ ap (λ (l : List NotedSlot). l ++ first ∷ []) c.requires.none) in
-    made-all image t (apart-of c.args.self.now.own.space) slots c.args.self.now.own.own c.args.self.now.held.now c.args.self.now.memory c.args.call c.in-Ok.new c.args.self.now.there c.args.self.now.pool c.in-Ok.ensures c.in-Some.kind (c.in-Some.ensures c.args.call.size) c.args.at rises
+    let first : NotedSlot = record {
+      key = c.held.inside.key;
+      capability = Untyped c.args.self.now.memory.offset c.args.self.now.memory.bits new.watermark;
+      parent = c.held.inside.parent;
+    } in
+    let items = c.in_ok-note.ensures ∙ ap (λ (l : List NotedSlot). l ++ made c.held.inside.key)
+    (c.in_ok-push.ensures.items ∙ ap (λ (l : List NotedSlot). l ++ first ∷ []) c.requires.none) in
+    made-all image t (apart-of c.args.self.now.own.space) slots c.args.self.now.own.own c.args.self.now.held.now c.args.self.now.memory c.args.call c.in-Ok.new
+    c.args.self.now.there c.args.self.now.pool c.in-Ok.ensures c.in-Some.kind (c.in-Some.ensures c.args.call.size) c.args.at rises
     ∙ ap done (sym (items ∙ ap listed c.held.view_is)) ∙ ap kept (sym (sets-made c.note.new.made.items slots))
 
 pub returns-clause-tidy : goal.returns-clause-tidy
 returns-clause-tidy c = λ tidy none.
     let slots = slots_of c.args.self.now.own.slots in
-    let rises = changes-rise c.args.self.now.own.slots.image.now c.args.self.now.own.slots.changes.now (from-first c.args.self.now.own.slots.image.now c.args.self.now.own.slots.rising) in
+    let rises = changes-rise c.args.self.now.own.slots.image.now c.args.self.now.own.slots.changes.now
+    (from-first c.args.self.now.own.slots.image.now c.args.self.now.own.slots.rising) in
     subst (NoneStray c.args.self.now.own.space.image.now c.args.self.now.own.space.thread.now) (sym (sets-made c.note.new.made.items slots))
     (c.tidy_puts_leave_no_stray_slot.ensures c.args.self.now.own.space slots c.note.new.made.items (rise-of slots 0 rises) none
     (ap (list_all (is_tidy_put c.args.self.now.own.space slots)) (sym c.deref.ensures.value) ∙ sym c.are_tidy_puts.ensures ∙ tidy))

@@ -28,8 +28,10 @@ by_checks fits taken shallow place = do
   _ ← check shallow IllegalOperation
   wanted place NotEnoughMemory
 
-taken-is : (image : Image) (t : Thread) (stand : StandsApart image t) (slots : List NotedSlot) (are : AreOwn image t slots) (w : Window) (own : IsOwnWindow image t w) (index count : ℕ)
-    → fits_node w.radix index count ≡ true → some_full slots (record { cnode = w.cnode; index = index }) count ≡ any_full (noted_slots image t slots) (slot_of w.offset index) count
+taken-is : (image : Image) (t : Thread) (stand : StandsApart image t) (slots : List NotedSlot) (are : AreOwn image t slots) (w : Window)
+    (own : IsOwnWindow image t w) (index count : ℕ)
+    → fits_node w.radix index count ≡ true → some_full slots (record { cnode = w.cnode; index = index }) count ≡ any_full (noted_slots image t slots)
+    (slot_of w.offset index) count
 taken-is image t stand slots are w own index count fits =
     let room = fits-node w.radix index count fits in
     let first : slot_of w.offset index + 0 ≡ slot_of w.offset index = omega arith in
@@ -59,7 +61,8 @@ returns-then-is_any_full c =
     let place = placement memory.bits memory.watermark c.args.bits c.args.count in
     let fits : fits_node w.radix c.args.index c.args.count ≡ true = sym c.fits.ensures ∙ c.if-not-fits.false in
     let taken : any_full (noted_slots image t slots) (slot_of w.offset c.args.index) c.args.count ≡ true =
-    sym (c.is_any_full.ensures ∙ taken-is image t (apart-of pool.own.space) slots pool.own.own w c.requires.mine c.args.index c.args.count fits) ∙ c.if-is_any_full.true in
+    sym (c.is_any_full.ensures ∙ taken-is image t (apart-of pool.own.space) slots pool.own.own w c.requires.mine c.args.index c.args.count fits)
+    ∙ c.if-is_any_full.true in
     sym (ap (λ b. by_checks b (any_full (noted_slots image t slots) (slot_of w.offset c.args.index) c.args.count) shallow place) fits
     ∙ ap (λ b. by_checks true b shallow place) taken)
 
@@ -75,8 +78,10 @@ returns-then-not-may_have_child c =
     let place = placement memory.bits memory.watermark c.args.bits c.args.count in
     let fits : fits_node w.radix c.args.index c.args.count ≡ true = sym c.fits.ensures ∙ c.if-not-fits.false in
     let taken : any_full (noted_slots image t slots) (slot_of w.offset c.args.index) c.args.count ≡ false =
-    sym (c.is_any_full.ensures ∙ taken-is image t (apart-of pool.own.space) slots pool.own.own w c.requires.mine c.args.index c.args.count fits) ∙ c.if-is_any_full.false in
-    let deep : shallow ≡ false = sym (c.may_have_child.ensures ∙ ap (λ (h : NotedSlot). nat_lt (noted_depth 256 slots h.key) 255) c.held.view_is) ∙ c.if-not-may_have_child.true in
+    sym (c.is_any_full.ensures ∙ taken-is image t (apart-of pool.own.space) slots pool.own.own w c.requires.mine c.args.index c.args.count fits)
+    ∙ c.if-is_any_full.false in
+    let deep : shallow ≡ false = sym (c.may_have_child.ensures ∙ ap (λ (h : NotedSlot). nat_lt (noted_depth 256 slots h.key) 255) c.held.view_is)
+    ∙ c.if-not-may_have_child.true in
     sym (ap (λ b. by_checks b (any_full (noted_slots image t slots) (slot_of w.offset c.args.index) c.args.count) shallow place) fits
     ∙ ap (λ b. by_checks true b shallow place) taken ∙ ap (λ b. by_checks true false b place) deep)
 
@@ -92,8 +97,10 @@ returns-in-Ok c =
     let place = placement memory.bits memory.watermark c.args.bits c.args.count in
     let fits : fits_node w.radix c.args.index c.args.count ≡ true = sym c.fits.ensures ∙ c.if-not-fits.false in
     let taken : any_full (noted_slots image t slots) (slot_of w.offset c.args.index) c.args.count ≡ false =
-    sym (c.is_any_full.ensures ∙ taken-is image t (apart-of pool.own.space) slots pool.own.own w c.requires.mine c.args.index c.args.count fits) ∙ c.if-is_any_full.false in
-    let deep : shallow ≡ true = sym (c.may_have_child.ensures ∙ ap (λ (h : NotedSlot). nat_lt (noted_depth 256 slots h.key) 255) c.held.view_is) ∙ c.if-not-may_have_child.false in
+    sym (c.is_any_full.ensures ∙ taken-is image t (apart-of pool.own.space) slots pool.own.own w c.requires.mine c.args.index c.args.count fits)
+    ∙ c.if-is_any_full.false in
+    let deep : shallow ≡ true = sym (c.may_have_child.ensures ∙ ap (λ (h : NotedSlot). nat_lt (noted_depth 256 slots h.key) 255) c.held.view_is)
+    ∙ c.if-not-may_have_child.false in
     sym (ap (λ b. by_checks b (any_full (noted_slots image t slots) (slot_of w.offset c.args.index) c.args.count) shallow place) fits
     ∙ ap (λ b. by_checks true b shallow place) taken
     ∙ ap (λ b. by_checks true false b place) deep ∙ ap (λ (o : Option (ℕ × ℕ)). by_checks true false true o) (sym c.in-Ok.ensures.exact))
@@ -110,8 +117,10 @@ returns-in-Err c =
     let place = placement memory.bits memory.watermark c.args.bits c.args.count in
     let fits : fits_node w.radix c.args.index c.args.count ≡ true = sym c.fits.ensures ∙ c.if-not-fits.false in
     let taken : any_full (noted_slots image t slots) (slot_of w.offset c.args.index) c.args.count ≡ false =
-    sym (c.is_any_full.ensures ∙ taken-is image t (apart-of pool.own.space) slots pool.own.own w c.requires.mine c.args.index c.args.count fits) ∙ c.if-is_any_full.false in
-    let deep : shallow ≡ true = sym (c.may_have_child.ensures ∙ ap (λ (h : NotedSlot). nat_lt (noted_depth 256 slots h.key) 255) c.held.view_is) ∙ c.if-not-may_have_child.false in
+    sym (c.is_any_full.ensures ∙ taken-is image t (apart-of pool.own.space) slots pool.own.own w c.requires.mine c.args.index c.args.count fits)
+    ∙ c.if-is_any_full.false in
+    let deep : shallow ≡ true = sym (c.may_have_child.ensures ∙ ap (λ (h : NotedSlot). nat_lt (noted_depth 256 slots h.key) 255) c.held.view_is)
+    ∙ c.if-not-may_have_child.false in
     sym (ap (λ b. by_checks b (any_full (noted_slots image t slots) (slot_of w.offset c.args.index) c.args.count) shallow place) fits
     ∙ ap (λ b. by_checks true b shallow place) taken
     ∙ ap (λ b. by_checks true false b place) deep ∙ ap (λ (o : Option (ℕ × ℕ)). by_checks true false true o) (sym c.in-Err.ensures.exact))

@@ -31,9 +31,11 @@ either n which key touched first second told one other =
 pub returns-then-touched : goal.returns-then-touched
 returns-then-touched c =
     let r = c.args.self.now in
-    first-of c.one_stays-touched.result c.one_child_stays-children.result _ (either r.slots r.which c.args.key r.touched.now _ _ r.told c.one_stays-touched.ensures c.one_child_stays-children.ensures) c.if-touched.true
+    first-of c.one_stays-touched.result c.one_child_stays-children.result _
+    (either r.slots r.which c.args.key r.touched.now _ _ r.told c.one_stays-touched.ensures c.one_child_stays-children.ensures) c.if-touched.true
 
 pub returns-else-touched : goal.returns-else-touched
 returns-else-touched c =
     let r = c.args.self.now in
-    second-of c.one_stays-touched.result c.one_child_stays-children.result _ (either r.slots r.which c.args.key r.touched.now _ _ r.told c.one_stays-touched.ensures c.one_child_stays-children.ensures) c.if-touched.false
+    second-of c.one_stays-touched.result c.one_child_stays-children.result _
+    (either r.slots r.which c.args.key r.touched.now _ _ r.told c.one_stays-touched.ensures c.one_child_stays-children.ensures) c.if-touched.false

@@ -21,4 +21,5 @@ returns-in-Below c =
     let test : NotedSlot → Bool = λ s. is_removed (slots_of n) r.which s.key && is_parent c.args.key s.parent in
     let first = from-first n.image.now n.rising in
     c.one_goes.ensures ∙ lost-below n r.which _ c.args.key r.touched.now c.in-Below.is r.told c.requires
-    ∙ any-own test (slots_of n) n.changes.now (hold-own n.image.now n.changes.now 0 (from-first n.changes.now n.ordered)) ∙ changes-held test n.image.now n.changes.now first (none-goes (slots_of n) r.which c.args.key n.image.now n.unlinked)
+    ∙ any-own test (slots_of n) n.changes.now (hold-own n.image.now n.changes.now 0 (from-first n.changes.now n.ordered))
+    ∙ changes-held test n.image.now n.changes.now first (none-goes (slots_of n) r.which c.args.key n.image.now n.unlinked)

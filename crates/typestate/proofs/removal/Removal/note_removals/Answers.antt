@@ -22,4 +22,5 @@ loop-change-preserved c =
 pub returns : goal.returns
 returns c =
     let tell : NotedSlot → List NotedSlot = removal_change (gone_by c.args.self.now) (slots_of c.args.self.now.slots) in
-    all-told (told_of tell) c.args.self.now.touched.now c.loop-change.change-index c.args.made.now.items c.loop-change.made.items c.loop-change-test.false c.loop-change.invariant
+    all-told (told_of tell) c.args.self.now.touched.now c.loop-change.change-index c.args.made.now.items c.loop-change.made.items c.loop-change-test.false
+    c.loop-change.invariant

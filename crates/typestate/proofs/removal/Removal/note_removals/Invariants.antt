@@ -7,4 +7,5 @@ use Rattle.typestate.specs.SlotChanges.{is_removed}
 use Rattle.typestate.proofs.removal.Removal.note_removals.Given as goal
 
 abbrev pub invariant-loop-change : goal.invariant-loop-change
-invariant-loop-change l = l.made.items ≡ l.fn.made.items ++ flat_map (told_of (removal_change (is_removed (slots_of l.self.slots) l.self.which) (slots_of l.self.slots))) (take l.change-index l.fn.self.touched.now)
+invariant-loop-change l = l.made.items ≡ l.fn.made.items
+    ++ flat_map (told_of (removal_change (is_removed (slots_of l.self.slots) l.self.which) (slots_of l.self.slots))) (take l.change-index l.fn.self.touched.now)

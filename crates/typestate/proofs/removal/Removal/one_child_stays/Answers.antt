@@ -14,7 +14,8 @@ pub loop-link-init : goal.loop-link-init
 loop-link-init c =
     let n : NotedSlots = c.args.self.now.slots in
     let test : NotedSlot → Bool = λ s. option_map_or (kept_child (slots_of n) c.args.self.now.which c.args.key) (left_by s) false in
-    ap (λ (l : List (ℕ × ℕ)). list_any test (filter_map (λ (q : ℕ × ℕ). child_at n.changes.now c.args.key q.1) l)) c.into_iter-link-iterator.ensures.into_iter_gives
+    ap (λ (l : List (ℕ × ℕ)). list_any test (filter_map (λ (q : ℕ × ℕ). child_at n.changes.now c.args.key q.1) l))
+    c.into_iter-link-iterator.ensures.into_iter_gives
     ∙ ap (list_any test) c.links-link-items.ensures
 
 pub loop-link-preserved : goal.loop-link-preserved

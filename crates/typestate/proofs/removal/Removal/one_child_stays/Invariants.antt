@@ -9,5 +9,7 @@ use Rattle.typestate.proofs.removal.Removal.one_child_stays.Given as goal
 
 abbrev pub invariant-loop-link : goal.invariant-loop-link
 invariant-loop-link l =
-    list_any (λ c. option_map_or (kept_child (slots_of l.fn.self.slots) l.fn.self.which l.key) (left_by c) false) (filter_map (λ (q : ℕ × ℕ). child_at l.fn.self.slots.changes.now l.key q.1) l.link-iterator)
-    ≡ list_any (λ c. option_map_or (kept_child (slots_of l.fn.self.slots) l.fn.self.which l.key) (left_by c) false) (children_of l.fn.self.slots.changes.now l.key)
+    list_any (λ c. option_map_or (kept_child (slots_of l.fn.self.slots) l.fn.self.which l.key) (left_by c) false)
+    (filter_map (λ (q : ℕ × ℕ). child_at l.fn.self.slots.changes.now l.key q.1) l.link-iterator)
+    ≡ list_any (λ c. option_map_or (kept_child (slots_of l.fn.self.slots) l.fn.self.which l.key) (left_by c) false)
+    (children_of l.fn.self.slots.changes.now l.key)

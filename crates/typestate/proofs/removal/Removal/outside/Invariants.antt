@@ -6,4 +6,5 @@ use Rattle.typestate.proofs.removal.Removal.outside.Given as goal
 
 abbrev pub invariant-loop : goal.invariant-loop
 invariant-loop l =
-    noted_outside 256 (is_removed (slots_of l.self.slots) l.self.which) (slots_of l.self.slots) l.fn.first ≡ noted_outside (256 - l.counter) (is_removed (slots_of l.self.slots) l.self.which) (slots_of l.self.slots) l.parent
+    noted_outside 256 (is_removed (slots_of l.self.slots) l.self.which) (slots_of l.self.slots) l.fn.first ≡ noted_outside (256 - l.counter)
+    (is_removed (slots_of l.self.slots) l.self.which) (slots_of l.self.slots) l.parent

@@ -15,9 +15,11 @@ returns-in-Err c =
     let t = c.args.self.now.own.space.thread.now in
     let slots = slots_of c.args.self.now.own.slots in
     let all = noted_slots image t slots in
-    let named = subst (λ (root : Cap). NamesEnds image t all root c.args.source (ends_of all c.args.self.now.root root c.args.destination c.args.source) (Err c.in-Err.error)) c.args.self.now.own.space.rooted c.in-Err.ensures.value in
+    let named = subst (λ (root : Cap). NamesEnds image t all root c.args.source (ends_of all c.args.self.now.root root c.args.destination c.args.source)
+    (Err c.in-Err.error)) c.args.self.now.own.space.rooted c.in-Err.ensures.value in
     copy-refused image t c.args.at slots c.args.self.now.root c.args.destination c.args.source c.args.rights_word c.in-Err.error
-    (ends-err image t all (noted_root image t) c.args.source (ends_of all c.args.self.now.root (noted_root image t) c.args.destination c.args.source) c.in-Err.error named)
+    (ends-err image t all (noted_root image t) c.args.source (ends_of all c.args.self.now.root (noted_root image t) c.args.destination c.args.source)
+    c.in-Err.error named)
 
 pub returns : goal.returns
 returns c =
@@ -25,8 +27,10 @@ returns c =
     let t = c.args.self.now.own.space.thread.now in
     let slots = slots_of c.args.self.now.own.slots in
     let all = noted_slots image t slots in
-    let named = subst (λ (root : Cap). NamesEnds image t all root c.args.source (ends_of all c.args.self.now.root root c.args.destination c.args.source) (Ok c.in-Ok.ends)) c.args.self.now.own.space.rooted c.in-Ok.ensures.value in
-    let at = ends-ok image t all (noted_root image t) c.args.source (ends_of all c.args.self.now.root (noted_root image t) c.args.destination c.args.source) c.in-Ok.ends named in
+    let named = subst (λ (root : Cap). NamesEnds image t all root c.args.source (ends_of all c.args.self.now.root root c.args.destination c.args.source)
+    (Ok c.in-Ok.ends)) c.args.self.now.own.space.rooted c.in-Ok.ensures.value in
+    let at = ends-ok image t all (noted_root image t) c.args.source (ends_of all c.args.self.now.root (noted_root image t) c.args.destination c.args.source)
+    c.in-Ok.ends named in
     copy-goes image t c.args.at slots c.args.self.now.root c.args.destination c.args.source c.args.rights_word at.0 at.1 c.in-Ok.ends at.2 at.3
     ∙ ap (λ made. allowed_slots image t c.args.at (may_travel c.in-Ok.ends.held) (with_child all at.0 at.1 made)) (sym c.copy_of.ensures.value)
     ∙ c.put_copy.ensures image t (noted_root image t) c.args.source at.0 at.1 (apart-of c.args.self.now.own.space) c.args.self.now.own.own at.3

@@ -15,7 +15,8 @@ returns-in-Err c =
     let t = c.args.self.now.own.space.thread.now in
     let slots = slots_of c.args.self.now.own.slots in
     let all = noted_slots image t slots in
-    delete-refused image t c.args.at slots c.args.self.now.root c.args.name c.in-Err.error (named-err image t all (argument_slot all c.args.self.now.root c.args.name) c.in-Err.error c.in-Err.ensures.value)
+    delete-refused image t c.args.at slots c.args.self.now.root c.args.name c.in-Err.error
+    (named-err image t all (argument_slot all c.args.self.now.root c.args.name) c.in-Err.error c.in-Err.ensures.value)
 
 pub returns-then-is_pool : goal.returns-then-is_pool
 returns-then-is_pool c =
@@ -23,9 +24,11 @@ returns-then-is_pool c =
     let t = c.args.self.now.own.space.thread.now in
     let slots = slots_of c.args.self.now.own.slots in
     let all = noted_slots image t slots in
-    let rises = changes-rise c.args.self.now.own.slots.image.now c.args.self.now.own.slots.changes.now (from-first c.args.self.now.own.slots.image.now c.args.self.now.own.slots.rising) in
+    let rises = changes-rise c.args.self.now.own.slots.image.now c.args.self.now.own.slots.changes.now
+    (from-first c.args.self.now.own.slots.image.now c.args.self.now.own.slots.rising) in
     let x = named-ok image t all (argument_slot all c.args.self.now.root c.args.name) c.in-Ok.found.0 c.in-Ok.found.1 c.in-Ok.ensures.value in
-    delete-pool image t c.args.at slots c.args.self.now.root c.args.name (apart-of c.args.self.now.own.space) c.args.self.now.own.own c.args.self.now.own.inside rises x.0 c.in-Ok.found.0 c.in-Ok.found.1 x.1 x.2 x.3 (sym c.if-is_pool.ensures)
+    delete-pool image t c.args.at slots c.args.self.now.root c.args.name (apart-of c.args.self.now.own.space) c.args.self.now.own.own c.args.self.now.own.inside
+    rises x.0 c.in-Ok.found.0 c.in-Ok.found.1 x.1 x.2 x.3 (sym c.if-is_pool.ensures)
 
 pub returns-then-is_vacant : goal.returns-then-is_vacant
 returns-then-is_vacant c =
@@ -33,9 +36,11 @@ returns-then-is_vacant c =
     let t = c.args.self.now.own.space.thread.now in
     let slots = slots_of c.args.self.now.own.slots in
     let all = noted_slots image t slots in
-    let rises = changes-rise c.args.self.now.own.slots.image.now c.args.self.now.own.slots.changes.now (from-first c.args.self.now.own.slots.image.now c.args.self.now.own.slots.rising) in
+    let rises = changes-rise c.args.self.now.own.slots.image.now c.args.self.now.own.slots.changes.now
+    (from-first c.args.self.now.own.slots.image.now c.args.self.now.own.slots.rising) in
     let x = named-ok image t all (argument_slot all c.args.self.now.root c.args.name) c.in-Ok.found.0 c.in-Ok.found.1 c.in-Ok.ensures.value in
-    delete-nothing image t c.args.at slots c.args.self.now.root c.args.name (apart-of c.args.self.now.own.space) c.args.self.now.own.own c.args.self.now.own.inside rises x.0 c.in-Ok.found.0 c.in-Ok.found.1 x.1 x.2 x.3 (sym c.if-is_vacant.ensures)
+    delete-nothing image t c.args.at slots c.args.self.now.root c.args.name (apart-of c.args.self.now.own.space) c.args.self.now.own.own
+    c.args.self.now.own.inside rises x.0 c.in-Ok.found.0 c.in-Ok.found.1 x.1 x.2 x.3 (sym c.if-is_vacant.ensures)
 
 pub returns : goal.returns
 returns c =
@@ -43,6 +48,8 @@ returns c =
     let t = c.args.self.now.own.space.thread.now in
     let slots = slots_of c.args.self.now.own.slots in
     let all = noted_slots image t slots in
-    let rises = changes-rise c.args.self.now.own.slots.image.now c.args.self.now.own.slots.changes.now (from-first c.args.self.now.own.slots.image.now c.args.self.now.own.slots.rising) in
+    let rises = changes-rise c.args.self.now.own.slots.image.now c.args.self.now.own.slots.changes.now
+    (from-first c.args.self.now.own.slots.image.now c.args.self.now.own.slots.rising) in
     let x = named-ok image t all (argument_slot all c.args.self.now.root c.args.name) c.in-Ok.found.0 c.in-Ok.found.1 c.in-Ok.ensures.value in
-    delete-goes image t c.args.at slots c.args.self.now.root c.args.name (apart-of c.args.self.now.own.space) c.args.self.now.own.own c.args.self.now.own.inside rises x.0 c.in-Ok.found.0 c.in-Ok.found.1 x.1 x.2 x.3 (sym c.if-is_pool.ensures) (sym c.if-is_vacant.ensures)
+    delete-goes image t c.args.at slots c.args.self.now.root c.args.name (apart-of c.args.self.now.own.space) c.args.self.now.own.own c.args.self.now.own.inside
+    rises x.0 c.in-Ok.found.0 c.in-Ok.found.1 x.1 x.2 x.3 (sym c.if-is_pool.ensures) (sym c.if-is_vacant.ensures)

@@ -14,7 +14,8 @@ returns-in-Err c =
     let t = c.args.self.now.own.space.thread.now in
     let slots = slots_of c.args.self.now.own.slots in
     let all = noted_slots image t slots in
-    revoke-refused image t c.args.at slots c.args.self.now.root c.args.name c.in-Err.error (named-err image t all (argument_slot all c.args.self.now.root c.args.name) c.in-Err.error c.in-Err.ensures.value)
+    revoke-refused image t c.args.at slots c.args.self.now.root c.args.name c.in-Err.error
+    (named-err image t all (argument_slot all c.args.self.now.root c.args.name) c.in-Err.error c.in-Err.ensures.value)
 
 pub returns : goal.returns
 returns c =
@@ -22,6 +23,8 @@ returns c =
     let t = c.args.self.now.own.space.thread.now in
     let slots = slots_of c.args.self.now.own.slots in
     let all = noted_slots image t slots in
-    let rises = changes-rise c.args.self.now.own.slots.image.now c.args.self.now.own.slots.changes.now (from-first c.args.self.now.own.slots.image.now c.args.self.now.own.slots.rising) in
+    let rises = changes-rise c.args.self.now.own.slots.image.now c.args.self.now.own.slots.changes.now
+    (from-first c.args.self.now.own.slots.image.now c.args.self.now.own.slots.rising) in
     let x = named-ok image t all (argument_slot all c.args.self.now.root c.args.name) c.in-Ok.found.0 c.in-Ok.found.1 c.in-Ok.ensures.value in
-    revoke-goes image t c.args.at slots c.args.self.now.root c.args.name (apart-of c.args.self.now.own.space) c.args.self.now.own.own c.args.self.now.own.inside rises x.0 c.in-Ok.found.0 c.in-Ok.found.1 x.1 x.2 x.3
+    revoke-goes image t c.args.at slots c.args.self.now.root c.args.name (apart-of c.args.self.now.own.space) c.args.self.now.own.own c.args.self.now.own.inside
+    rises x.0 c.in-Ok.found.0 c.in-Ok.found.1 x.1 x.2 x.3

@@ -21,12 +21,14 @@ unreachable-requires c =
     let offset = c.in-CNode.offset in
     let radix = c.in-CNode.radix in
     absurd (let clash : false ≡ true =
-    sym (none-any (is_at offset radix) ws (sym c.at.ensures ∙ c.in-None.is)) ∙ own-cnode-told image (reached image t) ws offset radix (space-of c.args.self.now.own.space).cnodes
+    sym (none-any (is_at offset radix) ws (sym c.at.ensures ∙ c.in-None.is))
+    ∙ own-cnode-told image (reached image t) ws offset radix (space-of c.args.self.now.own.space).cnodes
     ∙ sym (ap (is_inside image t) c.in-CNode.is) ∙ c.args.self.now.inside in cc)
 
 pub returns : goal.returns
 returns c =
     let image = c.args.self.now.own.space.image.now in
     let t = c.args.self.now.own.space.thread.now in
-    let found = own-window image t c.args.self.now.own.space.windows.now c.in-CNode.offset c.in-CNode.radix c.in-Some.window (space-of c.args.self.now.own.space).cnodes (sym c.at.ensures ∙ c.in-Some.is) in
+    let found = own-window image t c.args.self.now.own.space.windows.now c.in-CNode.offset c.in-CNode.radix c.in-Some.window
+    (space-of c.args.self.now.own.space).cnodes (sym c.at.ensures ∙ c.in-Some.is) in
     subst (λ (held : Cap). NamesNode image t (wanted (cnode_of held) FailedLookup) (Ok c.in-Some.window)) (sym c.in-CNode.is) (found.0, found.1, found.2)

@@ -14,7 +14,8 @@ returns-in_ok-put-in-Sets-clause-same c = λ slots rises unlinked.
     ∙ ap (λ (e : LogEntry). with_entry (changed slots old) e) (sym c.in-Sets.is)
 
 pub returns-in_ok-swap-in-Swaps-clause-rising : goal.returns-in_ok-swap-in-Swaps-clause-rising
-returns-in_ok-swap-in-Swaps-clause-rising c = swapped-rise c.in-Swaps.one c.in-Swaps.other c.args.self.now c.swap.new.self c.in_ok-swap-in-Swaps.ensures c.requires
+returns-in_ok-swap-in-Swaps-clause-rising c = swapped-rise c.in-Swaps.one c.in-Swaps.other c.args.self.now c.swap.new.self c.in_ok-swap-in-Swaps.ensures
+    c.requires
 
 pub returns-in_ok-swap-in-Swaps-clause-same : goal.returns-in_ok-swap-in-Swaps-clause-same
 returns-in_ok-swap-in-Swaps-clause-same c = λ slots rises unlinked.

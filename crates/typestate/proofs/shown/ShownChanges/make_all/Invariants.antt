@@ -9,4 +9,5 @@ use Rattle.typestate.proofs.shown.ShownChanges.make_all.Given as goal
 
 abbrev pub invariant-loop-entry : goal.invariant-loop-entry
 invariant-loop-entry l =
-    Rise l.self × ((slots : List NotedSlot) → Rise slots → AreUnlinked slots → changed slots l.self ≡ replayed (changed slots l.fn.self) (take l.entry-index l.made))
+    Rise l.self × ((slots : List NotedSlot) → Rise slots → AreUnlinked slots →
+    changed slots l.self ≡ replayed (changed slots l.fn.self) (take l.entry-index l.made))

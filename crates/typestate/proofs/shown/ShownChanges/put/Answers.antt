@@ -22,6 +22,7 @@ pub invariant_of-self-in_default : goal.invariant_of-self-in_default
 invariant_of-self-in_default c =
     let old = c.self.inside.changes in
     let new = c.put.new.self in (
-      put-linked leaves_at old new c.args.change c.in_ok-before.ensures.same c.self.inside.pages.slots.keys c.add.new.self.slots.keys c.self.invariant.0 c.add.ensures.kept c.in_ok-add.ensures.added,
+      put-linked leaves_at old new c.args.change c.in_ok-before.ensures.same c.self.inside.pages.slots.keys c.add.new.self.slots.keys c.self.invariant.0
+          c.add.ensures.kept c.in_ok-add.ensures.added,
       c.in_ok-before.ensures.narrow,
     )

@@ -19,5 +19,6 @@ returns-in-CNode c =
     let cnodes = cnodes_of c.args.self.now in
     let windows = c.args.self.now.windows.now in
     twice c.is_none.result
-    ∙ ap not (sym c.is_none.ensures ∙ ap is_some c.at.ensures ∙ some-found (is_at c.in-CNode.offset c.in-CNode.radix) windows ∙ own-cnode-told image cnodes windows c.in-CNode.offset c.in-CNode.radix (space-of c.args.self.now).cnodes)
+    ∙ ap not (sym c.is_none.ensures ∙ ap is_some c.at.ensures ∙ some-found (is_at c.in-CNode.offset c.in-CNode.radix) windows
+    ∙ own-cnode-told image cnodes windows c.in-CNode.offset c.in-CNode.radix (space-of c.args.self.now).cnodes)
     ∙ sym (ap (λ (held : Cap). is_foreign image c.args.self.now.thread.now cnodes held) c.in-CNode.is)

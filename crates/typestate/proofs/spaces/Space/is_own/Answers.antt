@@ -6,4 +6,5 @@ use Rattle.typestate.proofs.OwnKeys.{own-told}
 use Rattle.typestate.proofs.spaces.Space.is_own.Goals as goal
 
 pub returns : goal.returns
-returns c = c.have_key.ensures ∙ own-told c.args.self.now.image.now (cnodes_of c.args.self.now) c.args.self.now.windows.now c.args.key (space-of c.args.self.now).cnodes
+returns c = c.have_key.ensures ∙ own-told c.args.self.now.image.now (cnodes_of c.args.self.now) c.args.self.now.windows.now c.args.key
+    (space-of c.args.self.now).cnodes

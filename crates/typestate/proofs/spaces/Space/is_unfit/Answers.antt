@@ -16,6 +16,7 @@ returns-else-not-is_own c =
     let space = c.args.self.now in
     let slot = c.slot.inside in
     c.is_foreign.ensures
-    ∙ unfit-by (is_own space.image.now (cnodes_of space) slot.key) (is_foreign space.image.now space.thread.now (cnodes_of space) slot.capability) (is_capability slot.capability)
+    ∙ unfit-by (is_own space.image.now (cnodes_of space) slot.key) (is_foreign space.image.now space.thread.now (cnodes_of space) slot.capability)
+    (is_capability slot.capability)
     (sym c.is_own.ensures ∙ c.if-not-is_own.false) (decides-test slot.capability c.slot.invariant)
     ∙ ap (is_unfit space) c.slot.view_is

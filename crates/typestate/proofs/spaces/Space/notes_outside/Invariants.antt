@@ -8,4 +8,5 @@ use Rattle.typestate.proofs.spaces.Space.notes_outside.Given as goal
 
 abbrev pub invariant-loop-entry : goal.invariant-loop-entry
 invariant-loop-entry l =
-    list_any (λ e. not (is_own l.self.image.now (cnodes_of l.self) (entry_key e))) l.entry-iterator ≡ notes_outside l.self.image.now (cnodes_of l.self) l.fn.noted
+    list_any (λ e. not (is_own l.self.image.now (cnodes_of l.self) (entry_key e))) l.entry-iterator ≡ notes_outside l.self.image.now (cnodes_of l.self)
+    l.fn.noted

@@ -7,4 +7,5 @@ use Rattle.typestate.proofs.spaces.Space.one_change_stray.Given as goal
 
 abbrev pub invariant-loop-change : goal.invariant-loop-change
 invariant-loop-change l =
-    list_any (λ k. is_stray_at l.fn.self (slots_of l.fn.slots) k.key) l.change-iterator ≡ list_any (λ k. is_stray_at l.fn.self (slots_of l.fn.slots) k.key) l.fn.slots.changes.now
+    list_any (λ k. is_stray_at l.fn.self (slots_of l.fn.slots) k.key) l.change-iterator ≡ list_any (λ k. is_stray_at l.fn.self (slots_of l.fn.slots) k.key)
+    l.fn.slots.changes.now

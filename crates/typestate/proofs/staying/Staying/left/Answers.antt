@@ -16,4 +16,5 @@ returns c =
     let capability = cap_left gone slots slot.key slot.capability in
     ap (λ (capability : Cap). let s : NotedSlot = record { key = key; capability = capability; parent = c.outside.result } in s) c.cap_left.ensures.value
     ∙ ap (λ (parent : Option SlotKey). let s : NotedSlot = record { key = key; capability = capability; parent = parent } in s) c.outside.ensures
-    ∙ ap (λ (h : NotedSlot). let s : NotedSlot = record { key = h.key; capability = capability; parent = noted_outside 256 gone slots h.parent } in s) c.slot.view_is
+    ∙ ap (λ (h : NotedSlot). let s : NotedSlot = record { key = h.key; capability = capability; parent = noted_outside 256 gone slots h.parent } in s)
+    c.slot.view_is

@@ -20,6 +20,7 @@ returns-else-has_lost c =
     let kept = list_any (λ s. not (gone s.key) && is_parent key (heir gone slots s)) slots in
     let none : loses_children gone slots key ≡ false = elim c.if-may_lose.branch [
       | then-may_lose w ↦ ap (λ (b : Bool). b && not kept) (sym w.has_lost.ensures ∙ sym w.value-is ∙ c.if-has_lost.false)
-      | else-may_lose w ↦ never-loses slots (changes-rise n.image.now n.changes.now (from-first n.image.now n.rising)) c.args.self.now.removal.now.which key (ap gone same ∙ c.args.self.now.stays) (sym c.may_lose.ensures ∙ w.if-may_lose.false)
+      | else-may_lose w ↦ never-loses slots (changes-rise n.image.now n.changes.now (from-first n.image.now n.rising)) c.args.self.now.removal.now.which key
+          (ap gone same ∙ c.args.self.now.stays) (sym c.may_lose.ensures ∙ w.if-may_lose.false)
     ] in
     c.if-has_lost.false ∙ sym none ∙ ap (loses_children gone slots) same

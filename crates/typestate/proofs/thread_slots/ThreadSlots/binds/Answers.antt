@@ -16,7 +16,8 @@ returns-in-Err c = λ held.
     let slots = slots_of c.args.self.now.slots in
     let all = noted_slots image t slots in
     bind-refused image t c.args.at slots held (apart-of c.args.self.now.space) c.args.line c.args.name c.in-Err.error
-    (ap (λ (root : Cap). argument_slot all root c.args.name) (sym c.args.self.now.space.rooted) ∙ named-err image t all (argument_slot all c.args.self.now.space.root c.args.name) c.in-Err.error c.in-Err.ensures.value)
+    (ap (λ (root : Cap). argument_slot all root c.args.name) (sym c.args.self.now.space.rooted)
+    ∙ named-err image t all (argument_slot all c.args.self.now.space.root c.args.name) c.in-Err.error c.in-Err.ensures.value)
 
 pub returns-then-is_vacant : goal.returns-then-is_vacant
 returns-then-is_vacant c = λ held.
@@ -25,7 +26,8 @@ returns-then-is_vacant c = λ held.
     let slots = slots_of c.args.self.now.slots in
     let all = noted_slots image t slots in
     let x = named-ok image t all (argument_slot all c.args.self.now.space.root c.args.name) c.in-Ok.found.0 c.in-Ok.found.1 c.in-Ok.ensures.value in
-    bind-vacant image t c.args.at slots held (apart-of c.args.self.now.space) c.args.line c.args.name x.0 (ap (λ (root : Cap). argument_slot all root c.args.name) (sym c.args.self.now.space.rooted) ∙ x.1) c.in-Ok.found.1 x.3 (sym c.if-is_vacant.ensures)
+    bind-vacant image t c.args.at slots held (apart-of c.args.self.now.space) c.args.line c.args.name x.0
+    (ap (λ (root : Cap). argument_slot all root c.args.name) (sym c.args.self.now.space.rooted) ∙ x.1) c.in-Ok.found.1 x.3 (sym c.if-is_vacant.ensures)
 
 pub returns-then-not-may_be_bound : goal.returns-then-not-may_be_bound
 returns-then-not-may_be_bound c = λ held.
@@ -34,7 +36,9 @@ returns-then-not-may_be_bound c = λ held.
     let slots = slots_of c.args.self.now.slots in
     let all = noted_slots image t slots in
     let x = named-ok image t all (argument_slot all c.args.self.now.space.root c.args.name) c.in-Ok.found.0 c.in-Ok.found.1 c.in-Ok.ensures.value in
-    bind-unbound image t c.args.at slots held (apart-of c.args.self.now.space) c.args.line c.args.name x.0 (ap (λ (root : Cap). argument_slot all root c.args.name) (sym c.args.self.now.space.rooted) ∙ x.1) c.in-Ok.found.1 x.3 (sym c.if-is_vacant.ensures) (sym c.if-not-may_be_bound.ensures)
+    bind-unbound image t c.args.at slots held (apart-of c.args.self.now.space) c.args.line c.args.name x.0
+    (ap (λ (root : Cap). argument_slot all root c.args.name) (sym c.args.self.now.space.rooted) ∙ x.1) c.in-Ok.found.1 x.3 (sym c.if-is_vacant.ensures)
+    (sym c.if-not-may_be_bound.ensures)
 
 pub returns : goal.returns
 returns c = λ held.
@@ -43,4 +47,6 @@ returns c = λ held.
     let slots = slots_of c.args.self.now.slots in
     let all = noted_slots image t slots in
     let x = named-ok image t all (argument_slot all c.args.self.now.space.root c.args.name) c.in-Ok.found.0 c.in-Ok.found.1 c.in-Ok.ensures.value in
-    bind-never image t c.args.at slots held (apart-of c.args.self.now.space) c.args.line c.args.name x.0 (ap (λ (root : Cap). argument_slot all root c.args.name) (sym c.args.self.now.space.rooted) ∙ x.1) c.in-Ok.found.1 x.3 (sym c.if-is_vacant.ensures) (sym c.if-not-may_be_bound.ensures)
+    bind-never image t c.args.at slots held (apart-of c.args.self.now.space) c.args.line c.args.name x.0
+    (ap (λ (root : Cap). argument_slot all root c.args.name) (sym c.args.self.now.space.rooted) ∙ x.1) c.in-Ok.found.1 x.3 (sym c.if-is_vacant.ensures)
+    (sym c.if-not-may_be_bound.ensures)

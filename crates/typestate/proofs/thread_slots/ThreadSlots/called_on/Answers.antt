@@ -20,5 +20,6 @@ returns-clause-left c = done-as c.behind.result _ _ (λ called left. λ measure.
     c.in-Ok.ensures.value image t slots measure (call_on image t c.args.slot c.args.capability) answers refl
     ∙ decided-by image t c.args.at state (call_on image t c.args.slot c.args.capability) c.in-Ok.call answers
     ∙ ap (λ n. leaves state answers (slots_after image t c.args.at slots (call_on image t n c.args.capability) c.in-Ok.call)) (sym c.held-found.ensures.place)
-    ∙ ap (λ (k : Cap). leaves state answers (slots_after image t c.args.at slots (call_on image t (slot_of_key image held.key) k) c.in-Ok.call)) (c.requires.held.held ∙ sym c.held-found.ensures.capability)
+    ∙ ap (λ (k : Cap). leaves state answers (slots_after image t c.args.at slots (call_on image t (slot_of_key image held.key) k) c.in-Ok.call))
+    (c.requires.held.held ∙ sym c.held-found.ensures.capability)
     ∙ left measure) c.behind.ensures.left

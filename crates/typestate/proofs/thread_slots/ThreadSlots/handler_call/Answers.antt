@@ -14,7 +14,8 @@ returns-in-Acknowledge c = λ held.
     let image = c.args.self.now.space.image.now in
     let t = c.args.self.now.space.thread.now in
     let slots = slots_of c.args.self.now.slots in
-    let rises = changes-rise c.args.self.now.slots.image.now c.args.self.now.slots.changes.now (from-first c.args.self.now.slots.image.now c.args.self.now.slots.rising) in
+    let rises = changes-rise c.args.self.now.slots.image.now c.args.self.now.slots.changes.now
+    (from-first c.args.self.now.slots.image.now c.args.self.now.slots.rising) in
     ap (λ (call : HandlerCall). held_after image t c.args.at slots held (OnHandler c.args.line call)) c.in-Acknowledge.is
     ∙ acknowledge-goes image t c.args.at slots held (apart-of c.args.self.now.space) c.args.line c.args.self.now.own rises
 

@@ -18,9 +18,11 @@ returns-clause-place c =
     let slots = slots_of c.args.self.now.slots in
     let key = c.in-Some.key in
     let at : key_in c.args.self.now.space.windows.now c.args.slot ≡ Some key = sym c.in-Some.ensures in
-    let named = key-named image (reached image t) c.args.slot key (sym (keys-same image (reached image t) c.args.self.now.space.windows.now c.args.slot (space-of c.args.self.now.space).cnodes) ∙ at) in
+    let named = key-named image (reached image t) c.args.slot key
+    (sym (keys-same image (reached image t) c.args.self.now.space.windows.now c.args.slot (space-of c.args.self.now.space).cnodes) ∙ at) in
     let found = sym c.in-Some-at.ensures in
-    let same = same-own-key image t (apart-of c.args.self.now.space) c.in-Some-at.held.key key (found-own image t slots key c.in-Some-at.held c.args.self.now.own found).key named.own (found-key slots key c.in-Some-at.held found) in
+    let same = same-own-key image t (apart-of c.args.self.now.space) c.in-Some-at.held.key key
+    (found-own image t slots key c.in-Some-at.held c.args.self.now.own found).key named.own (found-key slots key c.in-Some-at.held found) in
     ap (slot_of_key image) same ∙ named.place
 
 pub returns-clause-held : goal.returns-clause-held
@@ -30,7 +32,9 @@ returns-clause-held c =
     let slots = slots_of c.args.self.now.slots in
     let key = c.in-Some.key in
     let at : key_in c.args.self.now.space.windows.now c.args.slot ≡ Some key = sym c.in-Some.ensures in
-    let named = key-named image (reached image t) c.args.slot key (sym (keys-same image (reached image t) c.args.self.now.space.windows.now c.args.slot (space-of c.args.self.now.space).cnodes) ∙ at) in
+    let named = key-named image (reached image t) c.args.slot key
+    (sym (keys-same image (reached image t) c.args.self.now.space.windows.now c.args.slot (space-of c.args.self.now.space).cnodes) ∙ at) in
     let found = sym c.in-Some-at.ensures in
-    let same = same-own-key image t (apart-of c.args.self.now.space) c.in-Some-at.held.key key (found-own image t slots key c.in-Some-at.held c.args.self.now.own found).key named.own (found-key slots key c.in-Some-at.held found) in
+    let same = same-own-key image t (apart-of c.args.self.now.space) c.in-Some-at.held.key key
+    (found-own image t slots key c.in-Some-at.held c.args.self.now.own found).key named.own (found-key slots key c.in-Some-at.held found) in
     ap (slot_at slots) same ∙ found

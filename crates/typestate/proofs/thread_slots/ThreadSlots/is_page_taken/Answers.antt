@@ -22,7 +22,8 @@ returns-then-listed c =
     let slots = slots_of c.args.self.now.slots in
     let root = offset_of image t.header.root in
     let page = c.args.page in
-    let rises = changes-rise c.args.self.now.slots.image.now c.args.self.now.slots.changes.now (from-first c.args.self.now.slots.image.now c.args.self.now.slots.rising) in
+    let rises = changes-rise c.args.self.now.slots.image.now c.args.self.now.slots.changes.now
+    (from-first c.args.self.now.slots.image.now c.args.self.now.slots.rising) in
     let taken = is_page_taken (noted_kernel image t slots) c.args.self.now.space.table page in
     let own : c.takes_page-held.result ≡ list_any (λ (s : NotedSlot). maps_page root page s.capability) slots =
     c.takes_page-held.ensures ∙ ap (λ place. list_any (λ (s : NotedSlot). maps_page place page s.capability) slots) c.args.self.now.space.mapped in
@@ -41,7 +42,8 @@ returns-else-listed c =
     let slots = slots_of c.args.self.now.slots in
     let root = offset_of image t.header.root in
     let page = c.args.page in
-    let rises = changes-rise c.args.self.now.slots.image.now c.args.self.now.slots.changes.now (from-first c.args.self.now.slots.image.now c.args.self.now.slots.rising) in
+    let rises = changes-rise c.args.self.now.slots.image.now c.args.self.now.slots.changes.now
+    (from-first c.args.self.now.slots.image.now c.args.self.now.slots.rising) in
     let taken = is_page_taken (noted_kernel image t slots) c.args.self.now.space.table page in
     let own : c.takes_page-held.result ≡ list_any (λ (s : NotedSlot). maps_page root page s.capability) slots =
     c.takes_page-held.ensures ∙ ap (λ place. list_any (λ (s : NotedSlot). maps_page place page s.capability) slots) c.args.self.now.space.mapped in

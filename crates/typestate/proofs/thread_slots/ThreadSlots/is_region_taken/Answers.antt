@@ -22,11 +22,14 @@ returns c =
     let t = c.args.self.now.space.thread.now in
     let slots = slots_of c.args.self.now.slots in
     let root = offset_of image t.header.root in
-    let rises = changes-rise c.args.self.now.slots.image.now c.args.self.now.slots.changes.now (from-first c.args.self.now.slots.image.now c.args.self.now.slots.rising) in
+    let rises = changes-rise c.args.self.now.slots.image.now c.args.self.now.slots.changes.now
+    (from-first c.args.self.now.slots.image.now c.args.self.now.slots.rising) in
     let foreign : NotedSlot → Bool = λ s. is_foreign image t (reached image t) s.capability in
     let mapping : NotedSlot → Bool = λ s. maps_region root c.args.region s.capability in
-    let none : list_any mapping slots ≡ false = none-among foreign mapping (λ s. no-table image t (reached image t) root c.args.region s.capability) slots c.args.self.now.inside in
+    let none : list_any mapping slots ≡ false = none-among foreign mapping (λ s. no-table image t (reached image t) root c.args.region s.capability) slots
+    c.args.self.now.inside in
     c.lists_region.ensures
     ∙ sym (ap (λ place. is_region_taken (noted_kernel image t slots) place c.args.region) c.args.self.now.space.mapped
     ∙ some-taken image t (apart-of c.args.self.now.space) slots c.args.self.now.own (maps_region root c.args.region) rises refl
-    ∙ ap (λ b. b || list_any (maps_region_outside image t c.args.region) (all_slots (described image))) none ∙ (listed-of c.args.self.now.space).regions c.args.region)
+    ∙ ap (λ b. b || list_any (maps_region_outside image t c.args.region) (all_slots (described image))) none
+    ∙ (listed-of c.args.self.now.space).regions c.args.region)

@@ -18,7 +18,8 @@ returns-in-RootTable-clause-value c =
     let slots = slots_of c.args.self.now.slots in
     let all = noted_slots image t slots in
     let x = named-ok image t all (argument_slot all c.args.self.now.space.root c.args.name) c.in-Ok.found.0 c.in-Ok.found.1 c.in-Ok.ensures.value in
-    let found = root-found image t slots c.args.self.now.space.root c.args.name x.0 c.in-RootTable.offset c.in-Ok.found.0 c.in-Ok.found.1 c.args.self.now.inside x.1 x.2 x.3 c.in-RootTable.is in
+    let found = root-found image t slots c.args.self.now.space.root c.args.name x.0 c.in-RootTable.offset c.in-Ok.found.0 c.in-Ok.found.1 c.args.self.now.inside
+    x.1 x.2 x.3 c.in-RootTable.is in
     ap (λ (root : Cap). root_named all root c.args.name) (sym c.args.self.now.space.rooted) ∙ found.0
     ∙ ap (λ n. let r : Result ℕ KError = Ok n in r) (found.1 ∙ sym c.args.self.now.space.mapped)
 
@@ -29,5 +30,6 @@ returns-in-RootTable-clause-placed c =
     let slots = slots_of c.args.self.now.slots in
     let all = noted_slots image t slots in
     let x = named-ok image t all (argument_slot all c.args.self.now.space.root c.args.name) c.in-Ok.found.0 c.in-Ok.found.1 c.in-Ok.ensures.value in
-    let found = root-found image t slots c.args.self.now.space.root c.args.name x.0 c.in-RootTable.offset c.in-Ok.found.0 c.in-Ok.found.1 c.args.self.now.inside x.1 x.2 x.3 c.in-RootTable.is in
+    let found = root-found image t slots c.args.self.now.space.root c.args.name x.0 c.in-RootTable.offset c.in-Ok.found.0 c.in-Ok.found.1 c.args.self.now.inside
+    x.1 x.2 x.3 c.in-RootTable.is in
     subst (λ n. IsPlace n 12) (found.1 ∙ sym c.args.self.now.space.mapped) (subst IsCapability c.in-RootTable.is c.in-Ok.ensures.valid)

@@ -23,6 +23,7 @@ invariant_of-root-2 c =
     let all = noted_slots image t slots in
     let x = named-ok image t all (argument_slot all c.args.self.now.space.root c.args.name) c.in-Ok.found.0 c.in-Ok.found.1 c.in-Ok.ensures.value in
     record {
-      inside = ap (is_inside image t) (sym x.3 ∙ noted-holds image t slots x.0 c.in-Ok.found.0 x.2) ∙ held-inside image t slots c.in-Ok.found.0 c.args.self.now.inside;
+      inside = ap (is_inside image t) (sym x.3 ∙ noted-holds image t slots x.0 c.in-Ok.found.0 x.2)
+          ∙ held-inside image t slots c.in-Ok.found.0 c.args.self.now.inside;
       valid = decides-test c.in-Ok.found.1 c.in-Ok.ensures.valid;
     }

@@ -14,7 +14,8 @@ returns-in-Err-clause-value c = λ measure.
     let slots = slots_of c.args.self.now.slots in
     let state = known_with c.args.bounds.now slots measure in
     let rule = send_rule image t c.args.at state c.args.kind in
-    by-called c.args.self.now.space c.args.at state rule (space-of c.args.self.now.space) c.args.self.now.inside ∙ ap (ruled_by rule) (sym (c.in-Err.ensures.value measure))
+    by-called c.args.self.now.space c.args.at state rule (space-of c.args.self.now.space) c.args.self.now.inside
+    ∙ ap (ruled_by rule) (sym (c.in-Err.ensures.value measure))
 
 pub returns-in-Ok-clause-value : goal.returns-in-Ok-clause-value
 returns-in-Ok-clause-value c = λ measure.
@@ -23,4 +24,5 @@ returns-in-Ok-clause-value c = λ measure.
     let slots = slots_of c.args.self.now.slots in
     let state = known_with c.args.bounds.now slots measure in
     let rule = send_rule image t c.args.at state c.args.kind in
-    by-called c.args.self.now.space c.args.at state rule (space-of c.args.self.now.space) c.args.self.now.inside ∙ ap (ruled_by rule) (sym (c.in-Ok.ensures.value measure)) ∙ c.sends.ensures.value image t slots measure
+    by-called c.args.self.now.space c.args.at state rule (space-of c.args.self.now.space) c.args.self.now.inside
+    ∙ ap (ruled_by rule) (sym (c.in-Ok.ensures.value measure)) ∙ c.sends.ensures.value image t slots measure

@@ -11,7 +11,8 @@ use Rattle.typestate.proofs.told_slots.ToldSlots.has_stray_slots.Goals.{else-not
 
 pub returns-then-has_stray : goal.returns-then-has_stray
 returns-then-has_stray c =
-    told-stray c.args.self.now.space.image.now c.args.self.now.space.thread.now (slots_of c.args.self.now.slots) (option_map (λ r. r.now) c.args.noted) c.has_stray.result c.has_stray.ensures c.if-has_stray.true
+    told-stray c.args.self.now.space.image.now c.args.self.now.space.thread.now (slots_of c.args.self.now.slots) (option_map (λ r. r.now) c.args.noted)
+    c.has_stray.result c.has_stray.ensures c.if-has_stray.true
 
 pub returns-in-Some : goal.returns-in-Some
 returns-in-Some c =
@@ -22,8 +23,10 @@ returns-in-Some c =
       | else-not-self-via-then-not-self+else-has_stray w ↦ sym w.has_stray.ensures ∙ w.if-has_stray.false
       | else-not-self-via-else-not-self w ↦ c.args.self.now.clean w.if-not-self.false
     ] in
-    told-outside space.image.now space.thread.now slots (option_map (λ r. r.now) c.args.noted) (list_any (is_stray_in space slots) slots) c.notes_outside.result refl none
-    (c.notes_outside.ensures ∙ sym (ap (λ found. option_map_or (notes_outside space.image.now (cnodes_of space)) (option_map (λ r. r.now) found) false) c.in-Some.is))
+    told-outside space.image.now space.thread.now slots (option_map (λ r. r.now) c.args.noted) (list_any (is_stray_in space slots) slots) c.notes_outside.result
+    refl none
+    (c.notes_outside.ensures
+    ∙ sym (ap (λ found. option_map_or (notes_outside space.image.now (cnodes_of space)) (option_map (λ r. r.now) found) false) c.in-Some.is))
 
 pub returns-in-None : goal.returns-in-None
 returns-in-None c =

@@ -13,7 +13,8 @@ pub returns-then-self : goal.returns-then-self
 returns-then-self c =
     let noted = c.args.self.now.slots in
     let test : NotedSlot → Bool = is_stray_in c.args.self.now.space (slots_of noted) in
-    ap (λ b. b || list_any (holds_at test (slots_of noted)) noted.changes.now) c.one_stray.ensures ∙ some-held test noted.image.now noted.changes.now (from-first noted.image.now noted.rising)
+    ap (λ b. b || list_any (holds_at test (slots_of noted)) noted.changes.now) c.one_stray.ensures
+    ∙ some-held test noted.image.now noted.changes.now (from-first noted.image.now noted.rising)
 
 pub returns-else-self : goal.returns-else-self
 returns-else-self c =

@@ -11,7 +11,8 @@ read8-requires g c =
     let space = c.args.self.now in
     let bytes = c.mem.ensures ∙ ap (λ k. g.S.SlotStore.memory k.store) of_kernel in
     subst (λ (memory : List ℕ). c.args.place < length memory) (sym bytes)
-    (named-inside (state_in g.S.SlotMap.slots g.S.SlotStore.memory space.kernel.now) (g.S.SlotStore.memory space.kernel.now.store) space.root space.usable c.args.place c.requires)
+    (named-inside (state_in g.S.SlotMap.slots g.S.SlotStore.memory space.kernel.now) (g.S.SlotStore.memory space.kernel.now.store) space.root space.usable
+    c.args.place c.requires)
 
 pub returns : goal.returns
 returns g c =
@@ -19,4 +20,5 @@ returns g c =
     let space = c.args.self.now in
     let bytes = c.mem.ensures ∙ ap (λ k. g.S.SlotStore.memory k.store) of_kernel in
     c.read8.ensures ∙ ap (λ (memory : List ℕ). slice_index memory c.args.place) bytes
-    ∙ byte-seen space.kernel.now.tables (g.S.SlotMap.slots space.kernel.now.store) (g.S.SlotStore.memory space.kernel.now.store) space.root c.args.place space.usable c.requires
+    ∙ byte-seen space.kernel.now.tables (g.S.SlotMap.slots space.kernel.now.store) (g.S.SlotStore.memory space.kernel.now.store) space.root c.args.place
+    space.usable c.requires

@@ -21,7 +21,8 @@ set_byte-requires-2 g c =
     subst (λ (x : Content). IsNamed x (place + 1)) (sym first) (record {
       access = Store;
       address = c.args.address + 1;
-      names = behind s memory view.root view.usable Store c.args.address place c.requires.aligned (omega (arith, c.ranges.address.fits)) c.requires.named 1 (c.args.address + 1) (omega arith) refl;
+      names = behind s memory view.root view.usable Store c.args.address place c.requires.aligned (omega (arith, c.ranges.address.fits)) c.requires.named 1
+          (c.args.address + 1) (omega arith) refl;
     })
 
 pub set_byte-requires-3 : goal.set_byte-requires-3
@@ -37,7 +38,8 @@ set_byte-requires-3 g c =
     subst (λ (x : Content). IsNamed x (place + 2)) (sym second) (record {
       access = Store;
       address = c.args.address + 2;
-      names = behind s memory view.root view.usable Store c.args.address place c.requires.aligned (omega (arith, c.ranges.address.fits)) c.requires.named 2 (c.args.address + 2) (omega arith) refl;
+      names = behind s memory view.root view.usable Store c.args.address place c.requires.aligned (omega (arith, c.ranges.address.fits)) c.requires.named 2
+          (c.args.address + 2) (omega arith) refl;
     })
 
 pub set_byte-requires-4 : goal.set_byte-requires-4
@@ -54,7 +56,8 @@ set_byte-requires-4 g c =
     subst (λ (x : Content). IsNamed x (place + 3)) (sym third) (record {
       access = Store;
       address = c.args.address + 3;
-      names = behind s memory view.root view.usable Store c.args.address place c.requires.aligned (omega (arith, c.ranges.address.fits)) c.requires.named 3 (c.args.address + 3) (omega arith) refl;
+      names = behind s memory view.root view.usable Store c.args.address place c.requires.aligned (omega (arith, c.ranges.address.fits)) c.requires.named 3
+          (c.args.address + 3) (omega arith) refl;
     })
 
 pub returns-clause-content : goal.returns-clause-content
@@ -69,5 +72,6 @@ returns-clause-content g c =
     let second = c.set_byte-2.ensures.content ∙ ap (λ (x : Content). put_byte x (place + 1) (slice_index bytes 1)) first in
     let third = c.set_byte-3.ensures.content ∙ ap (λ (x : Content). put_byte x (place + 2) (slice_index bytes 2)) second in
     let fourth = c.set_byte-4.ensures.content ∙ ap (λ (x : Content). put_byte x (place + 3) (slice_index bytes 3)) third in
-    word-stored s memory view.root view.usable c.args.address place c.args.value c.requires.aligned (omega (arith, c.ranges.address.fits)) c.requires.named bytes c.to_le_bytes-bytes.ensures
+    word-stored s memory view.root view.usable c.args.address place c.args.value c.requires.aligned (omega (arith, c.ranges.address.fits)) c.requires.named
+    bytes c.to_le_bytes-bytes.ensures
     ∙ ap Ok (sym fourth)

@@ -13,9 +13,11 @@ pub write8-requires-clause-within : goal.write8-requires-clause-within
 write8-requires-clause-within g c =
     let of_kernel = c.live.view_is ∙ c.kernel.view_is in
     let view = c.args.self.now in
-    let usable = subst (λ k. ∥ IsUsable (state_in g.S.SlotMap.slots g.S.SlotStore.memory k) (g.S.SlotStore.memory k.store) view.root ∥₁) (sym of_kernel) view.usable in
+    let usable = subst (λ k. ∥ IsUsable (state_in g.S.SlotMap.slots g.S.SlotStore.memory k) (g.S.SlotStore.memory k.store) view.root ∥₁) (sym of_kernel)
+    view.usable in
     let named = subst (λ k. IsNamed (content_under (state_in g.S.SlotMap.slots g.S.SlotStore.memory k) view.root) c.args.place) (sym of_kernel) c.requires in
-    named-inside (state_of c.live.inside.objects (g.S.SlotMap.slots c.live.inside.store) (g.S.SlotStore.memory c.live.inside.store)) (g.S.SlotStore.memory c.live.inside.store)
+    named-inside (state_of c.live.inside.objects (g.S.SlotMap.slots c.live.inside.store) (g.S.SlotStore.memory c.live.inside.store))
+    (g.S.SlotStore.memory c.live.inside.store)
     view.root usable c.args.place named
 
 pub write8-requires-clause-outside : goal.write8-requires-clause-outside
@@ -23,9 +25,11 @@ write8-requires-clause-outside g c =
     let whole = whole-of g.S.SlotMap.slots g.S.SlotStore.memory c.live.inside.objects c.live.inside.store c.kernel.invariant c.live.view_is c.live.invariant in
     let of_kernel = c.live.view_is ∙ c.kernel.view_is in
     let view = c.args.self.now in
-    let usable = subst (λ k. ∥ IsUsable (state_in g.S.SlotMap.slots g.S.SlotStore.memory k) (g.S.SlotStore.memory k.store) view.root ∥₁) (sym of_kernel) view.usable in
+    let usable = subst (λ k. ∥ IsUsable (state_in g.S.SlotMap.slots g.S.SlotStore.memory k) (g.S.SlotStore.memory k.store) view.root ∥₁) (sym of_kernel)
+    view.usable in
     let named = subst (λ k. IsNamed (content_under (state_in g.S.SlotMap.slots g.S.SlotStore.memory k) view.root) c.args.place) (sym of_kernel) c.requires in
-    may-outside c.live.inside.objects (g.S.SlotMap.slots c.live.inside.store) (g.S.SlotStore.memory c.live.inside.store) view.root c.args.place c.args.value usable named
+    may-outside c.live.inside.objects (g.S.SlotMap.slots c.live.inside.store) (g.S.SlotStore.memory c.live.inside.store) view.root c.args.place c.args.value
+    usable named
     whole.stands
 
 pub invariant_of-live : goal.invariant_of-live
@@ -34,9 +38,11 @@ invariant_of-live g c =
     let of_kernel = c.live.view_is ∙ c.kernel.view_is in
     (
     let view = c.args.self.now in
-    let usable = subst (λ k. ∥ IsUsable (state_in g.S.SlotMap.slots g.S.SlotStore.memory k) (g.S.SlotStore.memory k.store) view.root ∥₁) (sym of_kernel) view.usable in
+    let usable = subst (λ k. ∥ IsUsable (state_in g.S.SlotMap.slots g.S.SlotStore.memory k) (g.S.SlotStore.memory k.store) view.root ∥₁) (sym of_kernel)
+    view.usable in
     let named = subst (λ k. IsNamed (content_under (state_in g.S.SlotMap.slots g.S.SlotStore.memory k) view.root) c.args.place) (sym of_kernel) c.requires in
-    whole-after c.live.inside.objects (g.S.SlotMap.slots c.live.inside.store) (g.S.SlotStore.memory c.live.inside.store) view.root c.args.place c.args.value usable named
+    whole-after c.live.inside.objects (g.S.SlotMap.slots c.live.inside.store) (g.S.SlotStore.memory c.live.inside.store) view.root c.args.place c.args.value
+    usable named
     whole.stands (g.S.SlotMap.slots c.write8.new.self) (g.S.SlotStore.memory c.write8.new.self) c.write8.ensures.slots c.write8.ensures.bytes
     whole (omega (arith, c.ranges.value.fits))).stands
 
@@ -46,9 +52,11 @@ invariant_of-kernel g c =
     let of_kernel = c.live.view_is ∙ c.kernel.view_is in
     consistent-of (
     let view = c.args.self.now in
-    let usable = subst (λ k. ∥ IsUsable (state_in g.S.SlotMap.slots g.S.SlotStore.memory k) (g.S.SlotStore.memory k.store) view.root ∥₁) (sym of_kernel) view.usable in
+    let usable = subst (λ k. ∥ IsUsable (state_in g.S.SlotMap.slots g.S.SlotStore.memory k) (g.S.SlotStore.memory k.store) view.root ∥₁) (sym of_kernel)
+    view.usable in
     let named = subst (λ k. IsNamed (content_under (state_in g.S.SlotMap.slots g.S.SlotStore.memory k) view.root) c.args.place) (sym of_kernel) c.requires in
-    whole-after c.live.inside.objects (g.S.SlotMap.slots c.live.inside.store) (g.S.SlotStore.memory c.live.inside.store) view.root c.args.place c.args.value usable named
+    whole-after c.live.inside.objects (g.S.SlotMap.slots c.live.inside.store) (g.S.SlotStore.memory c.live.inside.store) view.root c.args.place c.args.value
+    usable named
     whole.stands (g.S.SlotMap.slots c.write8.new.self) (g.S.SlotStore.memory c.write8.new.self) c.write8.ensures.slots c.write8.ensures.bytes
     whole (omega (arith, c.ranges.value.fits)))
 
@@ -57,11 +65,13 @@ invariant_of-self g c =
     let whole = whole-of g.S.SlotMap.slots g.S.SlotStore.memory c.live.inside.objects c.live.inside.store c.kernel.invariant c.live.view_is c.live.invariant in
     let of_kernel = c.live.view_is ∙ c.kernel.view_is in
     let view = c.args.self.now in
-    let usable = subst (λ k. ∥ IsUsable (state_in g.S.SlotMap.slots g.S.SlotStore.memory k) (g.S.SlotStore.memory k.store) view.root ∥₁) (sym of_kernel) view.usable in
+    let usable = subst (λ k. ∥ IsUsable (state_in g.S.SlotMap.slots g.S.SlotStore.memory k) (g.S.SlotStore.memory k.store) view.root ∥₁) (sym of_kernel)
+    view.usable in
     let named = subst (λ k. IsNamed (content_under (state_in g.S.SlotMap.slots g.S.SlotStore.memory k) view.root) c.args.place) (sym of_kernel) c.requires in
     record {
       usable =
-          usable-after c.live.inside.objects (g.S.SlotMap.slots c.live.inside.store) (g.S.SlotStore.memory c.live.inside.store) view.root c.args.place c.args.value usable named
+          usable-after c.live.inside.objects (g.S.SlotMap.slots c.live.inside.store) (g.S.SlotStore.memory c.live.inside.store) view.root c.args.place
+          c.args.value usable named
           whole.stands (g.S.SlotMap.slots c.write8.new.self) (g.S.SlotStore.memory c.write8.new.self) c.write8.ensures.slots c.write8.ensures.bytes;
     }
 
@@ -70,11 +80,13 @@ returns-clause-content g c =
     let whole = whole-of g.S.SlotMap.slots g.S.SlotStore.memory c.live.inside.objects c.live.inside.store c.kernel.invariant c.live.view_is c.live.invariant in
     let of_kernel = c.live.view_is ∙ c.kernel.view_is in
     let view = c.args.self.now in
-    let usable = subst (λ k. ∥ IsUsable (state_in g.S.SlotMap.slots g.S.SlotStore.memory k) (g.S.SlotStore.memory k.store) view.root ∥₁) (sym of_kernel) view.usable in
+    let usable = subst (λ k. ∥ IsUsable (state_in g.S.SlotMap.slots g.S.SlotStore.memory k) (g.S.SlotStore.memory k.store) view.root ∥₁) (sym of_kernel)
+    view.usable in
     let named = subst (λ k. IsNamed (content_under (state_in g.S.SlotMap.slots g.S.SlotStore.memory k) view.root) c.args.place) (sym of_kernel) c.requires in
     subst (λ k. content_under (state_of c.live.inside.objects (g.S.SlotMap.slots c.write8.new.self) (g.S.SlotStore.memory c.write8.new.self)) view.root
     ≡ put_byte (content_under (state_in g.S.SlotMap.slots g.S.SlotStore.memory k) view.root) c.args.place c.args.value) of_kernel
-    (content-after c.live.inside.objects (g.S.SlotMap.slots c.live.inside.store) (g.S.SlotStore.memory c.live.inside.store) view.root c.args.place c.args.value usable named
+    (content-after c.live.inside.objects (g.S.SlotMap.slots c.live.inside.store) (g.S.SlotStore.memory c.live.inside.store) view.root c.args.place c.args.value
+    usable named
     whole.stands (g.S.SlotMap.slots c.write8.new.self) (g.S.SlotStore.memory c.write8.new.self) c.write8.ensures.slots c.write8.ensures.bytes)
 
 pub returns-clause-rest : goal.returns-clause-rest
@@ -82,9 +94,12 @@ returns-clause-rest g c =
     let whole = whole-of g.S.SlotMap.slots g.S.SlotStore.memory c.live.inside.objects c.live.inside.store c.kernel.invariant c.live.view_is c.live.invariant in
     let of_kernel = c.live.view_is ∙ c.kernel.view_is in
     let view = c.args.self.now in
-    let usable = subst (λ k. ∥ IsUsable (state_in g.S.SlotMap.slots g.S.SlotStore.memory k) (g.S.SlotStore.memory k.store) view.root ∥₁) (sym of_kernel) view.usable in
+    let usable = subst (λ k. ∥ IsUsable (state_in g.S.SlotMap.slots g.S.SlotStore.memory k) (g.S.SlotStore.memory k.store) view.root ∥₁) (sym of_kernel)
+    view.usable in
     let named = subst (λ k. IsNamed (content_under (state_in g.S.SlotMap.slots g.S.SlotStore.memory k) view.root) c.args.place) (sym of_kernel) c.requires in
     subst (λ k. beside_of c.live.inside.objects (g.S.SlotMap.slots c.write8.new.self) (g.S.SlotStore.memory c.write8.new.self) view.root view.kernel.ghost_name
     ≡ beside_of k.tables (g.S.SlotMap.slots k.store) (g.S.SlotStore.memory k.store) view.root view.kernel.ghost_name) of_kernel
-    (rest-after c.live.inside.objects (g.S.SlotMap.slots c.live.inside.store) (g.S.SlotStore.memory c.live.inside.store) view.root c.args.place c.args.value usable named
-    whole.stands (g.S.SlotMap.slots c.write8.new.self) (g.S.SlotStore.memory c.write8.new.self) c.write8.ensures.slots c.write8.ensures.bytes view.kernel.ghost_name)
+    (rest-after c.live.inside.objects (g.S.SlotMap.slots c.live.inside.store) (g.S.SlotStore.memory c.live.inside.store) view.root c.args.place c.args.value
+    usable named
+    whole.stands (g.S.SlotMap.slots c.write8.new.self) (g.S.SlotStore.memory c.write8.new.self) c.write8.ensures.slots c.write8.ensures.bytes
+    view.kernel.ghost_name)

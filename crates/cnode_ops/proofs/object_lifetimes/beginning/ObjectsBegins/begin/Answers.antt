@@ -10,24 +10,28 @@ use Rattle.objects.specs.Tables.{state_of}
 pub use_memory-requires : goal.use_memory-requires
 unfolding state_of
 use_memory-requires g c = record {
-  fits = may-use (state_of c.args.self.now (g.S.SlotMap.slots c.args.store.now) (g.S.SlotStore.memory c.args.store.now)) (new_objects c.args.new) c.args.at c.requires.placed;
+  fits = may-use (state_of c.args.self.now (g.S.SlotMap.slots c.args.store.now) (g.S.SlotStore.memory c.args.store.now)) (new_objects c.args.new) c.args.at
+      c.requires.placed;
 }
 
 pub make_all-requires-clause-laid : goal.make_all-requires-clause-laid
 make_all-requires-clause-laid g c =
-    are-laid (state_of c.args.self.now (g.S.SlotMap.slots c.args.store.now) (g.S.SlotStore.memory c.args.store.now)) (new_objects c.args.new) c.args.at c.requires.placed c.requires.sound
+    are-laid (state_of c.args.self.now (g.S.SlotMap.slots c.args.store.now) (g.S.SlotStore.memory c.args.store.now)) (new_objects c.args.new) c.args.at
+    c.requires.placed c.requires.sound
 
 pub make_all-requires-clause-none_yet : goal.make_all-requires-clause-none_yet
 make_all-requires-clause-none_yet g c =
     let slots = g.S.SlotMap.slots c.use_memory.new.store in
     let memory = g.S.SlotStore.memory c.use_memory.new.store in
-    none-made c.args.self.now (g.S.SlotMap.slots c.args.store.now) slots (g.S.SlotStore.memory c.args.store.now) memory (new_objects c.args.new) c.args.at c.requires.agree c.requires.sound
+    none-made c.args.self.now (g.S.SlotMap.slots c.args.store.now) slots (g.S.SlotStore.memory c.args.store.now) memory (new_objects c.args.new) c.args.at
+    c.requires.agree c.requires.sound
     c.requires.placed c.use_memory.ensures.slots c.use_memory.ensures.bytes c.requires.window c.requires.room
 
 pub make_all-requires-clause-near : goal.make_all-requires-clause-near
 unfolding state_of
 make_all-requires-clause-near g c =
-    window-near (state_of c.args.self.now (g.S.SlotMap.slots c.args.store.now) (g.S.SlotStore.memory c.args.store.now)) (new_objects c.args.new) c.args.at c.requires.placed c.requires.sound
+    window-near (state_of c.args.self.now (g.S.SlotMap.slots c.args.store.now) (g.S.SlotStore.memory c.args.store.now)) (new_objects c.args.new) c.args.at
+    c.requires.placed c.requires.sound
     c.requires.window
 
 pub returns-clause-state : goal.returns-clause-state
@@ -36,12 +40,14 @@ returns-clause-state g c =
     let memory = g.S.SlotStore.memory c.use_memory.new.store in
     c.make_all.ensures.state
     ∙ ap (λ (t : State). with_new t (new_objects c.args.new) c.args.at.window c.args.at.parent)
-    (placed-state c.args.self.now (g.S.SlotMap.slots c.args.store.now) slots (g.S.SlotStore.memory c.args.store.now) memory (new_objects c.args.new) c.args.at c.requires.agree c.requires.sound
+    (placed-state c.args.self.now (g.S.SlotMap.slots c.args.store.now) slots (g.S.SlotStore.memory c.args.store.now) memory (new_objects c.args.new) c.args.at
+    c.requires.agree c.requires.sound
     c.requires.placed c.use_memory.ensures.slots c.use_memory.ensures.bytes)
 
 pub make_all-requires-clause-stands : goal.make_all-requires-clause-stands
 make_all-requires-clause-stands g c =
     let slots = g.S.SlotMap.slots c.use_memory.new.store in
     let memory = g.S.SlotStore.memory c.use_memory.new.store in
-    marked-stands c.args.self.now (g.S.SlotMap.slots c.args.store.now) slots (g.S.SlotStore.memory c.args.store.now) memory (new_objects c.args.new) c.args.at c.requires.agree c.requires.sound
+    marked-stands c.args.self.now (g.S.SlotMap.slots c.args.store.now) slots (g.S.SlotStore.memory c.args.store.now) memory (new_objects c.args.new) c.args.at
+    c.requires.agree c.requires.sound
     c.requires.placed c.use_memory.ensures.slots c.use_memory.ensures.bytes

@@ -25,7 +25,8 @@ pub end-requires : goal.end-requires
 end-requires g c =
     let slots = g.S.SlotMap.slots c.args.store.now in
     let gone = c.end_tables.ensures.roots (λ slot. c.requires.unnamed slot c.in-RootTable.offset (ap object_of c.in-RootTable.is)) in
-    let unmapped = unmapped-agrees c.args.self.now slots (g.S.SlotMap.slots c.end_tables.new.store) _ (g.S.SlotStore.memory c.end_tables.new.store) c.requires.agree
+    let unmapped = unmapped-agrees c.args.self.now slots (g.S.SlotMap.slots c.end_tables.new.store) _ (g.S.SlotStore.memory c.end_tables.new.store)
+    c.requires.agree
     c.end_tables.ensures.bytes c.end_tables.ensures.agree (subst (λ (n : Slots). Lessened slots n) (sym gone) (less-root slots c.in-RootTable.offset)) in
     record { stands = unmapped.1 }
 
@@ -33,9 +34,11 @@ pub returns-in-RootTable-clause-agree : goal.returns-in-RootTable-clause-agree
 returns-in-RootTable-clause-agree g c =
     let slots = g.S.SlotMap.slots c.args.store.now in
     let gone = c.end_tables.ensures.roots (λ slot. c.requires.unnamed slot c.in-RootTable.offset (ap object_of c.in-RootTable.is)) in
-    let unmapped = unmapped-agrees c.args.self.now slots (g.S.SlotMap.slots c.end_tables.new.store) _ (g.S.SlotStore.memory c.end_tables.new.store) c.requires.agree
+    let unmapped = unmapped-agrees c.args.self.now slots (g.S.SlotMap.slots c.end_tables.new.store) _ (g.S.SlotStore.memory c.end_tables.new.store)
+    c.requires.agree
     c.end_tables.ensures.bytes c.end_tables.ensures.agree (subst (λ (n : Slots). Lessened slots n) (sym gone) (less-root slots c.in-RootTable.offset)) in (
-      subst (λ (t : State). Agrees t (g.S.SlotStore.memory c.end.new.store)) (sym c.end.ensures.state) (ended-agrees _ c.in-RootTable.offset _ _ unmapped.0 c.end.ensures.bytes),
+      subst (λ (t : State). Agrees t (g.S.SlotStore.memory c.end.new.store)) (sym c.end.ensures.state)
+          (ended-agrees _ c.in-RootTable.offset _ _ unmapped.0 c.end.ensures.bytes),
       c.end.ensures.stands,
     )
 
@@ -44,6 +47,7 @@ end-requires-in-Endpoint g c = record { stands = c.requires.agree.1 }
 
 pub returns-in-Endpoint-clause-agree : goal.returns-in-Endpoint-clause-agree
 returns-in-Endpoint-clause-agree g c = (
-  subst (λ (t : State). Agrees t (g.S.SlotStore.memory c.end-in-Endpoint.new.store)) (sym c.end-in-Endpoint.ensures.state) (ended-agrees _ _ _ _ c.requires.agree.0 c.end-in-Endpoint.ensures.bytes),
+  subst (λ (t : State). Agrees t (g.S.SlotStore.memory c.end-in-Endpoint.new.store)) (sym c.end-in-Endpoint.ensures.state)
+      (ended-agrees _ _ _ _ c.requires.agree.0 c.end-in-Endpoint.ensures.bytes),
   c.end-in-Endpoint.ensures.stands,
 )

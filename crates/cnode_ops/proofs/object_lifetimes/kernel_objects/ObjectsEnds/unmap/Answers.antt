@@ -13,4 +13,5 @@ returns-clause-state g c = unmapped-state c.args.self.now _ _ _ _ c.requires.agr
 pub returns-clause-agree : goal.returns-clause-agree
 returns-clause-agree g c =
     unmapped-agrees c.args.self.now _ _ _ _ c.requires.agree c.unmap_cap.ensures.bytes c.unmap_cap.ensures.agree
-    (subst (λ (n : Slots). Lessened (g.S.SlotMap.slots c.args.store.now) n) (sym c.unmap_cap.ensures.removed) (less-unmapped (g.S.SlotMap.slots c.args.store.now) c.args.slot))
+    (subst (λ (n : Slots). Lessened (g.S.SlotMap.slots c.args.store.now) n) (sym c.unmap_cap.ensures.removed)
+    (less-unmapped (g.S.SlotMap.slots c.args.store.now) c.args.slot))

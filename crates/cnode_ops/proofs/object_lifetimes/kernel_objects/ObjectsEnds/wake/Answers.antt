@@ -10,6 +10,7 @@ wake_stranded-requires g c = record { stands = c.requires.agree.1 }
 
 pub returns-clause-agree : goal.returns-clause-agree
 returns-clause-agree g c = (
-  subst (λ (t : State). Agrees t (g.S.SlotStore.memory c.wake_stranded.new.store)) (sym c.wake_stranded.ensures.state) (woken-agrees _ _ _ c.requires.agree.0 c.wake_stranded.ensures.bytes),
+  subst (λ (t : State). Agrees t (g.S.SlotStore.memory c.wake_stranded.new.store)) (sym c.wake_stranded.ensures.state)
+      (woken-agrees _ _ _ c.requires.agree.0 c.wake_stranded.ensures.bytes),
   c.wake_stranded.ensures.stands,
 )

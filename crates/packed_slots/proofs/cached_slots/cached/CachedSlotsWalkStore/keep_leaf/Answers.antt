@@ -15,5 +15,6 @@ pub invariant_of-self : goal.invariant_of-self
 invariant_of-self g c =
     let store = c.self.inside.store in
     let agree = subst (λ s. LeavesAgree (g.S.SlotMap.slots s) (g.S.SlotStore.memory s) c.args.root) (sym c.self.view_is) c.requires in
-    leaf-mapped (g.S.SlotMap.slots store) c.mem.result.now c.args.root (c.args.address / 2 ^ 12) c.self.inside.cache c.keep.new.self (omega (arith, c.ranges.address.fits))
+    leaf-mapped (g.S.SlotMap.slots store) c.mem.result.now c.args.root (c.args.address / 2 ^ 12) c.self.inside.cache c.keep.new.self
+    (omega (arith, c.ranges.address.fits))
     (subst (λ (m : List ℕ). LeavesAgree (g.S.SlotMap.slots store) m c.args.root) (sym c.mem.ensures) agree) c.keep.ensures.kept c.self.invariant

@@ -6,4 +6,5 @@ use Rattle.program_rules.specs.point_rules.Runs.{AreRuns}
 
 pub returns : goal.returns
 returns c = λ test runs.
-    c.run_end.ensures test (subst (λ (rs : List PageRun). AreRuns test rs) (sym c.deref.ensures.value) (subst (λ (rs : List PageRun). AreRuns test rs) (sym c.self.view_is) runs))
+    c.run_end.ensures test (subst (λ (rs : List PageRun). AreRuns test rs) (sym c.deref.ensures.value)
+    (subst (λ (rs : List PageRun). AreRuns test rs) (sym c.self.view_is) runs))

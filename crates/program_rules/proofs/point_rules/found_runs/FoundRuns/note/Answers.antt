@@ -6,4 +6,5 @@ use Rattle.program_rules.specs.point_rules.Runs.{AreRuns}
 
 pub returns-in-Ok : goal.returns-in-Ok
 returns-in-Ok c = λ test runs run.
-    c.in-Ok.ensures test (subst (λ (rs : List PageRun). AreRuns test rs) (sym c.deref.ensures.value) (subst (λ (rs : List PageRun). AreRuns test rs) (sym c.self.view_is) runs)) run
+    c.in-Ok.ensures test (subst (λ (rs : List PageRun). AreRuns test rs) (sym c.deref.ensures.value)
+    (subst (λ (rs : List PageRun). AreRuns test rs) (sym c.self.view_is) runs)) run

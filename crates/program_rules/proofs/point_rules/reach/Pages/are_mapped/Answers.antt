@@ -9,7 +9,8 @@ use Rattle.program_rules.proofs.point_rules.WithinRanges.{all-true, one-false}
 use Rattle.program_rules.proofs.point_rules.reach.Pages.are_mapped.Goals as goal
 
 -- up to a page all pass, and it does not, if it lies before the end
-all-of : (test : ℕ → Bool) (start end page : ℕ) → start < end → start ≤ page → ((p : ℕ) → start ≤ p → p < page → test p ≡ true) → (page < end → test page ≡ false)
+all-of : (test : ℕ → Bool) (start end page : ℕ) → start < end → start ≤ page → ((p : ℕ) → start ≤ p → p < page → test p ≡ true) →
+    (page < end → test page ≡ false)
     → nat_le end page ≡ list_all test (range_with_len start (end - start))
 all-of test start end page some from before missing = elim (cases_lt page end) [
   | inl near ↦
@@ -25,7 +26,8 @@ pub returns-clause-is : goal.returns-clause-is
 returns-clause-is c =
     let test : ℕ → Bool = is_mapped_for c.args.self.now.image.now c.args.self.now.thread.now (slots_of c.args.self.now.slots) c.args.access in
     let order = c.requires.order in
-    all-of test (c.args.first / 4096) (c.args.last / 4096 + 1) c.mapped_before-page.result (omega (arith, order)) c.mapped_before-page.ensures.from c.mapped_before-page.ensures.mapped c.mapped_before-page.ensures.missing
+    all-of test (c.args.first / 4096) (c.args.last / 4096 + 1) c.mapped_before-page.result (omega (arith, order)) c.mapped_before-page.ensures.from
+    c.mapped_before-page.ensures.mapped c.mapped_before-page.ensures.missing
 
 pub returns-clause-found : goal.returns-clause-found
 returns-clause-found c =

@@ -10,8 +10,11 @@ pages-preserved c =
     let test : ℕ → Bool = is_mapped_for c.args.self.now.image.now c.args.self.now.thread.now (slots_of c.args.self.now.slots) c.args.access in
     let steps = c.pages.invariant.0 in
     let from = c.pages.invariant.1 in
-    let later = c.in-Some.ensures.later in
-    (omega (arith, steps, later), omega (arith, from, later), both-pass test c.args.first c.pages.page c.in-Some.next c.pages.invariant.2 c.in-Some.ensures.mapped)
+    let later = c.in-Some.ensures.later in (
+      omega (arith, steps, later),
+      omega (arith, from, later),
+      both-pass test c.args.first c.pages.page c.in-Some.next c.pages.invariant.2 c.in-Some.ensures.mapped,
+    )
 
 pub returns-in-None-clause-missing : goal.returns-in-None-clause-missing
 returns-in-None-clause-missing c = λ _.

@@ -11,7 +11,8 @@ pub returns-then-page-end-clause-mapped : goal.returns-then-page-end-clause-mapp
 returns-then-page-end-clause-mapped c = λ p from below.
     let n = c.args.self.now in
     let listed : ℕ → Bool = λ page. list_any (maps_for c.args.access n.thread.now page) n.image.now.frames in
-    ap (λ b. b || list_any (holds_for c.args.access (offset_of n.image.now n.thread.now.header.root) p) (slots_of n.slots)) (c.run_end-end.ensures listed c.runs.ensures p from below)
+    ap (λ b. b || list_any (holds_for c.args.access (offset_of n.image.now n.thread.now.header.root) p) (slots_of n.slots))
+    (c.run_end-end.ensures listed c.runs.ensures p from below)
 
 pub returns-then-is_mapped-clause-mapped : goal.returns-then-is_mapped-clause-mapped
 returns-then-is_mapped-clause-mapped c = λ p from below.
