@@ -36,7 +36,7 @@ struct Memory {
     boot_radix: u32,
 }
 
-/// What is known of an image behind some of its lines.
+/// What is known of an image after some of its lines.
 #[derive(Drop)]
 pub(crate) struct Assembly<'a> {
     alloc: Global,
@@ -174,7 +174,7 @@ impl<'a> Assembly<'a> {
         self.open_thread(thread)
     }
 
-    /// Adds a line that stands in no thread.
+    /// Adds a line that is in no thread.
     #[tactic(auto, unfolding(crate::specs::Meaning::outside, crate::specs::Meaning::declared_with))]
     fn declare(&mut self, line: Line<'a>, labels: &[Labels<'a>]) -> Result<(), Fault>
         ensures { Means result (λ _. self.new) (outside (labels_at labels.now (length self.old.threads)) self.old line.entry) }
@@ -231,7 +231,7 @@ impl<'a> Assembly<'a> {
         }
     }
 
-    /// Puts a thread behind the others at its line `end`.
+    /// Puts a thread after the others at its line `end`.
     #[tactic(auto, unfolding(crate::specs::Meaning::ended))]
     fn end_thread(&mut self, thread: OpenThread) -> Result<(), Fault>
         ensures meant { Means result (λ _. record self.new { open_thread = None }) (ended self.old thread) }
@@ -260,7 +260,7 @@ impl<'a> Assembly<'a> {
         }
     }
 
-    /// Adds a line that stands in a thread.
+    /// Adds a line that is in a thread.
     fn add_to_thread(
         &mut self,
         mut thread: OpenThread,
@@ -332,7 +332,7 @@ impl<'a> Assembly<'a> {
         }
     }
 
-    /// The image behind the last line.
+    /// The image after the last line.
     ///
     /// # Errors
     ///

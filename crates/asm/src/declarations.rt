@@ -76,7 +76,7 @@ impl<'a> Model for Declarations<'a> {
     } };
 }
 
-/// Puts an entry behind the others, of which there are to be less than `most`.
+/// Puts an entry after the others, of which there are to be less than `most`.
 fn append<E: Drop>(entries: &mut Vec<E>, most: usize, entry: E) -> Result<(), Fault>
     ensures appended { OnOk result (entries.new.items ≡ entries.old.items ++ entry ∷ []) }
     ensures meant { Means result (λ _. tt) (has_room most entries.old.items) }
@@ -101,7 +101,7 @@ fn words_of(alloc: Global, words: Words<'_>) -> Result<Vec<u32>, Fault>
     Ok(read)
 }
 
-/// Whether an object of an untyped may stand behind these, which are in the order of their untypeds.
+/// Whether an object of an untyped may come after these, which are in the order of their untypeds.
 fn is_in_order(untyped: u32, objects: &[ObjectEntry]) -> bool
     ensures { result ≡ is_in_order untyped objects.now }
 {
@@ -111,7 +111,7 @@ fn is_in_order(untyped: u32, objects: &[ObjectEntry]) -> bool
     }
 }
 
-/// Where the interrupt on a line stands.
+/// Where the interrupt on a line is.
 fn place_on_line(line: u32, interrupts: &[InterruptEntry]) -> Option<usize>
     ensures { result ≡ position (on_line line) interrupts.now }
 {
@@ -164,7 +164,7 @@ impl<'a> Declarations<'a> {
         self.names.add_untyped(name)
     }
 
-    /// Objects stand in the order of their untypeds.
+    /// Objects come in the order of their untypeds.
     #[tactic(auto, unfolding(crate::specs::Meaning::declared_with))]
     pub(crate) fn add_object(
         &mut self,

@@ -20,7 +20,7 @@ pub struct SourceFault {
 /// What is wrong with the line at hand.
 #[derive(Clone, Copy)]
 pub(crate) enum Fault {
-    /// It is none of the text form, or stands out of its place.
+    /// It is none of the text form, or is out of its place.
     Syntax,
     /// Nothing of the wanted sort has this name.
     UnknownName,

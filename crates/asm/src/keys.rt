@@ -133,7 +133,7 @@ fn has_key<E: Keyed>(entries: &[E], place: usize, key: u64) -> bool
     }
 }
 
-/// Puts an entry where its key belongs, among no more than `most`. One whose key is behind all goes to
+/// Puts an entry where its key belongs, among no more than `most`. One whose key comes after all others goes to
 /// the end.
 ///
 /// # Errors

@@ -1,4 +1,4 @@
-//! The labels of each thread, which may stand anywhere in it.
+//! The labels of each thread, which may be anywhere in it.
 
 ghost use Rattle.std.specs.Prelude.{◌≡◌, ◌≤◌, IfErr, MatchResult, Ok, Err, if◌then◌else◌};
 ghost use Rattle.std.specs.Str.Lines.{lines};
@@ -13,15 +13,15 @@ use indexmap::IndexMap;
 use std::alloc::Global;
 use std::marker::Model;
 
-/// Where a label stands.
+/// Where a label is.
 #[derive(Clone, Copy)]
 struct Place {
     line: u64,
-    /// The number of the instruction behind it, from 0.
+    /// The number of the instruction after it, from 0.
     point: u32,
 }
 
-/// The labels of a thread, each where it stands first.
+/// The labels of a thread, each where it comes first.
 #[derive(Drop)]
 pub(crate) struct Labels<'a> {
     places: IndexMap<&'a str, Place>,
@@ -48,7 +48,7 @@ impl<'a> Labels<'a> {
         }
     }
 
-    /// Where a label stands.
+    /// Where a label is.
     fn place(&self, name: &str) -> Option<Place>
         ensures { result ≡ place_named self.now name.now }
     {
@@ -185,7 +185,7 @@ impl<'a> Search<'a> {
     }
 }
 
-/// Adds the labels on a line, also where the line is at fault otherwise: the fault is told there, and not where the label is used.
+/// Adds the labels on a line, also where the line is at fault otherwise: the fault is reported there, and not where the label is used.
 #[tactic(auto, unfolding(crate::specs::Meaning::searched_text))]
 fn search_line<'a>(
     search: &mut Search<'a>,

@@ -282,7 +282,7 @@ impl OpenThread {
         }
     }
 
-    /// Puts a word behind those of the program, with what the certificate says of it.
+    /// Puts a word after those of the program, with what the certificate says of it.
     #[tactic(auto, unfolding(crate::specs::Meaning::word_added))]
     fn push_word(&mut self, word: u32) -> Result<(), Fault>
         ensures { Means result (λ _. self.new) (word_added self.old word) }
@@ -339,7 +339,7 @@ impl OpenThread {
         }
     }
 
-    /// A thread may not end before its first instruction, nor behind a measure without one.
+    /// A thread may not end before its first instruction, nor after a measure without one.
     #[tactic(auto, unfolding(crate::specs::Meaning::may_end))]
     fn check_end(&self) -> Result<(), Fault>
         ensures { Means result (λ _. tt) (may_end self.now) }
