@@ -2,7 +2,7 @@
 # Refuses each allocation of the program in turn, and then that one with all behind it. The answer must be `memory` with
 # status 3 and nothing on standard output, `source LINE 5` with status 1 for a text, or the whole answer, where the
 # program can do without. Then makes each call of the libraries by itself, with each of its allocations refused in turn:
-# it has to answer want of memory, and put nothing; a second call has to give the whole answer.
+# it has to answer out of memory, and put nothing; a second call has to give the whole answer.
 # Usage: tools/memory/run.sh, after `make build`. Needs a C compiler. It is no part of the gate. The second part proves
 # and builds its program in a copy of the repository.
 set -eu
@@ -98,6 +98,6 @@ for words in "write $bell.txt" "verify $bell.img" "assemble $bell.txt" "boot $be
         esac
     done
     [ "$told" != 0 ] || bad=$((bad + 1))
-    echo "$words: $asked allocations, $before before the call; $told times want of memory, $without times none"
+    echo "$words: $asked allocations, $before before the call; $told times out of memory, $without times none"
 done
 [ "$bad" = 0 ] && echo "no other answer"

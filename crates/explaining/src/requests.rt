@@ -11,7 +11,7 @@ use certified_texts::bare_text;
 use certifying::{ThreadFindings, Unfit, findings_in};
 use image::{ImageRef, read};
 use model::{Point, Refusal};
-use source_gaps::{Text, tell_fault, tell_item};
+use source_gaps::{Text, report_fault, report_item};
 use source_texts::{SourceText, TextFault, with_budgets};
 use std::alloc::{AllocError, Global};
 use verify::verify;
@@ -140,7 +140,7 @@ impl Request<'_, '_> {
     ) -> Result<(), ExplainFault> {
         match cause {
             Cause::Item(refusal) => {
-                Ok(tell_item(self.alloc, to, self.text, source, image, refusal)?)
+                Ok(report_item(self.alloc, to, self.text, source, image, refusal)?)
             }
             Cause::Point { .. } | Cause::Findings(_) => {
                 self.report_formed(to, source, image, cause)
@@ -179,7 +179,7 @@ impl Request<'_, '_> {
 
     /// Reports a line that makes no image of the text.
     fn report_fault(&self, to: &mut String, fault: SourceFault) -> Result<(), ExplainFault> {
-        Ok(tell_fault(self.alloc, to, self.text, fault)?)
+        Ok(report_fault(self.alloc, to, self.text, fault)?)
     }
 
     /// Reports why the verifier refuses the image of the text, if it does.

@@ -53,7 +53,7 @@ const UPPER: Form = Form {
 
 const BARE: Form = Form {
     operands: "",
-    ranges: "nothing stands behind it",
+    ranges: "nothing comes after it",
 };
 
 const JUMP: Form = Form {
@@ -137,7 +137,7 @@ fn declaration_form(word: &str) -> Option<Form> {
         "untyped" => ("NAME OFFSET BITS", "BITS is 4 to 24; at most 64 such lines"),
         "object" => (
             "NAME UNTYPED KIND [SIZE]",
-            "KIND is untyped (SIZE 4 to 24), cnode (SIZE 1 to 14), tcb, endpoint, notification, frame, table or root; the untyped memories stand in their order",
+            "KIND is untyped (SIZE 4 to 24), cnode (SIZE 1 to 14), tcb, endpoint, notification, frame, table or root; the untyped memories come in their order",
         ),
         "irq" => (
             "NAME LINE NOTIFICATION BADGE",
@@ -187,7 +187,7 @@ fn thread_line_form(word: &str) -> Option<Form> {
         "word" => ("N", "N has 32 bits"),
         "end" => (
             "",
-            "nothing stands behind it; a thread has 1 to 65536 instructions",
+            "nothing comes after it; a thread has 1 to 65536 instructions",
         ),
         _ => return None,
     };

@@ -68,7 +68,7 @@ fn power(bits: u32) -> u64 {
 }
 
 /// Reports what is wrong with the rights and the badge of a capability to an endpoint or a notification.
-fn tell_badge(to: &mut String, rights: u32, badge: u32) -> Result<(), AllocError> {
+fn report_badge(to: &mut String, rights: u32, badge: u32) -> Result<(), AllocError> {
     if rights & 11 == rights {
         write!(to, "the badge {badge} is 2^28 or more\n")
     } else {
@@ -80,7 +80,7 @@ fn tell_badge(to: &mut String, rights: u32, badge: u32) -> Result<(), AllocError
 }
 
 /// Reports what is wrong with the rights and the data of a capability to a frame.
-fn tell_frame_data(to: &mut String, rights: u32) -> Result<(), AllocError> {
+fn report_frame_data(to: &mut String, rights: u32) -> Result<(), AllocError> {
     if rights & 3 == rights {
         to.push_str("a frame's capability has no data: write 0\n")
     } else {
@@ -89,12 +89,12 @@ fn tell_frame_data(to: &mut String, rights: u32) -> Result<(), AllocError> {
 }
 
 /// Reports that a capability to a CNode has a wrong guard word.
-fn tell_guard(to: &mut String, name: &str, payload: u32) -> Result<(), AllocError> {
+fn report_guard(to: &mut String, name: &str, payload: u32) -> Result<(), AllocError> {
     write!(to, "{payload} is no guard word for the CNode `{name}`\n")
 }
 
 /// Reports what is wrong with the rights and the data of a capability to an object of a kind.
-fn tell_data(
+fn report_data(
     to: &mut String,
     kind: u32,
     name: &str,
@@ -102,9 +102,9 @@ fn tell_data(
     payload: u32,
 ) -> Result<(), AllocError> {
     match kind {
-        3 | 4 => tell_badge(to, rights, payload),
-        6 => tell_frame_data(to, rights),
-        5 if rights == 0 => tell_guard(to, name, payload),
+        3 | 4 => report_badge(to, rights, payload),
+        6 => report_frame_data(to, rights),
+        5 if rights == 0 => report_guard(to, name, payload),
         _ => write!(
             to,
             "a capability to `{name}` has the rights 0 and the data 0\n"
@@ -113,7 +113,7 @@ fn tell_data(
 }
 
 /// Reports that untyped memory does not begin at a multiple of its size.
-fn tell_unaligned(to: &mut String, start: u64, size: u64) -> Result<(), AllocError> {
+fn report_unaligned(to: &mut String, start: u64, size: u64) -> Result<(), AllocError> {
     write!(
         to,
         "{start:#x} is no multiple of the size, {size:#x} bytes\n"
@@ -121,25 +121,25 @@ fn tell_unaligned(to: &mut String, start: u64, size: u64) -> Result<(), AllocErr
 }
 
 /// Reports that untyped memory ends after the machine's memory.
-fn tell_end(to: &mut String, end: u64, memory: u64) -> Result<(), AllocError> {
+fn report_end(to: &mut String, end: u64, memory: u64) -> Result<(), AllocError> {
     write!(
         to,
-        "it ends at {end:#x}, behind the machine's memory of {memory:#x} bytes\n"
+        "it ends at {end:#x}, beyond the machine's memory of {memory:#x} bytes\n"
     )
 }
 
 /// Reports that untyped memory begins inside another one.
-fn tell_overlap(to: &mut String, before: &UntypedLine<'_>) -> Result<(), AllocError> {
+fn report_overlap(to: &mut String, before: &UntypedLine<'_>) -> Result<(), AllocError> {
     let (name, line) = (before.name, before.line);
     let last = u64::from(before.offset).saturating_add(power(before.bits));
     write!(
         to,
-        "it begins inside `{name}` (line {line}), which ends at {last:#x}: untyped memories stand in their order\n"
+        "it begins inside `{name}` (line {line}), which ends at {last:#x}: untyped memories come in their order\n"
     )
 }
 
 /// Reports that an object of so many bytes would end there in its untyped memory.
-fn tell_room(
+fn report_room(
     to: &mut String,
     untyped: &UntypedLine<'_>,
     size: u64,
@@ -149,12 +149,12 @@ fn tell_room(
     let whole = power(untyped.bits);
     write!(
         to,
-        "no room: `{name}` (line {line}) has {whole:#x} bytes, and this object of {size:#x} bytes would end at {wanted:#x}, behind those before it\n  make the memory larger, or put small objects behind large ones\n"
+        "no room: `{name}` (line {line}) has {whole:#x} bytes, and this object of {size:#x} bytes would end at {wanted:#x}, after those before it\n  make the memory larger, or put small objects after large ones\n"
     )
 }
 
 /// Reports that a frame of code is mapped on another line, too.
-fn tell_other_mapping(to: &mut String, name: &str, line: u64) -> Result<(), AllocError> {
+fn report_other_mapping(to: &mut String, name: &str, line: u64) -> Result<(), AllocError> {
     write!(
         to,
         "`{name}` is mapped to execute, and mapped on line {line}, too: code has a frame of its own\n"
@@ -162,7 +162,7 @@ fn tell_other_mapping(to: &mut String, name: &str, line: u64) -> Result<(), Allo
 }
 
 /// Reports that a capability names a frame of code.
-fn tell_named_code(to: &mut String, name: &str, line: u64) -> Result<(), AllocError> {
+fn report_named_code(to: &mut String, name: &str, line: u64) -> Result<(), AllocError> {
     write!(
         to,
         "`{name}` is mapped to execute, and a capability names it (line {line}): code has a frame of its own\n"
@@ -170,7 +170,7 @@ fn tell_named_code(to: &mut String, name: &str, line: u64) -> Result<(), AllocEr
 }
 
 /// Reports that a frame of code is filled.
-fn tell_filled_code(to: &mut String, name: &str, line: u64) -> Result<(), AllocError> {
+fn report_filled_code(to: &mut String, name: &str, line: u64) -> Result<(), AllocError> {
     write!(
         to,
         "`{name}` is mapped to execute, and filled on line {line}: the loader fills it with the program\n"
@@ -184,7 +184,7 @@ impl Items<'_, '_, '_, '_, '_, '_> {
     }
 
     /// Reports that an object is of another kind than is wanted.
-    fn tell_kind(&self, to: &mut String, number: usize, wanted: &str) -> Result<(), AllocError> {
+    fn report_kind(&self, to: &mut String, number: usize, wanted: &str) -> Result<(), AllocError> {
         let name = self.source.object_name(number);
         let kind = kind_name(self.source.kind(number));
         write!(to, "`{name}` is {kind}, and no {wanted}\n")
@@ -198,16 +198,16 @@ impl Items<'_, '_, '_, '_, '_, '_> {
     }
 
     /// Reports what is wrong with untyped memory.
-    fn tell_untyped(&self, to: &mut String, item: u32) -> Result<(), AllocError> {
+    fn report_untyped(&self, to: &mut String, item: u32) -> Result<(), AllocError> {
         let Some(untyped) = self.source.untypeds.get(item as usize) else {
             return Ok(());
         };
         self.push_line(to, untyped.line)?;
-        self.tell_bytes(to, item, u64::from(untyped.offset), power(untyped.bits))
+        self.report_bytes(to, item, u64::from(untyped.offset), power(untyped.bits))
     }
 
     /// Reports what is wrong with the bytes of untyped memory, which begins there and has so many.
-    fn tell_bytes(
+    fn report_bytes(
         &self,
         to: &mut String,
         item: u32,
@@ -215,18 +215,18 @@ impl Items<'_, '_, '_, '_, '_, '_> {
         size: u64,
     ) -> Result<(), AllocError> {
         if start & size.saturating_sub(1) != 0 {
-            return tell_unaligned(to, start, size);
+            return report_unaligned(to, start, size);
         }
         let end = start.saturating_add(size);
         let memory = power(self.image.header().memory_bits);
         if end > memory {
-            return tell_end(to, end, memory);
+            return report_end(to, end, memory);
         }
-        self.tell_start(to, item, start)
+        self.report_start(to, item, start)
     }
 
     /// Reports what is where untyped memory begins.
-    fn tell_start(&self, to: &mut String, item: u32, start: u64) -> Result<(), AllocError> {
+    fn report_start(&self, to: &mut String, item: u32, start: u64) -> Result<(), AllocError> {
         let boot = self.boot_end();
         if start < boot {
             return write!(
@@ -235,8 +235,8 @@ impl Items<'_, '_, '_, '_, '_, '_> {
             );
         }
         match self.source.untypeds.get((item as usize).saturating_sub(1)) {
-            Some(before) => tell_overlap(to, before),
-            None => to.push_str("it overlaps what stands before it\n"),
+            Some(before) => report_overlap(to, before),
+            None => to.push_str("it overlaps what comes before it\n"),
         }
     }
 
@@ -252,7 +252,7 @@ impl Items<'_, '_, '_, '_, '_, '_> {
     }
 
     /// Reports which object does not fit into its untyped memory.
-    fn tell_no_room(&self, to: &mut String, item: u32) -> Result<(), AllocError> {
+    fn report_no_room(&self, to: &mut String, item: u32) -> Result<(), AllocError> {
         let Some(object) = self.source.objects.get(item as usize) else {
             return Ok(());
         };
@@ -262,7 +262,7 @@ impl Items<'_, '_, '_, '_, '_, '_> {
         self.push_line(to, object.line)?;
         let bits = bits_of(object);
         let used = self.used_before(item as usize, object.untyped);
-        tell_room(to, untyped, power(bits), behind(used, bits))
+        report_room(to, untyped, power(bits), behind(used, bits))
     }
 
     /// How many slots the boot CNode needs.
@@ -299,7 +299,7 @@ impl Items<'_, '_, '_, '_, '_, '_> {
     }
 
     /// Reports that the boot CNode has too few slots.
-    fn tell_boot(&self, to: &mut String) -> Result<(), AllocError> {
+    fn report_boot(&self, to: &mut String) -> Result<(), AllocError> {
         let given = self.image.header().boot_radix;
         let (there, needed) = (power(given), self.boot_slots());
         self.push_line(to, self.memory_line())?;
@@ -322,34 +322,38 @@ impl Items<'_, '_, '_, '_, '_, '_> {
     }
 
     /// Reports what is wrong with a capability, or with an interrupt after them.
-    fn tell_capability(&self, to: &mut String, item: u32) -> Result<(), AllocError> {
+    fn report_capability(&self, to: &mut String, item: u32) -> Result<(), AllocError> {
         let count = self.image.header().capabilities;
         if item >= count {
-            return self.tell_interrupt(to, item.saturating_sub(count));
+            return self.report_interrupt(to, item.saturating_sub(count));
         }
         let Some(capability) = self.capability_line(item) else {
             return Ok(());
         };
         self.push_line(to, capability.line)?;
         if self.source.kind(capability.cnode) != 5 {
-            return self.tell_kind(to, capability.cnode, "CNode");
+            return self.report_kind(to, capability.cnode, "CNode");
         }
-        self.tell_slot(to, &capability)
+        self.report_slot(to, &capability)
     }
 
     /// Reports what is wrong with a capability in the slot of a CNode.
-    fn tell_slot(&self, to: &mut String, capability: &CapabilityLine) -> Result<(), AllocError> {
+    fn report_slot(&self, to: &mut String, capability: &CapabilityLine) -> Result<(), AllocError> {
         let radix = self.source.size(capability.cnode);
         let (index, last) = (capability.index, power(radix).saturating_sub(1));
         if u64::from(index) > last {
             let cnode = self.source.object_name(capability.cnode);
             return write!(to, "`{cnode}` has the slots 0 to {last}, and no {index}\n");
         }
-        self.tell_source(to, capability)
+        self.report_source(to, capability)
     }
 
     /// Reports what is wrong with what a capability names.
-    fn tell_source(&self, to: &mut String, capability: &CapabilityLine) -> Result<(), AllocError> {
+    fn report_source(
+        &self,
+        to: &mut String,
+        capability: &CapabilityLine,
+    ) -> Result<(), AllocError> {
         let name = self.source.source_name(capability.source);
         let kind = match capability.source {
             Source::Object(number) => self.source.kind(number),
@@ -367,7 +371,7 @@ impl Items<'_, '_, '_, '_, '_, '_> {
                 );
             }
         }
-        tell_data(to, kind, name, capability.rights, capability.payload)
+        report_data(to, kind, name, capability.rights, capability.payload)
     }
 
     /// The line of another capability to what a capability names.
@@ -393,33 +397,33 @@ impl Items<'_, '_, '_, '_, '_, '_> {
     }
 
     /// Reports what is wrong with an interrupt.
-    fn tell_interrupt(&self, to: &mut String, place: u32) -> Result<(), AllocError> {
+    fn report_interrupt(&self, to: &mut String, place: u32) -> Result<(), AllocError> {
         let Some(number) = self.machine_line(place) else {
             return Ok(());
         };
         for interrupt in &self.source.interrupts {
             if interrupt.number == number {
                 self.push_line(to, interrupt.line)?;
-                return self.tell_kind(to, interrupt.notification, "notification");
+                return self.report_kind(to, interrupt.notification, "notification");
             }
         }
         Ok(())
     }
 
     /// Reports what is wrong with a table.
-    fn tell_table(&self, to: &mut String, table: &TableLine) -> Result<(), AllocError> {
+    fn report_table(&self, to: &mut String, table: &TableLine) -> Result<(), AllocError> {
         self.push_line(to, table.line)?;
         if self.source.kind(table.root) != 8 {
-            return self.tell_kind(to, table.root, "root table");
+            return self.report_kind(to, table.root, "root table");
         }
         if self.source.kind(table.table) != 7 {
-            return self.tell_kind(to, table.table, "page table");
+            return self.report_kind(to, table.table, "page table");
         }
-        self.tell_table_place(to, table)
+        self.report_table_place(to, table)
     }
 
     /// Reports what is wrong with the place of a table.
-    fn tell_table_place(&self, to: &mut String, table: &TableLine) -> Result<(), AllocError> {
+    fn report_table_place(&self, to: &mut String, table: &TableLine) -> Result<(), AllocError> {
         let address = table.address;
         if address >= 0x8000_0000 || address % 0x40_0000 != 0 {
             return write!(
@@ -430,7 +434,7 @@ impl Items<'_, '_, '_, '_, '_, '_> {
         let name = self.source.object_name(table.table);
         write!(
             to,
-            "`{name}` stands in a second place: each page table has one\n"
+            "`{name}` is in a second place: each page table has one\n"
         )
     }
 
@@ -445,19 +449,19 @@ impl Items<'_, '_, '_, '_, '_, '_> {
     }
 
     /// Reports what is wrong with a frame's mapping.
-    fn tell_frame(&self, to: &mut String, frame: &FrameLine) -> Result<(), AllocError> {
+    fn report_frame(&self, to: &mut String, frame: &FrameLine) -> Result<(), AllocError> {
         self.push_line(to, frame.line)?;
         if self.source.kind(frame.root) != 8 {
-            return self.tell_kind(to, frame.root, "root table");
+            return self.report_kind(to, frame.root, "root table");
         }
         if self.source.kind(frame.frame) != 6 {
-            return self.tell_kind(to, frame.frame, "frame");
+            return self.report_kind(to, frame.frame, "frame");
         }
-        self.tell_frame_place(to, frame)
+        self.report_frame_place(to, frame)
     }
 
     /// Reports what is wrong with the address and the rights of a frame's mapping.
-    fn tell_frame_place(&self, to: &mut String, frame: &FrameLine) -> Result<(), AllocError> {
+    fn report_frame_place(&self, to: &mut String, frame: &FrameLine) -> Result<(), AllocError> {
         let (address, rights) = (frame.address, frame.rights);
         if address >= 0x8000_0000 || address % 4096 != 0 {
             return write!(to, "{address:#x} is no multiple of 4096 below 0x80000000\n");
@@ -468,11 +472,11 @@ impl Items<'_, '_, '_, '_, '_, '_> {
                 "{rights} are no rights of a mapping: read 2, read and write 3, execute 4, read and execute 6\n"
             );
         }
-        self.tell_uncovered(to, frame)
+        self.report_uncovered(to, frame)
     }
 
     /// Reports that no page table covers a frame's address.
-    fn tell_uncovered(&self, to: &mut String, frame: &FrameLine) -> Result<(), AllocError> {
+    fn report_uncovered(&self, to: &mut String, frame: &FrameLine) -> Result<(), AllocError> {
         let root = self.source.object_name(frame.root);
         let address = frame.address;
         let region = address - address % 0x40_0000;
@@ -527,41 +531,41 @@ impl Items<'_, '_, '_, '_, '_, '_> {
     }
 
     /// Reports what is wrong with a table, a frame's mapping or a content, which are numbered on.
-    fn tell_mapping(&self, to: &mut String, item: u32) -> Result<(), AllocError> {
+    fn report_mapping(&self, to: &mut String, item: u32) -> Result<(), AllocError> {
         let tables = self.image.header().tables;
         if item < tables {
             return match self.table_line(item) {
-                Some(table) => self.tell_table(to, &table),
+                Some(table) => self.report_table(to, &table),
                 None => Ok(()),
             };
         }
-        self.tell_filling(to, item.saturating_sub(tables))
+        self.report_filling(to, item.saturating_sub(tables))
     }
 
     /// Reports what is wrong with a frame's mapping or a content, which are numbered on.
-    fn tell_filling(&self, to: &mut String, item: u32) -> Result<(), AllocError> {
+    fn report_filling(&self, to: &mut String, item: u32) -> Result<(), AllocError> {
         if item < self.image.header().frames {
             return match self.frame_line(item) {
-                Some(frame) => self.tell_frame(to, &frame),
+                Some(frame) => self.report_frame(to, &frame),
                 None => Ok(()),
             };
         }
-        self.tell_content(to)
+        self.report_content(to)
     }
 
     /// Reports which content fills what is no frame.
-    fn tell_content(&self, to: &mut String) -> Result<(), AllocError> {
+    fn report_content(&self, to: &mut String) -> Result<(), AllocError> {
         for content in &self.source.contents {
             if self.source.kind(content.frame) != 6 {
                 self.push_line(to, content.line)?;
-                return self.tell_kind(to, content.frame, "frame");
+                return self.report_kind(to, content.frame, "frame");
             }
         }
         Ok(())
     }
 
     /// Reports which code can be written.
-    fn tell_writable(&self, to: &mut String, item: u32) -> Result<(), AllocError> {
+    fn report_writable(&self, to: &mut String, item: u32) -> Result<(), AllocError> {
         let Some(frame) = self.frame_line(item.saturating_sub(self.image.header().tables)) else {
             return Ok(());
         };
@@ -573,24 +577,24 @@ impl Items<'_, '_, '_, '_, '_, '_> {
                 "`{name}` is mapped to write and to execute: code has a frame of its own\n"
             );
         }
-        self.tell_shared_code(to, &frame, name)
+        self.report_shared_code(to, &frame, name)
     }
 
     /// Reports what else a frame of code is used for.
-    fn tell_shared_code(
+    fn report_shared_code(
         &self,
         to: &mut String,
         frame: &FrameLine,
         name: &str,
     ) -> Result<(), AllocError> {
         if let Some(line) = self.other_mapping(frame) {
-            return tell_other_mapping(to, name, line);
+            return report_other_mapping(to, name, line);
         }
         if let Some(line) = self.naming(frame.frame) {
-            return tell_named_code(to, name, line);
+            return report_named_code(to, name, line);
         }
         match self.filling(frame.frame) {
-            Some(line) => tell_filled_code(to, name, line),
+            Some(line) => report_filled_code(to, name, line),
             None => to.push_str("code can be written\n"),
         }
     }
@@ -626,11 +630,11 @@ impl Items<'_, '_, '_, '_, '_, '_> {
     }
 
     /// Reports what is refused of a thread.
-    fn tell_of_thread(&self, to: &mut String, refusal: Refusal) -> Result<(), AllocError> {
+    fn report_of_thread(&self, to: &mut String, refusal: Refusal) -> Result<(), AllocError> {
         match refusal {
-            Refusal::SharedCSpace { thread } => self.tell_shared_cnode(to, thread),
-            Refusal::SharedVSpace { thread } => self.tell_shared_root(to, thread),
-            Refusal::BadThread { thread } => self.tell_thread(to, thread),
+            Refusal::SharedCSpace { thread } => self.report_shared_cnode(to, thread),
+            Refusal::SharedVSpace { thread } => self.report_shared_root(to, thread),
+            Refusal::BadThread { thread } => self.report_thread(to, thread),
             refusal => {
                 let name = refusal.name();
                 write!(to, "{name}: the image cannot be read\n")
@@ -639,15 +643,15 @@ impl Items<'_, '_, '_, '_, '_, '_> {
     }
 
     /// Reports what is refused before any program is looked at.
-    fn tell(&self, to: &mut String, refusal: Refusal) -> Result<(), AllocError> {
+    fn report(&self, to: &mut String, refusal: Refusal) -> Result<(), AllocError> {
         match refusal {
-            Refusal::UntypedOverlap { untyped } => self.tell_untyped(to, untyped),
-            Refusal::NoRoom { object } => self.tell_no_room(to, object),
-            Refusal::BadObject { .. } => self.tell_boot(to),
-            Refusal::BadCap { item } => self.tell_capability(to, item),
-            Refusal::BadMapping { item } => self.tell_mapping(to, item),
-            Refusal::WritableCode { item } => self.tell_writable(to, item),
-            refusal => self.tell_of_thread(to, refusal),
+            Refusal::UntypedOverlap { untyped } => self.report_untyped(to, untyped),
+            Refusal::NoRoom { object } => self.report_no_room(to, object),
+            Refusal::BadObject { .. } => self.report_boot(to),
+            Refusal::BadCap { item } => self.report_capability(to, item),
+            Refusal::BadMapping { item } => self.report_mapping(to, item),
+            Refusal::WritableCode { item } => self.report_writable(to, item),
+            refusal => self.report_of_thread(to, refusal),
         }
     }
 }
@@ -656,8 +660,8 @@ impl Items<'_, '_, '_, '_, '_, '_> {
 ///
 /// # Errors
 ///
-/// Want of memory.
-pub fn tell_item(
+/// Out of memory.
+pub fn report_item(
     alloc: Global,
     to: &mut String,
     text: Text<'_, '_>,
@@ -672,7 +676,7 @@ pub fn tell_item(
         source,
         image,
     };
-    items.tell(to, refusal)
+    items.report(to, refusal)
 }
 
 /// How much of untyped memory is used after one more object of so many bits.

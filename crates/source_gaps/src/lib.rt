@@ -9,6 +9,6 @@ mod syntax;
 mod thread_gaps;
 mod words;
 
-pub use item_gaps::tell_item;
+pub use item_gaps::report_item;
 pub use lines::{Text, code_on, push_place};
-pub use syntax::tell_fault;
+pub use syntax::report_fault;

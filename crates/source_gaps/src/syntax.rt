@@ -94,17 +94,17 @@ fn words_before(line: &str) -> usize {
 fn place_words(keyword: &str) -> &'static str {
     match keyword {
         "range" | "slot" =>
-            "out of its place: it belongs behind a line `measure`, before the instruction\n",
-        "memory" => "out of its place: it stands first, once\n",
-        "measure" => "out of its place: it stands inside a thread, before an instruction\n",
+            "out of its place: it belongs after a line `measure`, before the instruction\n",
+        "memory" => "out of its place: it comes first, once\n",
+        "measure" => "out of its place: it belongs inside a thread, before an instruction\n",
         "untyped" | "object" | "irq" | "cap" | "table" | "map" | "data" =>
-            "out of its place: a text begins with `memory`, and a declaration stands in no thread: `end` ends one\n",
+            "out of its place: a text begins with `memory`, and a declaration belongs to no thread: `end` ends one\n",
         "thread" =>
             "out of its place: a text begins with `memory`, and the thread before ends with `end`, as this one does\n",
         "end" =>
             "out of its place: it ends a thread, and no `measure` may wait for its instruction\n",
         "" => "the text ends here: it begins with `memory`, and each thread ends with `end`\n",
-        _ => "out of its place: it stands between a line `thread` and its `end`\n",
+        _ => "out of its place: it belongs between a line `thread` and its `end`\n",
     }
 }
 
@@ -112,7 +112,7 @@ fn place_words(keyword: &str) -> &'static str {
 fn range_words(keyword: &str) -> &'static str {
     match keyword {
         "object" =>
-            "objects stand in the order of their untyped memories, and there are at most 4096\n",
+            "objects come in the order of their untyped memories, and there are at most 4096\n",
         "end" =>
             "a thread has at least one instruction; a text has at least one thread, and untyped memory\n",
         "measure" =>
@@ -549,8 +549,8 @@ impl<'t> Fault<'_, 't> {
 ///
 /// # Errors
 ///
-/// Want of memory.
-pub fn tell_fault(
+/// Out of memory.
+pub fn report_fault(
     alloc: Global,
     to: &mut String,
     text: Text<'_, '_>,

@@ -32,7 +32,7 @@ fn first_in_both(own: &NumberSet, others: &NumberSet) -> Option<u32> {
 }
 
 /// Reports that a thread's guard word is not valid for a CNode.
-fn tell_thread_guard(to: &mut String, guard: u32, radix: u32) -> Result<(), AllocError> {
+fn report_thread_guard(to: &mut String, guard: u32, radix: u32) -> Result<(), AllocError> {
     write!(
         to,
         "has the guard word {guard:#x}, which is not valid for a CNode of 2^{radix} slots: its low 5 bits are the guard's size, at most 32 - {radix}, and the guard above them fits into it\n"
@@ -57,7 +57,7 @@ impl Items<'_, '_, '_, '_, '_, '_> {
     }
 
     /// Reports which CNode a thread shares with an earlier one.
-    pub(crate) fn tell_shared_cnode(&self, to: &mut String, item: u32) -> Result<(), AllocError> {
+    pub(crate) fn report_shared_cnode(&self, to: &mut String, item: u32) -> Result<(), AllocError> {
         let Some(thread) = self.source.threads.get(item as usize) else {
             return Ok(());
         };
@@ -123,14 +123,14 @@ impl Items<'_, '_, '_, '_, '_, '_> {
     }
 
     /// Reports which root table a thread shares, or holds beside its own.
-    pub(crate) fn tell_shared_root(&self, to: &mut String, item: u32) -> Result<(), AllocError> {
+    pub(crate) fn report_shared_root(&self, to: &mut String, item: u32) -> Result<(), AllocError> {
         let Some(thread) = self.source.threads.get(item as usize) else {
             return Ok(());
         };
         self.push_thread(to, thread)?;
         match self.sharing_root(item as usize, thread.root) {
             Some(tcb) => self.push_shared_root(to, thread.root, tcb),
-            None => self.tell_held_root(to, item, thread.root),
+            None => self.report_held_root(to, item, thread.root),
         }
     }
 
@@ -145,7 +145,7 @@ impl Items<'_, '_, '_, '_, '_, '_> {
     }
 
     /// Reports which root table a thread holds beside its own.
-    fn tell_held_root(&self, to: &mut String, item: u32, root: usize) -> Result<(), AllocError> {
+    fn report_held_root(&self, to: &mut String, item: u32, root: usize) -> Result<(), AllocError> {
         if item >= self.image.header().threads {
             return to.push_str("\n");
         }
@@ -214,7 +214,7 @@ impl Items<'_, '_, '_, '_, '_, '_> {
     }
 
     /// Reports what does not fit of a thread.
-    pub(crate) fn tell_thread(&self, to: &mut String, item: u32) -> Result<(), AllocError> {
+    pub(crate) fn report_thread(&self, to: &mut String, item: u32) -> Result<(), AllocError> {
         let Some(thread) = self.source.threads.get(item as usize) else {
             return Ok(());
         };
@@ -226,16 +226,20 @@ impl Items<'_, '_, '_, '_, '_, '_> {
         if let Some(line) = self.sharing_tcb(item as usize, thread.tcb) {
             return write!(to, "has the TCB of the thread on line {line}\n");
         }
-        self.tell_start_of(to, thread)
+        self.report_start_of(to, thread)
     }
 
     /// Reports what does not fit of a thread whose objects do.
-    fn tell_start_of(&self, to: &mut String, thread: &SourceThread<'_>) -> Result<(), AllocError> {
+    fn report_start_of(
+        &self,
+        to: &mut String,
+        thread: &SourceThread<'_>,
+    ) -> Result<(), AllocError> {
         let radix = self.source.size(thread.cnode);
         if capwords::is_guard_word(radix.min(255) as u8, thread.guard) {
-            self.tell_place(to, thread)
+            self.report_place(to, thread)
         } else {
-            tell_thread_guard(to, thread.guard, radix)
+            report_thread_guard(to, thread.guard, radix)
         }
     }
 
@@ -263,7 +267,7 @@ impl Items<'_, '_, '_, '_, '_, '_> {
     }
 
     /// Reports what does not fit of a thread's program and its entry.
-    fn tell_place(&self, to: &mut String, thread: &SourceThread<'_>) -> Result<(), AllocError> {
+    fn report_place(&self, to: &mut String, thread: &SourceThread<'_>) -> Result<(), AllocError> {
         let base = thread.base;
         let count = thread.points.len() as u64;
         let end = u64::from(base).saturating_add(count.saturating_mul(4));
@@ -276,14 +280,14 @@ impl Items<'_, '_, '_, '_, '_, '_> {
         if end > LIMIT {
             return write!(
                 to,
-                "has a program that ends at {end:#x}, behind 0x80000000\n"
+                "has a program that ends at {end:#x}, beyond 0x80000000\n"
             );
         }
-        self.tell_pages(to, thread, end)
+        self.report_pages(to, thread, end)
     }
 
     /// Reports which page of a thread's program is not mapped, or where the thread starts after its program.
-    fn tell_pages(
+    fn report_pages(
         &self,
         to: &mut String,
         thread: &SourceThread<'_>,
@@ -293,7 +297,7 @@ impl Items<'_, '_, '_, '_, '_, '_> {
             return self.push_unmapped(to, thread, page);
         }
         let entry = thread.entry;
-        write!(to, "starts at `{entry}`, behind its last instruction\n")
+        write!(to, "starts at `{entry}`, after its last instruction\n")
     }
 
     /// Puts which page of a thread's program is not mapped.

@@ -121,7 +121,7 @@ text:18: `start: addi x5 x0 4096`: a number is out of its range
 @ 12 cap cs 1 line 0 0
 text:12: `cap cs 1 line 0 0`: line 11 says this already
 @ 20 # none
-text:21: `range x5 1 10`: out of its place: it belongs behind a line `measure`, before the instruction
+text:21: `range x5 1 10`: out of its place: it belongs after a line `measure`, before the instruction
 ";
 
 #[test]
@@ -136,8 +136,8 @@ text:14: BadMapping: `map vs 0x1000 code 4`: no page table covers 0x1000: there 
 @ 12 cap cs 20 line 0 0
 text:12: BadCap: `cap cs 20 line 0 0`: `cs` has the slots 0 to 15, and no 20
 @ 2 untyped u 0x8000 14
-text:7: NoRoom: `object main u tcb`: no room: `u` (line 2) has 0x4000 bytes, and this object of 0x200 bytes would end at 0x4200, behind those before it
-  make the memory larger, or put small objects behind large ones
+text:7: NoRoom: `object main u tcb`: no room: `u` (line 2) has 0x4000 bytes, and this object of 0x200 bytes would end at 0x4200, after those before it
+  make the memory larger, or put small objects after large ones
 @ 2 untyped u 0x400 10
 text:2: UntypedOverlap: `untyped u 0x400 10`: it begins inside the boot area, which ends at 0x500 (16 bytes for each of 2^RADIX + 64 slots)
 @ 1 memory 16 3

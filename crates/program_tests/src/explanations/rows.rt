@@ -22,7 +22,7 @@ fn said_of(alloc: Global, text: &str) -> Result<String, Fail> {
     }
 }
 
-/// Each text is explained as its row says: behind `@` the number of a line and what is in its place, then what is said.
+/// Each text is explained as its row says: after `@` the number of a line and what is in its place, then what is said.
 pub(crate) fn check(rt: &(impl AllocGlobal + Abort), text: &str, rows: &str) -> Result<(), Fail> {
     for row in rows.split("\n@ ").skip(1) {
         let (change, want) = row.split_once('\n').ok_or(row)?;
