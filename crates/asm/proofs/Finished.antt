@@ -8,7 +8,7 @@ use Rattle.std.proofs.lemmas.Option.{slice_get-get_or, same_Some}
 use Rattle.std.proofs.lemmas.List.Sums.{position_or_len_is}
 use Rattle.model.specs.declared.entries.CapabilityEntry.{CapabilityEntry}
 use Rattle.model.specs.declared.entries.InterruptEntry.{InterruptEntry}
-use Rattle.model.specs.Images.Image.{Image, content_format, whole_image}
+use Rattle.model.specs.Images.Image.{Image, content_format, has_promises, whole_image}
 use Rattle.model.specs.Images.Places.{is_handler, interrupt_of}
 use Rattle.format_laws.specs.Fitting.{IsFitting}
 use Rattle.format_laws.proofs.Laws.{is-fitting, many-length}
@@ -68,6 +68,10 @@ capabilities-again image fits = map-back (capability_of image) (entry_of (declar
 
 -- ---- the whole
 
+none-there : {A : Type 0} (xs : List A) → length xs ≡ 0 → [] ≡ xs
+none-there [] none = refl
+none-there (x ∷ xs) none = absurd (omega (arith, none))
+
 same-header : (image : Image) → IsFitting image → SectionsFit image
     → counted_header (record { bits = image.header.memory_bits; boot_radix = image.header.boot_radix }) (declared_of image) image.capabilities image.threads
     ≡ image.header
@@ -84,6 +88,7 @@ same-header image limits fits =
       tables = limits.tables i;
       frames = limits.frames i;
       contents = contents i;
+      promises = sym (limits.header.no_promises (ap has_promises fits.version)) i;
       threads = limits.threads i;
     }
 
@@ -96,5 +101,9 @@ is-listed image is draft same m here cs told =
     same_Some m (record { bits = image.header.memory_bits; boot_radix = image.header.boot_radix }) (sym here ∙ ap (λ (d : Draft). d.memory) same) in
     let entries : cs ≡ image.capabilities =
     told ∙ ap (λ (d : Draft). map (entry_of d.declared) d.declared.capabilities) same ∙ capabilities-again image limits in
+    let fits = sections-fit image is in
+    let count = limits.promises in
+    let none = limits.header.no_promises (ap has_promises fits.version) in
+    let promises = none-there image.promises (omega (arith, count, none)) in
     (λ i. assembled (memory i) (same i).declared (entries i) (same i).threads)
-    ∙ ap (λ h. record image { header = h }) (same-header image limits (sections-fit image is))
+    ∙ (λ i. record image { header = same-header image limits fits i; promises = promises i })

@@ -1,17 +1,18 @@
 -- The sections of an image that fits its format.
-use Rattle.std.proofs.Common.{ℕ, ◌≡◌, ◌==◌, ◌+◌, ◌-◌, true, min, List, ◌∷◌, ◌++◌, subst, eqb-true}
+use Rattle.std.proofs.Common.{ℕ, ◌≡◌, ◌==◌, ◌+◌, ◌-◌, true, min, List, ◌∷◌, ◌++◌, subst, arith}
 use Rattle.std.specs.Int.{w32}
 use Rattle.std.proofs.lemmas.Bool.{and_parts}
 use Rattle.model.specs.declared.entries.ImageHeader.{ImageHeader}
 use Rattle.model.specs.declared.refusals.Refusal.TheVariants.{Magic, Version}
 use Rattle.model.specs.Images.Format.{Format, many_fit, number_or}
-use Rattle.model.specs.Images.Image.{Image, between, capability_format, content_format, frame_format, header_format, image_with, interrupt_format, magic}
+use Rattle.model.specs.Images.Image.{Image, between, capability_format, content_format, frame_format, header_format, image_with, interrupt_format, latest_version, magic}
 use Rattle.model.specs.Images.Image.{object_format, pair_key, sections_format, slots_format, table_format, thread_format, untyped_format, whole_image}
-use Rattle.format_laws.proofs.Laws.{field-parts}
+use Rattle.format_laws.proofs.Laws.{between-bounds, field-parts}
+use Rattle.asm.specs.Drafts.{assembled_version}
 use Rattle.asm.proofs.Orders.{least_behind, many-at}
 
 pub record SectionsFit (i : Image) : Type 0 where
-  pub version : i.header.version ≡ 1
+  pub version : i.header.version ≡ assembled_version
   pub memory : between 16 24 i.header.memory_bits ≡ true
   pub radix : between 1 (min 14 (i.header.memory_bits - 5)) i.header.boot_radix ≡ true
   pub untypeds : many_fit (λ _. untyped_format) (λ _. 0) 0 i.header.untypeds i.untypeds ≡ true
@@ -22,17 +23,18 @@ pub record SectionsFit (i : Image) : Type 0 where
   pub tables : many_fit (table_format i.header.objects) (λ x. pair_key x.root x.address + 1) 0 i.header.tables i.tables ≡ true
   pub frames : many_fit (frame_format i.header.objects) (λ x. pair_key x.root x.address + 1) 0 i.header.frames i.frames ≡ true
   pub contents : many_fit (content_format i.header.objects) (λ c. c.header.frame + 1) 0 i.header.contents i.contents ≡ true
-  pub threads : many_fit (λ _. thread_format (slots_format i.header.objects) i.header.objects) (λ _. 0) 0 i.header.threads i.threads ≡ true
+  pub threads : many_fit (λ _. thread_format (slots_format i.header.objects) assembled_version i.header.objects) (λ _. 0) 0 i.header.threads i.threads ≡ true
 
 header-parts : (h : ImageHeader) → header_format.fits h ≡ true
-    → (h.version ≡ 1) × (between 16 24 h.memory_bits ≡ true) × (between 1 (min 14 (h.memory_bits - 5)) h.boot_radix ≡ true)
+    → (h.version ≡ assembled_version) × (between 16 24 h.memory_bits ≡ true) × (between 1 (min 14 (h.memory_bits - 5)) h.boot_radix ≡ true)
 unfolding header_format
 header-parts h is =
     let first = and_parts ((number_or (λ _. Magic) w32 (λ n. n == magic)).fits magic) _ is in
-    let second = and_parts ((number_or (λ _. Version) w32 (λ n. n == 1)).fits h.version) _ first.1 in
+    let second = and_parts ((number_or (λ _. Version) w32 (between 1 latest_version)).fits h.version) _ first.1 in
+    let version = between-bounds 1 latest_version h.version (and_parts _ (between 1 latest_version h.version) second.0).1 in
     let a = and_parts _ _ second.1 in
     let b = and_parts _ _ a.1 in (
-      eqb-true h.version 1 (and_parts _ (h.version == 1) second.0).1,
+      omega (arith, version.0, version.1),
       (field-parts (between 16 24) h.memory_bits a.0).1,
       (field-parts (between 1 (min 14 (h.memory_bits - 5))) h.boot_radix b.0).1,
     )
@@ -59,8 +61,9 @@ sections-fit image is =
       interrupts = e.0;
       tables = f.0;
       frames = g.0;
-      contents = g.1;
-      threads = whole.1;
+      contents = (and_parts _ _ g.1).0;
+      threads = subst (λ v. many_fit (λ _. thread_format (slots_format image.header.objects) v image.header.objects) (λ _. 0) 0 image.header.threads image.threads
+          ≡ true) header.0 whole.1;
     }
 
 -- the entry behind some of a section fits behind them

@@ -3,7 +3,7 @@ use Rattle.std.proofs.Common.{ℕ, ◌≡◌, ◌==◌, ◌+◌, ◌-◌, ◌^�
 use Rattle.std.specs.Prelude.{nat_le, nat_lt}
 use Rattle.std.specs.Int.{w32, w64}
 use mir.Val.{bits}
-use Rattle.std.proofs.lemmas.Bool.{and_parts, ltb-true, leb-true}
+use Rattle.std.proofs.lemmas.Bool.{and_parts, eqb-true, ltb-true, leb-true}
 use Rattle.std.proofs.lemmas.Bool.Decides.{nat_tests}
 use Rattle.model.specs.declared.capabilities.Cap.{Cap}
 use Rattle.model.specs.declared.entries.RegisterEntry.{RegisterEntry}
@@ -14,6 +14,7 @@ use Rattle.model.specs.declared.entries.TermEntry.{TermEntry}
 use Rattle.model.specs.declared.entries.ThreadHeader.{ThreadHeader}
 use Rattle.model.specs.Capabilities.CapabilityFields.{unpacked}
 use Rattle.model.specs.Images.Format.{field, fits_signed, many_fit, number}
+use Rattle.model.specs.Images.Image.{no_buffer}
 use Rattle.model.specs.Images.Image.{StateRecord, Thread, anything, below, between, is_constant, names_parent, no_parent, not_zero, pair_key, range_format}
 use Rattle.model.specs.Images.Image.{ranges_format, record_format, record_header_format, records_format, register_format, registers_format, slot_format}
 use Rattle.model.specs.Images.Image.{slots_format, term_format, terms_format, thread_format, thread_header_format, words_format}
@@ -22,6 +23,7 @@ use Rattle.image_reading.proofs.Laws.{words-only}
 use Rattle.asm_line.specs.declared.lines.Line.TheVariants as line
 use Rattle.asm_line.specs.Listed.{Lists, range, register, slot, IsTerm, IsWord}
 use Rattle.format_laws.proofs.Laws.{between-bounds, field-between, field-parts}
+use Rattle.asm.specs.Drafts.{assembled_version}
 use Rattle.asm.proofs.Said.{slot_said}
 use Rattle.asm.proofs.Orders.{least_behind}
 
@@ -35,6 +37,7 @@ pub record HeaderFits (objects : ℕ) (h : ThreadHeader) : Type 0 where
   pub priority : between 0 255 h.priority ≡ true
   pub budget : between 1 (2 ^ 62) h.budget ≡ true
   pub fault : IsWord h.fault
+  pub buffer : h.buffer ≡ no_buffer
   pub base : IsWord h.base
   pub registers : h.registers ≤ 31
   pub some_words : 1 ≤ h.words
@@ -46,7 +49,7 @@ pub record ThreadFits (objects : ℕ) (t : Thread) : Type 0 where
   pub words : many_fit (λ _. field anything) (λ _. 0) 0 t.header.words t.words ≡ true
   pub records : many_fit (record_format (slots_format objects) t.header.words) (λ r. r.header.point + 1) 0 t.header.records t.records ≡ true
 
-header-parts : (objects : ℕ) (h : ThreadHeader) → (thread_header_format objects).fits h ≡ true → HeaderFits objects h
+header-parts : (objects : ℕ) (h : ThreadHeader) → (thread_header_format assembled_version objects).fits h ≡ true → HeaderFits objects h
 unfolding thread_header_format
 header-parts objects h is =
     let a = and_parts ((field (below objects)).fits h.tcb) _ is in
@@ -56,7 +59,8 @@ header-parts objects h is =
     let e = and_parts ((field (between 0 255)).fits h.priority) _ d.1 in
     let budget = and_parts ((number w64 (between 1 (2 ^ 62))).fits h.budget) _ e.1 in
     let f = and_parts ((field anything).fits h.fault) _ budget.1 in
-    let g = and_parts ((field anything).fits h.entry) _ f.1 in
+    let absent = and_parts (h.buffer == no_buffer) _ f.1 in
+    let g = and_parts ((field anything).fits h.entry) _ absent.1 in
     let k = and_parts ((field anything).fits h.base) _ g.1 in
     let m = and_parts ((field (between 0 31)).fits h.registers) _ k.1 in
     let n = and_parts _ _ m.1 in
@@ -69,13 +73,14 @@ header-parts objects h is =
       priority = (field-parts (between 0 255) h.priority e.0).1;
       budget = (and_parts (nat_lt h.budget (2 ^ bits w64)) _ budget.0).1;
       fault = (field-parts anything h.fault f.0).0;
+      buffer = eqb-true h.buffer no_buffer absent.0;
       base = (field-parts anything h.base k.0).0;
       registers = (field-between 0 31 h.registers m.0).1;
       some_words = words.0;
       few_words = words.1;
     }
 
-pub thread-parts : (objects : ℕ) (t : Thread) → (thread_format (slots_format objects) objects).fits t ≡ true → ThreadFits objects t
+pub thread-parts : (objects : ℕ) (t : Thread) → (thread_format (slots_format objects) assembled_version objects).fits t ≡ true → ThreadFits objects t
 unfolding thread_format registers_format words_format records_format
 thread-parts objects t is =
     let a = and_parts _ _ is in

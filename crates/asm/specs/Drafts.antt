@@ -70,9 +70,13 @@ draft_of image = record {
 
 -- ---- what is put together behind the last line
 
+-- the version of an image that is put together of lines, which has no promises and no buffers
+abbrev pub assembled_version : ℕ
+assembled_version = 1
+
 abbrev pub counted_header : Memory → Declared → List CapabilityEntry → List Thread → ImageHeader
 counted_header m d cs ts = record {
-  version = 1;
+  version = assembled_version;
   memory_bits = m.bits;
   boot_radix = m.boot_radix;
   untypeds = length d.untypeds;
@@ -82,6 +86,7 @@ counted_header m d cs ts = record {
   tables = length d.tables;
   frames = length d.frames;
   contents = length d.contents;
+  promises = 0;
   threads = length ts;
 }
 
@@ -95,5 +100,6 @@ assembled m d cs ts = record {
   tables = d.tables;
   frames = d.frames;
   contents = d.contents;
+  promises = [];
   threads = ts;
 }

@@ -16,7 +16,7 @@ use Rattle.model.specs.declared.entries.TermEntry.{TermEntry}
 use Rattle.model.specs.declared.instructions.BranchOp.{BranchOp}
 use Rattle.model.specs.declared.instructions.Register.{Register}
 use Rattle.model.specs.declared.instructions.Instr.TheVariants.{Jal, Branch}
-use Rattle.model.specs.Images.Image.{Image, ImageContent, StateRecord, no_parent, pair_key, whole_image}
+use Rattle.model.specs.Images.Image.{Image, ImageContent, StateRecord, no_parent, pair_key, whole_image, no_buffer}
 use Rattle.model.specs.Images.Listing.{Text}
 use Rattle.model.specs.Machine.Instructions.{bits, word_of}
 use Rattle.asm_line.specs.declared.lines.Line.{Line}
@@ -121,6 +121,7 @@ thread_begins labels names said = do
         priority = said.priority;
         budget = said.budget;
         fault = said.fault;
+        buffer = no_buffer;
         entry = entry;
         base = said.base;
         registers = 0;

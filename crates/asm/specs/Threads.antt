@@ -5,7 +5,7 @@ use Rattle.model.specs.declared.entries.RegisterEntry.{RegisterEntry}
 use Rattle.model.specs.declared.entries.RangeEntry.{RangeEntry}
 use Rattle.model.specs.declared.entries.SlotEntry.{SlotEntry}
 use Rattle.model.specs.declared.entries.TermEntry.{TermEntry}
-use Rattle.model.specs.Images.Image.{Thread, StateRecord, pair_key, no_parent}
+use Rattle.model.specs.Images.Image.{Thread, StateRecord, pair_key, no_parent, no_buffer}
 use Rattle.model.specs.Images.Listing.{Text}
 use Rattle.asm_line.specs.declared.lines.ThreadLine.{ThreadLine}
 use Rattle.asm_line.specs.declared.lines.Parent.{Parent}
@@ -35,6 +35,7 @@ thread_begun names labels said = record {
       priority = said.priority;
       budget = said.budget;
       fault = said.fault;
+      buffer = no_buffer;
       entry = point_of labels said.entry;
       base = said.base;
       registers = 0;

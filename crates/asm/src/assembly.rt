@@ -314,6 +314,7 @@ impl<'a> Assembly<'a> {
             tables: declared.tables,
             frames: declared.frames,
             contents: declared.contents,
+            promises: Vec::new(self.alloc),
             threads: self.threads,
         }
     }

@@ -30,6 +30,9 @@ const MOST_TERMS: usize = 4;
 /// What stands for no parent CNode and no index.
 const NO_PARENT: u32 = u32::MAX;
 
+/// The number for no message buffer.
+const NO_BUFFER: u32 = u32::MAX;
+
 /// A thread whose line `end` is still to come.
 #[derive(Drop)]
 pub(crate) struct OpenThread {
@@ -208,6 +211,7 @@ impl OpenThread {
             priority: line.priority,
             budget: line.budget,
             fault: line.fault,
+            buffer: NO_BUFFER,
             entry: labels.point(&line.entry)?,
             base: line.base,
             registers: Vec::new(alloc),

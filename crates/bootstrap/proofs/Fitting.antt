@@ -1,14 +1,13 @@
 -- What fits the format keeps to its limits: counts are lengths, and what entries name is there.
-use Rattle.std.proofs.Common.{ℕ, zero, suc, ◌≡◌, ◌==◌, ◌+◌, ◌-◌, ◌<◌, ◌≤◌, ◌^◌, ◌&&◌, true, false, List, [], ◌∷◌, length, min, refl, ap, arith}
-use Rattle.std.specs.Int.{w32, w64}
+use Rattle.std.proofs.Common.{ℕ, zero, suc, ◌≡◌, ◌==◌, ◌+◌, ◌-◌, ◌<◌, ◌≤◌, ◌^◌, ◌&&◌, ◌||◌, true, false, List, [], ◌∷◌, length, refl, ap, arith}
+use Rattle.std.specs.Int.{w64}
 use Rattle.std.specs.Prelude.{nat_le, nat_lt}
 use Rattle.std.specs.List.{AllByRecursion}
 use Rattle.std.proofs.lemmas.Bool.{and_parts, ltb-true, leb-true}
 use Rattle.model.specs.declared.entries.ImageHeader.{ImageHeader}
-use Rattle.model.specs.declared.refusals.Refusal.TheVariants.{Magic, Version}
-use Rattle.model.specs.Images.Format.{Format, both, field, many_fit, number, number_or}
-use Rattle.model.specs.Images.Image.{Image, ImageContent, Thread, anything, below, between, capability_format, content_format, frame_format, header_format}
-use Rattle.model.specs.Images.Image.{image_with, interrupt_format, magic, object_format, pair_key, register_format, registers_format, sections_format}
+use Rattle.model.specs.Images.Format.{Format, field, many_fit, number, only_if}
+use Rattle.model.specs.Images.Image.{Image, ImageContent, Thread, anything, below, between, capability_format, content_format, frame_format, has_buffers}
+use Rattle.model.specs.Images.Image.{image_with, interrupt_format, no_buffer, object_format, pair_key, register_format, registers_format, sections_format}
 use Rattle.model.specs.Images.Image.{size_fits, slots_format, table_format, thread_format, thread_header_format, untyped_format, whole_image, words_format}
 use Rattle.format_laws.specs.Fitting.{HeaderFits}
 use Rattle.format_laws.proofs.Laws.{field-between, field-parts, is-fitting, many-length}
@@ -32,27 +31,8 @@ below-of limit n fits = ltb-true n limit (field-parts (below limit) n fits).1
 
 -- ---- the header
 
--- the counts of contents and threads
-last-counts : (h : ImageHeader) → header_format.fits h ≡ true → (h.contents ≤ 4096) × (h.threads ≤ 64)
-unfolding header_format
-last-counts h is =
-    let first = and_parts ((number_or (λ _. Magic) w32 (λ n. n == magic)).fits magic) _ is in
-    let second = and_parts ((number_or (λ _. Version) w32 (λ n. n == 1)).fits h.version) _ first.1 in
-    let a = and_parts ((field (between 16 24)).fits h.memory_bits) _ second.1 in
-    let b = and_parts ((field (between 1 (min 14 (h.memory_bits - 5)))).fits h.boot_radix) _ a.1 in
-    let c = and_parts ((field (between 1 64)).fits h.untypeds) _ b.1 in
-    let d = and_parts ((field (between 0 4096)).fits h.objects) _ c.1 in
-    let e = and_parts ((field (between 0 16384)).fits h.capabilities) _ d.1 in
-    let f = and_parts ((field (between 0 64)).fits h.interrupts) _ e.1 in
-    let g = and_parts ((field (between 0 1024)).fits h.tables) _ f.1 in
-    let k = and_parts ((field (between 0 4096)).fits h.frames)
-    ((both {B = ℕ} (field (between 0 4096)) (λ _. field (between 1 64))).fits (h.contents, h.threads)) g.1 in
-    let m = and_parts ((field (between 0 4096)).fits h.contents) ((field (between 1 64)).fits h.threads) k.1 in
-    ((field-between 0 4096 h.contents m.0).1, (field-between 1 64 h.threads m.1).1)
-
-header-small : (h : ImageHeader) → header_format.fits h ≡ true → HeaderFits h → IsSmall h
-header-small h is fits =
-    let last = last-counts h is in
+header-small : (h : ImageHeader) → HeaderFits h → IsSmall h
+header-small h fits =
     record {
       least_bits = fits.memory_low;
       most_bits = fits.memory_high;
@@ -65,8 +45,8 @@ header-small h is fits =
       interrupts = fits.interrupts;
       tables = fits.tables;
       frames = fits.frames;
-      contents = last.0;
-      threads = last.1;
+      contents = fits.contents;
+      threads = fits.threads;
     }
 
 -- ---- entries
@@ -85,7 +65,7 @@ content-fits h least c is =
     let frame = and_parts _ _ (field-parts (λ frame. nat_le least frame && nat_lt frame h.objects) c.header.frame a.0).1 in
     record { frame = ltb-true c.header.frame h.objects frame.1 }
 
-thread-header-fits : (h : ImageHeader) (t : Thread) → (thread_header_format h.objects).fits t.header ≡ true → length t.registers ≡ t.header.registers
+thread-header-fits : (h : ImageHeader) (t : Thread) → (thread_header_format h.version h.objects).fits t.header ≡ true → length t.registers ≡ t.header.registers
     → length t.words ≡ t.header.words → ThreadFits h t
 unfolding thread_header_format
 thread-header-fits h t is registers words =
@@ -96,7 +76,9 @@ thread-header-fits h t is registers words =
     let e = and_parts ((field (between 0 255)).fits t.header.priority) _ d.1 in
     let o = and_parts ((number w64 (between 1 (2 ^ 62))).fits t.header.budget) _ e.1 in
     let f = and_parts ((field anything).fits t.header.fault) _ o.1 in
-    let g = and_parts ((field anything).fits t.header.entry) _ f.1 in
+    let buffer = only_if (has_buffers h.version) no_buffer (field (λ n. nat_lt n h.objects || (n == no_buffer))) in
+    let absent = and_parts (buffer.fits t.header.buffer) _ f.1 in
+    let g = and_parts ((field anything).fits t.header.entry) _ absent.1 in
     let k = and_parts ((field anything).fits t.header.base) _ g.1 in
     let m = and_parts _ _ k.1 in
     let n = and_parts ((field (between 1 65536)).fits t.header.words) ((field (between 0 t.header.words)).fits t.header.records) m.1 in
@@ -110,7 +92,7 @@ thread-header-fits h t is registers words =
       most_words = (field-between 1 65536 t.header.words n.0).1;
     }
 
-thread-fits : (h : ImageHeader) (least : ℕ) (t : Thread) → (thread_format (slots_format h.objects) h.objects).fits t ≡ true → ThreadFits h t
+thread-fits : (h : ImageHeader) (least : ℕ) (t : Thread) → (thread_format (slots_format h.objects) h.version h.objects).fits t ≡ true → ThreadFits h t
 unfolding thread_format registers_format words_format
 thread-fits h least t is =
     let a = and_parts _ _ is in
@@ -134,11 +116,12 @@ limited image is =
     let e = and_parts (many_fit (interrupt_format h.objects) (λ x. x.line + 1) 0 h.interrupts image.interrupts) _ d.1 in
     let f = and_parts (many_fit (table_format h.objects) (λ x. pair_key x.root x.address + 1) 0 h.tables image.tables) _ e.1 in
     let g = and_parts (many_fit (frame_format h.objects) (λ x. pair_key x.root x.address + 1) 0 h.frames image.frames) _ f.1 in
-    let contents = list-fits (ContentFits h) (content_format h.objects) (λ c. c.header.frame + 1) (content-fits h) 0 h.contents image.contents g.1 in
-    let threads = list-fits (ThreadFits h) (λ _. thread_format (slots_format h.objects) h.objects) (λ _. 0) (thread-fits h) 0 h.threads image.threads whole.1 in
+    let j = and_parts (many_fit (content_format h.objects) (λ c. c.header.frame + 1) 0 h.contents image.contents) _ g.1 in
+    let contents = list-fits (ContentFits h) (content_format h.objects) (λ c. c.header.frame + 1) (content-fits h) 0 h.contents image.contents j.0 in
+    let threads = list-fits (ThreadFits h) (λ _. thread_format (slots_format h.objects) h.version h.objects) (λ _. 0) (thread-fits h) 0 h.threads image.threads whole.1 in
     let fitting = is-fitting image is in
     record {
-      header = header-small h a.0 fitting.header;
+      header = header-small h fitting.header;
       untypeds = record { count = fitting.untypeds; entries = λ k u at. record { bits = (fitting.untyped k u at).high } };
       objects = record {
         count = fitting.objects;

@@ -1,7 +1,7 @@
 -- The entries of an image that fit their formats have their numbers in their ranges.
-use Rattle.std.proofs.Common.{ℕ, ◌≡◌, ◌==◌, ◌+◌, ◌-◌, ◌^◌, ◌≤◌, ◌&&◌, true, min, arith}
+use Rattle.std.proofs.Common.{ℕ, ◌≡◌, ◌==◌, ◌+◌, ◌-◌, ◌^◌, ◌≤◌, ◌&&◌, ◌||◌, Bool, true, false, min, arith}
 use Rattle.std.specs.Prelude.{nat_le, nat_lt}
-use Rattle.std.proofs.lemmas.Bool.{and_parts, ltb-true, leb-true}
+use Rattle.std.proofs.lemmas.Bool.{and_parts, eqb-true, ltb-true, leb-true}
 use Rattle.model.specs.declared.entries.CapabilityEntry.{CapabilityEntry}
 use Rattle.model.specs.declared.entries.FrameEntry.{FrameEntry}
 use Rattle.model.specs.declared.entries.ImageHeader.{ImageHeader}
@@ -11,20 +11,30 @@ use Rattle.model.specs.declared.entries.TableEntry.{TableEntry}
 use Rattle.model.specs.declared.entries.ThreadHeader.{ThreadHeader}
 use Rattle.model.specs.declared.entries.UntypedEntry.{UntypedEntry}
 use Rattle.format_laws.specs.Fitting.{CapabilityFits, FrameFits, HeaderFits, InterruptFits, ObjectFits, TableFits, ThreadFits, UntypedFits}
-use Rattle.format_laws.proofs.FormatFits.{field-between, field-parts}
+use Rattle.format_laws.proofs.FormatFits.{between-bounds, field-between, field-parts}
 use Rattle.model.specs.Images.Image.{Image, Thread, anything, below, between, capability_format, frame_format, header_format, interrupt_format, magic}
-use Rattle.model.specs.Images.Image.{object_format, pair_key, size_fits, slots_format, table_format, thread_format, thread_header_format, untyped_format}
-use Rattle.model.specs.Images.Format.{both, field, number_or}
+use Rattle.model.specs.Images.Image.{has_buffers, has_promises, latest_version, no_buffer, object_format, pair_key, size_fits, slots_format, table_format, thread_format, thread_header_format, untyped_format}
+use Rattle.model.specs.Images.Format.{Format, both, field, number_or, only_if}
 use Rattle.model.specs.declared.refusals.Refusal.TheVariants.{Magic, Version}
 use Rattle.std.specs.Int.{w32}
 
 -- ---- fields and their tests
 
+-- a field that is not there has the value for an absent one
+absent-is : (test : Bool) (absent : ℕ) (format : Format ℕ) (n : ℕ) → test ≡ false → (only_if test absent format).fits n ≡ true → n ≡ absent
+absent-is true absent format n none is = absurd cc
+absent-is false absent format n none is = eqb-true n absent is
+
+few-or-none : (test : Bool) (most n : ℕ) → (only_if test 0 (field (between 0 most))).fits n ≡ true → n ≤ most
+few-or-none true most n is = (field-between 0 most n is).1
+few-or-none false most n is = omega (arith, eqb-true n 0 is)
+
 pub header-fits : (h : ImageHeader) → header_format.fits h ≡ true → HeaderFits h
 unfolding header_format
 header-fits h is =
     let first = and_parts ((number_or (λ _. Magic) w32 (λ n. n == magic)).fits magic) _ is in
-    let second = and_parts ((number_or (λ _. Version) w32 (λ n. n == 1)).fits h.version) _ first.1 in
+    let second = and_parts ((number_or (λ _. Version) w32 (between 1 latest_version)).fits h.version) _ first.1 in
+    let version = between-bounds 1 latest_version h.version (and_parts _ (between 1 latest_version h.version) second.0).1 in
     let a = and_parts _ _ second.1 in
     let memory = field-between 16 24 h.memory_bits a.0 in
     let b = and_parts _ _ a.1 in
@@ -34,9 +44,14 @@ header-fits h is =
     let e = and_parts _ _ d.1 in
     let f = and_parts _ _ e.1 in
     let g = and_parts _ _ f.1 in
-    let k = and_parts _ ((both {B = ℕ} (field (between 0 4096)) (λ _. field (between 1 64))).fits (h.contents, h.threads)) g.1 in
-    let m = and_parts ((field (between 0 4096)).fits h.contents) ((field (between 1 64)).fits h.threads) k.1 in
+    let promised = only_if (has_promises h.version) 0 (field (between 0 4096)) in
+    let last = both {B = ℕ} promised (λ _. field (between 1 64)) in
+    let k = and_parts _ ((both {B = ℕ × ℕ} (field (between 0 4096)) (λ _. last)).fits (h.contents, (h.promises, h.threads))) g.1 in
+    let m = and_parts ((field (between 0 4096)).fits h.contents) (last.fits (h.promises, h.threads)) k.1 in
+    let p = and_parts (promised.fits h.promises) ((field (between 1 64)).fits h.threads) m.1 in
     record {
+      version_low = version.0;
+      version_high = version.1;
       memory_low = memory.0;
       memory_high = memory.1;
       radix_low = radix.0;
@@ -49,7 +64,9 @@ header-fits h is =
       tables = (field-between 0 1024 h.tables g.0).1;
       frames = (field-between 0 4096 h.frames k.0).1;
       contents = (field-between 0 4096 h.contents m.0).1;
-      threads = (field-between 1 64 h.threads m.1).1;
+      promises = few-or-none (has_promises h.version) 4096 h.promises p.0;
+      no_promises = λ none. absent-is (has_promises h.version) 0 (field (between 0 4096)) h.promises none p.0;
+      threads = (field-between 1 64 h.threads p.1).1;
     }
 
 pub untyped-fits : (u : UntypedEntry) → untyped_format.fits u ≡ true → UntypedFits u
@@ -135,7 +152,7 @@ frame-fits image least f is =
       leb-true least (pair_key f.root f.address) address.1,
     )
 
-header-of-thread : (image : Image) (t : ThreadHeader) → (thread_header_format image.header.objects).fits t ≡ true → ThreadFits image t
+header-of-thread : (image : Image) (t : ThreadHeader) → (thread_header_format image.header.version image.header.objects).fits t ≡ true → ThreadFits image t
 unfolding thread_header_format
 header-of-thread image t is =
     let a = and_parts _ _ is in
@@ -144,7 +161,8 @@ header-of-thread image t is =
     let d = and_parts _ _ c.1 in
     let e = and_parts _ _ d.1 in
     let f = and_parts _ _ (and_parts _ _ e.1).1 in
-    let g = and_parts _ _ f.1 in
+    let absent = and_parts _ _ f.1 in
+    let g = and_parts _ _ absent.1 in
     let k = and_parts _ _ g.1 in
     record {
       tcb = ltb-true t.tcb image.header.objects (field-parts (below image.header.objects) t.tcb a.0).1;
@@ -155,9 +173,11 @@ header-of-thread image t is =
       fault = (field-parts anything t.fault f.0).0;
       entry = (field-parts anything t.entry g.0).0;
       base = (field-parts anything t.base k.0).0;
+      no_buffer = λ none. absent-is (has_buffers image.header.version) no_buffer
+          (field (λ n. nat_lt n image.header.objects || (n == no_buffer))) t.buffer none absent.0;
     }
 
-pub thread-fits : (image : Image) (t : Thread) → (thread_format (slots_format image.header.objects) image.header.objects).fits t ≡ true →
+pub thread-fits : (image : Image) (t : Thread) → (thread_format (slots_format image.header.objects) image.header.version image.header.objects).fits t ≡ true →
     ThreadFits image t.header
 unfolding thread_format
 thread-fits image t is = header-of-thread image t.header (and_parts _ _ is).0

@@ -3,7 +3,7 @@ use Rattle.std.proofs.Common.{◌≡◌, ◌+◌, true, refl}
 use Rattle.std.proofs.lemmas.Bool.{and_parts}
 use Rattle.format_laws.proofs.FormatFits.{many-each, many-length, many-rises}
 use Rattle.model.specs.Images.Image.{Image, capability_format, frame_format, image_with, interrupt_format, object_format, pair_key, sections_format}
-use Rattle.model.specs.Images.Image.{slots_format, table_format, thread_format, untyped_format, whole_image}
+use Rattle.model.specs.Images.Image.{promise_format, slots_format, table_format, thread_format, untyped_format, whole_image}
 use Rattle.format_laws.specs.Fitting.{IsFitting}
 use Rattle.format_laws.proofs.EntryFits.{capability-fits, frame-fits, header-fits, interrupt-fits, object-fits, table-fits, thread-fits, untyped-fits}
 
@@ -24,7 +24,9 @@ is-fitting image is =
     let interrupts = interrupt_format h.objects in
     let tables = table_format h.objects in
     let frames = frame_format h.objects in
-    let threads = thread_format (slots_format h.objects) h.objects in
+    let j = and_parts _ _ g.1 in
+    let threads = thread_format (slots_format h.objects) h.version h.objects in
+    let promises = promise_format h.objects in
     record {
       header = header-fits h a.0;
       untypeds = many-length (λ _. untyped_format) (λ _. 0) 0 h.untypeds image.untypeds b.0;
@@ -33,6 +35,7 @@ is-fitting image is =
       interrupts = many-length interrupts (λ x. x.line + 1) 0 h.interrupts image.interrupts e.0;
       tables = many-length tables (λ x. pair_key x.root x.address + 1) 0 h.tables image.tables f.0;
       frames = many-length frames (λ x. pair_key x.root x.address + 1) 0 h.frames image.frames g.0;
+      promises = many-length promises (λ p. p.header.endpoint + 1) 0 h.promises image.promises j.1;
       threads = many-length (λ _. threads) (λ _. 0) 0 h.threads image.threads whole.1;
       untyped = λ k u at. untyped-fits u (many-each (λ _. untyped_format) (λ _. 0) 0 h.untypeds image.untypeds b.0 k u at).1;
       object = λ k o at. let one = many-each objects (λ o. o.untyped) 0 h.objects image.objects c.0 k o at in object-fits image one.0 o one.1;

@@ -1,5 +1,5 @@
 -- What an image is that fits its format: counts are lengths, numbers lie in their ranges, and keys rise.
-use Rattle.std.specs.Prelude.{ℕ, ◌≡◌, ◌+◌, ◌^◌, ◌<◌, ◌≤◌, ◌≤ℤ◌, negsuc, true, length, Some, slice_get}
+use Rattle.std.specs.Prelude.{ℕ, ◌≡◌, ◌+◌, ◌^◌, ◌<◌, ◌≤◌, ◌≤ℤ◌, negsuc, true, false, length, Some, slice_get}
 use Rattle.model.specs.declared.entries.CapabilityEntry.{CapabilityEntry}
 use Rattle.model.specs.declared.entries.FrameEntry.{FrameEntry}
 use Rattle.model.specs.declared.entries.ImageHeader.{ImageHeader}
@@ -8,11 +8,13 @@ use Rattle.model.specs.declared.entries.ObjectEntry.{ObjectEntry}
 use Rattle.model.specs.declared.entries.TableEntry.{TableEntry}
 use Rattle.model.specs.declared.entries.ThreadHeader.{ThreadHeader}
 use Rattle.model.specs.declared.entries.UntypedEntry.{UntypedEntry}
-use Rattle.model.specs.Images.Image.{Image, StateRecord, Thread, pair_key, size_fits}
+use Rattle.model.specs.Images.Image.{Image, StateRecord, Thread, has_buffers, has_promises, latest_version, no_buffer, pair_key, size_fits}
 
 -- ---- entries
 
 pub record HeaderFits (h : ImageHeader) : Type 0 where
+  pub version_low : 1 ≤ h.version
+  pub version_high : h.version ≤ latest_version
   pub memory_low : 16 ≤ h.memory_bits
   pub memory_high : h.memory_bits ≤ 24
   pub radix_low : 1 ≤ h.boot_radix
@@ -25,6 +27,8 @@ pub record HeaderFits (h : ImageHeader) : Type 0 where
   pub tables : h.tables ≤ 1024
   pub frames : h.frames ≤ 4096
   pub contents : h.contents ≤ 4096
+  pub promises : h.promises ≤ 4096
+  pub no_promises : has_promises h.version ≡ false → h.promises ≡ 0
   pub threads : h.threads ≤ 64
 
 pub record UntypedFits (u : UntypedEntry) : Type 0 where
@@ -70,6 +74,7 @@ pub record ThreadFits (image : Image) (t : ThreadHeader) : Type 0 where
   pub fault : t.fault < 2 ^ 32
   pub entry : t.entry < 2 ^ 32
   pub base : t.base < 2 ^ 32
+  pub no_buffer : has_buffers image.header.version ≡ false → t.buffer ≡ no_buffer
 
 -- ---- the image
 
@@ -81,6 +86,7 @@ pub record IsFitting (image : Image) : Type 0 where
   pub interrupts : length image.interrupts ≡ image.header.interrupts
   pub tables : length image.tables ≡ image.header.tables
   pub frames : length image.frames ≡ image.header.frames
+  pub promises : length image.promises ≡ image.header.promises
   pub threads : length image.threads ≡ image.header.threads
   pub untyped : (k : ℕ) (u : UntypedEntry) → slice_get image.untypeds k ≡ Some u → UntypedFits u
   pub object : (k : ℕ) (o : ObjectEntry) → slice_get image.objects k ≡ Some o → ObjectFits image o

@@ -1,3 +1,4 @@
 mod HeaderSpellings
 mod Lists
 mod SpellingLaws
+mod WholeFits

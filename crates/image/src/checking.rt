@@ -1,12 +1,13 @@
 //! Images: parts whose fields are all in their ranges and orders.
 
-ghost use Rattle.std.specs.Prelude.{◌≡◌, ℕ, ◌+◌, ◌&&◌, if◌then◌else◌, Some, None, true, false, IfOk, IfErr, length};
-ghost use Rattle.model.specs.Images.Format.{many_fit, field, number, signed};
-ghost use Rattle.model.specs.Images.Image.{anything, between, content_format, header_format, image_with, record_format, record_header_format, sections_format, slots_format, thread_format, thread_header_format, whole_image};
+ghost use Rattle.std.specs.Prelude.{◌≡◌, ℕ, ◌+◌, ◌&&◌, ◌||◌, ◌==◌, nat_lt, nat_le, ◌^◌, if◌then◌else◌, Some, None, true, false, IfOk, IfErr, length};
+ghost use Rattle.image.specs.Sections.{mappings_fit, sections_fit};
+ghost use Rattle.model.specs.Images.Format.{many_fit, field, number, only_if, signed};
+ghost use Rattle.model.specs.Images.Image.{anything, between, content_format, has_buffers, has_promises, header_format, image_with, latest_version, no_buffer, promise_format, record_format, record_header_format, sections_format, slots_format, thread_format, thread_header_format, whole_image};
 
 use crate::listed::{Limits, Listed, all_fit};
-use crate::parts::{Content, Parts, RecordParts, ThreadParts};
-use image_reading::radix_limit;
+use crate::parts::{Content, Parts, Promise, RecordParts, ThreadParts};
+use image_reading::{has_buffers, has_promises, is_known_version, radix_limit};
 use std::marker::Model;
 
 /// An image: parts whose fields are all in the ranges and orders of the format.
@@ -60,28 +61,31 @@ fn parts_fit(parts: &Parts) -> bool
     let Some(limits) = limits_of(parts) else {
         return false;
     };
-    if !all_fit(&parts.untypeds, limits, 0) {
-        return false;
-    }
-    if !all_fit(&parts.objects, limits, 0) {
-        return false;
-    }
-    if !all_fit(&parts.capabilities, limits, 0) {
-        return false;
-    }
-    if !all_fit(&parts.interrupts, limits, 0) {
-        return false;
-    }
-    if !all_fit(&parts.tables, limits, 0) {
-        return false;
-    }
-    if !all_fit(&parts.frames, limits, 0) {
-        return false;
-    }
-    if !all_fit(&parts.contents, limits, 0) {
+    if !sections_fit(parts, limits) {
         return false;
     }
     all_fit(&parts.threads, limits, 0)
+}
+
+/// Whether the entries of the sections before the threads are in their ranges and orders.
+fn sections_fit(parts: &Parts, limits: Limits) -> bool
+    ensures { result ≡ sections_fit limits parts.now }
+{
+    all_fit(&parts.untypeds, limits, 0)
+        && all_fit(&parts.objects, limits, 0)
+        && all_fit(&parts.capabilities, limits, 0)
+        && all_fit(&parts.interrupts, limits, 0)
+        && mappings_fit(parts, limits)
+}
+
+/// Whether what the parts map, what their frames begin with, and what they promise, is in its ranges and orders.
+fn mappings_fit(parts: &Parts, limits: Limits) -> bool
+    ensures { result ≡ mappings_fit limits parts.now }
+{
+    all_fit(&parts.tables, limits, 0)
+        && all_fit(&parts.frames, limits, 0)
+        && all_fit(&parts.contents, limits, 0)
+        && all_fit(&parts.promises, limits, 0)
 }
 
 /// Whether a number is one from `low` to `high`.
@@ -91,17 +95,41 @@ fn is_within(number: usize, low: u32, high: u32) -> bool
     low as usize <= number && number <= high as usize
 }
 
-/// Whether the last six counts of the image's head are in their ranges.
+/// Whether a number of promises is in its range: an image of a version before 2 has none.
+fn promise_count_fits(version: u32, count: usize) -> bool
+    ensures { result ≡ (only_if (has_promises version) 0 (field (between 0 4096))).fits count }
+{
+    if has_promises(version) {
+        is_within(count, 0, 4096)
+    } else {
+        count == 0
+    }
+}
+
+/// Whether the number for a thread's buffer is an object's or that for none: a thread of a version before 3 has none.
+fn buffer_fits(version: u32, buffer: u32, objects: u32) -> bool
+    ensures { result ≡ (only_if (has_buffers version) no_buffer (field (λ n. nat_lt n objects || (n == no_buffer)))).fits buffer }
+{
+    if has_buffers(version) {
+        buffer < objects || buffer == u32::MAX
+    } else {
+        buffer == u32::MAX
+    }
+}
+
+/// Whether the last seven counts of the image's head are in their ranges.
 fn last_counts_fit(parts: &Parts) -> bool
     ensures { let h = parts.now.header in result ≡ ((field (between 0 16384)).fits h.capabilities && ((field (between 0 64)).fits h.interrupts
         && ((field (between 0 1024)).fits h.tables && ((field (between 0 4096)).fits h.frames
-        && ((field (between 0 4096)).fits h.contents && (field (between 1 64)).fits h.threads))))) }
+        && ((field (between 0 4096)).fits h.contents && ((only_if (has_promises h.version) 0 (field (between 0 4096))).fits h.promises
+        && (field (between 1 64)).fits h.threads)))))) }
 {
     is_within(parts.capabilities.len(), 0, 16384)
         && is_within(parts.interrupts.len(), 0, 64)
         && is_within(parts.tables.len(), 0, 1024)
         && is_within(parts.frames.len(), 0, 4096)
         && is_within(parts.contents.len(), 0, 4096)
+        && promise_count_fits(parts.version, parts.promises.len())
         && is_within(parts.threads.len(), 1, 64)
 }
 
@@ -110,7 +138,7 @@ fn last_counts_fit(parts: &Parts) -> bool
 fn head_fits(parts: &Parts) -> bool
     ensures { result ≡ header_format.fits parts.now.header }
 {
-    parts.version == 1
+    is_known_version(parts.version)
         && is_within(parts.memory_bits as usize, 16, 24)
         && is_within(parts.boot_radix as usize, 1, radix_limit(parts.memory_bits))
         && is_within(parts.untypeds.len(), 1, 64)
@@ -122,12 +150,13 @@ fn head_fits(parts: &Parts) -> bool
 #[tactic(auto, unfolding(model::specs::Images::Image::header_format))]
 fn limits_of(parts: &Parts) -> Option<Limits>
     ensures { let h = parts.now.header in result ≡ (if header_format.fits h
-        then Some (record { untypeds = h.untypeds; objects = h.objects; interrupts = h.interrupts; words = 0 }) else None) }
+        then Some (record { version = h.version; untypeds = h.untypeds; objects = h.objects; interrupts = h.interrupts; words = 0 }) else None) }
 {
     if !head_fits(parts) {
         return None;
     }
     Some(Limits {
+        version: parts.version,
         untypeds: parts.untypeds.len() as u32,
         objects: parts.objects.len() as u32,
         interrupts: parts.interrupts.len() as u32,
@@ -168,6 +197,35 @@ impl Listed for Content {
     }
 }
 
+/// Whether the numbers of a promise's fixed part are in their ranges.
+fn promise_header_fits(promise: &Promise, limits: Limits, least: u64) -> bool
+    ensures { let h = promise.now.header in result ≡ ((field (λ endpoint. nat_le least endpoint && nat_lt endpoint limits.objects)).fits h.endpoint
+        && ((field anything).fits h.badge_low && ((field (λ high. nat_le h.badge_low high && nat_lt high (2 ^ 28))).fits h.badge_high
+        && (field (between 0 8)).fits h.words))) }
+{
+    least <= u64::from(promise.endpoint)
+        && promise.endpoint < limits.objects
+        && is_word(promise.badge_low)
+        && promise.badge_low <= promise.badge_high
+        && promise.badge_high < 1 << 28
+        && is_within(promise.words.len(), 0, 8)
+}
+
+#[tactic(auto, unfolding(model::specs::Images::Image::promise_format))]
+impl Listed for Promise {
+    ghost format = { λ limits. promise_format limits.objects };
+
+    ghost next = { λ p. p.header.endpoint + 1 };
+
+    fn next_key(&self, limits: Limits, least: u64) -> Option<u64> {
+        if promise_header_fits(self, limits, least) && all_fit(&self.words, limits, 0) {
+            Some(u64::from(self.endpoint) + 1)
+        } else {
+            None
+        }
+    }
+}
+
 /// Whether the numbers of a record's head are in their ranges, in a program of so many words.
 #[tactic(auto, unfolding(model::specs::Images::Image::record_header_format))]
 fn record_header_fits(part: &RecordParts, limits: Limits, least: u64) -> bool
@@ -201,10 +259,26 @@ impl Listed for RecordParts {
     }
 }
 
+/// Whether the numbers of a thread's head after its budget are in their ranges.
+fn program_fits(thread: &ThreadParts, version: u32, objects: u32) -> bool
+    ensures { let h = thread.now.header in result ≡ ((field anything).fits h.fault
+        && ((only_if (has_buffers version) no_buffer (field (λ n. nat_lt n objects || (n == no_buffer)))).fits h.buffer
+        && ((field anything).fits h.entry && ((field anything).fits h.base && ((field (between 0 31)).fits h.registers
+        && ((field (between 1 65536)).fits h.words && (field (between 0 h.words)).fits h.records)))))) }
+{
+    is_word(thread.fault)
+        && buffer_fits(version, thread.buffer, objects)
+        && is_word(thread.entry)
+        && is_word(thread.base)
+        && is_within(thread.registers.len(), 0, 31)
+        && is_within(thread.words.len(), 1, 65536)
+        && thread.records.len() <= thread.words.len()
+}
+
 /// Whether the numbers of a thread's head are in their ranges.
 #[tactic(auto, unfolding(model::specs::Images::Image::thread_header_format))]
-fn thread_header_fits(thread: &ThreadParts, objects: u32) -> bool
-    ensures { result ≡ (thread_header_format objects).fits thread.now.header }
+fn thread_header_fits(thread: &ThreadParts, version: u32, objects: u32) -> bool
+    ensures { result ≡ (thread_header_format version objects).fits thread.now.header }
 {
     thread.tcb < objects
         && thread.cnode < objects
@@ -213,20 +287,15 @@ fn thread_header_fits(thread: &ThreadParts, objects: u32) -> bool
         && is_within(thread.priority as usize, 0, 255)
         && 1 <= thread.budget
         && thread.budget <= 1 << 62
-        && is_word(thread.fault)
-        && is_word(thread.entry)
-        && is_word(thread.base)
-        && is_within(thread.registers.len(), 0, 31)
-        && is_within(thread.words.len(), 1, 65536)
-        && thread.records.len() <= thread.words.len()
+        && program_fits(thread, version, objects)
 }
 
 /// How many words a thread's program has, if the numbers of the thread's head are in their ranges.
 #[tactic(auto, unfolding(model::specs::Images::Image::thread_header_format))]
-fn program_length(thread: &ThreadParts, objects: u32) -> Option<u32>
-    ensures { let h = thread.now.header in result ≡ (if (thread_header_format objects).fits h then Some h.words else None) }
+fn program_length(thread: &ThreadParts, version: u32, objects: u32) -> Option<u32>
+    ensures { let h = thread.now.header in result ≡ (if (thread_header_format version objects).fits h then Some h.words else None) }
 {
-    if thread_header_fits(thread, objects) {
+    if thread_header_fits(thread, version, objects) {
         Some(thread.words.len() as u32)
     } else {
         None
@@ -235,12 +304,12 @@ fn program_length(thread: &ThreadParts, objects: u32) -> Option<u32>
 
 #[tactic(auto, unfolding(model::specs::Images::Image::thread_format, model::specs::Images::Image::registers_format, model::specs::Images::Image::words_format, model::specs::Images::Image::records_format))]
 impl Listed for ThreadParts {
-    ghost format = { λ limits least. thread_format (slots_format limits.objects) limits.objects };
+    ghost format = { λ limits least. thread_format (slots_format limits.objects) limits.version limits.objects };
 
     ghost next = { λ t. 0 };
 
     fn next_key(&self, limits: Limits, _least: u64) -> Option<u64> {
-        let words = program_length(self, limits.objects)?;
+        let words = program_length(self, limits.version, limits.objects)?;
         let limits = Limits { words, ..limits };
         if all_fit(&self.registers, limits, 1)
             && words_fit(&self.words)

@@ -9,8 +9,8 @@ mod writing;
 
 pub use checking::Image;
 pub use image_reading::{
-    ContentRef, Contents, Entries, ImageRef, RecordRef, Records, Refusal, Slots, ThreadRef,
-    Threads, read,
+    ContentRef, Contents, Entries, ImageRef, PromiseRef, Promises, RecordRef, Records, Refusal,
+    Slots, ThreadRef, Threads, read,
 };
-pub use parts::{Content, Parts, RecordParts, ThreadParts};
+pub use parts::{Content, Parts, Promise, RecordParts, ThreadParts};
 pub use writing::write;

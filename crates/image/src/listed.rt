@@ -2,19 +2,20 @@
 
 ghost use Rattle.std.specs.Prelude.{◌≡◌, ℕ, ◌+◌, if◌then◌else◌, Some, None, length};
 ghost use Rattle.model.specs.Images.Format.{Format, many_fit};
-ghost use Rattle.model.specs.Images.Image.{capability_format, frame_format, interrupt_format, object_format, pair_key, range_format, register_format, size_fits, slot_format, table_format, term_format, untyped_format};
+ghost use Rattle.model.specs.Images.Image.{capability_format, frame_format, interrupt_format, object_format, pair_key, promised_word_format, range_format, register_format, size_fits, slot_format, table_format, term_format, untyped_format};
 ghost use Rattle.image.specs.declared.listed.Limits.{Limits};
 
 use image_reading::{names_parent, unpacks};
 use model::{
-    CapabilityEntry, FrameEntry, InterruptEntry, ObjectEntry, RangeEntry, RegisterEntry, SlotEntry,
-    TableEntry, TermEntry, UntypedEntry,
+    CapabilityEntry, FrameEntry, InterruptEntry, ObjectEntry, PromisedWord, RangeEntry,
+    RegisterEntry, SlotEntry, TableEntry, TermEntry, UntypedEntry,
 };
 
-/// What the numbers in an entry lie below: how many untypeds, objects and interrupts the image has,
-/// and how many words the thread's program.
+/// What the numbers in an entry depend on: the version of the image, and what they lie below: how many untypeds, objects and
+/// interrupts the image has, and how many words the thread's program.
 #[derive(Clone, Copy)]
 pub struct Limits {
+    pub version: u32,
     pub untypeds: u32,
     pub objects: u32,
     pub interrupts: u32,
@@ -72,6 +73,18 @@ impl Listed for UntypedEntry {
         } else {
             None
         }
+    }
+}
+
+#[tactic(auto, unfolding(model::specs::Images::Image::promised_word_format))]
+impl Listed for PromisedWord {
+    ghost format = { λ limits least. promised_word_format };
+
+    ghost next = { λ w. 0 };
+
+    fn next_key(&self, _limits: Limits, _least: u64) -> Option<u64> {
+        let PromisedWord { low, high } = *self;
+        if low <= high { Some(0) } else { None }
     }
 }
 

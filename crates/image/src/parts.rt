@@ -2,8 +2,8 @@
 //! counts that a file gives are the lengths of the lists.
 
 use model::{
-    CapabilityEntry, FrameEntry, InterruptEntry, ObjectEntry, RangeEntry, RegisterEntry, SlotEntry,
-    TableEntry, TermEntry, UntypedEntry,
+    CapabilityEntry, FrameEntry, InterruptEntry, ObjectEntry, PromisedWord, RangeEntry,
+    RegisterEntry, SlotEntry, TableEntry, TermEntry, UntypedEntry,
 };
 use std::marker::Model;
 
@@ -57,6 +57,8 @@ pub struct ThreadParts {
     pub budget: u64,
     /// The capability address of its fault handler, or 0 for none.
     pub fault: u32,
+    /// The frame object of its message buffer, or `u32::MAX` for none, as in versions 1 and 2.
+    pub buffer: u32,
     /// The point that it starts at.
     pub entry: u32,
     /// The virtual address of the first word of its program.
@@ -84,6 +86,7 @@ impl Model for ThreadParts {
         priority = t.priority;
         budget = t.budget;
         fault = t.fault;
+        buffer = t.buffer;
         entry = t.entry;
         base = t.base;
         registers = length t.registers.items;
@@ -112,6 +115,28 @@ impl Model for Content {
     ghost view = { λ c. record { header = record { frame = c.frame; words = length c.words.items }; words = c.words.items } };
 }
 
+/// What every message to an endpoint keeps: the range of its badge, and those of its first words.
+#[derive(Drop)]
+pub struct Promise {
+    /// The endpoint object.
+    pub endpoint: u32,
+    pub badge_low: u32,
+    pub badge_high: u32,
+    pub words: Vec<PromisedWord>,
+}
+
+impl Model for Promise {
+    ghost use Rattle.std.specs.Prelude.{length};
+    ghost use Rattle.model.specs.Images.Image.{ImagePromise};
+
+    ghost Value = { ImagePromise };
+
+    ghost view = { λ p. record {
+      header = record { endpoint = p.endpoint; badge_low = p.badge_low; badge_high = p.badge_high; words = length p.words.items };
+      words = p.words.items;
+    } };
+}
+
 /// What an image file holds: the numbers of its head and a list for each section.
 #[derive(Drop)]
 pub struct Parts {
@@ -127,6 +152,8 @@ pub struct Parts {
     pub tables: Vec<TableEntry>,
     pub frames: Vec<FrameEntry>,
     pub contents: Vec<Content>,
+    /// None in version 1.
+    pub promises: Vec<Promise>,
     pub threads: Vec<ThreadParts>,
 }
 
@@ -148,6 +175,7 @@ impl Model for Parts {
         tables = length p.tables.items;
         frames = length p.frames.items;
         contents = length p.contents.items;
+        promises = length p.promises.items;
         threads = length p.threads.items;
       };
       untypeds = p.untypeds.items;
@@ -157,6 +185,7 @@ impl Model for Parts {
       tables = p.tables.items;
       frames = p.frames.items;
       contents = p.contents.items;
+      promises = p.promises.items;
       threads = p.threads.items;
     } };
 }

@@ -3,11 +3,11 @@
 ghost use Rattle.std.specs.Prelude.{◌≡◌, ◌++◌, ℕ, List, IfOk};
 ghost use Rattle.std.specs.Int.{w32, w64, cast_unsigned, to_le_bytes};
 ghost use Rattle.std.specs.List.{flat_map};
-ghost use Rattle.model.specs.Images.Image.{capability_format, frame_format, interrupt_format, object_format, range_format, register_format, slot_format, table_format, term_format, untyped_format};
+ghost use Rattle.model.specs.Images.Image.{capability_format, frame_format, interrupt_format, object_format, promised_word_format, range_format, register_format, slot_format, table_format, term_format, untyped_format};
 
 use model::{
-    CapabilityEntry, FrameEntry, InterruptEntry, ObjectEntry, RangeEntry, RegisterEntry, SlotEntry,
-    TableEntry, TermEntry, UntypedEntry,
+    CapabilityEntry, FrameEntry, InterruptEntry, ObjectEntry, PromisedWord, RangeEntry,
+    RegisterEntry, SlotEntry, TableEntry, TermEntry, UntypedEntry,
 };
 use std::alloc::AllocError;
 
@@ -125,6 +125,15 @@ impl Spelled for FrameEntry {
 
     fn append(&self, bytes: &mut Vec<u8>) -> Result<(), AllocError> {
         append_all(bytes, &[self.root, self.address, self.frame, self.rights])
+    }
+}
+
+#[tactic(auto, unfolding(model::specs::Images::Image::promised_word_format))]
+impl Spelled for PromisedWord {
+    ghost spelling = { promised_word_format.spelling };
+
+    fn append(&self, bytes: &mut Vec<u8>) -> Result<(), AllocError> {
+        append_all(bytes, &[self.low, self.high])
     }
 }
 

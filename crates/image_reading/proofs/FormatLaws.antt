@@ -2,7 +2,7 @@
 use Rattle.std.proofs.Common.{◌≡◌, ℕ, zero, suc, ◌+◌, ◌-◌, ◌^◌, ◌<◌, ◌≤◌, Bool, true, false, cond, ltb, ◌&&◌, List, [], ◌∷◌, ◌++◌, length, get_or, take, drop}
 use Rattle.std.proofs.Common.{Result, Ok, Err, refl, sym, ap, subst, ◌∙◌, append_assoc, arith, inl, inr}
 use Rattle.std.specs.Int.{Width, w32, w64, byte_len, from_le_bytes, to_le_bytes}
-use Rattle.std.proofs.lemmas.Bool.{cases_lt, ltb-true, ltb-false, lt-ltb, le-ltb, and_parts, and_from}
+use Rattle.std.proofs.lemmas.Bool.{eq-eqb, eqb-true, cases_lt, ltb-true, ltb-false, lt-ltb, le-ltb, and_parts, and_from}
 use Rattle.std.proofs.lemmas.List.{take_at, drop_at, drop-drop, take-append-drop, length-append, length-take, length-drop, get_or-drop, get_or-take}
 use Rattle.std.proofs.lemmas.List.{get_or_past}
 use Rattle.std.proofs.lemmas.Nat.{le_bytes_4, le_bytes_8, from_le_bytes-to_le_bytes_4, from_le_bytes-to_le_bytes_8}
@@ -13,7 +13,7 @@ use mir.Val.{bits, hbits, SFits}
 use Rattle.model.specs.declared.refusals.Refusal.{Refusal}
 use Rattle.model.specs.declared.refusals.Refusal.TheVariants.{Limit}
 use Rattle.model.specs.Images.Format.{Format, ◌>>=◌, number_at, number_or, number, fits_signed, signed, both, named, many_read, many_spelling, many_fit}
-use Rattle.model.specs.Images.Format.{ordered}
+use Rattle.model.specs.Images.Format.{only_if, ordered}
 
 abbrev pub IsBytes : List ℕ → Type 0
 IsBytes bytes = (i : ℕ) → get_or bytes i 0 < 256
@@ -265,6 +265,28 @@ named_again to from format back l bytes at y rest le fits h =
 pub named_law : {A B : Type 0} (to : A → B) (from : B → A) (format : Format A) → ((x : A) → format.fits x ≡ true → from (to x) ≡ x) →
     ((y : B) → to (from y) ≡ y) → IsLawful format → IsLawful (named to from format)
 named_law to from format there back l = record { takes = named_takes to from format there l; again = named_again to from format back l }
+
+-- ---- a field that is not always there
+
+absent_law : (absent : ℕ) (format : Format ℕ) → IsLawful (only_if false absent format)
+absent_law absent format = record {
+  takes = λ bytes at x after fits le e.
+      let found : Taken (only_if false absent format) bytes at absent at = record {
+        fits = eq-eqb absent absent refl;
+        spelled = refl;
+        end = omega arith;
+        within = le;
+      } in
+      subst (λ (y : ℕ × ℕ). Taken (only_if false absent format) bytes at y.0 y.1) (ok_is (absent, at) (x, after) e) found;
+  again = λ bytes at x rest le fits h.
+      let same : absent ≡ x = sym (eqb-true x absent fits) in
+      let end : at ≡ at + 0 = omega arith in
+      ap (λ (n : ℕ). ok_of (n, at)) same ∙ ap (λ (n : ℕ). ok_of (x, n)) end;
+}
+
+pub only_if_law : (test : Bool) (absent : ℕ) (format : Format ℕ) → IsLawful format → IsLawful (only_if test absent format)
+only_if_law true absent format law = record { takes = law.takes; again = law.again }
+only_if_law false absent format law = absent_law absent format
 
 -- ---- many in an order
 

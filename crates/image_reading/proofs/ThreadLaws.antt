@@ -1,5 +1,5 @@
 -- The laws of the formats of a thread.
-use Rattle.std.proofs.Common.{ℕ, ◌+◌, ◌^◌, ◌-◌, Bool, ltb, leb, ◌&&◌, ◌||◌, List, refl}
+use Rattle.std.proofs.Common.{ℕ, ◌+◌, ◌^◌, ◌-◌, Bool, ltb, leb, eqb, ◌&&◌, ◌||◌, List, refl}
 use Rattle.std.specs.Int.{w32, w64}
 use Rattle.model.specs.declared.entries.RecordHeader.{RecordHeader}
 use Rattle.model.specs.declared.entries.ThreadHeader.{ThreadHeader}
@@ -8,10 +8,10 @@ use Rattle.model.specs.declared.entries.RegisterEntry.{RegisterEntry}
 use Rattle.model.specs.declared.entries.SlotEntry.{SlotEntry}
 use Rattle.model.specs.declared.refusals.Refusal.TheVariants.{Limit}
 use Rattle.model.specs.Images.Format.{field}
-use Rattle.model.specs.Images.Image.{SlotFormat, anything, below, between, not_zero, is_constant, register_format, range_format, term_format}
+use Rattle.model.specs.Images.Image.{SlotFormat, anything, below, between, has_buffers, no_buffer, not_zero, is_constant, register_format, range_format, term_format}
 use Rattle.model.specs.Images.Image.{record_header_format, ranges_format, terms_format, record_format, registers_format, words_format, records_format}
 use Rattle.model.specs.Images.Image.{thread_header_format, thread_format}
-use Rattle.image_reading.proofs.FormatLaws.{IsLawful, number_law, both_law, named_law, ordered_law, signed_law, wide32, wide64, signed_wide32, signed_wide64}
+use Rattle.image_reading.proofs.FormatLaws.{only_if_law, IsLawful, number_law, both_law, named_law, ordered_law, signed_law, wide32, wide64, signed_wide32, signed_wide64}
 
 pub field_law : (test : ℕ → Bool) → IsLawful (field test)
 field_law test = number_law Limit w32 test wide32
@@ -75,9 +75,9 @@ records_law : (slots : SlotFormat) → AreLawful slots → (words count : ℕ) �
 unfolding records_format
 records_law slots laws words count = ordered_law 0 (record_format slots words) (λ r. r.header.point + 1) count (record_law slots laws words)
 
-thread_header_law : (objects : ℕ) → IsLawful (thread_header_format objects)
+thread_header_law : (version objects : ℕ) → IsLawful (thread_header_format version objects)
 unfolding thread_header_format
-thread_header_law objects = named_law _ _ _ (λ x h. refl) (λ y. refl)
+thread_header_law version objects = named_law _ _ _ (λ x h. refl) (λ y. refl)
     (both_law _ _ (field_law (below objects)) (λ (a : ℕ).
     both_law _ _ (field_law (below objects)) (λ (b : ℕ).
     both_law _ _ (field_law anything) (λ (c : ℕ).
@@ -85,16 +85,18 @@ thread_header_law objects = named_law _ _ _ (λ x h. refl) (λ y. refl)
     both_law _ _ (field_law (between 0 255)) (λ (e : ℕ).
     both_law _ _ (number_law Limit w64 (between 1 (2 ^ 62)) wide64) (λ (f : ℕ).
     both_law _ _ (field_law anything) (λ (g : ℕ).
+    both_law _ _ (only_if_law (has_buffers version) no_buffer (field (λ n. ltb n objects || eqb n no_buffer)) (field_law (λ n. ltb n objects || eqb n no_buffer)))
+    (λ (buffer : ℕ).
     both_law _ _ (field_law anything) (λ (h : ℕ).
     both_law _ _ (field_law anything) (λ (i : ℕ).
     both_law _ _ (field_law (between 0 31)) (λ (j : ℕ).
     both_law _ _ (field_law (between 1 65536)) (λ (words : ℕ).
-    field_law (between 0 words)))))))))))))
+    field_law (between 0 words))))))))))))))
 
-pub thread_law : (slots : SlotFormat) → AreLawful slots → (objects : ℕ) → IsLawful (thread_format slots objects)
+pub thread_law : (slots : SlotFormat) → AreLawful slots → (version objects : ℕ) → IsLawful (thread_format slots version objects)
 unfolding thread_format
-thread_law slots laws objects = named_law _ _ _ (λ x h. refl) (λ y. refl)
-    (both_law _ _ (thread_header_law objects) (λ (header : ThreadHeader).
+thread_law slots laws version objects = named_law _ _ _ (λ x h. refl) (λ y. refl)
+    (both_law _ _ (thread_header_law version objects) (λ (header : ThreadHeader).
     both_law _ _ (registers_law header.registers) (λ (a : List RegisterEntry).
     both_law _ _ (words_law header.words) (λ (b : List ℕ).
     records_law slots laws header.words header.records))))

@@ -16,11 +16,12 @@ use Rattle.model.specs.declared.refusals.Refusal.{Refusal}
 use Rattle.model.specs.declared.refusals.Refusal.TheVariants.{Magic, Version, Trailing}
 use Rattle.model.specs.Shared.Bytes.{AreBytes}
 use Rattle.model.specs.Capabilities.CapabilityFields.{unpacked}
-use Rattle.model.specs.Images.Format.{IsSpelling, reading}
-use Rattle.model.specs.Images.Image.{Image, Sections, anything, below, between, capability_format, content_format, frame_format, header_fields, header_format}
+use Rattle.model.specs.Images.Format.{IsSpelling, field, reading}
+use Rattle.model.specs.Images.Image.{Image, ImageContent, Sections, has_promises, latest_version, promise_format, promised_word_format}
+use Rattle.model.specs.Images.Image.{anything, below, between, capability_format, content_format, frame_format, header_fields, header_format}
 use Rattle.model.specs.Images.Image.{image_with, interrupt_format, magic, names_parent, no_parent, object_format, pair_key, sections_format, size_fits}
 use Rattle.model.specs.Images.Image.{slot_format, slots_format, table_format, untyped_format, whole_image, words_format}
-use Rattle.image_reading.proofs.FormatLaws.{IsBytes, IsLawful, bind_ok, guard_ok, ok_is, number_law, both_law, named_law, ordered_law, wide32}
+use Rattle.image_reading.proofs.FormatLaws.{IsBytes, IsLawful, bind_ok, guard_ok, ok_is, number_law, both_law, named_law, only_if_law, ordered_law, wide32}
 use Rattle.image_reading.proofs.ThreadLaws.{AreLawful, field_law, thread_law, words_law}
 
 magic_first : (n : ℕ) → (ltb n (2 ^ 32) && eqb n magic) ≡ true → magic ≡ n
@@ -30,7 +31,7 @@ header_law : IsLawful header_format
 unfolding header_format
 header_law = named_law _ header_fields _ (λ x h. ap (λ (m : ℕ). (m, x.1)) (magic_first x.0 (and_parts _ _ h).0)) (λ y. refl)
     (both_law _ _ (number_law (λ _. Magic) w32 (λ n. eqb n magic) wide32) (λ (a : ℕ).
-    both_law _ _ (number_law (λ _. Version) w32 (λ n. eqb n 1) wide32) (λ (b : ℕ).
+    both_law _ _ (number_law (λ _. Version) w32 (between 1 latest_version) wide32) (λ (version : ℕ).
     both_law _ _ (field_law (between 16 24)) (λ (memory_bits : ℕ).
     both_law _ _ (field_law (between 1 (min 14 (memory_bits - 5)))) (λ (c : ℕ).
     both_law _ _ (field_law (between 1 64)) (λ (d : ℕ).
@@ -40,7 +41,8 @@ header_law = named_law _ header_fields _ (λ x h. ap (λ (m : ℕ). (m, x.1)) (m
     both_law _ _ (field_law (between 0 1024)) (λ (i : ℕ).
     both_law _ _ (field_law (between 0 4096)) (λ (j : ℕ).
     both_law _ _ (field_law (between 0 4096)) (λ (k : ℕ).
-    field_law (between 1 64)))))))))))))
+    both_law _ _ (only_if_law (has_promises version) 0 (field (between 0 4096)) (field_law (between 0 4096))) (λ (l : ℕ).
+    field_law (between 1 64))))))))))))))
 
 untyped_law : IsLawful untyped_format
 unfolding untyped_format
@@ -91,6 +93,19 @@ content_law objects least = named_law _ _ _ (λ x h. refl) (λ y. refl)
     both_law _ _ (field_law (between 1 1024)) (λ (count : ℕ).
     words_law count)))
 
+promised_word_law : IsLawful promised_word_format
+unfolding promised_word_format
+promised_word_law = named_law _ _ _ (λ x h. refl) (λ y. refl) (both_law _ _ (field_law anything) (λ (low : ℕ). field_law (leb low)))
+
+promise_law : (objects least : ℕ) → IsLawful (promise_format objects least)
+unfolding promise_format
+promise_law objects least = named_law _ _ _ (λ x h. refl) (λ y. refl)
+    (both_law _ _ (field_law (λ endpoint. leb least endpoint && ltb endpoint objects)) (λ (a : ℕ).
+    both_law _ _ (field_law anything) (λ (low : ℕ).
+    both_law _ _ (field_law (λ high. leb low high && ltb high (2 ^ 28))) (λ (b : ℕ).
+    both_law _ _ (field_law (between 0 8)) (λ (count : ℕ).
+    ordered_law 0 (λ _. promised_word_format) (λ _. 0) count (λ k. promised_word_law))))))
+
 -- ---- the slots that a record notes
 
 slot_law : (objects least : ℕ) → IsLawful (slot_format objects least)
@@ -125,13 +140,15 @@ sections_law =
     (λ (e : List TableEntry).
     both_law _ _ (ordered_law 0 (frame_format header.objects) (λ e. pair_key e.root e.address + 1) header.frames (frame_law header.objects))
     (λ (f : List FrameEntry).
-    ordered_law 0 (content_format header.objects) (λ c. c.header.frame + 1) header.contents (content_law header.objects))))))))
+    both_law _ _ (ordered_law 0 (content_format header.objects) (λ c. c.header.frame + 1) header.contents (content_law header.objects))
+    (λ (g : List ImageContent).
+    ordered_law 0 (promise_format header.objects) (λ p. p.header.endpoint + 1) header.promises (promise_law header.objects)))))))))
 
 pub image_law : IsLawful whole_image
 unfolding image_with
 image_law = named_law _ _ _ (λ x h. refl) (λ y. refl)
     (both_law _ _ sections_law (λ (sections : Sections).
-    ordered_law 0 (λ _. _) (λ _. 0) sections.0.threads (λ k. thread_law (slots_format sections.0.objects) (slots_laws sections.0.objects) sections.0.objects)))
+    ordered_law 0 (λ _. _) (λ _. 0) sections.0.threads (λ k. thread_law (slots_format sections.0.objects) (slots_laws sections.0.objects) sections.0.version sections.0.objects)))
 
 -- ---- reading and spelling
 

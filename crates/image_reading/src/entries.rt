@@ -10,9 +10,10 @@ use crate::fields::item_offset;
 use model::Refusal;
 use std::marker::{Model, PhantomData};
 
-/// The counts that the ranges of fields depend on.
+/// What the ranges of fields depend on: the version of the image, and its counts.
 #[derive(Clone, Copy, Drop)]
 pub struct Counts {
+    pub(crate) version: u32,
     pub(crate) untypeds: u32,
     pub(crate) objects: u32,
     pub(crate) interrupts: u32,

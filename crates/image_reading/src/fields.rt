@@ -1,13 +1,17 @@
 //! Fields: numbers at an offset of the file, each with its test.
 
-ghost use Rattle.std.specs.Prelude.{◌≡◌, IfOk, ◌≤◌, ◌+◌, ◌*◌, ◌^◌, ◌<◌, ◌==◌, ◌&&◌, nat_le, nat_lt, length};
+ghost use Rattle.std.specs.Prelude.{◌≡◌, IfOk, ◌≤◌, ◌+◌, ◌*◌, ◌^◌, ◌<◌, ◌==◌, ◌&&◌, ◌||◌, nat_le, nat_lt, length};
 ghost use Rattle.std.specs.Int.{w32, w64};
 ghost use Rattle.model.specs.declared.refusals.Refusal.TheVariants.{Magic, Version};
-ghost use Rattle.model.specs.Images.Format.{field, number, number_or, signed};
-ghost use Rattle.model.specs.Images.Image.{anything, below, between, is_constant, magic, not_zero, pair_key};
+ghost use Rattle.model.specs.Images.Format.{field, number, number_or, only_if, signed};
+ghost use Rattle.model.specs.Images.Image.{anything, below, between, has_buffers, has_promises, is_constant, latest_version, magic, no_buffer, no_parent, not_zero, pair_key};
 
+use crate::versions::{has_buffers, has_promises, is_known_version};
 use byteorder::{ByteOrder, LittleEndian};
 use model::Refusal;
+
+/// The number for no object.
+const NO_OBJECT: u32 = u32::MAX;
 
 /// Where item `number` of a list from `start` is, in a file of so many bytes. Each item has `size`.
 pub(crate) fn item_offset(length: usize, start: usize, size: usize, number: u32) -> usize
@@ -41,10 +45,10 @@ pub(crate) fn magic(bytes: &[u8], at: usize) -> Result<(u32, usize), Refusal>
 
 /// The 4 bytes at `at` as the version of the format, and the offset after them.
 pub(crate) fn version(bytes: &[u8], at: usize) -> Result<(u32, usize), Refusal>
-    ensures { result ≡ (number_or (λ _. Version) w32 (λ n. n == 1)).reads bytes.now at }
+    ensures { result ≡ (number_or (λ _. Version) w32 (between 1 latest_version)).reads bytes.now at }
 {
     let (word, next) = any_word(bytes, at)?;
-    if word == 1 {
+    if is_known_version(word) {
         Ok((word, next))
     } else {
         Err(Refusal::Version)
@@ -79,6 +83,44 @@ pub(crate) fn word_between(
     } else {
         Err(Refusal::Limit { offset: at as u64 })
     }
+}
+
+/// How many promises there are, at `at`, and the offset after the field: versions before 2 have no such field, and none.
+pub(crate) fn promise_count(bytes: &[u8], at: usize, version: u32) -> Result<(u32, usize), Refusal>
+    ensures { result ≡ (only_if (has_promises version) 0 (field (between 0 4096))).reads bytes.now at }
+{
+    if !has_promises(version) {
+        return Ok((0, at));
+    }
+    word_between(bytes, at, 0, 4096)
+}
+
+/// The 4 bytes at `at` as the number of an object, or `u32::MAX` for none, and the offset after them.
+pub(crate) fn object_or_none(bytes: &[u8], at: usize, objects: u32) -> Result<(u32, usize), Refusal>
+    ensures { result ≡ (field (λ n. nat_lt n objects || (n == no_parent))).reads bytes.now at }
+{
+    let (word, next) = any_word(bytes, at)?;
+    if word < objects || word == NO_OBJECT {
+        Ok((word, next))
+    } else {
+        Err(Refusal::Limit { offset: at as u64 })
+    }
+}
+
+/// The frame object of a thread's buffer at `at`, or `u32::MAX` for none, and the offset after the field: versions before 3 have no
+/// such field, and no buffers.
+pub(crate) fn buffer(
+    bytes: &[u8],
+    at: usize,
+    version: u32,
+    objects: u32,
+) -> Result<(u32, usize), Refusal>
+    ensures { result ≡ (only_if (has_buffers version) no_buffer (field (λ n. nat_lt n objects || (n == no_buffer)))).reads bytes.now at }
+{
+    if !has_buffers(version) {
+        return Ok((NO_OBJECT, at));
+    }
+    object_or_none(bytes, at, objects)
 }
 
 /// The 4 bytes at `at` as a number from `least` on and below `limit`, and the offset after them.

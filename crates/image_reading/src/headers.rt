@@ -6,7 +6,8 @@ ghost use Rattle.model.specs.Images.Image.{between, header_format, record_header
 ghost use Rattle.image_reading.specs.Headers.{counts_format, program_format, program_length};
 
 use crate::fields::{
-    any_word, constant, double_between, magic, rising_word, version, word_below, word_between,
+    any_word, buffer, constant, double_between, magic, promise_count, rising_word, version,
+    word_below, word_between,
 };
 use model::{ImageHeader, RecordHeader, Refusal, ThreadHeader};
 use std::marker::Model;
@@ -28,6 +29,7 @@ struct Counts {
     tables: u32,
     frames: u32,
     contents: u32,
+    promises: u32,
     threads: u32,
 }
 
@@ -36,12 +38,12 @@ impl Model for Counts {
 
     ghost Value = { CountFields };
 
-    ghost view = { λ c. (c.untypeds, (c.objects, (c.capabilities, (c.interrupts, (c.tables, (c.frames, (c.contents, c.threads))))))) };
+    ghost view = { λ c. (c.untypeds, (c.objects, (c.capabilities, (c.interrupts, (c.tables, (c.frames, (c.contents, (c.promises, c.threads)))))))) };
 }
 
-/// The counts at `at`, and the offset after them.
-fn section_counts(bytes: &[u8], at: usize) -> Result<(Counts, usize), Refusal>
-    ensures { result ≡ counts_format.reads bytes.now at }
+/// The counts at `at` of an image of this version, and the offset after them.
+fn section_counts(bytes: &[u8], at: usize, version: u32) -> Result<(Counts, usize), Refusal>
+    ensures { result ≡ (counts_format version).reads bytes.now at }
 {
     let (untypeds, at) = word_between(bytes, at, 1, 64)?;
     let (objects, at) = word_between(bytes, at, 0, 4096)?;
@@ -50,6 +52,7 @@ fn section_counts(bytes: &[u8], at: usize) -> Result<(Counts, usize), Refusal>
     let (tables, at) = word_between(bytes, at, 0, 1024)?;
     let (frames, at) = word_between(bytes, at, 0, 4096)?;
     let (contents, at) = word_between(bytes, at, 0, 4096)?;
+    let (promises, at) = promise_count(bytes, at, version)?;
     let (threads, at) = word_between(bytes, at, 1, 64)?;
     let counts = Counts {
         untypeds,
@@ -59,6 +62,7 @@ fn section_counts(bytes: &[u8], at: usize) -> Result<(Counts, usize), Refusal>
         tables,
         frames,
         contents,
+        promises,
         threads,
     };
     Ok((counts, at))
@@ -73,7 +77,7 @@ pub(crate) fn image_header(bytes: &[u8], at: usize) -> Result<(ImageHeader, usiz
     let (version, at) = version(bytes, at)?;
     let (memory_bits, at) = word_between(bytes, at, 16, 24)?;
     let (boot_radix, at) = word_between(bytes, at, 1, radix_limit(memory_bits))?;
-    let (counts, at) = section_counts(bytes, at)?;
+    let (counts, at) = section_counts(bytes, at, version)?;
     let header = ImageHeader {
         version,
         memory_bits,
@@ -85,6 +89,7 @@ pub(crate) fn image_header(bytes: &[u8], at: usize) -> Result<(ImageHeader, usiz
         tables: counts.tables,
         frames: counts.frames,
         contents: counts.contents,
+        promises: counts.promises,
         threads: counts.threads,
     };
     Ok((header, at))
@@ -107,6 +112,7 @@ fn word_count(bytes: &[u8], at: usize) -> Result<(u32, usize), Refusal>
 #[derive(Drop)]
 struct Program {
     fault: u32,
+    buffer: u32,
     entry: u32,
     base: u32,
     registers: u32,
@@ -119,15 +125,21 @@ impl Model for Program {
 
     ghost Value = { ProgramFields };
 
-    ghost view = { λ p. (p.fault, (p.entry, (p.base, (p.registers, (p.words, p.records))))) };
+    ghost view = { λ p. (p.fault, (p.buffer, (p.entry, (p.base, (p.registers, (p.words, p.records)))))) };
 }
 
-/// The last fields of the header of a thread, at `at`, and the offset after them.
-fn program_at(bytes: &[u8], at: usize) -> Result<(Program, usize), Refusal>
-    ensures reads { result ≡ program_format.reads bytes.now at }
+/// The last fields of the header of a thread, at `at` of an image of this version with so many objects, and the offset after them.
+fn program_at(
+    bytes: &[u8],
+    at: usize,
+    version: u32,
+    objects: u32,
+) -> Result<(Program, usize), Refusal>
+    ensures reads { result ≡ (program_format version objects).reads bytes.now at }
     ensures some { IfOk result (λ x. 0 < program_length x.0) }
 {
     let (fault, at) = any_word(bytes, at)?;
+    let (buffer, at) = buffer(bytes, at, version, objects)?;
     let (entry, at) = any_word(bytes, at)?;
     let (base, at) = any_word(bytes, at)?;
     let (registers, at) = word_between(bytes, at, 0, 31)?;
@@ -135,6 +147,7 @@ fn program_at(bytes: &[u8], at: usize) -> Result<(Program, usize), Refusal>
     let (records, at) = word_between(bytes, at, 0, words)?;
     let program = Program {
         fault,
+        buffer,
         entry,
         base,
         registers,
@@ -144,14 +157,15 @@ fn program_at(bytes: &[u8], at: usize) -> Result<(Program, usize), Refusal>
     Ok((program, at))
 }
 
-/// The fixed part of the thread at `at`, and the offset after it.
+/// The fixed part of the thread at `at` of an image of this version with so many objects, and the offset after it.
 #[tactic(auto, unfolding(model::specs::Images::Image::thread_header_format))]
 pub(crate) fn thread_header(
     bytes: &[u8],
     at: usize,
+    version: u32,
     objects: u32,
 ) -> Result<(ThreadHeader, usize), Refusal>
-    ensures reads { result ≡ (thread_header_format objects).reads bytes.now at }
+    ensures reads { result ≡ (thread_header_format version objects).reads bytes.now at }
     ensures some { IfOk result (λ x. 0 < x.0.words) }
 {
     let (tcb, at) = word_below(bytes, at, objects)?;
@@ -160,7 +174,7 @@ pub(crate) fn thread_header(
     let (root, at) = word_below(bytes, at, objects)?;
     let (priority, at) = word_between(bytes, at, 0, 255)?;
     let (budget, at) = double_between(bytes, at, 1, 1 << 62)?;
-    let (program, at) = program_at(bytes, at)?;
+    let (program, at) = program_at(bytes, at, version, objects)?;
     let header = ThreadHeader {
         tcb,
         cnode,
@@ -169,6 +183,7 @@ pub(crate) fn thread_header(
         priority,
         budget,
         fault: program.fault,
+        buffer: program.buffer,
         entry: program.entry,
         base: program.base,
         registers: program.registers,

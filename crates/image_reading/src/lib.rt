@@ -6,12 +6,14 @@ mod entries;
 mod fields;
 mod headers;
 mod image_entries;
+mod promises;
 mod reading;
 mod records;
 mod registers;
 mod sections;
 mod slot_words;
 mod threads;
+mod versions;
 mod word_lists;
 
 pub use contents::{ContentRef, Contents};
@@ -22,7 +24,9 @@ pub use image_entries::{
     object_of, untyped_of,
 };
 pub use model::Refusal;
+pub use promises::{PromiseRef, Promises};
 pub use reading::{ImageRef, read};
 pub use records::{RecordRef, Records, Slots};
 pub use slot_words::{names_parent, unpacks};
 pub use threads::{ThreadRef, Threads};
+pub use versions::{has_buffers, has_promises, is_known_version};

@@ -8,6 +8,7 @@ ghost use Rattle.image_reading.specs.Sections.{HasCounts};
 use crate::contents::{ContentRef, Contents, contents_end};
 use crate::entries::{Counts, Entries, entries_end, entry_of};
 use crate::headers::image_header;
+use crate::promises::{Promises, promises_end};
 use crate::threads::{ThreadRef, Threads, threads_end};
 use model::{
     CapabilityEntry, FrameEntry, ImageHeader, InterruptEntry, ObjectEntry, Refusal, TableEntry,
@@ -27,6 +28,7 @@ pub struct ImageRef<'a> {
     tables_at: usize,
     frames_at: usize,
     contents_at: usize,
+    promises_at: usize,
     threads_at: usize,
 }
 
@@ -36,16 +38,17 @@ impl<'a> Model for ImageRef<'a> {
 
     ghost Value = { Image };
 
-    ghost view = { λ i. sections_image i.bytes.now i.header i.untypeds_at i.objects_at i.capabilities_at i.interrupts_at i.tables_at i.frames_at i.contents_at i.threads_at };
+    ghost view = { λ i. sections_image i.bytes.now i.header i.untypeds_at i.objects_at i.capabilities_at i.interrupts_at i.tables_at i.frames_at i.contents_at i.promises_at i.threads_at };
 
-    ghost invariant = { λ i. AreSections i.bytes.now i.header i.untypeds_at i.objects_at i.capabilities_at i.interrupts_at i.tables_at i.frames_at i.contents_at i.threads_at };
+    ghost invariant = { λ i. AreSections i.bytes.now i.header i.untypeds_at i.objects_at i.capabilities_at i.interrupts_at i.tables_at i.frames_at i.contents_at i.promises_at i.threads_at };
 }
 
 /// The counts that the ranges of an image's fields depend on.
 fn counts_of(header: &ImageHeader) -> Counts
-    ensures { result ≡ record { untypeds = header.now.untypeds; objects = header.now.objects; interrupts = header.now.interrupts; words = 0 } }
+    ensures { result ≡ record { version = header.now.version; untypeds = header.now.untypeds; objects = header.now.objects; interrupts = header.now.interrupts; words = 0 } }
 {
     Counts {
+        version: header.version,
         untypeds: header.untypeds,
         objects: header.objects,
         interrupts: header.interrupts,
@@ -276,6 +279,20 @@ impl<'a> ImageRef<'a> {
         }
     }
 
+    /// The promises, in rising order of their endpoints.
+    #[tactic(auto, unfolding(crate::specs::Sections::promises_format))]
+    pub fn promises(&self) -> Promises<'a>
+        ensures { result ≡ self.now.promises }
+    {
+        Promises {
+            bytes: self.bytes,
+            at: self.promises_at,
+            counts: counts_of(&self.header),
+            least: 0,
+            left: self.header.promises,
+        }
+    }
+
     /// The threads.
     #[tactic(auto, unfolding(crate::specs::Sections::threads_format))]
     pub fn threads(&self) -> Threads<'a>
@@ -323,12 +340,13 @@ impl<'a> ImageRef<'a> {
 }
 
 /// The image that the bytes begin with, and the offset after it.
-#[tactic(auto, unfolding(model::specs::Images::Image::image_with, model::specs::Images::Image::sections_format, crate::specs::Sections::untypeds_format, crate::specs::Sections::objects_format, crate::specs::Sections::capabilities_format, crate::specs::Sections::interrupts_format, crate::specs::Sections::tables_format, crate::specs::Sections::frames_format, crate::specs::Sections::contents_format, crate::specs::Sections::threads_format))]
+#[tactic(auto, unfolding(model::specs::Images::Image::image_with, model::specs::Images::Image::sections_format, crate::specs::Sections::untypeds_format, crate::specs::Sections::objects_format, crate::specs::Sections::capabilities_format, crate::specs::Sections::interrupts_format, crate::specs::Sections::tables_format, crate::specs::Sections::frames_format, crate::specs::Sections::contents_format, crate::specs::Sections::promises_format, crate::specs::Sections::threads_format))]
 fn image_at(bytes: &[u8]) -> Result<(ImageRef<'_>, usize), Refusal>
     ensures { result ≡ whole_image.reads bytes.now 0 }
 {
     let (header, untypeds_at) = image_header(bytes, 0)?;
     let counts = Counts {
+        version: header.version,
         untypeds: header.untypeds,
         objects: header.objects,
         interrupts: header.interrupts,
@@ -352,7 +370,8 @@ fn image_at(bytes: &[u8]) -> Result<(ImageRef<'_>, usize), Refusal>
     )?;
     let frames_at = entries_end::<TableEntry>(bytes, tables_at, counts, 0, header.tables)?;
     let contents_at = entries_end::<FrameEntry>(bytes, frames_at, counts, 0, header.frames)?;
-    let threads_at = contents_end(bytes, contents_at, header.objects, header.contents)?;
+    let promises_at = contents_end(bytes, contents_at, header.objects, header.contents)?;
+    let threads_at = promises_end(bytes, promises_at, counts, header.promises)?;
     let end = threads_end(bytes, threads_at, counts, header.threads)?;
     let image = ImageRef {
         bytes,
@@ -364,6 +383,7 @@ fn image_at(bytes: &[u8]) -> Result<(ImageRef<'_>, usize), Refusal>
         tables_at,
         frames_at,
         contents_at,
+        promises_at,
         threads_at,
     };
     Ok((image, end))

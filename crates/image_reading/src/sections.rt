@@ -1,16 +1,18 @@
-//! Entries of the sections of an image before the contents, and of the slots that a record notes.
+//! Entries of the sections of an image before the contents, of the words of a promise, and of the slots that a record notes.
 
 ghost use Rattle.std.specs.Prelude.{◌≡◌, ◌==◌, ◌&&◌, ◌||◌, ◌+◌, ◌^◌, nat_lt, nat_le, is_some};
 ghost use Rattle.model.specs.Capabilities.CapabilityFields.{unpacked};
 ghost use Rattle.model.specs.Images.Format.{field};
-ghost use Rattle.model.specs.Images.Image.{below, capability_format, frame_format, interrupt_format, names_parent, no_parent, object_format, pair_key, size_fits, slot_format, table_format, untyped_format};
+ghost use Rattle.model.specs.Images.Image.{below, capability_format, frame_format, interrupt_format, names_parent, object_format, pair_key, promised_word_format, size_fits, slot_format, table_format, untyped_format};
 
 use crate::entries::{Counts, Entry};
-use crate::fields::{any_word, pair_key, rising_word, second_part, word_below, word_between};
+use crate::fields::{
+    any_word, object_or_none, pair_key, rising_word, second_part, word_below, word_between,
+};
 use crate::slot_words::{is_empty, names_parent, unpacks};
 use model::{
-    CapabilityEntry, FrameEntry, InterruptEntry, ObjectEntry, Refusal, SlotEntry, TableEntry,
-    UntypedEntry,
+    CapabilityEntry, FrameEntry, InterruptEntry, ObjectEntry, PromisedWord, Refusal, SlotEntry,
+    TableEntry, UntypedEntry,
 };
 
 #[tactic(auto, unfolding(model::specs::Images::Image::untyped_format))]
@@ -227,6 +229,40 @@ impl Entry for FrameEntry {
     }
 }
 
+/// The highest value of a promised word at `at`, and the offset after it.
+fn high_word(bytes: &[u8], at: usize, low: u32) -> Result<(u32, usize), Refusal>
+    ensures { result ≡ (field (nat_le low)).reads bytes.now at }
+{
+    let (high, next) = any_word(bytes, at)?;
+    if low <= high {
+        Ok((high, next))
+    } else {
+        Err(Refusal::Limit { offset: at as u64 })
+    }
+}
+
+#[tactic(auto, unfolding(model::specs::Images::Image::promised_word_format))]
+impl Entry for PromisedWord {
+    ghost format = { λ _ _. promised_word_format };
+
+    ghost next = { λ _. 0 };
+
+    fn read(
+        bytes: &[u8],
+        at: usize,
+        _counts: Counts,
+        _least: u64,
+    ) -> Result<(PromisedWord, usize), Refusal> {
+        let (low, at) = any_word(bytes, at)?;
+        let (high, at) = high_word(bytes, at, low)?;
+        Ok((PromisedWord { low, high }, at))
+    }
+
+    fn least_behind(&self) -> u64 {
+        0
+    }
+}
+
 /// The second word of what a slot holds at `at`, and the offset after it.
 fn second_word(bytes: &[u8], at: usize, head: u32) -> Result<(u32, usize), Refusal>
     ensures { result ≡ (field (λ word. is_some (unpacked head word))).reads bytes.now at }
@@ -234,18 +270,6 @@ fn second_word(bytes: &[u8], at: usize, head: u32) -> Result<(u32, usize), Refus
     let (word, next) = any_word(bytes, at)?;
     if unpacks(head, word) {
         Ok((word, next))
-    } else {
-        Err(Refusal::Limit { offset: at as u64 })
-    }
-}
-
-/// The CNode of a slot's parent at `at`, or the value for the boot CNode, and the offset after it.
-fn parent_cnode(bytes: &[u8], at: usize, objects: u32) -> Result<(u32, usize), Refusal>
-    ensures { result ≡ (field (λ parent. nat_lt parent objects || (parent == no_parent))).reads bytes.now at }
-{
-    let (parent, next) = any_word(bytes, at)?;
-    if parent < objects || parent == u32::MAX {
-        Ok((parent, next))
     } else {
         Err(Refusal::Limit { offset: at as u64 })
     }
@@ -296,7 +320,7 @@ impl Entry for SlotEntry {
         let (index, at) = slot_index(bytes, at, cnode, least)?;
         let (word0, at) = any_word(bytes, at)?;
         let (word1, at) = second_word(bytes, at, word0)?;
-        let (parent_cnode, at) = parent_cnode(bytes, at, counts.objects)?;
+        let (parent_cnode, at) = object_or_none(bytes, at, counts.objects)?;
         let (parent_index, at) = parent_index(bytes, at, is_empty(word0, word1), parent_cnode)?;
         Ok((
             SlotEntry {

@@ -51,9 +51,9 @@ pub(crate) fn thread_at<'a>(
     at: usize,
     counts: Counts,
 ) -> Result<(ThreadRef<'a>, usize), Refusal>
-    ensures { result ≡ (thread_format (slots_format counts.objects) counts.objects).reads bytes.now at }
+    ensures { result ≡ (thread_format (slots_format counts.objects) counts.version counts.objects).reads bytes.now at }
 {
-    let (header, registers_at) = thread_header(bytes, at, counts.objects)?;
+    let (header, registers_at) = thread_header(bytes, at, counts.version, counts.objects)?;
     let counts = counts.with_words(header.words);
     let words_at = entries_end::<RegisterEntry>(bytes, registers_at, counts, 1, header.registers)?;
     let records_at = words_end(bytes, words_at, header.words)?;
@@ -137,7 +137,7 @@ pub(crate) fn threads_end(
     counts: Counts,
     count: u32,
 ) -> Result<usize, Refusal>
-    ensures { result ≡ end_of ((many count (thread_format (slots_format counts.objects) counts.objects)).reads bytes.now start) }
+    ensures { result ≡ end_of ((many count (thread_format (slots_format counts.objects) counts.version counts.objects)).reads bytes.now start) }
 {
     let mut at = start;
     for _ in 0..count {
@@ -163,9 +163,9 @@ impl<'a> Model for Threads<'a> {
 
     ghost Value = { List Thread };
 
-    ghost view = { λ r. values_of (many_read (λ _. thread_format (slots_format r.counts.objects) r.counts.objects) (λ _. 0) 0 r.left r.bytes.now r.at) };
+    ghost view = { λ r. values_of (many_read (λ _. thread_format (slots_format r.counts.objects) r.counts.version r.counts.objects) (λ _. 0) 0 r.left r.bytes.now r.at) };
 
-    ghost invariant = { λ r. is_ok (many_read (λ _. thread_format (slots_format r.counts.objects) r.counts.objects) (λ _. 0) 0 r.left r.bytes.now r.at) ≡ true };
+    ghost invariant = { λ r. is_ok (many_read (λ _. thread_format (slots_format r.counts.objects) r.counts.version r.counts.objects) (λ _. 0) 0 r.left r.bytes.now r.at) ≡ true };
 }
 
 impl<'a> Iterator for Threads<'a> {

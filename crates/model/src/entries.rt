@@ -103,6 +103,8 @@ pub struct ImageHeader {
     pub tables: u32,
     pub frames: u32,
     pub contents: u32,
+    /// 0 in version 1, which has no such field.
+    pub promises: u32,
     pub threads: u32,
 }
 
@@ -111,6 +113,23 @@ pub struct ImageHeader {
 pub struct ContentHeader {
     pub frame: u32,
     pub words: u32,
+}
+
+/// The fixed part of a promise: an endpoint object, the lowest and the highest badge of messages to it, and how many of
+/// their words are promised.
+#[derive(Clone, Copy)]
+pub struct PromiseHeader {
+    pub endpoint: u32,
+    pub badge_low: u32,
+    pub badge_high: u32,
+    pub words: u32,
+}
+
+/// The lowest and the highest value of a promised word.
+#[derive(Clone, Copy)]
+pub struct PromisedWord {
+    pub low: u32,
+    pub high: u32,
 }
 
 /// The fixed part of a thread: its objects, how it starts, and how many registers, words of program
@@ -129,6 +148,8 @@ pub struct ThreadHeader {
     pub budget: u64,
     /// The capability address of its fault handler, or 0 for none.
     pub fault: u32,
+    /// The frame object of its message buffer, or 2^32 - 1 for none, as in versions 1 and 2.
+    pub buffer: u32,
     /// The point that it starts at.
     pub entry: u32,
     /// The virtual address of the first word of its program.

@@ -23,8 +23,8 @@ pub use boot_faults::BootFault;
 pub use capabilities::{Cap, FrameMapping, TableMapping};
 pub use entries::{
     CapabilityEntry, ContentHeader, FrameEntry, ImageHeader, InterruptEntry, ObjectEntry,
-    RangeEntry, RecordHeader, RegisterEntry, SlotEntry, TableEntry, TermEntry, ThreadHeader,
-    UntypedEntry,
+    PromiseHeader, PromisedWord, RangeEntry, RecordHeader, RegisterEntry, SlotEntry, TableEntry,
+    TermEntry, ThreadHeader, UntypedEntry,
 };
 pub use errors::KError;
 pub use events::Event;

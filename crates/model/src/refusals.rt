@@ -69,6 +69,12 @@ pub enum Refusal {
     CallRefused(Point, KError),
     /// A pool would be lost.
     PoolLost(Point),
+    /// A message does not keep the promise of its endpoint.
+    PromiseNotKept(Point),
+    /// A promise is not of an endpoint; `item` numbers promises after contents.
+    BadPromise { item: u32 },
+    /// A thread's buffer is no frame, an earlier thread's, a capability's source, or code.
+    BadBuffer { thread: u32 },
     /// Memory for the verification was refused.
     OutOfMemory,
 }
@@ -104,6 +110,9 @@ impl Refusal {
             Refusal::CapNotThere(_) => 23,
             Refusal::CallRefused(..) => 24,
             Refusal::PoolLost(_) => 25,
+            Refusal::PromiseNotKept(_) => 28,
+            Refusal::BadPromise { .. } => 29,
+            Refusal::BadBuffer { .. } => 30,
             Refusal::OutOfMemory => 26,
         }
     }
@@ -138,6 +147,9 @@ impl Refusal {
             Refusal::CapNotThere(_) => "CapNotThere",
             Refusal::CallRefused(..) => "CallRefused",
             Refusal::PoolLost(_) => "PoolLost",
+            Refusal::PromiseNotKept(_) => "PromiseNotKept",
+            Refusal::BadPromise { .. } => "BadPromise",
+            Refusal::BadBuffer { .. } => "BadBuffer",
             Refusal::OutOfMemory => "OutOfMemory",
         }
     }
@@ -158,6 +170,8 @@ impl Refusal {
             | Refusal::SharedCSpace { thread: item }
             | Refusal::SharedVSpace { thread: item }
             | Refusal::BadMapping { item }
+            | Refusal::BadPromise { item }
+            | Refusal::BadBuffer { thread: item }
             | Refusal::WritableCode { item }
             | Refusal::BadThread { thread: item } => (u64::from(item), 0),
             Refusal::IllegalInstruction(at)
@@ -170,7 +184,8 @@ impl Refusal {
             | Refusal::CallNotConstant(at)
             | Refusal::CapNotThere(at)
             | Refusal::CallRefused(at, _)
-            | Refusal::PoolLost(at) => (u64::from(at.thread), u64::from(at.point)),
+            | Refusal::PoolLost(at)
+            | Refusal::PromiseNotKept(at) => (u64::from(at.thread), u64::from(at.point)),
         }
     }
 }

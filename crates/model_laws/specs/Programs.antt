@@ -3,7 +3,7 @@ use Rattle.std.specs.Prelude.{ℕ, ℤ, pos, List, [], ◌∷◌, length}
 use Rattle.model.specs.declared.entries.RangeEntry.{RangeEntry}
 use Rattle.model.specs.declared.entries.SlotEntry.{SlotEntry}
 use Rattle.model.specs.declared.entries.TermEntry.{TermEntry}
-use Rattle.model.specs.Images.Image.{Image, StateRecord, no_parent}
+use Rattle.model.specs.Images.Image.{Image, StateRecord, no_buffer, no_parent}
 use Rattle.model_laws.specs.Solo.{solo_image}
 
 unfoldable pub program : ℕ → List ℕ → List StateRecord → Image
@@ -17,6 +17,7 @@ program budget words records = record solo_image {
       priority = 100;
       budget = budget;
       fault = 0;
+      buffer = no_buffer;
       entry = 0;
       base = 0x1000;
       registers = 0;

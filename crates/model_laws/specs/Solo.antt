@@ -15,7 +15,7 @@ use Rattle.model.specs.Kernel.State.{State}
 use Rattle.model.specs.declared.refusals.Refusal.{Refusal}
 use Rattle.model.specs.Shared.Bytes.{word_bytes}
 use Rattle.model.specs.Images.Format.{reading}
-use Rattle.model.specs.Images.Image.{Image, Thread, whole_image}
+use Rattle.model.specs.Images.Image.{Image, Thread, whole_image, no_buffer}
 
 -- the header and the sections before the thread, by words
 abbrev pub solo_front : List ℕ
@@ -62,6 +62,7 @@ empty_image = record {
     tables = 0;
     frames = 0;
     contents = 0;
+    promises = 0;
     threads = 0;
   };
   untypeds = [];
@@ -71,6 +72,7 @@ empty_image = record {
   tables = [];
   frames = [];
   contents = [];
+  promises = [];
   threads = [];
 }
 
@@ -108,6 +110,7 @@ short_thread tcb budget words constant = record {
     priority = 100;
     budget = budget;
     fault = 0;
+    buffer = no_buffer;
     entry = 0;
     base = 0x1000;
     registers = 0;

@@ -12,7 +12,7 @@ use Rattle.model.specs.declared.labels.Outcome.TheVariants.{Completed, Plain, Wa
 use Rattle.model.specs.declared.refusals.Refusal.{Refusal}
 use Rattle.model.specs.Acceptance.CallRules.{AfterCall, after_call}
 use Rattle.model.specs.Images.Format.{reading}
-use Rattle.model.specs.Images.Image.{Image, StateRecord, Thread, no_parent, whole_image}
+use Rattle.model.specs.Images.Image.{Image, StateRecord, Thread, no_parent, whole_image, no_buffer}
 use Rattle.model.specs.Acceptance.Measures.{register_numbered}
 use Rattle.model.specs.Acceptance.NotedStates.{NotedSlot, PointState, SlotKey, full_ranges, image_slots}
 use Rattle.model.specs.Acceptance.Ranges.{single, with_range}
@@ -28,6 +28,7 @@ worker_thread = record {
     priority = 100;
     budget = 1;
     fault = 0;
+    buffer = no_buffer;
     entry = 0;
     base = 0x1000;
     registers = 0;
@@ -53,6 +54,7 @@ worker_image = record {
     tables = 1;
     frames = 1;
     contents = 0;
+    promises = 0;
     threads = 1;
   };
   untypeds = record { offset = 0x8000; bits = 15 } ∷ [];
@@ -67,6 +69,7 @@ worker_image = record {
   tables = record { root = 1; address = 0; table = 2 } ∷ [];
   frames = record { root = 1; address = 0x1000; frame = 0; rights = 4 } ∷ [];
   contents = [];
+  promises = [];
   threads = worker_thread ∷ [];
 }
 
@@ -149,6 +152,7 @@ loop_thread words records = record {
     priority = 100;
     budget = 31;
     fault = 0;
+    buffer = no_buffer;
     entry = 0;
     base = 0x1000;
     registers = 0;

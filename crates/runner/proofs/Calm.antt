@@ -18,8 +18,9 @@ use Rattle.model.specs.declared.entries.UntypedEntry.{UntypedEntry}
 use Rattle.model.specs.declared.refusals.Refusal.{Refusal}
 use Rattle.model.specs.declared.refusals.Refusal.TheVariants.{Limit, Magic, OutOfMemory, Trailing, Truncated, Version}
 use Rattle.model.specs.Capabilities.CapabilityFields.{unpacked}
-use Rattle.model.specs.Images.Format.{Format, ◌>>=◌, both, field, many_read, named, number, number_at, number_or, ordered, reading, signed}
-use Rattle.model.specs.Images.Image.{Sections, anything, below, between, capability_format, content_format, frame_format, header_format, image_with}
+use Rattle.model.specs.Images.Format.{Format, ◌>>=◌, both, field, many_read, named, number, number_at, number_or, only_if, ordered, reading, signed}
+use Rattle.model.specs.Images.Image.{ImageContent, Sections, has_buffers, has_promises, header_fields, latest_version, no_buffer, promise_format, promised_word_format}
+use Rattle.model.specs.Images.Image.{anything, below, between, capability_format, content_format, frame_format, header_format, image_with}
 use Rattle.model.specs.Images.Image.{interrupt_format, is_constant, magic, names_parent, no_parent, not_zero, object_format, pair_key, range_format}
 use Rattle.model.specs.Images.Image.{ranges_format, record_format, record_header_format, records_format, register_format, registers_format, sections_format}
 use Rattle.model.specs.Images.Image.{size_fits, slot_format, slots_format, table_format, term_format, terms_format, thread_format, thread_header_format}
@@ -113,6 +114,9 @@ ordered_calm least format next count each = record { calm = many_calm format nex
 field_calm : (test : ℕ → Bool) → IsCalm (field test)
 field_calm test = number_calm w32 test
 
+only_if_calm : (test : Bool) (absent : ℕ) (format : Format ℕ) → IsCalm format → IsCalm (only_if test absent format)
+only_if_calm test absent format one = record { calm = λ bytes at. cond_calm test _ _ (one.calm bytes at) (ok_calm (absent, at)) }
+
 -- ---- a thread
 
 register_calm : (least : ℕ) → IsCalm (register_format least)
@@ -180,9 +184,9 @@ records_calm : (objects words count : ℕ) → IsCalm (records_format (slots_for
 unfolding records_format
 records_calm objects words count = ordered_calm 0 (record_format (slots_format objects) words) (λ r. r.header.point + 1) count (record_calm objects words)
 
-thread_header_calm : (objects : ℕ) → IsCalm (thread_header_format objects)
+thread_header_calm : (version objects : ℕ) → IsCalm (thread_header_format version objects)
 unfolding thread_header_format
-thread_header_calm objects = named_calm _ _ _
+thread_header_calm version objects = named_calm _ _ _
     (both_calm _ _ (field_calm (below objects)) (λ (a : ℕ).
     both_calm _ _ (field_calm (below objects)) (λ (b : ℕ).
     both_calm _ _ (field_calm anything) (λ (c : ℕ).
@@ -190,16 +194,18 @@ thread_header_calm objects = named_calm _ _ _
     both_calm _ _ (field_calm (between 0 255)) (λ (e : ℕ).
     both_calm _ _ (number_calm w64 (between 1 (2 ^ 62))) (λ (f : ℕ).
     both_calm _ _ (field_calm anything) (λ (g : ℕ).
+    both_calm _ _ (only_if_calm (has_buffers version) no_buffer (field (λ n. ltb n objects || eqb n no_buffer)) (field_calm (λ n. ltb n objects || eqb n no_buffer)))
+    (λ (buffer : ℕ).
     both_calm _ _ (field_calm anything) (λ (h : ℕ).
     both_calm _ _ (field_calm anything) (λ (i : ℕ).
     both_calm _ _ (field_calm (between 0 31)) (λ (j : ℕ).
     both_calm _ _ (field_calm (between 1 65536)) (λ (words : ℕ).
-    field_calm (between 0 words)))))))))))))
+    field_calm (between 0 words))))))))))))))
 
-thread_calm : (objects : ℕ) → IsCalm (thread_format (slots_format objects) objects)
+thread_calm : (version objects : ℕ) → IsCalm (thread_format (slots_format objects) version objects)
 unfolding thread_format
-thread_calm objects = named_calm _ _ _
-    (both_calm _ _ (thread_header_calm objects) (λ (header : ThreadHeader).
+thread_calm version objects = named_calm _ _ _
+    (both_calm _ _ (thread_header_calm version objects) (λ (header : ThreadHeader).
     both_calm _ _ (registers_calm header.registers) (λ (a : List RegisterEntry).
     both_calm _ _ (words_calm header.words) (λ (b : List ℕ).
     records_calm objects header.words header.records))))
@@ -208,16 +214,9 @@ thread_calm objects = named_calm _ _ _
 
 header_calm : IsCalm header_format
 unfolding header_format
-header_calm = named_calm _
-    (λ h. (
-      magic,
-      (
-        h.version,
-        (h.memory_bits, (h.boot_radix, (h.untypeds, (h.objects, (h.capabilities, (h.interrupts, (h.tables, (h.frames, (h.contents, h.threads))))))))),
-      ),
-    )) _
+header_calm = named_calm _ header_fields _
     (both_calm _ _ (number_or_calm (λ _. Magic) w32 (λ n. eqb n magic) (λ at. magic_calm)) (λ (a : ℕ).
-    both_calm _ _ (number_or_calm (λ _. Version) w32 (λ n. eqb n 1) (λ at. version_calm)) (λ (b : ℕ).
+    both_calm _ _ (number_or_calm (λ _. Version) w32 (between 1 latest_version) (λ at. version_calm)) (λ (version : ℕ).
     both_calm _ _ (field_calm (between 16 24)) (λ (memory_bits : ℕ).
     both_calm _ _ (field_calm (between 1 (min 14 (memory_bits - 5)))) (λ (c : ℕ).
     both_calm _ _ (field_calm (between 1 64)) (λ (d : ℕ).
@@ -227,7 +226,8 @@ header_calm = named_calm _
     both_calm _ _ (field_calm (between 0 1024)) (λ (i : ℕ).
     both_calm _ _ (field_calm (between 0 4096)) (λ (j : ℕ).
     both_calm _ _ (field_calm (between 0 4096)) (λ (k : ℕ).
-    field_calm (between 1 64)))))))))))))
+    both_calm _ _ (only_if_calm (has_promises version) 0 (field (between 0 4096)) (field_calm (between 0 4096))) (λ (l : ℕ).
+    field_calm (between 1 64))))))))))))))
 
 untyped_calm : IsCalm untyped_format
 unfolding untyped_format
@@ -278,6 +278,19 @@ content_calm objects least = named_calm _ _ _
     both_calm _ _ (field_calm (between 1 1024)) (λ (count : ℕ).
     words_calm count)))
 
+promised_word_calm : IsCalm promised_word_format
+unfolding promised_word_format
+promised_word_calm = named_calm _ _ _ (both_calm _ _ (field_calm anything) (λ (low : ℕ). field_calm (leb low)))
+
+promise_calm : (objects least : ℕ) → IsCalm (promise_format objects least)
+unfolding promise_format
+promise_calm objects least = named_calm _ _ _
+    (both_calm _ _ (field_calm (λ endpoint. leb least endpoint && ltb endpoint objects)) (λ (a : ℕ).
+    both_calm _ _ (field_calm anything) (λ (low : ℕ).
+    both_calm _ _ (field_calm (λ high. leb low high && ltb high (2 ^ 28))) (λ (b : ℕ).
+    both_calm _ _ (field_calm (between 0 8)) (λ (count : ℕ).
+    ordered_calm 0 (λ _. promised_word_format) (λ _. 0) count (λ k. promised_word_calm))))))
+
 sections_calm : IsCalm sections_format
 unfolding sections_format
 sections_calm =
@@ -292,13 +305,15 @@ sections_calm =
     (λ (e : List TableEntry).
     both_calm _ _ (ordered_calm 0 (frame_format header.objects) (λ e. pair_key e.root e.address + 1) header.frames (frame_calm header.objects))
     (λ (f : List FrameEntry).
-    ordered_calm 0 (content_format header.objects) (λ c. c.header.frame + 1) header.contents (content_calm header.objects))))))))
+    both_calm _ _ (ordered_calm 0 (content_format header.objects) (λ c. c.header.frame + 1) header.contents (content_calm header.objects))
+    (λ (g : List ImageContent).
+    ordered_calm 0 (promise_format header.objects) (λ p. p.header.endpoint + 1) header.promises (promise_calm header.objects)))))))))
 
 image_calm : IsCalm whole_image
 unfolding image_with
 image_calm = named_calm _ _ _
     (both_calm _ _ sections_calm (λ (sections : Sections).
-    ordered_calm 0 (λ _. _) (λ _. 0) sections.0.threads (λ k. thread_calm sections.0.objects)))
+    ordered_calm 0 (λ _. _) (λ _. 0) sections.0.threads (λ k. thread_calm sections.0.version sections.0.objects)))
 
 pub whole_calm : (bytes : List ℕ) → reading whole_image bytes ≢ Err OutOfMemory
 whole_calm bytes =

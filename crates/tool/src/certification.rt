@@ -79,7 +79,8 @@ fn point_of(refusal: Refusal) -> Option<Point> {
         | Refusal::CallNotConstant(at)
         | Refusal::CapNotThere(at)
         | Refusal::CallRefused(at, _)
-        | Refusal::PoolLost(at) => Some(at),
+        | Refusal::PoolLost(at)
+        | Refusal::PromiseNotKept(at) => Some(at),
         _ => None,
     }
 }

@@ -52,11 +52,11 @@ record-terms objects words least r is =
     let c = and_parts (((slots_format objects).entries r.header.slots).fits r.slots) _ b.1 in
     terms-above 1 r.header.terms r.terms c.1 (omega arith)
 
-thread-terms : (objects : ℕ) (t : Thread) → (thread_format (slots_format objects) objects).fits t ≡ true → (k : ℕ) (r : StateRecord) →
+thread-terms : (version objects : ℕ) (t : Thread) → (thread_format (slots_format objects) version objects).fits t ≡ true → (k : ℕ) (r : StateRecord) →
     slice_get t.records k ≡ Some r → All IsTerm r.terms
 unfolding thread_format records_format
-thread-terms objects t is k r at =
-    let a = and_parts ((thread_header_format objects).fits t.header) _ is in
+thread-terms version objects t is k r at =
+    let a = and_parts ((thread_header_format version objects).fits t.header) _ is in
     let b = and_parts ((registers_format t.header.registers).fits t.registers) _ a.1 in
     let c = and_parts ((words_format t.header.words).fits t.words) _ b.1 in
     let each = record_format (slots_format objects) t.header.words in
@@ -69,7 +69,7 @@ unfolding image_with sections_format
 image-terms image k t is at =
     let whole = and_parts _ _ is in
     let h = image.header in
-    thread-terms h.objects t (many-each (λ _. thread_format (slots_format h.objects) h.objects) (λ _. 0) 0 h.threads image.threads whole.1 k t at).1
+    thread-terms h.version h.objects t (many-each (λ _. thread_format (slots_format h.objects) h.version h.objects) (λ _. 0) 0 h.threads image.threads whole.1 k t at).1
 
 -- ---- the record of a point
 

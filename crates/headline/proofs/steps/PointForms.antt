@@ -323,11 +323,11 @@ record-fits objects words least r is =
     let c = and_parts _ _ b.1 in
     record { parents = slots-fit objects (λ e. pair_key e.cnode e.index + 1) 0 r.header.slots r.slots c.0 }
 
-thread-fits : (objects : ℕ) (t : Thread) → (thread_format (slots_format objects) objects).fits t ≡ true → (k : ℕ) (r : StateRecord) →
+thread-fits : (version objects : ℕ) (t : Thread) → (thread_format (slots_format objects) version objects).fits t ≡ true → (k : ℕ) (r : StateRecord) →
     slice_get t.records k ≡ Some r → IsRecord r
 unfolding thread_format words_format records_format
-thread-fits objects t is k r at =
-    let a = and_parts ((thread_header_format objects).fits t.header) _ is in
+thread-fits version objects t is k r at =
+    let a = and_parts ((thread_header_format version objects).fits t.header) _ is in
     let b = and_parts ((registers_format t.header.registers).fits t.registers) _ a.1 in
     let c = and_parts ((words_format t.header.words).fits t.words) _ b.1 in
     let one = many-each (record_format (slots_format objects) t.header.words) (λ x. x.header.point + 1) 0 t.header.records t.records c.1 k r at in
@@ -338,9 +338,9 @@ records-fit : (image : Image) (number : ℕ) (t : Thread) → whole_image.fits i
 unfolding image_with
 records-fit image number t is listed =
     let h = image.header in
-    let threads = many_fit (λ _. thread_format (slots_format h.objects) h.objects) (λ _. 0) 0 h.threads image.threads in
+    let threads = many_fit (λ _. thread_format (slots_format h.objects) h.version h.objects) (λ _. 0) 0 h.threads image.threads in
     let whole = and_parts (sections_format.fits (sections_of image)) threads is in
-    thread-fits h.objects t (many-each (λ _. thread_format (slots_format h.objects) h.objects) (λ _. 0) 0 h.threads image.threads whole.1 number t listed).1
+    thread-fits h.version h.objects t (many-each (λ _. thread_format (slots_format h.objects) h.version h.objects) (λ _. 0) 0 h.threads image.threads whole.1 number t listed).1
 
 -- ---- points
 

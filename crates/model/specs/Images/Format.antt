@@ -1,5 +1,5 @@
 -- A binary format: how a value is read from bytes, with the refusal of what is met first, and how it is spelled.
-use Rattle.std.specs.Prelude.{◌≡◌, ℕ, zero, suc, ◌+◌, ◌-◌, ◌^◌, Bool, true, false, ◌&&◌, nat_lt, if◌then◌else◌, List, [], ◌∷◌, ◌++◌, length, take, drop, Result}
+use Rattle.std.specs.Prelude.{◌≡◌, ℕ, zero, suc, ◌+◌, ◌-◌, ◌^◌, Bool, true, false, ◌&&◌, ◌==◌, nat_lt, if◌then◌else◌, List, [], ◌∷◌, ◌++◌, length, take, drop, Result}
 use Rattle.std.specs.Prelude.{Ok, Err}
 use Rattle.std.specs.Int.{Width, w32, byte_len, from_le_bytes, to_le_bytes, cast_signed, cast_unsigned}
 use Rattle.std.specs.Prelude.{ℤ, pos, negsuc}
@@ -36,6 +36,14 @@ number_or refusal w test = record {
 
 abbrev pub number : Width → (ℕ → Bool) → Format ℕ
 number w test = number_or Limit w test
+
+-- A field that is there where the test holds. Elsewhere nothing is read or spelled, and only the value for an absent field fits.
+abbrev pub only_if : Bool → ℕ → Format ℕ → Format ℕ
+only_if test absent format = record {
+  reads = λ bytes at. if test then format.reads bytes at else Ok (absent, at);
+  spelling = λ n. if test then format.spelling n else [];
+  fits = λ n. if test then format.fits n else n == absent;
+}
 
 -- a field of 4 bytes
 abbrev pub field : (ℕ → Bool) → Format ℕ

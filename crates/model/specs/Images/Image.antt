@@ -14,10 +14,12 @@ use Rattle.model.specs.declared.entries.SlotEntry.{SlotEntry}
 use Rattle.model.specs.declared.entries.TermEntry.{TermEntry}
 use Rattle.model.specs.declared.entries.ImageHeader.{ImageHeader}
 use Rattle.model.specs.declared.entries.ContentHeader.{ContentHeader}
+use Rattle.model.specs.declared.entries.PromiseHeader.{PromiseHeader}
+use Rattle.model.specs.declared.entries.PromisedWord.{PromisedWord}
 use Rattle.model.specs.declared.entries.ThreadHeader.{ThreadHeader}
 use Rattle.model.specs.declared.entries.RecordHeader.{RecordHeader}
 use Rattle.model.specs.Capabilities.CapabilityFields.{unpacked}
-use Rattle.model.specs.Images.Format.{Format, number_or, number, field, signed, both, named, ordered, many}
+use Rattle.model.specs.Images.Format.{Format, number_or, number, field, only_if, signed, both, named, ordered, many}
 
 -- ---- what an image holds
 
@@ -39,6 +41,11 @@ pub record Thread : Type 0 where
   pub words : List ℕ
   pub records : List StateRecord
 
+-- what every message to an endpoint keeps: its badge, and its first words
+pub record ImagePromise : Type 0 where
+  pub header : PromiseHeader
+  pub words : List PromisedWord
+
 pub record Image : Type 0 where
   pub header : ImageHeader
   pub untypeds : List UntypedEntry
@@ -48,6 +55,7 @@ pub record Image : Type 0 where
   pub tables : List TableEntry
   pub frames : List FrameEntry
   pub contents : List ImageContent
+  pub promises : List ImagePromise
   pub threads : List Thread
 
 -- ---- tests of a field
@@ -73,16 +81,16 @@ magic = 0x5359534d
 
 -- the magic number, and then the header's fields in their order: its version, the machine's shape, and how many entries each section has
 abbrev pub HeaderFields : Type 0
-HeaderFields = ℕ × (ℕ × (ℕ × (ℕ × (ℕ × (ℕ × (ℕ × (ℕ × (ℕ × (ℕ × (ℕ × ℕ))))))))))
+HeaderFields = ℕ × (ℕ × (ℕ × (ℕ × (ℕ × (ℕ × (ℕ × (ℕ × (ℕ × (ℕ × (ℕ × (ℕ × ℕ)))))))))))
 
 abbrev pub header_fields : ImageHeader → HeaderFields
 header_fields h = (
   magic,
-  (h.version, (h.memory_bits, (h.boot_radix, (h.untypeds, (h.objects, (h.capabilities, (h.interrupts, (h.tables, (h.frames, (h.contents, h.threads)))))))))),
+  (h.version, (h.memory_bits, (h.boot_radix, (h.untypeds, (h.objects, (h.capabilities, (h.interrupts, (h.tables, (h.frames, (h.contents, (h.promises, h.threads))))))))))),
 )
 
 abbrev pub header_of : HeaderFields → ImageHeader
-header_of (_, (version, (memory_bits, (boot_radix, (untypeds, (objects, (capabilities, (interrupts, (tables, (frames, (contents, threads))))))))))) = record {
+header_of (_, (version, (memory_bits, (boot_radix, (untypeds, (objects, (capabilities, (interrupts, (tables, (frames, (contents, (promises, threads)))))))))))) = record {
   version = version;
   memory_bits = memory_bits;
   boot_radix = boot_radix;
@@ -93,14 +101,26 @@ header_of (_, (version, (memory_bits, (boot_radix, (untypeds, (objects, (capabil
   tables = tables;
   frames = frames;
   contents = contents;
+  promises = promises;
   threads = threads;
 }
+
+-- the latest version of image files that is read
+abbrev pub latest_version : ℕ
+latest_version = 1
+
+-- the versions whose images have promises, and those whose threads have buffers
+abbrev pub has_promises : ℕ → Bool
+has_promises version = nat_le 2 version
+
+abbrev pub has_buffers : ℕ → Bool
+has_buffers version = nat_le 3 version
 
 unfoldable pub header_format : Format ImageHeader
 header_format =
     named header_of header_fields
     (both (number_or (λ _. Magic) w32 (λ n. n == magic)) (λ _.
-    both (number_or (λ _. Version) w32 (λ n. n == 1)) (λ _.
+    both (number_or (λ _. Version) w32 (between 1 latest_version)) (λ version.
     both (field (between 16 24)) (λ memory_bits.
     both (field (between 1 (min 14 (memory_bits - 5)))) (λ _.
     both (field (between 1 64)) (λ _.
@@ -110,7 +130,8 @@ header_format =
     both (field (between 0 1024)) (λ _.
     both (field (between 0 4096)) (λ _.
     both (field (between 0 4096)) (λ _.
-    field (between 1 64)))))))))))))
+    both (only_if (has_promises version) 0 (field (between 0 4096))) (λ _.
+    field (between 1 64))))))))))))))
 
 -- ---- the sections
 
@@ -174,17 +195,37 @@ content_format objects least =
     both (field (between 1 1024)) (λ count.
     many count (field anything))))
 
+-- a promised word's range
+unfoldable pub promised_word_format : Format PromisedWord
+promised_word_format =
+    named (λ (low, high). record { low = low; high = high }) (λ w. (w.low, w.high))
+    (both (field anything) (λ low. field (nat_le low)))
+
+-- the endpoints rise; a badge has 28 bits
+unfoldable pub promise_format : ℕ → ℕ → Format ImagePromise
+promise_format objects least =
+    named (λ (endpoint, (low, (high, (count, words)))). record {
+      header = record { endpoint = endpoint; badge_low = low; badge_high = high; words = count };
+      words = words;
+    })
+    (λ p. (p.header.endpoint, (p.header.badge_low, (p.header.badge_high, (p.header.words, p.words)))))
+    (both (field (λ endpoint. nat_le least endpoint && nat_lt endpoint objects)) (λ _.
+    both (field anything) (λ low.
+    both (field (λ high. nat_le low high && nat_lt high (2 ^ 28))) (λ _.
+    both (field (between 0 8)) (λ count.
+    many count promised_word_format)))))
+
 -- ---- threads
 
 -- the fields of a thread's header in their order
 abbrev pub ThreadFields : Type 0
-ThreadFields = ℕ × (ℕ × (ℕ × (ℕ × (ℕ × (ℕ × (ℕ × (ℕ × (ℕ × (ℕ × (ℕ × ℕ))))))))))
+ThreadFields = ℕ × (ℕ × (ℕ × (ℕ × (ℕ × (ℕ × (ℕ × (ℕ × (ℕ × (ℕ × (ℕ × (ℕ × ℕ)))))))))))
 
 abbrev pub thread_fields : ThreadHeader → ThreadFields
-thread_fields h = (h.tcb, (h.cnode, (h.guard, (h.root, (h.priority, (h.budget, (h.fault, (h.entry, (h.base, (h.registers, (h.words, h.records)))))))))))
+thread_fields h = (h.tcb, (h.cnode, (h.guard, (h.root, (h.priority, (h.budget, (h.fault, (h.buffer, (h.entry, (h.base, (h.registers, (h.words, h.records))))))))))))
 
 abbrev pub thread_header_of : ThreadFields → ThreadHeader
-thread_header_of (tcb, (cnode, (guard, (root, (priority, (budget, (fault, (entry, (base, (registers, (words, records))))))))))) = record {
+thread_header_of (tcb, (cnode, (guard, (root, (priority, (budget, (fault, (buffer, (entry, (base, (registers, (words, records)))))))))))) = record {
   tcb = tcb;
   cnode = cnode;
   guard = guard;
@@ -192,6 +233,7 @@ thread_header_of (tcb, (cnode, (guard, (root, (priority, (budget, (fault, (entry
   priority = priority;
   budget = budget;
   fault = fault;
+  buffer = buffer;
   entry = entry;
   base = base;
   registers = registers;
@@ -199,8 +241,12 @@ thread_header_of (tcb, (cnode, (guard, (root, (priority, (budget, (fault, (entry
   records = records;
 }
 
-unfoldable pub thread_header_format : ℕ → Format ThreadHeader
-thread_header_format objects =
+-- an object, or the number for none
+abbrev pub no_buffer : ℕ
+no_buffer = 2 ^ 32 - 1
+
+unfoldable pub thread_header_format : ℕ → ℕ → Format ThreadHeader
+thread_header_format version objects =
     named thread_header_of thread_fields
     (both (field (below objects)) (λ _.
     both (field (below objects)) (λ _.
@@ -209,11 +255,12 @@ thread_header_format objects =
     both (field (between 0 255)) (λ _.
     both (number w64 (between 1 (2 ^ 62))) (λ _.
     both (field anything) (λ _.
+    both (only_if (has_buffers version) no_buffer (field (λ n. nat_lt n objects || n == no_buffer))) (λ _.
     both (field anything) (λ _.
     both (field anything) (λ _.
     both (field (between 0 31)) (λ _.
     both (field (between 1 65536)) (λ words.
-    field (between 0 words)))))))))))))
+    field (between 0 words))))))))))))))
 
 -- a register, 1 to 31, not below the least, and its value, not 0
 unfoldable pub register_format : ℕ → Format RegisterEntry
@@ -313,11 +360,11 @@ words_format count = many count (field anything)
 unfoldable pub records_format : SlotFormat → ℕ → ℕ → Format (List StateRecord)
 records_format slots words count = ordered 0 (record_format slots words) (λ r. r.header.point + 1) count
 
-unfoldable pub thread_format : SlotFormat → ℕ → Format Thread
-thread_format slots objects =
+unfoldable pub thread_format : SlotFormat → ℕ → ℕ → Format Thread
+thread_format slots version objects =
     named (λ (header, (registers, (words, records))). record { header = header; registers = registers; words = words; records = records })
     (λ t. (t.header, (t.registers, (t.words, t.records))))
-    (both (thread_header_format objects) (λ header.
+    (both (thread_header_format version objects) (λ header.
     both (registers_format header.registers) (λ _.
     both (words_format header.words) (λ _.
     records_format slots header.words header.records))))
@@ -327,10 +374,10 @@ thread_format slots objects =
 -- the sections before the threads, as one value
 abbrev pub Sections : Type 0
 Sections = ImageHeader
-    × (List UntypedEntry × (List ObjectEntry × (List CapabilityEntry × (List InterruptEntry × (List TableEntry × (List FrameEntry × List ImageContent))))))
+    × (List UntypedEntry × (List ObjectEntry × (List CapabilityEntry × (List InterruptEntry × (List TableEntry × (List FrameEntry × (List ImageContent × List ImagePromise)))))))
 
 abbrev pub sections_of : Image → Sections
-sections_of i = (i.header, (i.untypeds, (i.objects, (i.capabilities, (i.interrupts, (i.tables, (i.frames, i.contents)))))))
+sections_of i = (i.header, (i.untypeds, (i.objects, (i.capabilities, (i.interrupts, (i.tables, (i.frames, (i.contents, i.promises))))))))
 
 unfoldable pub sections_format : Format Sections
 sections_format =
@@ -341,11 +388,12 @@ sections_format =
     both (ordered 0 (interrupt_format header.objects) (λ e. e.line + 1) header.interrupts) (λ _.
     both (ordered 0 (table_format header.objects) (λ e. pair_key e.root e.address + 1) header.tables) (λ _.
     both (ordered 0 (frame_format header.objects) (λ e. pair_key e.root e.address + 1) header.frames) (λ _.
-    ordered 0 (content_format header.objects) (λ c. c.header.frame + 1) header.contents)))))))
+    both (ordered 0 (content_format header.objects) (λ c. c.header.frame + 1) header.contents) (λ _.
+    ordered 0 (promise_format header.objects) (λ p. p.header.endpoint + 1) header.promises))))))))
 
 -- the image of these sections and threads
 abbrev pub image_of : Sections × List Thread → Image
-image_of ((header, (untypeds, (objects, (capabilities, (interrupts, (tables, (frames, contents))))))), threads) = record {
+image_of ((header, (untypeds, (objects, (capabilities, (interrupts, (tables, (frames, (contents, promises)))))))), threads) = record {
   header = header;
   untypeds = untypeds;
   objects = objects;
@@ -354,6 +402,7 @@ image_of ((header, (untypeds, (objects, (capabilities, (interrupts, (tables, (fr
   tables = tables;
   frames = frames;
   contents = contents;
+  promises = promises;
   threads = threads;
 }
 
@@ -361,7 +410,7 @@ image_of ((header, (untypeds, (objects, (capabilities, (interrupts, (tables, (fr
 unfoldable pub image_with : (ℕ → SlotFormat) → Format Image
 image_with slots =
     named image_of (λ i. (sections_of i, i.threads))
-    (both sections_format (λ (header, _). many header.threads (thread_format (slots header.objects) header.objects)))
+    (both sections_format (λ (header, _). many header.threads (thread_format (slots header.objects) header.version header.objects)))
 
 -- what all image files are: one image has one spelling
 abbrev pub whole_image : Format Image

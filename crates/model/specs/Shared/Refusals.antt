@@ -1,6 +1,7 @@
 -- The numbers, names and items of refusals.
 use Rattle.std.specs.Prelude.{ℕ, List, codes}
 use Rattle.model.specs.declared.refusals.Refusal.{Refusal}
+use Rattle.model.specs.declared.refusals.Refusal.TheVariants.{PromiseNotKept, BadPromise, BadBuffer}
 use Rattle.model.specs.declared.refusals.Refusal.TheVariants.{Magic, Version, Truncated, Trailing, Limit, UntypedOverlap, NoRoom, BadObject, BadCap}
 use Rattle.model.specs.declared.refusals.Refusal.TheVariants.{SharedCSpace, SharedVSpace, BadMapping, WritableCode, BadThread, IllegalInstruction, ComputedJump}
 use Rattle.model.specs.declared.refusals.Refusal.TheVariants.{BadTarget, RangeNotKept, NotMapped, MeasureNotFalling, OverBudget, CallNotConstant, CapNotThere}
@@ -33,6 +34,9 @@ refusal_number (CapNotThere at) = 23
 refusal_number (CallRefused at error) = 24
 refusal_number (PoolLost at) = 25
 refusal_number OutOfMemory = 26
+refusal_number (PromiseNotKept at) = 28
+refusal_number (BadPromise item) = 29
+refusal_number (BadBuffer thread) = 30
 
 abbrev pub refusal_name : Refusal → List ℕ
 refusal_name Magic = codes "Magic"
@@ -61,6 +65,9 @@ refusal_name (CapNotThere at) = codes "CapNotThere"
 refusal_name (CallRefused at error) = codes "CallRefused"
 refusal_name (PoolLost at) = codes "PoolLost"
 refusal_name OutOfMemory = codes "OutOfMemory"
+refusal_name (PromiseNotKept at) = codes "PromiseNotKept"
+refusal_name (BadPromise item) = codes "BadPromise"
+refusal_name (BadBuffer thread) = codes "BadBuffer"
 
 -- where: the offset in the file and 0, the item and 0, or the thread and the point
 abbrev pub refusal_items : Refusal → ℕ × ℕ
@@ -90,3 +97,6 @@ refusal_items (CapNotThere at) = (at.thread, at.point)
 refusal_items (CallRefused at error) = (at.thread, at.point)
 refusal_items (PoolLost at) = (at.thread, at.point)
 refusal_items OutOfMemory = (0, 0)
+refusal_items (PromiseNotKept at) = (at.thread, at.point)
+refusal_items (BadPromise item) = (item, 0)
+refusal_items (BadBuffer thread) = (thread, 0)

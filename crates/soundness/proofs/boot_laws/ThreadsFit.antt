@@ -29,27 +29,27 @@ registers-within least (suc n) (x ∷ xs) low is (suc j) r at =
     registers-within (x.register + 1) n xs (omega arith)
     (and_parts ((register_format least).fits x) (many_fit register_format (λ e. e.register + 1) (x.register + 1) n xs) is).1 j r at
 
-of-thread : (objects : ℕ) (t : Thread) → (thread_format (slots_format objects) objects).fits t ≡ true
+of-thread : (version objects : ℕ) (t : Thread) → (thread_format (slots_format objects) version objects).fits t ≡ true
     → (j : ℕ) (r : RegisterEntry) → slice_get t.registers j ≡ Some r → (1 ≤ r.register) × (r.register ≤ 31)
 unfolding thread_format registers_format
-of-thread objects t is = registers-within 1 t.header.registers t.registers (omega arith) (and_parts _ _ (and_parts _ _ is).1).0
+of-thread version objects t is = registers-within 1 t.header.registers t.registers (omega arith) (and_parts _ _ (and_parts _ _ is).1).0
 
 pub registers-fit : (image : Image) → whole_image.fits image ≡ true → (k : ℕ) (t : Thread) → slice_get image.threads k ≡ Some t
     → (j : ℕ) (r : RegisterEntry) → slice_get t.registers j ≡ Some r → (1 ≤ r.register) × (r.register ≤ 31)
 unfolding image_with
 registers-fit image is k t at =
-    let threads = thread_format (slots_format image.header.objects) image.header.objects in
-    of-thread image.header.objects t (many-each (λ _. threads) (λ _. 0) 0 image.header.threads image.threads (and_parts _ _ is).1 k t at).1
+    let threads = thread_format (slots_format image.header.objects) image.header.version image.header.objects in
+    of-thread image.header.version image.header.objects t (many-each (λ _. threads) (λ _. 0) 0 image.header.threads image.threads (and_parts _ _ is).1 k t at).1
 
 -- and their values are words
 value-fits : (least : ℕ) (r : RegisterEntry) → (register_format least).fits r ≡ true → r.value < 2 ^ 32
 unfolding register_format
 value-fits least r is = (field-parts (nat_lt 0) r.value (and_parts ((field (between least 31)).fits r.register) _ is).1).0
 
-values-of : (objects : ℕ) (t : Thread) → (thread_format (slots_format objects) objects).fits t ≡ true → (j : ℕ) (r : RegisterEntry) →
+values-of : (version objects : ℕ) (t : Thread) → (thread_format (slots_format objects) version objects).fits t ≡ true → (j : ℕ) (r : RegisterEntry) →
     slice_get t.registers j ≡ Some r → r.value < 2 ^ 32
 unfolding thread_format registers_format
-values-of objects t is j r at =
+values-of version objects t is j r at =
     let one = many-each register_format (λ e. e.register + 1) 1 t.header.registers t.registers (and_parts _ _ (and_parts _ _ is).1).0 j r at in
     value-fits one.0 r one.1
 
@@ -57,8 +57,8 @@ pub values-fit : (image : Image) → whole_image.fits image ≡ true → (k : �
     → (j : ℕ) (r : RegisterEntry) → slice_get t.registers j ≡ Some r → r.value < 2 ^ 32
 unfolding image_with
 values-fit image is k t at =
-    let threads = thread_format (slots_format image.header.objects) image.header.objects in
-    values-of image.header.objects t (many-each (λ _. threads) (λ _. 0) 0 image.header.threads image.threads (and_parts _ _ is).1 k t at).1
+    let threads = thread_format (slots_format image.header.objects) image.header.version image.header.objects in
+    values-of image.header.version image.header.objects t (many-each (λ _. threads) (λ _. 0) 0 image.header.threads image.threads (and_parts _ _ is).1 k t at).1
 
 pub start-aligned : (t : Thread) → (t.header.base % page_size == 0) ≡ true → (start_of t % 4 == 0) ≡ true
 start-aligned t is = let e = eqb-true (t.header.base % page_size) 0 is in eq-eqb (start_of t % 4) 0 (omega (arith, e))

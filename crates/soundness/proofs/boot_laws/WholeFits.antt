@@ -50,7 +50,8 @@ contents-fit image is i c at =
     let g = and_parts ((ordered 0 (table_format header.objects) (λ e. pair_key e.root e.address + 1) header.tables).fits image.tables) _ f.1 in
     let h = and_parts ((ordered 0 (frame_format header.objects) (λ e. pair_key e.root e.address + 1) header.frames).fits image.frames) _ g.1 in
     let contents = content_format image.header.objects in
-    let one = many-each contents (λ x. x.header.frame + 1) 0 image.header.contents image.contents h.1 i c at in
+    let j = and_parts ((ordered 0 contents (λ x. x.header.frame + 1) header.contents).fits image.contents) _ h.1 in
+    let one = many-each contents (λ x. x.header.frame + 1) 0 image.header.contents image.contents j.0 i c at in
     let words : length c.words ≤ 1024 = content-words image.header.objects one.0 c one.1 in
     let bytes = bytes-long c.words in
     omega (arith, words, bytes)

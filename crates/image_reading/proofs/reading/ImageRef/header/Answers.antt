@@ -11,5 +11,6 @@ pub returns-clause-counts : goal.returns-clause-counts
 returns-clause-counts c =
     let i = c.self.inside in
     subst (λ (image : Image). HasCounts image) c.self.view_is
-    (counted i.bytes.now i.header i.untypeds_at i.objects_at i.capabilities_at i.interrupts_at i.tables_at i.frames_at i.contents_at i.threads_at
+    (counted i.bytes.now i.header i.untypeds_at i.objects_at i.capabilities_at i.interrupts_at i.tables_at i.frames_at i.contents_at i.promises_at
+    i.threads_at
     c.self.invariant)

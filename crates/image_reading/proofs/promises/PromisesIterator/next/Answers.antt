@@ -1,0 +1,39 @@
+use Rattle.std.proofs.Common.{◌+◌, ◌-◌, List, length, ap, sym, ◌∙◌, arith}
+use Rattle.model.specs.Images.Image.{ImagePromise, promise_format}
+use Rattle.image_reading.proofs.EntryLists.{values_of-none, first_of, first_not_refused}
+use Rattle.image_reading.proofs.promises.PromisesIterator.next.Goals as goal
+
+pub returns-then-self-eq0-clause-steps : goal.returns-then-self-eq0-clause-steps
+returns-then-self-eq0-clause-steps c =
+    let r = c.self.inside in
+    let none = values_of-none (promise_format r.counts.objects) (λ x. x.header.endpoint + 1) r.least r.left r.bytes.now r.at c.if-self-eq0.true in
+    (sym c.self.view_is ∙ none, sym c.self.view_is ∙ none)
+
+pub invariant_of-self : goal.invariant_of-self
+invariant_of-self c =
+    let r = c.self.inside in
+    let f = first_of (promise_format r.counts.objects) (λ x. x.header.endpoint + 1) r.least r.left (r.left - 1) r.bytes.now r.at c.in-Ok.promise c.in-Ok.next
+    (omega arith) c.self.invariant c.in-Ok.ensures in
+    rw (c.from.ensures, c.header.ensures) f.rest
+
+pub unreachable-requires : goal.unreachable-requires
+unreachable-requires c =
+    let r = c.self.inside in
+    first_not_refused (promise_format r.counts.objects) (λ x. x.header.endpoint + 1) r.least r.left r.bytes.now r.at c.in-Err.field-0 (omega arith) c.self.invariant
+    c.in-Err.ensures
+
+pub returns-clause-steps : goal.returns-clause-steps
+returns-clause-steps c =
+    let r = c.self.inside in
+    let f = first_of (promise_format r.counts.objects) (λ x. x.header.endpoint + 1) r.least r.left (r.left - 1) r.bytes.now r.at c.in-Ok.promise c.in-Ok.next
+    (omega arith) c.self.invariant c.in-Ok.ensures in
+    sym c.self.view_is ∙ rw (c.from.ensures, c.header.ensures) f.values
+
+pub returns-clause-goes : goal.returns-clause-goes
+returns-clause-goes c =
+    let r = c.self.inside in
+    let f = first_of (promise_format r.counts.objects) (λ x. x.header.endpoint + 1) r.least r.left (r.left - 1) r.bytes.now r.at c.in-Ok.promise c.in-Ok.next
+    (omega arith) c.self.invariant c.in-Ok.ensures in
+    let old = ap (λ (l : List ImagePromise). length l) c.self.view_is in
+    let new = ap (λ (l : List ImagePromise). length l) f.values in
+    rw (c.from.ensures, c.header.ensures) (record { on = λ _. (tt, tt, omega (arith, old, new)); keeps = tt; rests = λ _. tt })
