@@ -20,6 +20,7 @@ mod SlotsLeft
 mod Linked
 mod Appended
 mod LinkedChanges
+mod LastLinks
 mod PagedChanges
 mod LevelByLevel
 mod Descents

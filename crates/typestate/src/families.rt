@@ -1,29 +1,44 @@
 //! Which changes leave slots that were derived from others, found by the names of what these were derived from.
 
-ghost use Rattle.std.specs.Prelude.{ℕ, ◌≡◌, ◌==◌, IfOk, false, true};
-ghost use Rattle.std.specs.List.{filter};
+ghost use Rattle.std.specs.Prelude.{ℕ, ◌≡◌, ◌≤◌, ◌==◌, IfOk, false, true};
+ghost use Rattle.std.specs.List.{All, filter};
 ghost use Rattle.std.specs.List.Sorted.{IsStrictlySortedBy};
 ghost use Rattle.typestate.specs.Families.{KeepsLinks, has_link, link_cmp};
 ghost use Rattle.typestate.specs.PackedChanges.{has_name};
 
 use std::alloc::{AllocError, Global};
 use std::collections::btree_set::{BTreeSet, Range};
+use std::ops::Bound;
 
 /// Links from names to the numbers of the slots that were derived from what these stand for. It may hold more links than there are, and
 /// never fewer.
 #[derive(Drop)]
 pub(crate) struct Families {
-    links: BTreeSet<(u128, u64)>,
+    links: BTreeSet<(u64, u64)>,
 }
 
 impl Families {
+    /// A name after which none has links: that of the last one.
+    fn last_name(&self) -> u64
+        ensures { All (λ q. q.0 ≤ result) self.now.links.keys }
+    {
+        match self.links.last() {
+            Some(last) => last.0,
+            None => 0,
+        }
+    }
+
     /// The links from a name.
-    pub(crate) fn named(&self, name: u64) -> Range<'_, (u128, u64)>
+    pub(crate) fn named(&self, name: u64) -> Range<'_, (u64, u64)>
         ensures links { result ≡ filter (λ q. q.0 == name) self.now.links.keys }
         ensures ordered { IsStrictlySortedBy link_cmp self.now.links.keys }
     {
-        let first = u128::from(name);
-        self.links.range((first, 0)..(first + 1, 0))
+        if name < self.last_name() {
+            self.links.range((name, 0)..(name + 1, 0))
+        } else {
+            self.links
+                .range((Bound::Included((name, 0)), Bound::Unbounded))
+        }
     }
 
     /// No links.
@@ -39,7 +54,7 @@ impl Families {
         ensures kept { KeepsLinks self.old.links.keys self.new.links.keys }
     {
         if let Some(parent) = parent {
-            self.links.insert((u128::from(parent), slot))?;
+            self.links.insert((parent, slot))?;
         }
         Ok(())
     }
@@ -55,7 +70,7 @@ impl Families {
         if is_name(before, parent) {
             return;
         }
-        self.links.remove(&(u128::from(before), slot));
+        self.links.remove(&(before, slot));
     }
 }
 
