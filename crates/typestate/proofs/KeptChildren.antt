@@ -10,7 +10,7 @@ use Rattle.typestate.specs.Differences.{slots_of}
 use Rattle.typestate.specs.Families.{has_parent}
 use Rattle.typestate.specs.Left.{left_by}
 use Rattle.typestate.specs.Levels.{all_below, hangs_below, named, touched_by}
-use Rattle.typestate.specs.Removals.{may_lose}
+use Rattle.typestate.specs.Removals.{is_root, may_lose}
 use Rattle.typestate.specs.SlotChanges.{heir, is_parent, is_removed, noted_outside, noted_parent}
 use Rattle.typestate.specs.declared.points.NotedSlots.{NotedSlots}
 use Rattle.typestate.specs.declared.slot_changes.Removed.{Removed}
@@ -155,3 +155,34 @@ lost-below n which root key touched is =
     ≡ list_any (λ c. option_map_or (λ s. is_removed (slots_of n) w s.key && is_parent key s.parent) (left_by c) false) n.changes.now) (sym is)
     (λ told may. ap (list_any (λ c. option_map_or (λ s. is_removed (slots_of n) (Below root) s.key && is_parent key s.parent) (left_by c) false)) told
     ∙ lost-found n root key may n.changes.now)
+
+-- a child that stays of the slot of which all descendants go hangs below it
+kept-root : (n : NotedSlots) (root key : SlotKey) → is_same_key key root ≡ true → (c : NotedSlot)
+    → option_map_or (kept_child (slots_of n) (Below root) key) (left_by c) false ≡ true → hangs_below root (all_below n (Below root)) (left_by c) ≡ true
+kept-root n root key same c is = either (hangs_below root (all_below n (Below root)) (left_by c)) (has_parent key (left_by c)) (by-left (left_by c))
+    (kept-among n (Below root) key c is)
+  where
+    either : (a b : Bool) → (b ≡ true → a ≡ true) → (a || b) ≡ true → a ≡ true
+    either true b so is = refl
+    either false b so is = so is
+
+    by-parent : (o : Option SlotKey) → option_map_or (λ p. number_of p == number_of key) o false ≡ true →
+        option_map_or (λ p. is_same_key p root || is_some (slot_at (all_below n (Below root)) p)) o false ≡ true
+    by-parent None clash = clash
+    by-parent (Some p) there =
+        ap (λ b. b || is_some (slot_at (all_below n (Below root)) p))
+        (ap (λ (m : ℕ). m == number_of root) (eqb-true (number_of p) (number_of key) there) ∙ same)
+
+    by-left : (o : Option NotedSlot) → has_parent key o ≡ true → hangs_below root (all_below n (Below root)) o ≡ true
+    by-left None clash = clash
+    by-left (Some s) there = by-parent s.parent there
+
+-- what stays a child of that slot has its key among the changes that are touched
+pub kept-below : (n : NotedSlots) (which : Removed) (key : SlotKey) → is_root which key ≡ true → (cs : List NotedSlot)
+    → list_any (λ c. option_map_or (kept_child (slots_of n) which key) (left_by c) false)
+    (filter (λ c. hangs_below (named which) (all_below n which) (left_by c)) cs)
+    ≡ list_any (λ c. option_map_or (kept_child (slots_of n) which key) (left_by c) false) cs
+kept-below n (One gone) key clash cs = absurd (let no : false ≡ true = clash in cc)
+kept-below n (Below root) key same cs =
+    any-some (λ c. option_map_or (kept_child (slots_of n) (Below root) key) (left_by c) false) (λ c. hangs_below root (all_below n (Below root)) (left_by c))
+    (kept-root n root key same) cs

@@ -18,6 +18,7 @@ pub mod SlotChanges
 pub mod CNodeCalls
 pub mod Levels
 pub mod Descents
+pub mod Affected
 pub mod ChangeLists
 pub mod Removals
 pub mod Invocations

@@ -1,5 +1,5 @@
 -- Slots that go from the slots at a point.
-use Rattle.std.specs.Prelude.{Bool, List}
+use Rattle.std.specs.Prelude.{Bool, false, List}
 use Rattle.model.specs.Acceptance.NotedStates.{NotedSlot, SlotKey, is_same_key}
 use Rattle.typestate.specs.declared.removal.Removal.{Removal}
 use Rattle.typestate.specs.declared.slot_changes.Removed.{Removed}
@@ -14,3 +14,8 @@ gone_by r = is_removed (slots_of r.slots) r.which
 abbrev pub may_lose : List NotedSlot → Removed → SlotKey → Bool
 may_lose slots (One gone) key = is_parent key (noted_parent slots gone)
 may_lose slots (Below root) key = is_same_key key root
+
+-- whether all that descends from the slot of a key goes
+abbrev pub is_root : Removed → SlotKey → Bool
+is_root (One gone) key = false
+is_root (Below root) key = is_same_key key root

@@ -2,7 +2,7 @@
 //! seL4 Reference Manual, "Deletion, Revocation, and Recycling".
 
 ghost use Rattle.std.specs.Prelude.{◌≡◌, ◌++◌, IfOk, map};
-ghost use Rattle.typestate.specs.ChangeLists.{changes_of, children_kept};
+ghost use Rattle.typestate.specs.ChangeLists.{changes_of, children_kept, removal_changes};
 ghost use Rattle.typestate.specs.SlotChanges.{emptied, followed, is_parent};
 ghost use Rattle.typestate.specs.declared.log_entries.LogEntry.TheVariants.{Sets};
 ghost use Rattle.typestate.specs.declared.slot_changes.SlotChange.TheVariants.{Moves, Removes};
@@ -11,7 +11,7 @@ use crate::log_entries::note_sets;
 use crate::removal::Removal;
 use crate::{LogEntry, NotedSlot, NotedSlots, Removed, SlotChange, SlotKey};
 use model::Cap;
-use std::alloc::AllocError;
+use std::alloc::{AllocError, Global};
 
 /// Whether a slot was derived from the slot of this key.
 pub(crate) fn is_parent(key: SlotKey, parent: Option<SlotKey>) -> bool
@@ -99,19 +99,27 @@ impl NotedSlots<'_> {
         Ok(())
     }
 
-    /// Appends what a call makes of the slots that takes some away. Memory may be refused.
-    fn note_removal(&self, which: Removed, made: &mut Vec<LogEntry>) -> Result<(), AllocError>
-        ensures { IfOk result (λ _. made.new.items ≡ made.old.items ++ changes_of self.now (Removes which)) }
+    /// What becomes of the slots where some go. Memory may be refused.
+    fn removal_changes(&self, alloc: Global, which: Removed) -> Result<Vec<NotedSlot>, AllocError>
+        ensures { IfOk result (λ removed. removed.items ≡ removal_changes self.now which) }
     {
-        let affected = self.affected(*made.allocator(), &which)?;
+        let affected = self.affected(alloc, &which)?;
         let removal = Removal {
             slots: *self,
             which,
             below: &affected.below,
-            touched: &affected.touched,
+            touched: affected.touched(),
         };
-        let mut removed = Vec::new(*made.allocator());
+        let mut removed = Vec::new(alloc);
         removal.note_all(&mut removed)?;
+        Ok(removed)
+    }
+
+    /// Appends what a call makes of the slots that takes some away. Memory may be refused.
+    fn note_removal(&self, which: Removed, made: &mut Vec<LogEntry>) -> Result<(), AllocError>
+        ensures { IfOk result (λ _. made.new.items ≡ made.old.items ++ changes_of self.now (Removes which)) }
+    {
+        let removed = self.removal_changes(*made.allocator(), which)?;
         note_sets(&removed, made)
     }
 

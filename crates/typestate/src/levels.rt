@@ -6,9 +6,10 @@ ghost use Rattle.std.specs.List.{filter_map, list_any};
 ghost use Rattle.std.specs.List.Sorted.{IsStrictlySortedBy};
 ghost use Rattle.std.specs.Ordering.{nat_cmp};
 ghost use Rattle.model.specs.Acceptance.NotedStates.{number_of};
+ghost use Rattle.typestate.specs.Affected.{touched_of};
 ghost use Rattle.typestate.specs.Descents.{AreBelow, if_other, is_found, levels_of};
 ghost use Rattle.typestate.specs.Families.{children_of, found};
-ghost use Rattle.typestate.specs.Levels.{all_below, touched_by};
+ghost use Rattle.typestate.specs.Levels.{all_below, below_by, touched_by};
 ghost use Rattle.typestate.specs.Orders.{Rise};
 
 use crate::change_lists::emptied;
@@ -18,11 +19,23 @@ use std::alloc::{AllocError, Global};
 use std::collections::btree_set::BTreeSet;
 
 /// The changes whose slots descend from the one of which all descendants go, and those whose slots were derived from one that goes or
-/// is named.
+/// is named: where these are no others, they are listed once.
 #[derive(Drop)]
 pub(crate) struct Affected {
     pub(crate) below: Vec<NotedSlot>,
-    pub(crate) touched: Vec<NotedSlot>,
+    others: Option<Vec<NotedSlot>>,
+}
+
+impl Affected {
+    /// The changes whose slots were derived from one that goes or is named.
+    pub(crate) fn touched(&self) -> &[NotedSlot]
+        ensures { result.now ≡ touched_of self.now }
+    {
+        match &self.others {
+            Some(touched) => touched,
+            None => &self.below,
+        }
+    }
 }
 
 /// Through how many slots what goes descends from the slot that is named: no line of the kernel's is longer.
@@ -139,18 +152,42 @@ impl NotedSlots<'_> {
         Ok(all)
     }
 
+    /// The changes of these numbers, and of those of the children of the newest slots, from which the search goes on. Memory may be
+    /// refused.
+    fn all_touched(
+        &self,
+        alloc: Global,
+        root: SlotKey,
+        numbers: &mut BTreeSet<u64>,
+        newest: &[NotedSlot],
+    ) -> Result<Vec<NotedSlot>, AllocError>
+        ensures { IfOk result (λ touched. (k : ℕ) → AreBelow k self.now root numbers.old.keys newest.now → touched.items ≡ below_by (k + 1) self.now root) }
+    {
+        self.next_level(alloc, root, numbers, newest)?;
+        let touched = self.all_numbered(alloc, numbers)?;
+        Ok(touched)
+    }
+
     /// What goes, and what was derived from what goes or is named. Memory may be refused.
     pub(crate) fn affected(&self, alloc: Global, which: &Removed) -> Result<Affected, AllocError>
         ensures listed { IfOk result (λ all. all.below.items ≡ all_below self.now which.now) }
-        ensures told { IfOk result (λ all. all.touched.items ≡ touched_by self.now which.now) }
+        ensures told { IfOk result (λ all. touched_of all ≡ touched_by self.now which.now) }
         ensures rising { IfOk result (λ all. Rise all.below.items) }
     {
         let root = which.named();
         let mut numbers = BTreeSet::new(alloc);
         let newest = self.levels(alloc, root, levels_of(which), &mut numbers)?;
         let below = self.all_numbered(alloc, &numbers)?;
-        self.next_level(alloc, root, &mut numbers, &newest)?;
-        let touched = self.all_numbered(alloc, &numbers)?;
-        Ok(Affected { below, touched })
+        if newest.is_empty() {
+            return Ok(Affected {
+                below,
+                others: None,
+            });
+        }
+        let touched = self.all_touched(alloc, root, &mut numbers, &newest)?;
+        Ok(Affected {
+            below,
+            others: Some(touched),
+        })
     }
 }

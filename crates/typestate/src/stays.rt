@@ -9,7 +9,7 @@ ghost use Rattle.model.specs.Capabilities.CapabilityWords.{IsCapability};
 ghost use Rattle.typestate.specs.ChangeLists.{kept_child, named_by, removal_change, removal_changes, told_at, told_of};
 ghost use Rattle.typestate.specs.Differences.{left_by, slots_of};
 ghost use Rattle.typestate.specs.Families.{child_at, children_of};
-ghost use Rattle.typestate.specs.Removals.{gone_by, may_lose};
+ghost use Rattle.typestate.specs.Removals.{gone_by, is_root, may_lose};
 ghost use Rattle.typestate.specs.SlotChanges.{cap_left, is_parent, loses_children, noted_outside, slot_left};
 ghost use Rattle.typestate.specs.declared.slot_changes.Removed.TheVariants.{One};
 
@@ -125,11 +125,25 @@ impl Removal<'_, '_> {
         }
     }
 
-    /// Whether a child of the slot of this key stays. What the image lists is no child.
+    /// Whether all that descends from the slot of this key goes.
+    fn is_root(&self, key: SlotKey) -> bool
+        ensures { result ≡ is_root self.now.which key }
+    {
+        match self.which {
+            Removed::One(_) => false,
+            Removed::Below(root) => key.is_same(root),
+        }
+    }
+
+    /// Whether a child of the slot of this key stays. What the image lists is no child. All children of a slot of which all descendants
+    /// go are among the changes that are touched.
     fn has_kept(&self, key: SlotKey) -> bool
         ensures { result ≡ list_any (kept_child (slots_of self.now.slots) self.now.which key) (slots_of self.now.slots) }
     {
         let touched = self.one_stays(self.touched, key);
+        if self.is_root(key) {
+            return touched;
+        }
         let children = self.one_child_stays(key);
         touched || children
     }
