@@ -1,17 +1,20 @@
 -- A step by which a thread hands another a message, a reply or a signal, so that this one runs again, stays within authority.
-use Rattle.std.proofs.Common.{ℕ, zero, suc, ◌≡◌, ◌≢◌, ◌==◌, ◌+◌, ◌<◌, ◌≤◌, ◌++◌, Bool, true, false, not, if◌then◌else◌, Option, Some, option_map, List, [], ◌∷◌}
+use Rattle.std.proofs.Common.{ℕ, zero, suc, ◌≡◌, ◌≢◌, ◌==◌, ◌+◌, ◌<◌, ◌≤◌, ◌++◌, Bool, true, false, not, if◌then◌else◌, Option, Some, None, option_map, List}
+use Rattle.std.proofs.Common.{[], ◌∷◌}
 use Rattle.std.proofs.Common.{length, refl, sym, ◌∙◌, ap, subst, inl, inr, arith}
 use Rattle.std.specs.Prelude.{slice_index_or}
 use Rattle.std.specs.Option.{option_map_or}
 use Rattle.std.proofs.lemmas.Bool.{eq-eqb, ne_eqb}
 use Rattle.std.proofs.lemmas.Bool.Decides.{eqb_tells}
 use Rattle.std.proofs.lemmas.List.Elements.{filter-append}
-use Rattle.model.specs.Acceptance.Authority.{CallNames, Holds, IsWoken, ReadyChange, RightChange, kept, WithinAuthority, self_of}
+use Rattle.model.specs.Acceptance.Authority.{CallNames, EndpointChange, IsWoken, NotificationChange, ReadyChange, RightChange, dropped, kept, WithinAuthority}
+use Rattle.model.specs.Acceptance.Authority.{self_of}
+use Rattle.model.specs.Capabilities.Slots.{capability_at}
 use Rattle.model.specs.Images.Image.{Image, Thread}
 use Rattle.model.specs.Kernel.Deliveries.{Reason, woken}
-use Rattle.model.specs.Kernel.Kinds.{Names, kind_at, kind_of}
+use Rattle.model.specs.Kernel.Kinds.{kind_at, kind_of}
 use Rattle.model.specs.Kernel.Messages.{passes, passes_with}
-use Rattle.model.specs.Kernel.Retype.{NewEndpoint, NewNotification, NewThread}
+use Rattle.model.specs.Kernel.Retype.{NewThread}
 use Rattle.model.specs.Kernel.Scheduling.{full_slice, is_runnable, to_tail, wake}
 use Rattle.model.specs.Kernel.State.{State, Runnable, Object, ThreadObject, EndpointObject, NotificationObject, EndpointState, NotificationState, ThreadState}
 use Rattle.model.specs.Kernel.State.{as_thread, new_thread, thread_at, with_object, with_thread}
@@ -20,7 +23,7 @@ use Rattle.model.specs.Machine.ProgramMemory.{RegisterFile}
 use Rattle.model.specs.Shared.Lists.{times_in, without}
 use Rattle.model_laws.proofs.Below.{thread-kind}
 use Rattle.model_laws.proofs.Interrupted.{without-absent}
-use Rattle.model_laws.proofs.PlainSteps.{append-none, right-between}
+use Rattle.model_laws.proofs.PlainSteps.{append-none, between, one-used}
 use Rattle.model_laws.proofs.ReadyLists.{times-end}
 
 -- ---- lists
@@ -77,9 +80,12 @@ pub record MayHand (image : Image) (t : Thread) (s : State) (base : ℕ) (held :
   pub absent : (priority : ℕ) → times_in (s.ready priority) other ≡ 0
   pub kind : kind_at s base ≡ Some (kind_of held)
   pub thread : (u : ThreadState) → held ≡ ThreadObject u → base ≡ self_of image t
-  pub right : (u : ThreadState) → held ≡ ThreadObject u → RightChange image t s own.caller u.caller
-  pub endpoint : (e : EndpointState) → held ≡ EndpointObject e → Holds image t s (Names NewEndpoint base)
-  pub notification : (n : NotificationState) → held ≡ NotificationObject n → Holds image t s (Names NewNotification base)
+  -- a thread loses its right to reply alone; beside another object it may reply to a fourth
+  pub drops : (u : ThreadState) → held ≡ ThreadObject u → (u.caller ≡ None) × (u.priority ≡ own.priority) × (u.fault_address ≡ own.fault_address)
+  pub fourth : (caller : ℕ) → self_of image t ≢ base → own.caller ≡ Some caller → (caller ≢ self_of image t) × (caller ≢ other) × (caller ≢ base)
+  pub endpoint : (old new : EndpointState) → s.objects base ≡ Some (EndpointObject old) → held ≡ EndpointObject new → EndpointChange image t s base old new
+  pub notification : (old new : NotificationState) → s.objects base ≡ Some (NotificationObject old) → held ≡ NotificationObject new
+      → NotificationChange image t s base old new
 
 module _ (image : Image) (t : Thread) (s : State) (base : ℕ) (held : Object) (other : ℕ) (hands : RegisterFile → RegisterFile) (waiter : ThreadState)
     (may : MayHand image t s base held other waiter) where
@@ -182,22 +188,58 @@ module _ (image : Image) (t : Thread) (s : State) (base : ℕ) (held : Object) (
     | away not_self not_other not_base ↦ ap (option_map kind_of) (sym (beyond offset not_self not_other not_base))
   ]
 
-  -- the thread's own right to reply: that of the object between them, where this is the thread itself
-  caller_of : Option Object → Option ℕ
-  caller_of o = (option_map_or (λ (v : ThreadState). v) (as_thread o) new_thread).caller
+  -- the thread itself: the object between them, where this is the thread, and else as it was
+  thread_of : Option Object → ThreadState
+  thread_of o = option_map_or (λ (v : ThreadState). v) (as_thread o) new_thread
 
-  own-right : RightChange image t s may.own.caller last.caller
-  unfolding last caller_of
+  -- it passes with its registers alone changed
+  last-part : (A : Type 0) (part : ThreadState → A) → ((u : ThreadState) (r : RegisterFile) → part (record u { registers = r }) ≡ part u)
+      → part last ≡ part (thread_of (moved.objects self))
+  unfolding last thread_of
+  last-part A part kept_part = kept_part (thread_at moved self) (advanced (thread_at moved self).registers)
+
+  held-thread : self ≡ base → (u : ThreadState) × (held ≡ ThreadObject u) × (moved.objects self ≡ Some (ThreadObject u))
+  held-thread here =
+      let kind : option_map kind_of (Some held) ≡ Some NewThread = sym may.kind ∙ sym (ap (kind_at s) here) ∙ ap (option_map kind_of) may.is in
+      let thread = thread-kind (Some held) kind in (
+        thread.0,
+        (let e : Some held ≡ Some (ThreadObject thread.0) = thread.1 in cc),
+        moved-elsewhere self (λ e. may.apart (sym e)) ∙ ap (λ (b : Bool). if b then Some held else s.objects self) (eq-eqb self base here) ∙ thread.1,
+      )
+
+  own-moved : self ≢ base → moved.objects self ≡ Some (ThreadObject may.own)
+  own-moved apart =
+      moved-elsewhere self (λ e. may.apart (sym e)) ∙ ap (λ (b : Bool). if b then Some held else s.objects self) (ne_eqb self base apart) ∙ may.is
+
+  own-right : RightChange image t s after may.own.caller last.caller
+  unfolding thread_of
   own-right = elim (eqb_tells self base) [
     | inl here ↦
-        let there : moved.objects self ≡ Some held = moved-elsewhere self (λ e. may.apart (sym e))
-        ∙ ap (λ (b : Bool). if b then Some held else s.objects self) here.0 in
-        let kind : option_map kind_of (Some held) ≡ Some NewThread = sym may.kind ∙ sym (ap (kind_at s) here.1) ∙ ap (option_map kind_of) may.is in
-        let thread = thread-kind (Some held) kind in
-        let same : held ≡ ThreadObject thread.0 = let e : Some held ≡ Some (ThreadObject thread.0) = thread.1 in cc in
-        subst (λ (c : Option ℕ). RightChange image t s may.own.caller c) (sym (ap caller_of (there ∙ thread.1))) (may.right thread.0 same)
+        let thread = held-thread here.1 in
+        dropped (last-part (Option ℕ) (λ u. u.caller) (λ u r. refl) ∙ ap (λ (o : Option Object). (thread_of o).caller) thread.2
+        ∙ (may.drops thread.0 thread.1).0)
     | inr apart ↦
-        kept (ap caller_of (moved-elsewhere self (λ e. may.apart (sym e)) ∙ ap (λ (b : Bool). if b then Some held else s.objects self) apart.0 ∙ may.is))
+        kept (last-part (Option ℕ) (λ u. u.caller) (λ u r. refl) ∙ ap (λ (o : Option Object). (thread_of o).caller) (own-moved apart.1))
+        (λ caller right. let away = may.fourth caller apart.1 right in beyond caller away.0 away.1 away.2)
+  ]
+
+  own-priority : last.priority ≡ may.own.priority
+  unfolding thread_of
+  own-priority = elim (eqb_tells self base) [
+    | inl here ↦
+        let thread = held-thread here.1 in
+        last-part ℕ (λ u. u.priority) (λ u r. refl) ∙ ap (λ (o : Option Object). (thread_of o).priority) thread.2 ∙ (may.drops thread.0 thread.1).1
+    | inr apart ↦ last-part ℕ (λ u. u.priority) (λ u r. refl) ∙ ap (λ (o : Option Object). (thread_of o).priority) (own-moved apart.1)
+  ]
+
+  own-fault_address : last.fault_address ≡ may.own.fault_address
+  unfolding thread_of
+  own-fault_address = elim (eqb_tells self base) [
+    | inl here ↦
+        let thread = held-thread here.1 in
+        last-part ℕ (λ u. u.fault_address) (λ u r. refl) ∙ ap (λ (o : Option Object). (thread_of o).fault_address) thread.2
+        ∙ (may.drops thread.0 thread.1).2
+    | inr apart ↦ last-part ℕ (λ u. u.fault_address) (λ u r. refl) ∙ ap (λ (o : Option Object). (thread_of o).fault_address) (own-moved apart.1)
   ]
 
   -- ---- the ready list
@@ -292,7 +334,7 @@ module _ (image : Image) (t : Thread) (s : State) (base : ℕ) (held : Object) (
       | at_base here not_self not_other ↦
           let e : Some held ≡ Some (EndpointObject new) = sym (at-base offset here not_self not_other) ∙ behind in
           let f : held ≡ EndpointObject new = cc in
-          subst (λ (o : ℕ). Holds image t s (Names NewEndpoint o)) (sym here) (may.endpoint new f)
+          subst (λ (o : ℕ). EndpointChange image t s o old new) (sym here) (may.endpoint old new (ap s.objects (sym here) ∙ before) f)
       | away not_self not_other not_base ↦
           let e : Some (EndpointObject old) ≡ Some (EndpointObject new) = sym before ∙ sym (beyond offset not_self not_other not_base) ∙ behind in
           let f : old ≡ new = cc in absurd (differs f)
@@ -307,12 +349,18 @@ module _ (image : Image) (t : Thread) (s : State) (base : ℕ) (held : Object) (
       | at_base here not_self not_other ↦
           let e : Some held ≡ Some (NotificationObject new) = sym (at-base offset here not_self not_other) ∙ behind in
           let f : held ≡ NotificationObject new = cc in
-          inl (subst (λ (o : ℕ). Holds image t s (Names NewNotification o)) (sym here) (may.notification new f))
+          subst (λ (o : ℕ). NotificationChange image t s o old new) (sym here) (may.notification old new (ap s.objects (sym here) ∙ before) f)
       | away not_self not_other not_base ↦
           let e : Some (NotificationObject old) ≡ Some (NotificationObject new) = sym before ∙ sym (beyond offset not_self not_other not_base) ∙ behind in
           let f : old ≡ new = cc in absurd (differs f)
     ];
-    right = right-between image t s after may.own last may.is at-self own-right;
+    parents = λ slot parent there fresh. absurd (fresh there);
+    used = λ slot offset bits old new before behind differs. absurd (one-used (capability_at s.slots slot) offset bits old new before behind differs);
+    priority = between (λ old new. new.priority ≡ old.priority) (s.objects self) (after.objects self) may.own last may.is at-self own-priority;
+    fault_address =
+        between (λ old new. new.fault_address ≡ old.fault_address) (s.objects self) (after.objects self) may.own last may.is at-self own-fault_address;
+    right =
+        between (λ old new. RightChange image t s after old.caller new.caller) (s.objects self) (after.objects self) may.own last may.is at-self own-right;
     threads = λ x old new not_self before behind differs. elim (place self other base x) [
       | at_self here ↦ absurd (not_self here)
       | at_other here _ ↦

@@ -9,16 +9,17 @@ use Rattle.model.specs.declared.capabilities.Cap.TheVariants.{Endpoint, Notifica
 use Rattle.model.specs.declared.errors.KError.TheVariants.{InvalidCapability}
 use Rattle.model.specs.declared.lookup_failures.LookupFailure.{LookupFailure}
 use Rattle.model.specs.declared.rights.Rights.{Rights}
-use Rattle.model.specs.Acceptance.Authority.{CallNames, dropped, WithinAuthority, self_of}
+use Rattle.model.specs.Acceptance.Authority.{CallNames, takes_receiver, passes_on, WithinAuthority, self_of}
 use Rattle.model.specs.Capabilities.Rights.{may_grant_reply, may_write}
 use Rattle.model.specs.Images.Image.{Image, Thread}
-use Rattle.model.specs.Kernel.Deliveries.{by_right, as_before, Reason, receiver, woken, waiter as woken_waiter, caller as answered_caller}
+use Rattle.model.specs.Kernel.Deliveries.{by_right, as_before, Reason, receiver, SendsTo, Signals, woken, waiter as woken_waiter, caller as answered_caller}
 use Rattle.model.specs.Kernel.Kinds.{kind_at, kind_of, object_named}
 use Rattle.model.specs.Kernel.Messages.{a0, a7, delivered, message_of, passes, replied, sends, signals}
 use Rattle.model.specs.Kernel.Retype.{NewEndpoint, NewNotification}
 use Rattle.model.specs.Kernel.Scheduling.{head_of, is_runnable}
-use Rattle.model.specs.Kernel.Soundness.{IsSound, waiting_at}
-use Rattle.model.specs.Kernel.State.{State, Status, Runnable, Object, ThreadObject, EndpointObject, NotificationObject, EndpointState, NotificationState}
+use Rattle.model.specs.Kernel.Soundness.{IsSound, awaits_answer, waiting_at}
+use Rattle.model.specs.Kernel.State.{State, Status, Runnable, Blocked, Object, ThreadObject, EndpointObject, NotificationObject, EndpointState}
+use Rattle.model.specs.Kernel.State.{NotificationState}
 use Rattle.model.specs.Kernel.State.{Sender, BySend, ThreadState, as_endpoint, as_notification, as_thread, endpoint_at, new_endpoint, new_notification}
 use Rattle.model.specs.Kernel.State.{new_thread, notification_at, thread_at, with_object}
 use Rattle.model.specs.Kernel.Steps.{call_of, calls_known, refused, send_by, send_named, send_on, sender, signal_on, system_call}
@@ -68,6 +69,22 @@ pub resting-absent : (s : State) → IsSound s → (thread : ℕ) (own : ThreadS
 resting-absent s sound thread own is rests priority =
     sound.threads.ready thread priority ∙ ap (λ (b : Bool). if b then 1 else 0) (rests-nowhere s thread own is rests priority)
 
+-- who runs, or waits at a queue, awaits no answer
+runs-awaits : (s : State) (thread : ℕ) (own : ThreadState) → s.objects thread ≡ Some (ThreadObject own) → own.status ≡ Runnable
+    → awaits_answer (thread_at s thread).status ≡ false
+runs-awaits s thread own is runs = ap (λ (u : ThreadState). awaits_answer u.status) (at-place s thread own is) ∙ ap awaits_answer runs
+
+pub blocked-awaits : (s : State) (thread : ℕ) (own : ThreadState) (queue : ℕ) → s.objects thread ≡ Some (ThreadObject own) → own.status ≡ Blocked queue
+    → awaits_answer (thread_at s thread).status ≡ false
+blocked-awaits s thread own queue is waits = ap (λ (u : ThreadState). awaits_answer u.status) (at-place s thread own is) ∙ ap awaits_answer waits
+
+-- who awaits a reply is none of those that await nothing
+pub awaited-apart : (s : State) → IsSound s → (thread caller : ℕ) (own : ThreadState) → s.objects thread ≡ Some (ThreadObject own)
+    → own.caller ≡ Some caller → (other : ℕ) → awaits_answer (thread_at s other).status ≡ false → caller ≢ other
+awaited-apart s sound thread caller own is right other rests same =
+    let awaits = sound.threads.callers thread caller (ap (λ (u : ThreadState). u.caller) (at-place s thread own is) ∙ right) in
+    let clash : true ≡ false = sym awaits ∙ ap (λ (n : ℕ). awaits_answer (thread_at s n).status) same ∙ rests in cc
+
 -- the first of those that wait at an object
 pub first-waits : (s : State) → IsSound s → (queue thread : ℕ) (others : List ℕ) → waiting_at (s.objects queue) ≡ thread ∷ others → Waits s thread queue
 first-waits s sound queue thread others standing =
@@ -108,6 +125,9 @@ module _ (image : Image) (t : Thread) (s : State) (sound : IsSound s) (endpoint 
       let e : Some (ThreadObject own) ≡ Some (EndpointObject queue.0) = sym is ∙ ap s.objects same ∙ queue.1 in
       let f : ThreadObject own ≡ EndpointObject queue.0 = cc in cc
 
+  names : CallNames image t s (SendsTo endpoint badge)
+  names = record { slot = call.slot; own = call.among; named = call.named; such = record { allowed = allowed; is = call.holds; writes = writes } }
+
   may : MayHand image t s endpoint shorter first waits.own
   may = record {
     own = call.own;
@@ -119,9 +139,20 @@ module _ (image : Image) (t : Thread) (s : State) (sound : IsSound s) (endpoint 
     absent = resting-absent s sound first waits.own waits.is waits.rests;
     kind = there;
     thread = λ u f. absurd cc;
-    right = λ u f. absurd cc;
-    endpoint = λ x f. record { slot = call.slot; own = call.among; such = ap object_named call.holds };
-    notification = λ n f. absurd cc;
+    drops = λ u f. absurd cc;
+    fourth = λ caller _ right. (
+      awaited-apart s sound (self_of image t) caller call.own call.is right (self_of image t) (runs-awaits s (self_of image t) call.own call.is call.runs),
+      awaited-apart s sound (self_of image t) caller call.own call.is right first (blocked-awaits s first waits.own endpoint waits.is waits.blocked),
+      awaited-apart s sound (self_of image t) caller call.own call.is right endpoint
+          (ap (λ (o : Option Object). awaits_answer (option_map_or (λ (v : ThreadState). v) (as_thread o) new_thread).status) queue.1),
+    );
+    endpoint = λ old new was f.
+        let now : record (endpoint_at s endpoint) { receivers = others } ≡ new = cc in
+        let before : endpoint_at s endpoint ≡ old = ap (λ (o : Option Object). option_map_or (λ (x : EndpointState). x) (as_endpoint o) new_endpoint) was in
+        takes_receiver badge first names
+        (sym (ap (λ (x : EndpointState). x.receivers) before) ∙ list ∙ ap (λ (x : EndpointState). first ∷ x.receivers) now)
+        (sym (ap (λ (x : EndpointState). x.senders) now) ∙ ap (λ (x : EndpointState). x.senders) before);
+    notification = λ old new was f. absurd cc;
   }
 
   hands : RegisterFile → RegisterFile
@@ -138,8 +169,7 @@ module _ (image : Image) (t : Thread) (s : State) (sound : IsSound s) (endpoint 
       (woken waits.own (advanced (hands waits.own.registers)))
   unfolding hands
   reason =
-      receiver endpoint badge waits.own.caller (ap head_of list) waits.blocked
-      (record { slot = call.slot; own = call.among; named = call.named; such = record { allowed = allowed; is = call.holds; writes = writes } })
+      receiver endpoint badge waits.own.caller (ap head_of list) waits.blocked names
       (as_before refl)
       (ap (λ (u : ThreadState). woken waits.own (advanced (delivered waits.own.registers badge (message_of u))))
       (thread-beside s endpoint shorter (self_of image t) (ne_eqb (self_of image t) endpoint (not_queue (self_of image t) call.own call.is))))
@@ -172,6 +202,9 @@ module _ (image : Image) (t : Thread) (s : State) (sound : IsSound s) (notificat
   rests : Waits s first notification
   rests = first-waits s sound notification first others waiting
 
+  signal : CallNames image t s (Signals s notification badge)
+  signal = record { slot = call.slot; own = call.among; named = call.named; such = by_right allowed call.holds writes }
+
   may_wake : MayHand image t s notification fewer first rests.own
   may_wake = record {
     own = call.own;
@@ -185,9 +218,21 @@ module _ (image : Image) (t : Thread) (s : State) (sound : IsSound s) (notificat
     absent = resting-absent s sound first rests.own rests.is rests.rests;
     kind = signalled;
     thread = λ u f. absurd cc;
-    right = λ u f. absurd cc;
-    endpoint = λ x f. absurd cc;
-    notification = λ n f. record { slot = call.slot; own = call.among; such = ap object_named call.holds };
+    drops = λ u f. absurd cc;
+    fourth = λ caller _ right. (
+      awaited-apart s sound (self_of image t) caller call.own call.is right (self_of image t) (runs-awaits s (self_of image t) call.own call.is call.runs),
+      awaited-apart s sound (self_of image t) caller call.own call.is right first (blocked-awaits s first rests.own notification rests.is rests.blocked),
+      awaited-apart s sound (self_of image t) caller call.own call.is right notification
+          (ap (λ (o : Option Object). awaits_answer (option_map_or (λ (v : ThreadState). v) (as_thread o) new_thread).status) word.1),
+    );
+    endpoint = λ old new was f. absurd cc;
+    notification = λ old new was f.
+        let now : record (notification_at s notification) { waiters = others } ≡ new = cc in
+        let before : notification_at s notification ≡ old =
+        ap (λ (o : Option Object). option_map_or (λ (x : NotificationState). x) (as_notification o) new_notification) was in
+        passes_on badge first signal
+        (sym (ap (λ (x : NotificationState). x.waiters) before) ∙ list ∙ ap (λ (x : NotificationState). first ∷ x.waiters) now)
+        (sym (ap (λ (x : NotificationState). x.word) now) ∙ ap (λ (x : NotificationState). x.word) before);
   }
 
   gives : RegisterFile → RegisterFile
@@ -205,8 +250,7 @@ module _ (image : Image) (t : Thread) (s : State) (sound : IsSound s) (notificat
       (woken rests.own (advanced (gives rests.own.registers)))
   unfolding gives
   wake_reason =
-      woken_waiter notification badge (ap head_of list) rests.blocked
-      (record { slot = call.slot; own = call.among; named = call.named; such = by_right allowed call.holds writes }) refl
+      woken_waiter notification badge (ap head_of list) rests.blocked signal refl
 
   pub signal-within : WithinAuthority image t s (system_call s (self_of image t)).0
   signal-within =
@@ -236,9 +280,16 @@ module _ (image : Image) (t : Thread) (s : State) (sound : IsSound s) (other : �
     absent = resting-absent s sound other call.waiter call.there awaits;
     kind = ap (option_map kind_of) call.is;
     thread = λ u f. refl;
-    right = λ u f. let same : record (thread_at s (self_of image t)) { caller = None } ≡ u = cc in dropped (sym (ap (λ (v : ThreadState). v.caller) same));
-    endpoint = λ x f. absurd cc;
-    notification = λ n f. absurd cc;
+    drops = λ u f.
+        let same : record (thread_at s (self_of image t)) { caller = None } ≡ u = cc in
+        let before = at-place s (self_of image t) call.own call.is in (
+          sym (ap (λ (v : ThreadState). v.caller) same),
+          sym (ap (λ (v : ThreadState). v.priority) same) ∙ ap (λ (v : ThreadState). v.priority) before,
+          sym (ap (λ (v : ThreadState). v.fault_address) same) ∙ ap (λ (v : ThreadState). v.fault_address) before,
+        );
+    fourth = λ caller apart_from_itself right. absurd (apart_from_itself refl);
+    endpoint = λ old new was f. absurd cc;
+    notification = λ old new was f. absurd cc;
   }
 
   answers : RegisterFile → RegisterFile

@@ -1,13 +1,13 @@
 -- A Get of a line's handler, by interrupt control of the thread's own, stays within authority.
 use Rattle.std.proofs.Common.{ℕ, ◌≡◌, ◌≢◌, ◌<◌, Bool, true, false, not, nat_le, nat_lt, Option, Some, Ok, refl, sym, ◌∙◌, ap, subst, arith}
 use Rattle.model.specs.declared.capabilities.Cap.{Cap}
-use Rattle.model.specs.declared.capabilities.Cap.TheVariants.{Empty, InterruptControl, InterruptHandler}
+use Rattle.model.specs.declared.capabilities.Cap.TheVariants.{Empty, InterruptControl, InterruptHandler, Untyped}
 use Rattle.model.specs.declared.errors.KError.TheVariants.{DeleteFirst, IllegalOperation, RangeError, RevokeFirst}
 use Rattle.model.specs.declared.invocations.Invocation.TheVariants.{OnControl}
 use Rattle.model.specs.declared.slot_entries.Entry.{Entry}
-use Rattle.model.specs.Acceptance.Authority.{Granted, made_handler, IsOwnSlot, WithinAuthority, self_of, without_use}
+use Rattle.model.specs.Acceptance.Authority.{Granted, made_handler, IsOwnSlot, NewParent, own as own_parent, UsedChange, WithinAuthority, self_of, without_use}
 use Rattle.model.specs.Capabilities.CapabilityKinds.{frame_mapping, is_handler_of, table_mapping}
-use Rattle.model.specs.Capabilities.Slots.{Slots, capability_at, depth_of, is_empty, is_full, inserted}
+use Rattle.model.specs.Capabilities.Slots.{Slots, capability_at, depth_of, is_empty, is_full, inserted, parent_at}
 use Rattle.model.specs.Images.Image.{Image, Thread}
 use Rattle.model.specs.Kernel.Arguments.{Call, argument_slot, destination_slot}
 use Rattle.model.specs.Kernel.Invocations.{invoke, perform}
@@ -17,14 +17,18 @@ use Rattle.model.specs.Kernel.Steps.{cspace_of, invokes, system_call}
 use Rattle.model.specs.declared.system_calls.SendCall.TheVariants.{Sending}
 use Rattle.model_laws.proofs.Below.{empty-capability}
 use Rattle.model_laws.proofs.HandingCalls.{sends-by}
-use Rattle.model_laws.proofs.Stored.{MayStore, capability_of, entered-away, entered-cases, entered-here, got, invoked-passes, known, passed, stored-within}
+use Rattle.model_laws.proofs.PlainSteps.{one-used}
+use Rattle.model_laws.proofs.Stored.{MayStore, capability_of, entered-away, entered-cases, entered-here, entered-parent, got, invoked-passes, known}
+use Rattle.model_laws.proofs.Stored.{parent_of, passed}
+use Rattle.model_laws.proofs.Stored.{stored-within}
 use Rattle.model_laws.specs.Scenarios.{CallsOn, GetsHandler, asked, invoked}
 
 doubly : (b : Bool) → not (not b) ≡ true → b ≡ true
 doubly true is = refl
 doubly false is = is
 
-module _ (image : Image) (t : Thread) (s : State) (call : CallsOn image t s 3 InterruptControl) (gets : GetsHandler image t s call.slot) where
+module _ (image : Image) (t : Thread) (s : State) (call : CallsOn image t s 3 InterruptControl) (another : call.own.caller ≢ Some (self_of image t))
+    (gets : GetsHandler image t s call.slot) where
   abbrev self : ℕ
   self = self_of image t
 
@@ -65,6 +69,10 @@ module _ (image : Image) (t : Thread) (s : State) (call : CallsOn image t s 3 In
   unfolding slots entry
   new-capability = entered-here s gets.window entry gets.window refl
 
+  new-parent : parent_at slots gets.window ≡ Some call.slot
+  unfolding slots entry
+  new-parent = entered-parent s gets.window entry gets.window refl
+
   away : (x : ℕ) → x ≢ gets.window → slots x ≡ s.slots x
   unfolding slots entry
   away = entered-away s gets.window entry
@@ -90,6 +98,15 @@ module _ (image : Image) (t : Thread) (s : State) (call : CallsOn image t s 3 In
         (λ differs some. subst (λ (c : Cap). Granted image t s (passes (with_slots s slots) self) c) (sym new-capability)
         (made_handler gets.number near (record { slot = call.slot; own = call.among; such = call.holds })))
         (λ x same differs some. absurd (differs (ap (λ (o : Option Entry). without_use (capability_of o)) (sym same))));
+    parents = by-slot (λ x. (parent : ℕ) → parent_at slots x ≡ Some parent → parent_at s.slots x ≢ Some parent → NewParent image t s parent)
+        (λ parent there fresh. let e : Some call.slot ≡ Some parent = sym new-parent ∙ there in
+        let same : call.slot ≡ parent = cc in own_parent (subst (λ (x : ℕ). IsOwnSlot image t x) same call.among))
+        (λ x same parent there fresh. absurd (fresh (ap parent_of (sym same) ∙ there)));
+    used = by-slot (λ x. (o b old new : ℕ) → capability_at s.slots x ≡ Untyped o b old → capability_at slots x ≡ Untyped o b new → old ≢ new →
+        UsedChange image t s (passes (with_slots s slots) self) x old new)
+        (λ o b old new before behind differs. let e : Empty ≡ Untyped o b old = sym was-empty ∙ before in absurd cc)
+        (λ x same o b old new before behind differs.
+        absurd (one-used (capability_at s.slots x) o b old new before (ap capability_of (sym same) ∙ behind) differs));
   }
 
   pub get-within : WithinAuthority image t s (system_call s (self_of image t)).0
@@ -97,5 +114,5 @@ module _ (image : Image) (t : Thread) (s : State) (call : CallsOn image t s 3 In
       subst (λ (x : State). WithinAuthority image t s x)
       (sym (sends-by image t s InterruptControl call
       ∙ ap (λ (c : Cap). (invokes s self Sending call.slot c).0) (sym call.holds)
-      ∙ invoked-passes image t s call.own call.is slots may-get call.slot handled-as))
-      (stored-within image t s call.own call.is slots may-get)
+      ∙ invoked-passes image t s call.own call.is another slots may-get call.slot handled-as))
+      (stored-within image t s call.own call.is another slots may-get)

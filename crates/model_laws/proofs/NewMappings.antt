@@ -1,14 +1,14 @@
 -- A Map of a frame of the thread's own, under its own root table, stays within authority.
 use Rattle.std.proofs.Common.{ℕ, ◌≡◌, ◌≢◌, ◌==◌, ◌⊎◌, not, nat_lt, ◌||◌, ◌/◌, ◌%◌, Option, Some, None, Ok, refl, sym, ◌∙◌, ap, subst, inl, inr}
 use Rattle.model.specs.declared.capabilities.Cap.{Cap}
-use Rattle.model.specs.declared.capabilities.Cap.TheVariants.{Empty, Frame}
+use Rattle.model.specs.declared.capabilities.Cap.TheVariants.{Empty, Frame, Untyped}
 use Rattle.model.specs.declared.capabilities.FrameMapping.{FrameMapping}
 use Rattle.model.specs.declared.errors.KError.TheVariants.{AlignmentError, DeleteFirst, FailedLookup, InvalidArgument, InvalidCapability}
 use Rattle.model.specs.declared.invocations.FrameCall.TheVariants.{MapFrame}
 use Rattle.model.specs.declared.invocations.Invocation.TheVariants.{OnFrame}
 use Rattle.model.specs.declared.rights.Rights.{Rights}
 use Rattle.model.specs.declared.slot_entries.Entry.{Entry}
-use Rattle.model.specs.Acceptance.Authority.{Granted, IsOwnSlot, MappingGranted, given, WithinAuthority, rights_of, self_of, without_use}
+use Rattle.model.specs.Acceptance.Authority.{Granted, IsOwnSlot, MappingGranted, given, NewParent, UsedChange, WithinAuthority, rights_of, self_of, without_use}
 use Rattle.model.specs.Capabilities.CapabilityKinds.{frame_mapping, table_mapping, with_frame_mapping}
 use Rattle.model.specs.Capabilities.Rights.{mapping_rights, may_execute, may_read}
 use Rattle.model.specs.Capabilities.Slots.{Slots, capability_at, parent_at, recapped}
@@ -23,11 +23,14 @@ use Rattle.model.specs.Kernel.State.{State, with_slots}
 use Rattle.model.specs.Kernel.Steps.{cspace_of, invokes, system_call}
 use Rattle.model.specs.declared.system_calls.SendCall.TheVariants.{Sending}
 use Rattle.model_laws.proofs.HandingCalls.{sends-by}
-use Rattle.model_laws.proofs.Stored.{MayStore, capability_of, entered-away, entered-cases, entered-here, invoked-passes, known, passed, stored-within}
+use Rattle.model_laws.proofs.PlainSteps.{one-used}
+use Rattle.model_laws.proofs.Stored.{MayStore, capability_of, entered-away, entered-cases, entered-here, entered-parent, invoked-passes, known, parent_of}
+use Rattle.model_laws.proofs.Stored.{passed}
+use Rattle.model_laws.proofs.Stored.{stored-within}
 use Rattle.model_laws.specs.Scenarios.{CallsOn, MapsFrame, asked, invoked}
 
 module _ (image : Image) (t : Thread) (s : State) (offset : ℕ) (allowed : Rights) (call : CallsOn image t s 3 (Frame offset allowed None))
-    (maps : MapsFrame image t s call.slot allowed) where
+    (another : call.own.caller ≢ Some (self_of image t)) (maps : MapsFrame image t s call.slot allowed) where
   abbrev self : ℕ
   self = self_of image t
 
@@ -63,6 +66,10 @@ module _ (image : Image) (t : Thread) (s : State) (offset : ℕ) (allowed : Righ
   new-capability : capability_at slots call.slot ≡ Frame offset allowed (Some mapping)
   unfolding slots entry
   new-capability = entered-here s call.slot entry call.slot refl
+
+  same-parent : parent_at slots call.slot ≡ parent_at s.slots call.slot
+  unfolding slots entry
+  same-parent = entered-parent s call.slot entry call.slot refl
 
   away : (x : ℕ) → x ≢ call.slot → slots x ≡ s.slots x
   unfolding slots entry
@@ -104,6 +111,14 @@ module _ (image : Image) (t : Thread) (s : State) (offset : ℕ) (allowed : Righ
         Granted image t s (passes (with_slots s slots) self) (capability_at slots x))
         (λ differs some. absurd (differs (ap without_use call.holds ∙ sym (ap without_use new-capability))))
         (λ x same differs some. absurd (differs (ap (λ (o : Option Entry). without_use (capability_of o)) (sym same))));
+    parents = by-slot (λ x. (parent : ℕ) → parent_at slots x ≡ Some parent → parent_at s.slots x ≢ Some parent → NewParent image t s parent)
+        (λ parent there fresh. absurd (fresh (sym same-parent ∙ there)))
+        (λ x same parent there fresh. absurd (fresh (ap parent_of (sym same) ∙ there)));
+    used = by-slot (λ x. (o b old new : ℕ) → capability_at s.slots x ≡ Untyped o b old → capability_at slots x ≡ Untyped o b new → old ≢ new →
+        UsedChange image t s (passes (with_slots s slots) self) x old new)
+        (λ o b old new before behind differs. let e : Frame offset allowed None ≡ Untyped o b old = sym call.holds ∙ before in absurd cc)
+        (λ x same o b old new before behind differs.
+        absurd (one-used (capability_at s.slots x) o b old new before (ap capability_of (sym same) ∙ behind) differs));
   }
 
   pub map-within : WithinAuthority image t s (system_call s (self_of image t)).0
@@ -111,5 +126,5 @@ module _ (image : Image) (t : Thread) (s : State) (offset : ℕ) (allowed : Righ
       subst (λ (x : State). WithinAuthority image t s x)
       (sym (sends-by image t s (Frame offset allowed None) call
       ∙ ap (λ (c : Cap). (invokes s self Sending call.slot c).0) (sym call.holds)
-      ∙ invoked-passes image t s call.own call.is slots may-map call.slot mapped-as))
-      (stored-within image t s call.own call.is slots may-map)
+      ∙ invoked-passes image t s call.own call.is another slots may-map call.slot mapped-as))
+      (stored-within image t s call.own call.is another slots may-map)

@@ -3,7 +3,10 @@ use Rattle.std.proofs.Common.{ℕ, ◌≡◌, ◌≢◌, ◌++◌, Bool, if◌th
 use Rattle.std.specs.Option.{option_map_or}
 use Rattle.std.proofs.lemmas.Bool.{eq-eqb, ne_eqb}
 use Rattle.std.proofs.lemmas.Bool.Decides.{eqb_tells}
+use Rattle.model.specs.declared.capabilities.Cap.{Cap}
+use Rattle.model.specs.declared.capabilities.Cap.TheVariants.{Untyped}
 use Rattle.model.specs.Acceptance.Authority.{RightChange, kept, WithinAuthority, written, self_of}
+use Rattle.model.specs.Capabilities.Slots.{capability_at}
 use Rattle.model.specs.Images.Image.{Image, Thread}
 use Rattle.model.specs.Kernel.Kinds.{kind_at, kind_of}
 use Rattle.model.specs.Kernel.Messages.{with_registers}
@@ -16,22 +19,38 @@ pub append-none : (l : List ℕ) → l ≡ l ++ []
 append-none [] = refl
 append-none (x ∷ l) = ap (λ (rest : List ℕ). x ∷ rest) (append-none l)
 
--- what the thread's own right to reply becomes, between the threads that are there
-pub right-between : (image : Image) (t : Thread) (s after : State) (own last : ThreadState) → s.objects (self_of image t) ≡ Some (ThreadObject own)
-    → after.objects (self_of image t) ≡ Some (ThreadObject last) → RightChange image t s own.caller last.caller
-    → (old new : ThreadState) → s.objects (self_of image t) ≡ Some (ThreadObject old) → after.objects (self_of image t) ≡ Some (ThreadObject new)
-    → RightChange image t s old.caller new.caller
-right-between image t s after own last was is change old new before behind =
-    let e : Some (ThreadObject own) ≡ Some (ThreadObject old) = sym was ∙ before in
+-- what is so of the thread that was there and the one that is there
+pub between : (Kept : ThreadState → ThreadState → Type 0) (was is : Option Object) (own last : ThreadState) → was ≡ Some (ThreadObject own)
+    → is ≡ Some (ThreadObject last) → Kept own last → (old new : ThreadState) → was ≡ Some (ThreadObject old) → is ≡ Some (ThreadObject new) → Kept old new
+between Kept was is own last there here change old new before behind =
+    let e : Some (ThreadObject own) ≡ Some (ThreadObject old) = sym there ∙ before in
     let f : ThreadObject own ≡ ThreadObject old = cc in
     let g : own ≡ old = cc in
-    let h : Some (ThreadObject last) ≡ Some (ThreadObject new) = sym is ∙ behind in
+    let h : Some (ThreadObject last) ≡ Some (ThreadObject new) = sym here ∙ behind in
     let i : ThreadObject last ≡ ThreadObject new = cc in
     let j : last ≡ new = cc in
-    subst (λ (u : ThreadState). RightChange image t s u.caller new.caller) g (subst (λ (u : ThreadState). RightChange image t s own.caller u.caller) j change)
+    subst (λ (u : ThreadState). Kept u new) g (subst (λ (u : ThreadState). Kept own u) j change)
+
+-- one capability has one watermark
+pub one-used : (capability : Cap) (offset bits old new : ℕ) → capability ≡ Untyped offset bits old → capability ≡ Untyped offset bits new → old ≢ new → ⊥
+one-used capability offset bits old new before behind differs =
+    let e : Untyped offset bits old ≡ Untyped offset bits new = sym before ∙ behind in
+    let f : old ≡ new = cc in differs f
 
 module _ (image : Image) (t : Thread) (s : State) (own : ThreadState) (registers : RegisterFile) (bytes : ℕ → Option ℕ)
-    (is : s.objects (self_of image t) ≡ Some (ThreadObject own)) (wrote : WritesOwnBytes image t s bytes) where
+    (is : s.objects (self_of image t) ≡ Some (ThreadObject own)) (another : own.caller ≢ Some (self_of image t))
+    (wrote : WritesOwnBytes image t s bytes) where
+  last : ThreadState
+  last = record (thread_at s (self_of image t)) { registers = registers }
+
+  at-self : (with_registers s (self_of image t) registers).objects (self_of image t) ≡ Some (ThreadObject last)
+  unfolding last
+  at-self = ap (λ (b : Bool). if b then Some (ThreadObject last) else s.objects (self_of image t)) (eq-eqb (self_of image t) (self_of image t) refl)
+
+  -- apart from its registers the thread stays
+  own-is : thread_at s (self_of image t) ≡ own
+  own-is = ap (λ (o : Option Object). option_map_or (λ (u : ThreadState). u) (as_thread o) new_thread) is
+
   other-same : (offset : ℕ) → offset ≢ self_of image t → (with_registers s (self_of image t) registers).objects offset ≡ s.objects offset
   other-same offset differs =
       ap (λ (b : Bool). if b then Some (ThreadObject (record (thread_at s (self_of image t)) { registers = registers })) else s.objects offset)
@@ -53,6 +72,7 @@ module _ (image : Image) (t : Thread) (s : State) (own : ThreadState) (registers
       let f : o ≡ ThreadObject own = cc in apart f
 
   pub plain-within : WithinAuthority image t s (record (with_registers s (self_of image t) registers) { bytes = bytes })
+  unfolding last
   plain-within = record {
     memory_bits = refl;
     boot_radix = refl;
@@ -71,12 +91,16 @@ module _ (image : Image) (t : Thread) (s : State) (own : ThreadState) (registers
         let apart = never-self offset (NotificationObject old) before (λ e. cc) in
         let e : Some (NotificationObject new) ≡ Some (NotificationObject old) = sym behind ∙ other-same offset apart ∙ before in
         let f : old ≡ new = cc in absurd (differs f);
-    right =
-        let last : ThreadState = record (thread_at s (self_of image t)) { registers = registers } in
-        let after : State = record (with_registers s (self_of image t) registers) { bytes = bytes } in
-        right-between image t s after own last is
-        (ap (λ (b : Bool). if b then Some (ThreadObject last) else s.objects (self_of image t)) (eq-eqb (self_of image t) (self_of image t) refl))
-        (kept (ap (λ (o : Option Object). (option_map_or (λ (u : ThreadState). u) (as_thread o) new_thread).caller) is));
+    parents = λ slot parent there fresh. absurd (fresh there);
+    used = λ slot offset bits old new before behind differs. absurd (one-used (capability_at s.slots slot) offset bits old new before behind differs);
+    priority = between (λ old new. new.priority ≡ old.priority) (s.objects (self_of image t)) _ own last is at-self
+        (ap (λ (u : ThreadState). u.priority) own-is);
+    fault_address = between (λ old new. new.fault_address ≡ old.fault_address) (s.objects (self_of image t)) _ own last is at-self
+        (ap (λ (u : ThreadState). u.fault_address) own-is);
+    right = between
+        (λ old new. RightChange image t s (record (with_registers s (self_of image t) registers) { bytes = bytes }) old.caller new.caller)
+        (s.objects (self_of image t)) _ own last is at-self
+        (kept (ap (λ (u : ThreadState). u.caller) own-is) (λ caller right. other-same caller (λ same. another (right ∙ ap (λ (n : ℕ). Some n) same))));
     threads = λ other old new apart before behind differs.
         let e : Some (ThreadObject new) ≡ Some (ThreadObject old) = sym behind ∙ other-same other apart ∙ before in
         let f : old ≡ new = cc in absurd (differs f);

@@ -9,8 +9,9 @@ use Rattle.model.specs.declared.capabilities.Cap.TheVariants.{Endpoint}
 use Rattle.model.specs.declared.lookup_failures.LookupFailure.{LookupFailure}
 use Rattle.model.specs.declared.lookup_failures.LookupFailure.TheVariants.{MissingCapability}
 use Rattle.model.specs.declared.rights.Rights.{Rights}
-use Rattle.model.specs.Acceptance.Authority.{CallNames, RightChange, of_sender, gives_right, WithinAuthority, self_of}
+use Rattle.model.specs.Acceptance.Authority.{CallNames, EndpointChange, takes_sender, RightChange, of_sender, gives_right, WithinAuthority, self_of}
 use Rattle.model.specs.Capabilities.Rights.{may_read}
+use Rattle.model.specs.Capabilities.Slots.{capability_at}
 use Rattle.model.specs.Images.Image.{Image, Thread}
 use Rattle.model.specs.Kernel.Deliveries.{Reason, sender as first_sender, ReceivesFrom, once_received}
 use Rattle.model.specs.Kernel.Kinds.{kind_at, kind_of, object_named}
@@ -23,12 +24,13 @@ use Rattle.model.specs.Kernel.State.{ByCall, ThreadState, as_endpoint, as_thread
 use Rattle.model.specs.Kernel.Steps.{call_of, calls_known, lacks_capability, receive_by, receive_named, receive_on_endpoint, system_call}
 use Rattle.model.specs.declared.system_calls.ReceiveCall.TheVariants.{Receiving}
 use Rattle.model.specs.Machine.Effects.{advanced}
+use Rattle.model.specs.Machine.ProgramMemory.{RegisterFile}
 use Rattle.model.specs.Shared.Lists.{times_in, without}
 use Rattle.model_laws.proofs.Below.{endpoint-kind}
 use Rattle.model_laws.proofs.Handed.{at_self, at_other, at_base, away, place}
 use Rattle.model_laws.proofs.HandingCalls.{first-waits, number-is, resting-absent, resting-apart}
 use Rattle.model_laws.proofs.Interrupted.{Waits, without-absent}
-use Rattle.model_laws.proofs.PlainSteps.{append-none, right-between}
+use Rattle.model_laws.proofs.PlainSteps.{append-none, between, one-used}
 use Rattle.model_laws.specs.Scenarios.{CallsOn}
 
 module _ (image : Image) (t : Thread) (s : State) (sound : IsSound s) (endpoint badge : ℕ) (allowed : Rights) (first : Sender) (others : List Sender)
@@ -175,7 +177,56 @@ module _ (image : Image) (t : Thread) (s : State) (sound : IsSound s) (endpoint 
       (sym (ap (λ (sent : Sent). once_received first sent waits.own) called
       ∙ ap (λ (b : Bool). record waits.own { status = if b then AwaitsReply else Inactive }) granted))
 
-  own-right : RightChange image t s call.own.caller last.caller
+  -- the thread itself on the way: its priority and fault address stay
+  abbrev thread_of : Option Object → ThreadState
+  thread_of o = option_map_or (λ (v : ThreadState). v) (as_thread o) new_thread
+
+  zero-self : zero.objects self ≡ Some (ThreadObject cleared)
+  unfolding zero cleared
+  zero-self = ap (λ (b : Bool). if b then Some (ThreadObject cleared) else s.objects self) (eq-eqb self self refl)
+
+  begun-self : begun.objects self ≡ Some (ThreadObject cleared)
+  unfolding begun
+  begun-self = ap (λ (b : Bool). if b then Some shorter else zero.objects self) (ne_eqb self endpoint (not_queue self call.own call.is)) ∙ zero-self
+
+  one-self : one.objects self ≡ Some (ThreadObject filled)
+  unfolding one
+  one-self = ap (λ (b : Bool). if b then Some (ThreadObject filled) else begun.objects self) (eq-eqb self self refl)
+
+  got-self : got.objects self ≡ Some (ThreadObject moved)
+  unfolding got
+  got-self = ap (λ (b : Bool). if b then Some (ThreadObject moved) else one.objects self) (eq-eqb self self refl)
+
+  blocked-self : blocked.objects self ≡ Some (ThreadObject moved)
+  unfolding blocked waiting
+  blocked-self = ap (λ (b : Bool). if b then Some (ThreadObject waiting) else got.objects self) (ne_eqb self other (λ e. apart (sym e))) ∙ got-self
+
+  -- a part of a thread that neither registers nor the right to reply are
+  last-part : (A : Type 0) (part : ThreadState → A) → ((u : ThreadState) (r : RegisterFile) → part (record u { registers = r }) ≡ part u)
+      → ((u : ThreadState) (c : Option ℕ) → part (record u { caller = c }) ≡ part u) → part last ≡ part call.own
+  unfolding last moved filled cleared
+  last-part A part registers right =
+      right (thread_at blocked self) (Some other) ∙ ap (λ (o : Option Object). part (thread_of o)) blocked-self
+      ∙ registers (thread_at one self) (advanced (thread_at one self).registers) ∙ ap (λ (o : Option Object). part (thread_of o)) one-self
+      ∙ registers (thread_at begun self) (delivered (thread_at begun self).registers first.badge (message_sent begun first ByCall))
+      ∙ ap (λ (o : Option Object). part (thread_of o)) begun-self
+      ∙ right (thread_at s self) None ∙ ap (λ (o : Option Object). part (thread_of o)) call.is
+
+  -- the queue of the endpoint loses its first sender
+  takes : (old new : EndpointState) → s.objects endpoint ≡ Some (EndpointObject old) → shorter ≡ EndpointObject new
+      → EndpointChange image t s endpoint old new
+  unfolding shorter zero cleared
+  takes old new was is =
+      let now : record (endpoint_at zero endpoint) { senders = others } ≡ new = cc in
+      let before : endpoint_at s endpoint ≡ old = ap (λ (o : Option Object). option_map_or (λ (x : EndpointState). x) (as_endpoint o) new_endpoint) was in
+      let cleared_away : endpoint_at zero endpoint ≡ endpoint_at s endpoint =
+      ap (λ (b : Bool). option_map_or (λ (x : EndpointState). x) (as_endpoint (if b then Some (ThreadObject cleared) else s.objects endpoint)) new_endpoint)
+      (ne_eqb endpoint self (λ same. not_queue self call.own call.is (sym same))) in
+      takes_sender first names
+      (sym (ap (λ (x : EndpointState). x.senders) before) ∙ list ∙ ap (λ (x : EndpointState). first ∷ x.senders) now)
+      (sym (ap (λ (x : EndpointState). x.receivers) now) ∙ ap (λ (x : EndpointState). x.receivers) (cleared_away ∙ before))
+
+  own-right : RightChange image t s after call.own.caller last.caller
   unfolding last
   own-right = of_sender endpoint first names (ap head_of list) (ap (gives_right first) called ∙ granted) refl
 
@@ -198,12 +249,10 @@ module _ (image : Image) (t : Thread) (s : State) (sound : IsSound s) (endpoint 
       | at_other here _ ↦
           let e : Some (ThreadObject changed) ≡ Some (EndpointObject new) = sym at-other ∙ ap after.objects (sym here) ∙ behind in
           let f : ThreadObject changed ≡ EndpointObject new = cc in absurd cc
-      | at_base here not_self not_other ↦ record {
-        slot = call.slot;
-        own = call.among;
-        such = ap object_named call.holds
-            ∙ ap (λ (n : ℕ). Some (NewEndpoint, n)) (sym here);
-      }
+      | at_base here not_self not_other ↦
+          let e : Some shorter ≡ Some (EndpointObject new) = sym (at-base offset here not_self not_other) ∙ behind in
+          let f : shorter ≡ EndpointObject new = cc in
+          subst (λ (o : ℕ). EndpointChange image t s o old new) (sym here) (takes old new (ap s.objects (sym here) ∙ before) f)
       | away not_self not_other not_base ↦
           let e : Some (EndpointObject old) ≡ Some (EndpointObject new) = sym before ∙ sym (beyond offset not_self not_other not_base) ∙ behind in
           let f : old ≡ new = cc in absurd (differs f)
@@ -222,7 +271,14 @@ module _ (image : Image) (t : Thread) (s : State) (sound : IsSound s) (endpoint 
           let e : Some (NotificationObject old) ≡ Some (NotificationObject new) = sym before ∙ sym (beyond offset not_self not_other not_base) ∙ behind in
           let f : old ≡ new = cc in absurd (differs f)
     ];
-    right = right-between image t s after call.own last call.is at-self own-right;
+    parents = λ slot parent was_none is. absurd (is was_none);
+    used = λ slot offset bits old new before behind differs. absurd (one-used (capability_at s.slots slot) offset bits old new before behind differs);
+    priority = between (λ old new. new.priority ≡ old.priority) (s.objects self) (after.objects self) call.own last call.is at-self
+        (last-part ℕ (λ u. u.priority) (λ u r. refl) (λ u c. refl));
+    fault_address = between (λ old new. new.fault_address ≡ old.fault_address) (s.objects self) (after.objects self) call.own last call.is at-self
+        (last-part ℕ (λ u. u.fault_address) (λ u r. refl) (λ u c. refl));
+    right =
+        between (λ old new. RightChange image t s after old.caller new.caller) (s.objects self) (after.objects self) call.own last call.is at-self own-right;
     threads = λ x old new not_self before behind differs. elim (place self other endpoint x) [
       | at_self here ↦ absurd (not_self here)
       | at_other here _ ↦

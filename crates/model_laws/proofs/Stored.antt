@@ -1,17 +1,18 @@
 -- A step that changes slots of the thread's own alone, and passes, stays within authority.
 use Rattle.std.proofs.Common.{ℕ, ◌≡◌, ◌≢◌, ◌==◌, ◌⊎◌, Bool, true, false, is_some, if◌then◌else◌, Option, Some, Result, Ok, Err, option_map, [], refl, sym, ◌∙◌}
-use Rattle.std.proofs.Common.{ap, subst, inl, inr, arith}
+use Rattle.std.proofs.Common.{None, ap, subst, inl, inr, arith}
 use Rattle.std.specs.Option.{option_map_or}
 use Rattle.std.proofs.lemmas.Bool.{eq-eqb, ne_eqb}
 use Rattle.std.proofs.lemmas.Bool.Decides.{eqb_tells}
 use Rattle.model.specs.declared.capabilities.Cap.{Cap}
-use Rattle.model.specs.declared.capabilities.Cap.TheVariants.{Empty}
+use Rattle.model.specs.declared.capabilities.Cap.TheVariants.{Empty, Untyped}
 use Rattle.model.specs.declared.capabilities.FrameMapping.{FrameMapping}
 use Rattle.model.specs.declared.errors.KError.{KError}
 use Rattle.model.specs.declared.slot_entries.Entry.{Entry}
-use Rattle.model.specs.Acceptance.Authority.{Granted, IsOwnSlot, MappingGranted, RightChange, kept, WithinAuthority, self_of, without_use}
+use Rattle.model.specs.Acceptance.Authority.{Granted, IsOwnSlot, MappingGranted, NewParent, RightChange, kept, UsedChange, WithinAuthority, self_of}
+use Rattle.model.specs.Acceptance.Authority.{without_use}
 use Rattle.model.specs.Capabilities.CapabilityKinds.{frame_mapping, table_mapping}
-use Rattle.model.specs.Capabilities.Slots.{Slots, capability_at}
+use Rattle.model.specs.Capabilities.Slots.{Slots, capability_at, parent_at}
 use Rattle.model.specs.Images.Image.{Image, Thread}
 use Rattle.model.specs.Images.Places.{offset_of}
 use Rattle.model.specs.Kernel.Arguments.{◌>>=◌, check}
@@ -23,7 +24,7 @@ use Rattle.model.specs.Kernel.Steps.{after_invocation, invokes}
 use Rattle.model.specs.declared.system_calls.SendCall.TheVariants.{Sending}
 use Rattle.model.specs.Machine.Effects.{advanced}
 use Rattle.model.specs.Shared.Lists.{without}
-use Rattle.model_laws.proofs.PlainSteps.{append-none, right-between}
+use Rattle.model_laws.proofs.PlainSteps.{append-none, between}
 use Rattle.model_laws.specs.Scenarios.{invoked}
 
 -- ---- checks that passed
@@ -53,8 +54,12 @@ pub record MayStore (image : Image) (t : Thread) (s after : State) (slots : Slot
       → frame_mapping (capability_at slots slot) ≡ Some mapping → MappingGranted image t s (capability_at slots slot) mapping
   pub granted : (slot : ℕ) → without_use (capability_at s.slots slot) ≢ without_use (capability_at slots slot)
       → capability_at slots slot ≢ Empty → Granted image t s after (capability_at slots slot)
+  pub parents : (slot parent : ℕ) → parent_at slots slot ≡ Some parent → parent_at s.slots slot ≢ Some parent → NewParent image t s parent
+  pub used : (slot offset bits old new : ℕ) → capability_at s.slots slot ≡ Untyped offset bits old → capability_at slots slot ≡ Untyped offset bits new
+      → old ≢ new → UsedChange image t s after slot old new
 
-module _ (image : Image) (t : Thread) (s : State) (own : ThreadState) (is : s.objects (self_of image t) ≡ Some (ThreadObject own)) (slots : Slots)
+module _ (image : Image) (t : Thread) (s : State) (own : ThreadState) (is : s.objects (self_of image t) ≡ Some (ThreadObject own))
+    (another : own.caller ≢ Some (self_of image t)) (slots : Slots)
     (may : MayStore image t s (passes (with_slots s slots) (self_of image t)) slots) where
   abbrev self : ℕ
   self = self_of image t
@@ -83,9 +88,22 @@ module _ (image : Image) (t : Thread) (s : State) (own : ThreadState) (is : s.ob
       let e : Some o ≡ Some (ThreadObject own) = sym there ∙ ap s.objects same ∙ is in
       let f : o ≡ ThreadObject own = cc in apart f
 
-  own-right : RightChange image t s own.caller last.caller
+  -- apart from its registers the thread stays
+  stays : (A : Type 0) (part : ThreadState → A) → part (thread_at s self) ≡ part own
+  stays A part = ap (λ (o : Option Object). part (option_map_or (λ (u : ThreadState). u) (as_thread o) new_thread)) is
+
+  own-right : RightChange image t s (passes (with_slots s slots) self) own.caller last.caller
   unfolding last
-  own-right = kept (ap (λ (o : Option Object). (option_map_or (λ (u : ThreadState). u) (as_thread o) new_thread).caller) is)
+  own-right =
+      kept (stays (Option ℕ) (λ u. u.caller)) (λ caller right. elsewhere caller (λ same. another (right ∙ ap (λ (n : ℕ). Some n) same)))
+
+  own-priority : last.priority ≡ own.priority
+  unfolding last
+  own-priority = stays ℕ (λ u. u.priority)
+
+  own-fault_address : last.fault_address ≡ own.fault_address
+  unfolding last
+  own-fault_address = stays ℕ (λ u. u.fault_address)
 
   pub stored-within : WithinAuthority image t s (passes (with_slots s slots) (self_of image t))
   stored-within = record {
@@ -106,7 +124,12 @@ module _ (image : Image) (t : Thread) (s : State) (own : ThreadState) (is : s.ob
         let apart = never-self offset (NotificationObject old) before (λ e. cc) in
         let e : Some (NotificationObject new) ≡ Some (NotificationObject old) = sym behind ∙ elsewhere offset apart ∙ before in
         let f : old ≡ new = cc in absurd (differs f);
-    right = right-between image t s (passes (with_slots s slots) self) own last is at-self own-right;
+    parents = may.parents;
+    used = may.used;
+    priority = between (λ old new. new.priority ≡ old.priority) (s.objects self) _ own last is at-self own-priority;
+    fault_address = between (λ old new. new.fault_address ≡ old.fault_address) (s.objects self) _ own last is at-self own-fault_address;
+    right =
+        between (λ old new. RightChange image t s (passes (with_slots s slots) self) old.caller new.caller) (s.objects self) _ own last is at-self own-right;
     threads = λ other old new apart before behind differs.
         let e : Some (ThreadObject new) ≡ Some (ThreadObject old) = sym behind ∙ elsewhere other apart ∙ before in
         let f : old ≡ new = cc in absurd (differs f);
@@ -141,12 +164,18 @@ module _ (image : Image) (t : Thread) (s : State) (own : ThreadState) (is : s.ob
 abbrev pub capability_of : Option Entry → Cap
 capability_of o = option_map_or (λ (e : Entry). e.capability) o Empty
 
+abbrev pub parent_of : Option Entry → Option ℕ
+parent_of o = option_map_or (λ (e : Entry). e.parent) o None
+
 module _ (s : State) (place : ℕ) (entry : Entry) where
   abbrev pub entered : Slots
   entered x = if x == place then Some entry else s.slots x
 
   pub entered-here : (x : ℕ) → x ≡ place → capability_at entered x ≡ entry.capability
   entered-here x here = ap (λ (b : Bool). option_map_or (λ (e : Entry). e.capability) (if b then Some entry else s.slots x) Empty) (eq-eqb x place here)
+
+  pub entered-parent : (x : ℕ) → x ≡ place → parent_at entered x ≡ entry.parent
+  entered-parent x here = ap (λ (b : Bool). option_map_or (λ (e : Entry). e.parent) (if b then Some entry else s.slots x) None) (eq-eqb x place here)
 
   pub entered-away : (x : ℕ) → x ≢ place → entered x ≡ s.slots x
   entered-away x differs = ap (λ (b : Bool). if b then Some entry else s.slots x) (ne_eqb x place differs)

@@ -1,6 +1,6 @@
 //! Laws of sound states: ticks, interrupts, plain steps and messages between threads stay within authority.
 
-ghost use Rattle.std.specs.Prelude.{ℕ, ◌≡◌, true, Option, Some, None, List, ◌∷◌};
+ghost use Rattle.std.specs.Prelude.{ℕ, ◌≡◌, ◌≢◌, true, Option, Some, None, List, ◌∷◌};
 ghost use Rattle.model.specs.declared.capabilities.Cap.TheVariants.{Endpoint, Frame, InterruptControl, Notification, Untyped};
 ghost use Rattle.model.specs.declared.rights.Rights.{Rights};
 ghost use Rattle.model.specs.Acceptance.Authority.{WithinAuthority, WithinInterrupt, WithinTick, self_of};
@@ -20,11 +20,11 @@ pub fn a_tick_stays_within_authority()
     ensures { (s : State) → IsSound s → WithinTick s (tick s) }
 {}
 
-/// A step that changes the registers of its own thread, and bytes that this may write, stays within
-/// authority.
+/// A step that changes the registers of its own thread, which has no right to reply to itself, and bytes that this may write,
+/// stays within authority.
 pub fn a_plain_step_stays_within_authority()
     ensures { (image : Image) (t : Thread) (s : State) (own : ThreadState) (registers : RegisterFile) (bytes : ℕ → Option ℕ)
-        → s.objects (self_of image t) ≡ Some (ThreadObject own) → WritesOwnBytes image t s bytes
+        → s.objects (self_of image t) ≡ Some (ThreadObject own) → own.caller ≢ Some (self_of image t) → WritesOwnBytes image t s bytes
         → WithinAuthority image t s (record (with_registers s (self_of image t) registers) { bytes = bytes }) }
 {}
 
@@ -52,6 +52,7 @@ pub fn a_reply_stays_within_authority()
 /// within authority.
 pub fn a_new_endpoint_stays_within_authority()
     ensures { (image : Image) (t : Thread) (s : State) (offset bits watermark used first window : ℕ) (call : CallsOn image t s 3 (Untyped offset bits watermark))
+        → call.own.caller ≢ Some (self_of image t) → call.own.caller ≢ Some first
         → MakesEndpoint image t s call.slot offset bits used first window → WithinAuthority image t s (system_call s (self_of image t)).0 }
 {}
 
@@ -65,13 +66,13 @@ pub fn a_received_call_stays_within_authority()
 /// A Map, by Send, of a frame of the thread's own under its own root table stays within authority.
 pub fn a_new_mapping_stays_within_authority()
     ensures { (image : Image) (t : Thread) (s : State) (offset : ℕ) (allowed : Rights) (call : CallsOn image t s 3 (Frame offset allowed None))
-        → MapsFrame image t s call.slot allowed → WithinAuthority image t s (system_call s (self_of image t)).0 }
+        → call.own.caller ≢ Some (self_of image t) → MapsFrame image t s call.slot allowed → WithinAuthority image t s (system_call s (self_of image t)).0 }
 {}
 
 /// A Get, by Send, of a line's handler, by interrupt control of the thread's own, stays within authority.
 pub fn a_new_handler_stays_within_authority()
     ensures { (image : Image) (t : Thread) (s : State) (call : CallsOn image t s 3 InterruptControl)
-        → GetsHandler image t s call.slot → WithinAuthority image t s (system_call s (self_of image t)).0 }
+        → call.own.caller ≢ Some (self_of image t) → GetsHandler image t s call.slot → WithinAuthority image t s (system_call s (self_of image t)).0 }
 {}
 
 /// An interrupt stays within authority.
