@@ -14,6 +14,7 @@ pub mod Opened
 pub mod Placements
 pub mod PlainSteps
 pub mod RangesKept
+pub mod QueueChanges
 pub mod ReadyLists
 pub mod ReadySteps
 pub mod Reasons
@@ -21,4 +22,5 @@ pub mod ReceivedCalls
 pub mod Removals
 pub mod Stored
 pub mod Ticks
+pub mod UsedRights
 pub mod WaitLaws

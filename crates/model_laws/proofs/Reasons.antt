@@ -1,11 +1,14 @@
 -- What no reason makes of another thread.
-use Rattle.std.proofs.Common.{ℕ, ◌≡◌, ◌≢◌, Option, Some, None, Ok, [], refl, sym, ap, ◌∙◌}
+use Rattle.std.proofs.Common.{ℕ, ◌≡◌, ◌≢◌, true, Option, Some, None, Ok, [], refl, sym, subst, ap, ◌∙◌}
+use Rattle.std.specs.Option.{option_map_or}
 use Rattle.model.specs.declared.capabilities.Cap.{Cap}
 use Rattle.model.specs.declared.capabilities.Cap.TheVariants.{Endpoint, InterruptHandler, Notification}
 use Rattle.model.specs.declared.rights.Rights.{Rights}
+use Rattle.model.specs.Capabilities.Rights.{may_write}
 use Rattle.model.specs.Capabilities.Slots.{capability_at}
 use Rattle.model.specs.Kernel.Deliveries.{MayReply, as_before, to_sender, Reason, receiver, sender, waiter, caller, faulted, set_back, once_received, by_line}
 use Rattle.model.specs.Kernel.Deliveries.{by_right, ReceivesFrom, SendsTo, Signals}
+use Rattle.model.specs.Kernel.Interrupts.{Signal, binding}
 use Rattle.model.specs.Kernel.Messages.{a0, delivered, message_of}
 use Rattle.model.specs.Kernel.Scheduling.{head_of}
 use Rattle.model.specs.Kernel.State.{State, Inactive, Runnable, Blocked, AwaitsReply, AwaitsHandler, Sender, Sent, BySend, ByCall, ByFault, ThreadState}
@@ -138,3 +141,22 @@ one-signal s n b notification badge r capability is (by_right allowed other writ
     let f : Notification n allowed b ≡ Notification notification r badge = sym other ∙ is in cc
 one-signal s n b notification badge r capability is (by_line number other bound) =
     let f : Notification notification r badge ≡ InterruptHandler number = sym is ∙ other in absurd cc
+
+-- who signals by a notification's capability may write by it
+pub signal-writes : (s : State) (n b notification badge : ℕ) (r : Rights) (capability : Cap) → capability ≡ Notification notification r badge →
+    Signals s n b capability → may_write r ≡ true
+signal-writes s n b notification badge r capability is (by_right allowed other writes) =
+    let f : Notification n allowed b ≡ Notification notification r badge = sym other ∙ is in
+    let same : allowed ≡ r = cc in subst (λ (q : Rights). may_write q ≡ true) same writes
+signal-writes s n b notification badge r capability is (by_line number other bound) =
+    let f : Notification notification r badge ≡ InterruptHandler number = sym is ∙ other in absurd cc
+
+-- a handler signals what its line is bound to
+pub line-signal : (s : State) (n b number badge : ℕ) (capability : Cap) → capability ≡ InterruptHandler number
+    → binding s number ≡ Some (record { notification = n; badge = badge }) → Signals s n b capability → b ≡ badge
+line-signal s n b number badge capability is bound (by_right allowed other writes) =
+    let f : Notification n allowed b ≡ InterruptHandler number = sym other ∙ is in absurd cc
+line-signal s n b number badge capability is bound (by_line line other there) =
+    let f : InterruptHandler line ≡ InterruptHandler number = sym other ∙ is in
+    let same : line ≡ number = cc in
+    ap (λ (o : Option Signal). option_map_or (λ signal. signal.badge) o 0) (sym there ∙ ap (binding s) same ∙ bound)

@@ -1,12 +1,12 @@
 //! What authority rules out, case by case.
 
-ghost use Rattle.std.specs.Prelude.{ℕ, ◌≡◌, ◌≢◌, ◌<◌, false, [], ◌∷◌, List, Some, None, Ok, Err};
+ghost use Rattle.std.specs.Prelude.{ℕ, ◌≡◌, ◌≢◌, ◌<◌, false, bit_or, [], ◌∷◌, Contains, List, Some, None, Ok, Err};
 ghost use Rattle.model.specs.declared.capabilities.Cap.TheVariants.{CNode, Empty, Endpoint, Frame, InterruptControl, InterruptHandler, Notification, PageTable, Tcb, Untyped};
 ghost use Rattle.model.specs.declared.rights.Rights.{Rights};
 ghost use Rattle.model.specs.declared.lookup_failures.LookupFailure.{LookupFailure};
-ghost use Rattle.model.specs.Acceptance.Authority.{WithinAuthority, WithinInterrupt, WithinTick, self_of};
-ghost use Rattle.model.specs.Capabilities.Rights.{rights};
-ghost use Rattle.model.specs.Capabilities.Slots.{capability_at};
+ghost use Rattle.model.specs.Acceptance.Authority.{IsOwnSlot, WithinAuthority, WithinInterrupt, WithinTick, self_of};
+ghost use Rattle.model.specs.Capabilities.Rights.{may_grant_reply, rights};
+ghost use Rattle.model.specs.Capabilities.Slots.{capability_at, parent_at};
 ghost use Rattle.model.specs.Images.Image.{Image, Thread};
 ghost use Rattle.model.specs.Images.Places.{offset_of};
 ghost use Rattle.model.specs.Kernel.Deliveries.{woken};
@@ -14,7 +14,8 @@ ghost use Rattle.model.specs.Kernel.Interrupts.{binding};
 ghost use Rattle.model.specs.Kernel.Kinds.{frame_around};
 ghost use Rattle.model.specs.Kernel.Messages.{a0, delivered, message_of};
 ghost use Rattle.model.specs.Kernel.Scheduling.{current};
-ghost use Rattle.model.specs.Kernel.State.{State, Inactive, Blocked, AwaitsReply, Sender, BySend, ByCall, CNodeObject, FrameObject, NotificationObject, NotificationState, ThreadObject, ThreadState, endpoint_at, thread_at};
+ghost use Rattle.model.specs.Kernel.Soundness.{IsSound};
+ghost use Rattle.model.specs.Kernel.State.{State, Inactive, Blocked, AwaitsReply, Sender, BySend, ByCall, CNodeObject, EndpointObject, EndpointState, FrameObject, NotificationObject, NotificationState, ThreadObject, ThreadState, endpoint_at, thread_at};
 ghost use Rattle.model.specs.Kernel.Steps.{named_slot};
 ghost use Rattle.model.specs.Machine.Effects.{advanced};
 ghost use Rattle.model.specs.Machine.ProgramMemory.{write};
@@ -194,4 +195,114 @@ pub fn a_handler_is_of_a_line()
     ensures { (image : Image) (t : Thread) (s after : State) (slot number : ℕ) → HoldsOnly image t s InterruptControl
         → capability_at s.slots slot ≡ Empty → capability_at after.slots slot ≡ InterruptHandler number → 63 < number
         → WithinAuthority image t s after → ⊥ }
+{}
+
+/// Who is new among the senders of an endpoint is the thread itself, with the badge of the capability that its call names, and with the
+/// right to get a reply that this one gives; who is new among the receivers is the thread itself; the second does not leave before
+/// the first; and a call that names another capability, or none, changes no endpoint. It checks that an endpoint changes only by the
+/// capability that the call names (`endpoints`).
+pub fn a_sender_that_joins_is_the_caller()
+    ensures thread { (image : Image) (t : Thread) (s after : State) (endpoint : ℕ) (old new : EndpointState) (x : Sender)
+        → s.objects endpoint ≡ Some (EndpointObject old) → after.objects endpoint ≡ Some (EndpointObject new)
+        → Contains new.senders x → (Contains old.senders x → ⊥) → x.thread ≢ self_of image t → WithinAuthority image t s after → ⊥ }
+    ensures badge { (image : Image) (t : Thread) (s after : State) (slot endpoint badge : ℕ) (r : Rights) (old new : EndpointState) (x : Sender)
+        → named_slot s (self_of image t) ≡ Ok slot → capability_at s.slots slot ≡ Endpoint endpoint r badge
+        → s.objects endpoint ≡ Some (EndpointObject old) → after.objects endpoint ≡ Some (EndpointObject new)
+        → Contains new.senders x → (Contains old.senders x → ⊥) → x.badge ≢ badge → WithinAuthority image t s after → ⊥ }
+    ensures reply { (image : Image) (t : Thread) (s after : State) (slot endpoint badge : ℕ) (r : Rights) (old new : EndpointState) (x : Sender)
+        → named_slot s (self_of image t) ≡ Ok slot → capability_at s.slots slot ≡ Endpoint endpoint r badge
+        → s.objects endpoint ≡ Some (EndpointObject old) → after.objects endpoint ≡ Some (EndpointObject new)
+        → Contains new.senders x → (Contains old.senders x → ⊥) → x.grant_reply ≢ may_grant_reply r → WithinAuthority image t s after → ⊥ }
+    ensures receiver { (image : Image) (t : Thread) (s after : State) (endpoint other : ℕ) (old new : EndpointState)
+        → s.objects endpoint ≡ Some (EndpointObject old) → after.objects endpoint ≡ Some (EndpointObject new)
+        → Contains new.receivers other → (Contains old.receivers other → ⊥) → other ≢ self_of image t → WithinAuthority image t s after → ⊥ }
+    ensures order { (image : Image) (t : Thread) (s after : State) (endpoint : ℕ) (old new : EndpointState) (first second : Sender)
+        → s.objects endpoint ≡ Some (EndpointObject old) → after.objects endpoint ≡ Some (EndpointObject new) → first ≢ second
+        → old.senders ≡ first ∷ second ∷ [] → new.senders ≡ first ∷ [] → WithinAuthority image t s after → ⊥ }
+    ensures another { (image : Image) (t : Thread) (s after : State) (slot endpoint : ℕ) (old new : EndpointState)
+        → named_slot s (self_of image t) ≡ Ok slot → ((r : Rights) (badge : ℕ) → capability_at s.slots slot ≢ Endpoint endpoint r badge)
+        → s.objects endpoint ≡ Some (EndpointObject old) → after.objects endpoint ≡ Some (EndpointObject new) → old ≢ new
+        → WithinAuthority image t s after → ⊥ }
+    ensures nothing { (image : Image) (t : Thread) (s after : State) (endpoint : ℕ) (failure : LookupFailure) (old new : EndpointState)
+        → named_slot s (self_of image t) ≡ Err failure
+        → s.objects endpoint ≡ Some (EndpointObject old) → after.objects endpoint ≡ Some (EndpointObject new) → old ≢ new
+        → WithinAuthority image t s after → ⊥ }
+{}
+
+/// A notification's word is joined by no badge but that of the capability which the call names and may write by, or of the binding of the
+/// line whose handler it names; else it stays, or becomes 0. Who is new among the waiters is the thread itself, and a call that names
+/// nothing changes no notification. It checks that a notification changes only by the capability that the call names (`notifications`).
+pub fn a_word_takes_the_named_badge()
+    ensures badge { (image : Image) (t : Thread) (s after : State) (slot notification badge : ℕ) (r : Rights) (old new : NotificationState)
+        → named_slot s (self_of image t) ≡ Ok slot → capability_at s.slots slot ≡ Notification notification r badge
+        → s.objects notification ≡ Some (NotificationObject old) → after.objects notification ≡ Some (NotificationObject new)
+        → new.word ≢ old.word → new.word ≢ 0 → new.word ≢ bit_or old.word badge → WithinAuthority image t s after → ⊥ }
+    ensures unwritten { (image : Image) (t : Thread) (s after : State) (slot notification badge : ℕ) (old new : NotificationState)
+        → named_slot s (self_of image t) ≡ Ok slot → capability_at s.slots slot ≡ Notification notification (rights 2) badge
+        → s.objects notification ≡ Some (NotificationObject old) → after.objects notification ≡ Some (NotificationObject new)
+        → new.word ≢ old.word → new.word ≢ 0 → WithinAuthority image t s after → ⊥ }
+    ensures line { (image : Image) (t : Thread) (s after : State) (slot number notification badge : ℕ) (old new : NotificationState)
+        → named_slot s (self_of image t) ≡ Ok slot → capability_at s.slots slot ≡ InterruptHandler number
+        → binding s number ≡ Some (record { notification = notification; badge = badge })
+        → s.objects notification ≡ Some (NotificationObject old) → after.objects notification ≡ Some (NotificationObject new)
+        → new.word ≢ old.word → new.word ≢ bit_or old.word badge → WithinAuthority image t s after → ⊥ }
+    ensures waiter { (image : Image) (t : Thread) (s after : State) (notification other : ℕ) (old new : NotificationState)
+        → s.objects notification ≡ Some (NotificationObject old) → after.objects notification ≡ Some (NotificationObject new)
+        → Contains new.waiters other → (Contains old.waiters other → ⊥) → other ≢ self_of image t → WithinAuthority image t s after → ⊥ }
+    ensures nothing { (image : Image) (t : Thread) (s after : State) (notification : ℕ) (failure : LookupFailure) (old new : NotificationState)
+        → named_slot s (self_of image t) ≡ Err failure
+        → s.objects notification ≡ Some (NotificationObject old) → after.objects notification ≡ Some (NotificationObject new) → old ≢ new
+        → WithinAuthority image t s after → ⊥ }
+{}
+
+/// A thread that answers its caller loses the right to reply to it. It checks that the right stays only where who waits for the answer waits
+/// on (`right`, by `RightChange.kept`); in a sound state that one is no sender, so that the right to it does not come anew.
+pub fn a_used_right_to_reply_goes()
+    ensures { (image : Image) (t : Thread) (s after : State) (caller : ℕ) (old new : ThreadState) → IsSound s
+        → s.objects (self_of image t) ≡ Some (ThreadObject old) → after.objects (self_of image t) ≡ Some (ThreadObject new)
+        → old.caller ≡ Some caller → s.objects caller ≢ after.objects caller → new.caller ≡ Some caller → WithinAuthority image t s after → ⊥ }
+{}
+
+/// A thread does not raise or lower its own priority, and does not choose who takes its faults. It checks that both stay (`priority`,
+/// `fault_address`).
+pub fn a_thread_keeps_its_priority_and_its_handler()
+    ensures priority { (image : Image) (t : Thread) (s after : State) (old new : ThreadState)
+        → s.objects (self_of image t) ≡ Some (ThreadObject old) → after.objects (self_of image t) ≡ Some (ThreadObject new)
+        → new.priority ≢ old.priority → WithinAuthority image t s after → ⊥ }
+    ensures handler { (image : Image) (t : Thread) (s after : State) (old new : ThreadState)
+        → s.objects (self_of image t) ≡ Some (ThreadObject old) → after.objects (self_of image t) ≡ Some (ThreadObject new)
+        → new.fault_address ≢ old.fault_address → WithinAuthority image t s after → ⊥ }
+{}
+
+/// A slot comes to hang below no slot that is neither the thread's own nor was above one of its own. It checks what a new parent is
+/// (`parents`).
+pub fn a_new_parent_is_an_own_slot_or_was_above_one()
+    ensures { (image : Image) (t : Thread) (s after : State) (slot parent : ℕ) → (IsOwnSlot image t parent → ⊥)
+        → ((child : ℕ) → IsOwnSlot image t child → parent_at s.slots child ≢ Some parent) → parent_at s.slots slot ≢ Some parent
+        → parent_at after.slots slot ≡ Some parent → WithinAuthority image t s after → ⊥ }
+{}
+
+/// The watermark of untyped memory does not fall while a child hangs below it, nor to another number than 0, and does not rise where the call
+/// names another slot. It checks when what is used of untyped memory changes (`used`).
+pub fn a_watermark_falls_without_children()
+    ensures child { (image : Image) (t : Thread) (s after : State) (slot child offset bits old new : ℕ)
+        → capability_at s.slots slot ≡ Untyped offset bits old → capability_at after.slots slot ≡ Untyped offset bits new → new < old
+        → parent_at after.slots child ≡ Some slot → WithinAuthority image t s after → ⊥ }
+    ensures part { (image : Image) (t : Thread) (s after : State) (slot offset bits old new : ℕ)
+        → capability_at s.slots slot ≡ Untyped offset bits old → capability_at after.slots slot ≡ Untyped offset bits new → new < old → 0 < new
+        → WithinAuthority image t s after → ⊥ }
+    ensures another { (image : Image) (t : Thread) (s after : State) (slot other offset bits old new : ℕ) → named_slot s (self_of image t) ≡ Ok other
+        → other ≢ slot → capability_at s.slots slot ≡ Untyped offset bits old → capability_at after.slots slot ≡ Untyped offset bits new → old < new
+        → WithinAuthority image t s after → ⊥ }
+{}
+
+/// Neither bit of a line changes where the call names another capability than the line's handler, or none. It checks when lines change
+/// (`lines`).
+pub fn a_line_changes_by_its_handler()
+    ensures masked { (image : Image) (t : Thread) (s after : State) (slot number : ℕ) → named_slot s (self_of image t) ≡ Ok slot
+        → capability_at s.slots slot ≢ InterruptHandler number → s.masked number ≢ after.masked number → WithinAuthority image t s after → ⊥ }
+    ensures pending { (image : Image) (t : Thread) (s after : State) (slot number : ℕ) → named_slot s (self_of image t) ≡ Ok slot
+        → capability_at s.slots slot ≢ InterruptHandler number → s.pending number ≢ after.pending number → WithinAuthority image t s after → ⊥ }
+    ensures nothing { (image : Image) (t : Thread) (s after : State) (number : ℕ) (failure : LookupFailure) → named_slot s (self_of image t) ≡ Err failure
+        → s.masked number ≢ after.masked number → WithinAuthority image t s after → ⊥ }
 {}
