@@ -126,9 +126,8 @@ gives_right sender BySend = false
 gives_right sender ByCall = sender.grant_reply
 gives_right sender (ByFault fault) = true
 
--- What becomes of the thread's own right to reply: it stays, and who waits for the answer waits on; it goes, or the thread's call receives from the first
--- sender of an
--- endpoint, and gets the right to reply to that one.
+-- What becomes of the thread's own right to reply: it stays, and who waits for the answer waits on; it goes; or the thread's call receives
+-- from the first sender of an endpoint, and gets the right to reply to that one.
 pub data RightChange (image : Image) (t : Thread) (s behind : State) (before after : Option ℕ) : Type 0 where
   kept : after ≡ before → ((caller : ℕ) → before ≡ Some caller → behind.objects caller ≡ s.objects caller) → RightChange image t s behind before after
   dropped : after ≡ None → RightChange image t s behind before after
@@ -165,7 +164,8 @@ pub record WaitsFor (notification : ℕ) (capability : Cap) : Type 0 where
   pub is : capability ≡ Notification notification allowed badge
   pub reads : IsTrue (may_read allowed)
 
--- a notification's word, and who waits for it, change by the call alone
+-- a notification's word, and who waits for it, change by the call alone: a badge joins the word, the first of those that wait goes, the
+-- word is taken, or the thread joins at the tail
 pub data NotificationChange (image : Image) (t : Thread) (s : State) (notification : ℕ) (old new : NotificationState) : Type 0 where
   joins : (badge : ℕ) → CallNames image t s (Signals s notification badge) → old.waiters ≡ [] → new ≡ record old { word = bit_or old.word badge }
       → NotificationChange image t s notification old new
@@ -229,17 +229,22 @@ pub record ReadyChange (s after : State) (self priority : ℕ) : Type 0 where
 -- ---- a step of a thread
 
 pub record WithinAuthority (image : Image) (t : Thread) (s after : State) : Type 0 where
+  -- memory keeps its size
   pub memory_bits : after.memory_bits ≡ s.memory_bits
+  -- the boot CNode keeps its size
   pub boot_radix : after.boot_radix ≡ s.boot_radix
+  -- a byte changes only where the thread wrote it, or with its frame
   pub bytes : (place : ℕ) → s.bytes place ≢ after.bytes place → ByteChange image t s after place
+  -- objects appear and end only inside untyped memory that it holds
   pub objects : (offset : ℕ) → kind_at s offset ≢ kind_at after offset → ObjectChange image t s after offset
   -- slots change only in its CNodes
   pub slots : (slot : ℕ) → s.slots slot ≢ after.slots slot → IsOwnSlot image t slot
-  -- mappings change only under its root table
+  -- frames' mappings change only under its root table
   pub frame_mappings : (slot : ℕ) (mapping : FrameMapping)
       → frame_mapping (capability_at s.slots slot) ≢ frame_mapping (capability_at after.slots slot)
       → (frame_mapping (capability_at s.slots slot) ≡ Some mapping) ⊎ (frame_mapping (capability_at after.slots slot) ≡ Some mapping)
       → mapping.root ≡ offset_of image t.header.root
+  -- page tables' mappings change only under its root table
   pub table_mappings : (slot : ℕ) (mapping : TableMapping)
       → table_mapping (capability_at s.slots slot) ≢ table_mapping (capability_at after.slots slot)
       → (table_mapping (capability_at s.slots slot) ≡ Some mapping) ⊎ (table_mapping (capability_at after.slots slot) ≡ Some mapping)
@@ -250,21 +255,25 @@ pub record WithinAuthority (image : Image) (t : Thread) (s after : State) : Type
   -- a capability that is new in a slot was granted
   pub capabilities : (slot : ℕ) → without_use (capability_at s.slots slot) ≢ without_use (capability_at after.slots slot)
       → capability_at after.slots slot ≢ Empty → Granted image t s after (capability_at after.slots slot)
-  -- endpoints and notifications change only by the capability that the call names, or of a line that a named handler acknowledges
+  -- endpoints change only by the capability that the call names
   pub endpoints : (offset : ℕ) (old new : EndpointState) → s.objects offset ≡ Some (EndpointObject old)
       → after.objects offset ≡ Some (EndpointObject new) → old ≢ new → EndpointChange image t s offset old new
+  -- notifications change only by the capability that the call names: to one, or to the handler of a line that is bound to it
   pub notifications : (offset : ℕ) (old new : NotificationState) → s.objects offset ≡ Some (NotificationObject old)
       → after.objects offset ≡ Some (NotificationObject new) → old ≢ new
       → NotificationChange image t s offset old new
+  -- a slot comes to hang only below a slot of its own, or below what one of its own hung below
   pub parents : (slot parent : ℕ) → parent_at after.slots slot ≡ Some parent → parent_at s.slots slot ≢ Some parent → NewParent image t s parent
+  -- of untyped memory more is used only where the call names it, and nothing any more only where nothing hangs below it
   pub used : (slot offset bits old new : ℕ) → capability_at s.slots slot ≡ Untyped offset bits old
       → capability_at after.slots slot ≡ Untyped offset bits new → old ≢ new → UsedChange image t s after slot old new
-  -- its own priority, and who takes its faults, stay
+  -- its own priority stays
   pub priority : (old new : ThreadState) → s.objects (self_of image t) ≡ Some (ThreadObject old)
       → after.objects (self_of image t) ≡ Some (ThreadObject new) → new.priority ≡ old.priority
+  -- who takes its faults stays
   pub fault_address : (old new : ThreadState) → s.objects (self_of image t) ≡ Some (ThreadObject old)
       → after.objects (self_of image t) ≡ Some (ThreadObject new) → new.fault_address ≡ old.fault_address
-  -- what becomes of its own right to reply
+  -- its own right to reply stays where it was not used, goes, or comes from the first sender of an endpoint that the call names
   pub right : (old new : ThreadState) → s.objects (self_of image t) ≡ Some (ThreadObject old)
       → after.objects (self_of image t) ≡ Some (ThreadObject new) → RightChange image t s after old.caller new.caller
   -- another thread changes only for one of the reasons, by the capability that the call names
@@ -273,6 +282,7 @@ pub record WithinAuthority (image : Image) (t : Thread) (s after : State) : Type
   -- lines change only where the call names the handler
   pub lines : (number : ℕ) → (s.masked number ≢ after.masked number) ⊎ (s.pending number ≢ after.pending number)
       → CallNames image t s (λ capability. capability ≡ InterruptHandler number)
+  -- a list of the ready gains only threads that were woken, at its tail, and loses none but the thread itself
   pub ready : (priority : ℕ) → ReadyChange s after (self_of image t) priority
 
 -- ---- ticks
