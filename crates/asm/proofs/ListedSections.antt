@@ -155,7 +155,8 @@ threads-listed objects least zero [] few is = tt
 threads-listed objects least zero (t ∷ ts) few is = absurd (let clash : false ≡ true = is in cc)
 threads-listed objects least (suc n) [] few is = tt
 threads-listed objects least (suc n) (t ∷ ts) few is =
-    let both = and_parts ((thread_format (slots_format objects) assembled_version objects).fits t) (many_fit (λ _. thread_format (slots_format objects) assembled_version objects) (λ _. 0) 0 n ts)
+    let both = and_parts ((thread_format (slots_format objects) assembled_version objects).fits t)
+    (many_fit (λ _. thread_format (slots_format objects) assembled_version objects) (λ _. 0) 0 n ts)
     is in
     listed-append (thread_said t) (thread_lines t) (flat_map thread_said ts) (flat_map thread_lines ts)
     (thread-listed objects t few (thread-parts objects t both.0)) (threads-listed objects 0 n ts few both.1)

@@ -5,7 +5,8 @@ use Rattle.std.proofs.lemmas.Bool.{and_parts}
 use Rattle.model.specs.declared.entries.ImageHeader.{ImageHeader}
 use Rattle.model.specs.declared.refusals.Refusal.TheVariants.{Magic, Version}
 use Rattle.model.specs.Images.Format.{Format, many_fit, number_or}
-use Rattle.model.specs.Images.Image.{Image, between, capability_format, content_format, frame_format, header_format, image_with, interrupt_format, latest_version, magic}
+use Rattle.model.specs.Images.Image.{Image, between, capability_format, content_format, frame_format, header_format, image_with, interrupt_format}
+use Rattle.model.specs.Images.Image.{latest_version, magic}
 use Rattle.model.specs.Images.Image.{object_format, pair_key, sections_format, slots_format, table_format, thread_format, untyped_format, whole_image}
 use Rattle.format_laws.proofs.Laws.{between-bounds, field-parts}
 use Rattle.asm.specs.Drafts.{assembled_version}
@@ -62,7 +63,8 @@ sections-fit image is =
       tables = f.0;
       frames = g.0;
       contents = (and_parts _ _ g.1).0;
-      threads = subst (λ v. many_fit (λ _. thread_format (slots_format image.header.objects) v image.header.objects) (λ _. 0) 0 image.header.threads image.threads
+      threads = subst (λ v. many_fit (λ _. thread_format (slots_format image.header.objects) v image.header.objects) (λ _. 0) 0 image.header.threads
+          image.threads
           ≡ true) header.0 whole.1;
     }
 

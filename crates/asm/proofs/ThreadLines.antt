@@ -270,7 +270,8 @@ unfolding many_fit
 threads-found objects least count number [] found is inside_all = ap between_threads (sym (append-nil found))
 threads-found objects least zero number (t ∷ ts) found is inside_all = absurd (let clash : false ≡ true = is in cc)
 threads-found objects least (suc n) number (t ∷ ts) found is inside_all =
-    let both = and_parts ((thread_format (slots_format objects) assembled_version objects).fits t) (many_fit (λ _. thread_format (slots_format objects) assembled_version objects) (λ _. 0) 0 n ts)
+    let both = and_parts ((thread_format (slots_format objects) assembled_version objects).fits t)
+    (many_fit (λ _. thread_format (slots_format objects) assembled_version objects) (λ _. 0) 0 n ts)
     is in
     let fits = thread-parts objects t both.0 in
     searched-append number (between_threads found) (thread_said t) (flat_map thread_said ts)

@@ -118,7 +118,8 @@ limited image is =
     let g = and_parts (many_fit (frame_format h.objects) (λ x. pair_key x.root x.address + 1) 0 h.frames image.frames) _ f.1 in
     let j = and_parts (many_fit (content_format h.objects) (λ c. c.header.frame + 1) 0 h.contents image.contents) _ g.1 in
     let contents = list-fits (ContentFits h) (content_format h.objects) (λ c. c.header.frame + 1) (content-fits h) 0 h.contents image.contents j.0 in
-    let threads = list-fits (ThreadFits h) (λ _. thread_format (slots_format h.objects) h.version h.objects) (λ _. 0) (thread-fits h) 0 h.threads image.threads whole.1 in
+    let threads = list-fits (ThreadFits h) (λ _. thread_format (slots_format h.objects) h.version h.objects) (λ _. 0) (thread-fits h) 0 h.threads image.threads
+    whole.1 in
     let fitting = is-fitting image is in
     record {
       header = header-small h fitting.header;

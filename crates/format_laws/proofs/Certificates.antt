@@ -45,7 +45,8 @@ record-fits objects words least r is =
     let count = many-length term_format (λ e. e.register + 1) 1 r.header.terms r.terms c.1 in
     (record { point = header.1; constant = header.3; terms = omega (arith, count, header.2) }, header.0)
 
-words-of : (version objects : ℕ) (h : ThreadHeader) → (thread_header_format version objects).fits h ≡ true → (1 ≤ h.words) × (h.words ≤ 65536) × (h.budget ≤ 2 ^ 62)
+words-of : (version objects : ℕ) (h : ThreadHeader) → (thread_header_format version objects).fits h ≡ true → (1 ≤ h.words) × (h.words ≤ 65536)
+    × (h.budget ≤ 2 ^ 62)
 unfolding thread_header_format
 words-of version objects h is =
     let a = and_parts ((field (below objects)).fits h.tcb) _ is in
@@ -90,4 +91,4 @@ certificates-fit image k t is at =
     let whole = and_parts _ _ is in
     let h = image.header in
     certificate-fits h.version h.objects t
-        (many-each (λ _. thread_format (slots_format h.objects) h.version h.objects) (λ _. 0) 0 h.threads image.threads whole.1 k t at).1
+    (many-each (λ _. thread_format (slots_format h.objects) h.version h.objects) (λ _. 0) 0 h.threads image.threads whole.1 k t at).1

@@ -13,7 +13,8 @@ use Rattle.model.specs.declared.entries.UntypedEntry.{UntypedEntry}
 use Rattle.format_laws.specs.Fitting.{CapabilityFits, FrameFits, HeaderFits, InterruptFits, ObjectFits, TableFits, ThreadFits, UntypedFits}
 use Rattle.format_laws.proofs.FormatFits.{between-bounds, field-between, field-parts}
 use Rattle.model.specs.Images.Image.{Image, Thread, anything, below, between, capability_format, frame_format, header_format, interrupt_format, magic}
-use Rattle.model.specs.Images.Image.{has_buffers, has_promises, latest_version, no_buffer, object_format, pair_key, size_fits, slots_format, table_format, thread_format, thread_header_format, untyped_format}
+use Rattle.model.specs.Images.Image.{has_buffers, has_promises, latest_version, no_buffer, object_format, pair_key, size_fits, slots_format, table_format}
+use Rattle.model.specs.Images.Image.{thread_format, thread_header_format, untyped_format}
 use Rattle.model.specs.Images.Format.{Format, both, field, number_or, only_if}
 use Rattle.model.specs.declared.refusals.Refusal.TheVariants.{Magic, Version}
 use Rattle.std.specs.Int.{w32}

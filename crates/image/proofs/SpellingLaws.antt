@@ -13,7 +13,8 @@ use Rattle.model.specs.Images.Format.{field, many_spelling}
 use Rattle.model.specs.Images.Image.{ImageContent, ImagePromise, StateRecord, Thread, Image, anything, pair_key, header_format, untyped_format, object_format}
 use Rattle.model.specs.Images.Image.{capability_format, interrupt_format, table_format, frame_format, content_format, thread_header_format, register_format}
 use Rattle.model.specs.Images.Image.{range_format, slot_format, term_format, slots_format, record_header_format, ranges_format, terms_format, record_format}
-use Rattle.model.specs.Images.Image.{promise_format, promised_word_format, registers_format, words_format, records_format, thread_format, sections_format, image_with, whole_image}
+use Rattle.model.specs.Images.Image.{promise_format, promised_word_format, registers_format, words_format, records_format, thread_format, sections_format}
+use Rattle.model.specs.Images.Image.{image_with, whole_image}
 use Rattle.image.specs.Spellings.{words_bytes, content_bytes, promise_bytes, record_bytes, thread_bytes, image_bytes}
 use Rattle.image.proofs.Lists.{spelled-each}
 

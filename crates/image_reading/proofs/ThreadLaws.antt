@@ -8,10 +8,12 @@ use Rattle.model.specs.declared.entries.RegisterEntry.{RegisterEntry}
 use Rattle.model.specs.declared.entries.SlotEntry.{SlotEntry}
 use Rattle.model.specs.declared.refusals.Refusal.TheVariants.{Limit}
 use Rattle.model.specs.Images.Format.{field}
-use Rattle.model.specs.Images.Image.{SlotFormat, anything, below, between, has_buffers, no_buffer, not_zero, is_constant, register_format, range_format, term_format}
+use Rattle.model.specs.Images.Image.{SlotFormat, anything, below, between, has_buffers, no_buffer, not_zero, is_constant, register_format, range_format}
+use Rattle.model.specs.Images.Image.{term_format}
 use Rattle.model.specs.Images.Image.{record_header_format, ranges_format, terms_format, record_format, registers_format, words_format, records_format}
 use Rattle.model.specs.Images.Image.{thread_header_format, thread_format}
-use Rattle.image_reading.proofs.FormatLaws.{only_if_law, IsLawful, number_law, both_law, named_law, ordered_law, signed_law, wide32, wide64, signed_wide32, signed_wide64}
+use Rattle.image_reading.proofs.FormatLaws.{only_if_law, IsLawful, number_law, both_law, named_law, ordered_law, signed_law, wide32, wide64, signed_wide32}
+use Rattle.image_reading.proofs.FormatLaws.{signed_wide64}
 
 pub field_law : (test : ℕ → Bool) → IsLawful (field test)
 field_law test = number_law Limit w32 test wide32
@@ -85,7 +87,8 @@ thread_header_law version objects = named_law _ _ _ (λ x h. refl) (λ y. refl)
     both_law _ _ (field_law (between 0 255)) (λ (e : ℕ).
     both_law _ _ (number_law Limit w64 (between 1 (2 ^ 62)) wide64) (λ (f : ℕ).
     both_law _ _ (field_law anything) (λ (g : ℕ).
-    both_law _ _ (only_if_law (has_buffers version) no_buffer (field (λ n. ltb n objects || eqb n no_buffer)) (field_law (λ n. ltb n objects || eqb n no_buffer)))
+    both_law _ _ (only_if_law (has_buffers version) no_buffer (field (λ n. ltb n objects || eqb n no_buffer))
+    (field_law (λ n. ltb n objects || eqb n no_buffer)))
     (λ (buffer : ℕ).
     both_law _ _ (field_law anything) (λ (h : ℕ).
     both_law _ _ (field_law anything) (λ (i : ℕ).

@@ -148,7 +148,8 @@ pub image_law : IsLawful whole_image
 unfolding image_with
 image_law = named_law _ _ _ (λ x h. refl) (λ y. refl)
     (both_law _ _ sections_law (λ (sections : Sections).
-    ordered_law 0 (λ _. _) (λ _. 0) sections.0.threads (λ k. thread_law (slots_format sections.0.objects) (slots_laws sections.0.objects) sections.0.version sections.0.objects)))
+    ordered_law 0 (λ _. _) (λ _. 0) sections.0.threads
+    (λ k. thread_law (slots_format sections.0.objects) (slots_laws sections.0.objects) sections.0.version sections.0.objects)))
 
 -- ---- reading and spelling
 

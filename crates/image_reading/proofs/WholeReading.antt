@@ -27,7 +27,8 @@ module _ (bytes : List ℕ) (h : ImageHeader) (untypeds objects capabilities int
     (promises_end : Ok threads ≡ end_of ((promises_format h).reads bytes promises))
     (threads_end : Ok after ≡ end_of ((threads_format h).reads bytes threads)) where
   pub all-read : whole_image.reads bytes 0 ≡ Ok (sections_image bytes h untypeds objects capabilities interrupts tables frames contents promises threads, after)
-  unfolding image_with sections_format untypeds_format objects_format capabilities_format interrupts_format tables_format frames_format contents_format promises_format
+  unfolding image_with sections_format untypeds_format objects_format capabilities_format interrupts_format tables_format frames_format contents_format
+      promises_format
       threads_format
   all-read =
       let a = read_from_end ((untypeds_format h).reads bytes untypeds) objects untypeds_end in
@@ -41,7 +42,8 @@ module _ (bytes : List ℕ) (h : ImageHeader) (untypeds objects capabilities int
       let i = read_from_end ((threads_format h).reads bytes threads) after threads_end in
       rw (← header, a, b, c, d, e, f, g, j, i) refl
 
-  pub all-fit : IsBytes bytes → whole_image.fits (sections_image bytes h untypeds objects capabilities interrupts tables frames contents promises threads) ≡ true
+  pub all-fit : IsBytes bytes → whole_image.fits (sections_image bytes h untypeds objects capabilities interrupts tables frames contents promises threads)
+      ≡ true
   all-fit fits = (image_law.takes bytes 0 (sections_image bytes h untypeds objects capabilities interrupts tables frames contents promises threads) after fits
       (omega arith) all-read).fits
 

@@ -8,7 +8,8 @@ use Rattle.model.specs.declared.entries.TableEntry.{TableEntry}
 use Rattle.model.specs.declared.entries.FrameEntry.{FrameEntry}
 use Rattle.model.specs.declared.entries.ImageHeader.{ImageHeader}
 use Rattle.model.specs.Images.Format.{Format, end_of, values_of, ordered, many}
-use Rattle.model.specs.Images.Image.{Image, ImageContent, ImagePromise, Thread, whole_image, header_format, pair_key, untyped_format, object_format, capability_format}
+use Rattle.model.specs.Images.Image.{Image, ImageContent, ImagePromise, Thread, whole_image, header_format, pair_key, untyped_format, object_format}
+use Rattle.model.specs.Images.Image.{capability_format}
 use Rattle.model.specs.Images.Image.{interrupt_format, table_format, frame_format, content_format, promise_format, thread_format, slots_format}
 
 unfoldable pub untypeds_format : ImageHeader → Format (List UntypedEntry)

@@ -2,7 +2,8 @@
 use Rattle.model.specs.Images.Format.{many_read as format_many_read, many_spelling as format_many_spelling, many_fit as format_many_fit}
 use Rattle.model.specs.Images.Image.{header_format as image_header_format, untyped_format as image_untyped_format, object_format as image_object_format}
 use Rattle.model.specs.Images.Image.{capability_format as image_capability_format, interrupt_format as image_interrupt_format}
-use Rattle.model.specs.Images.Image.{table_format as image_table_format, frame_format as image_frame_format, content_format as image_content_format, promised_word_format as image_promised_word_format, promise_format as image_promise_format}
+use Rattle.model.specs.Images.Image.{table_format as image_table_format, frame_format as image_frame_format, content_format as image_content_format}
+use Rattle.model.specs.Images.Image.{promised_word_format as image_promised_word_format, promise_format as image_promise_format}
 use Rattle.model.specs.Images.Image.{thread_header_format as image_thread_header_format, register_format as image_register_format}
 use Rattle.model.specs.Images.Image.{range_format as image_range_format, term_format as image_term_format, slot_format as image_slot_format}
 use Rattle.model.specs.Images.Image.{record_header_format as image_record_header_format, ranges_format as image_ranges_format}
@@ -60,7 +61,8 @@ use Rattle.model_laws.specs.Programs.{program}
 
 unfoldable pub opened : Unit {0}
 unfolding digits format_many_read format_many_spelling format_many_fit image_header_format image_untyped_format image_object_format image_capability_format
-    image_interrupt_format image_table_format image_frame_format image_content_format image_promised_word_format image_promise_format image_thread_header_format image_register_format image_range_format
+    image_interrupt_format image_table_format image_frame_format image_content_format image_promised_word_format image_promise_format image_thread_header_format
+    image_register_format image_range_format
     image_term_format image_slot_format image_record_header_format image_ranges_format image_terms_format image_record_format image_registers_format
     image_words_format image_records_format image_thread_format image_sections_format image_image_with capabilityfields_fields_of_kind
     capabilityfields_is_capability capabilityfields_unpacked instructions_decoded instructions_effect rangerules_ones_within rangerules_ranges_after

@@ -19,7 +19,8 @@ use Rattle.model.specs.declared.refusals.Refusal.{Refusal}
 use Rattle.model.specs.declared.refusals.Refusal.TheVariants.{Limit, Magic, OutOfMemory, Trailing, Truncated, Version}
 use Rattle.model.specs.Capabilities.CapabilityFields.{unpacked}
 use Rattle.model.specs.Images.Format.{Format, ◌>>=◌, both, field, many_read, named, number, number_at, number_or, only_if, ordered, reading, signed}
-use Rattle.model.specs.Images.Image.{ImageContent, Sections, has_buffers, has_promises, header_fields, latest_version, no_buffer, promise_format, promised_word_format}
+use Rattle.model.specs.Images.Image.{ImageContent, Sections, has_buffers, has_promises, header_fields, latest_version, no_buffer, promise_format}
+use Rattle.model.specs.Images.Image.{promised_word_format}
 use Rattle.model.specs.Images.Image.{anything, below, between, capability_format, content_format, frame_format, header_format, image_with}
 use Rattle.model.specs.Images.Image.{interrupt_format, is_constant, magic, names_parent, no_parent, not_zero, object_format, pair_key, range_format}
 use Rattle.model.specs.Images.Image.{ranges_format, record_format, record_header_format, records_format, register_format, registers_format, sections_format}
@@ -194,7 +195,8 @@ thread_header_calm version objects = named_calm _ _ _
     both_calm _ _ (field_calm (between 0 255)) (λ (e : ℕ).
     both_calm _ _ (number_calm w64 (between 1 (2 ^ 62))) (λ (f : ℕ).
     both_calm _ _ (field_calm anything) (λ (g : ℕ).
-    both_calm _ _ (only_if_calm (has_buffers version) no_buffer (field (λ n. ltb n objects || eqb n no_buffer)) (field_calm (λ n. ltb n objects || eqb n no_buffer)))
+    both_calm _ _ (only_if_calm (has_buffers version) no_buffer (field (λ n. ltb n objects || eqb n no_buffer))
+    (field_calm (λ n. ltb n objects || eqb n no_buffer)))
     (λ (buffer : ℕ).
     both_calm _ _ (field_calm anything) (λ (h : ℕ).
     both_calm _ _ (field_calm anything) (λ (i : ℕ).

@@ -69,7 +69,8 @@ unfolding image_with sections_format
 image-terms image k t is at =
     let whole = and_parts _ _ is in
     let h = image.header in
-    thread-terms h.version h.objects t (many-each (λ _. thread_format (slots_format h.objects) h.version h.objects) (λ _. 0) 0 h.threads image.threads whole.1 k t at).1
+    thread-terms h.version h.objects t (many-each (λ _. thread_format (slots_format h.objects) h.version h.objects) (λ _. 0) 0 h.threads image.threads whole.1 k
+    t at).1
 
 -- ---- the record of a point
 

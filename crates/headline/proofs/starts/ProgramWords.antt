@@ -19,7 +19,8 @@ any-small words k each = elim (cases_lt k (length words)) [
   | inr most ↦ let none : slice_index words k ≡ 0 = get_or_past words k 0 most in omega (arith, none)
 ]
 
-thread-words : (version objects : ℕ) (t : Thread) → (thread_format (slots_format objects) version objects).fits t ≡ true → (k : ℕ) → slice_index t.words k < 2 ^ 32
+thread-words : (version objects : ℕ) (t : Thread) → (thread_format (slots_format objects) version objects).fits t ≡ true → (k : ℕ) →
+    slice_index t.words k < 2 ^ 32
 unfolding thread_format
 thread-words version objects t is k =
     let a = and_parts ((thread_header_format version objects).fits t.header) _ is in
@@ -34,4 +35,5 @@ unfolding image_with sections_format
 words-small image number t is at k =
     let whole = and_parts _ _ is in
     let h = image.header in
-    thread-words h.version h.objects t (many-each (λ _. thread_format (slots_format h.objects) h.version h.objects) (λ _. 0) 0 h.threads image.threads whole.1 number t at).1 k
+    thread-words h.version h.objects t (many-each (λ _. thread_format (slots_format h.objects) h.version h.objects) (λ _. 0) 0 h.threads image.threads whole.1
+    number t at).1 k

@@ -340,7 +340,8 @@ records-fit image number t is listed =
     let h = image.header in
     let threads = many_fit (λ _. thread_format (slots_format h.objects) h.version h.objects) (λ _. 0) 0 h.threads image.threads in
     let whole = and_parts (sections_format.fits (sections_of image)) threads is in
-    thread-fits h.version h.objects t (many-each (λ _. thread_format (slots_format h.objects) h.version h.objects) (λ _. 0) 0 h.threads image.threads whole.1 number t listed).1
+    thread-fits h.version h.objects t (many-each (λ _. thread_format (slots_format h.objects) h.version h.objects) (λ _. 0) 0 h.threads image.threads whole.1
+    number t listed).1
 
 -- ---- points
 

@@ -86,11 +86,23 @@ HeaderFields = ℕ × (ℕ × (ℕ × (ℕ × (ℕ × (ℕ × (ℕ × (ℕ × (�
 abbrev pub header_fields : ImageHeader → HeaderFields
 header_fields h = (
   magic,
-  (h.version, (h.memory_bits, (h.boot_radix, (h.untypeds, (h.objects, (h.capabilities, (h.interrupts, (h.tables, (h.frames, (h.contents, (h.promises, h.threads))))))))))),
+  (
+    h.version,
+    (
+      h.memory_bits,
+      (h.boot_radix, (h.untypeds, (h.objects, (h.capabilities, (h.interrupts, (h.tables, (h.frames, (h.contents, (h.promises, h.threads))))))))),
+    ),
+  ),
 )
 
 abbrev pub header_of : HeaderFields → ImageHeader
-header_of (_, (version, (memory_bits, (boot_radix, (untypeds, (objects, (capabilities, (interrupts, (tables, (frames, (contents, (promises, threads)))))))))))) = record {
+header_of (
+  _,
+  (
+    version,
+    (memory_bits, (boot_radix, (untypeds, (objects, (capabilities, (interrupts, (tables, (frames, (contents, (promises, threads)))))))))),
+  ),
+) = record {
   version = version;
   memory_bits = memory_bits;
   boot_radix = boot_radix;
@@ -222,7 +234,10 @@ abbrev pub ThreadFields : Type 0
 ThreadFields = ℕ × (ℕ × (ℕ × (ℕ × (ℕ × (ℕ × (ℕ × (ℕ × (ℕ × (ℕ × (ℕ × (ℕ × ℕ)))))))))))
 
 abbrev pub thread_fields : ThreadHeader → ThreadFields
-thread_fields h = (h.tcb, (h.cnode, (h.guard, (h.root, (h.priority, (h.budget, (h.fault, (h.buffer, (h.entry, (h.base, (h.registers, (h.words, h.records))))))))))))
+thread_fields h = (
+  h.tcb,
+  (h.cnode, (h.guard, (h.root, (h.priority, (h.budget, (h.fault, (h.buffer, (h.entry, (h.base, (h.registers, (h.words, h.records))))))))))),
+)
 
 abbrev pub thread_header_of : ThreadFields → ThreadHeader
 thread_header_of (tcb, (cnode, (guard, (root, (priority, (budget, (fault, (buffer, (entry, (base, (registers, (words, records)))))))))))) = record {
@@ -374,7 +389,8 @@ thread_format slots version objects =
 -- the sections before the threads, as one value
 abbrev pub Sections : Type 0
 Sections = ImageHeader
-    × (List UntypedEntry × (List ObjectEntry × (List CapabilityEntry × (List InterruptEntry × (List TableEntry × (List FrameEntry × (List ImageContent × List ImagePromise)))))))
+    × (List UntypedEntry × (List ObjectEntry
+    × (List CapabilityEntry × (List InterruptEntry × (List TableEntry × (List FrameEntry × (List ImageContent × List ImagePromise)))))))
 
 abbrev pub sections_of : Image → Sections
 sections_of i = (i.header, (i.untypeds, (i.objects, (i.capabilities, (i.interrupts, (i.tables, (i.frames, (i.contents, i.promises))))))))

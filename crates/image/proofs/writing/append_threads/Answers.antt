@@ -8,7 +8,8 @@ loop-thread-init c = sym (append-nil c.args.bytes.now.items)
 
 pub loop-thread-preserved : goal.loop-thread-preserved
 loop-thread-preserved c =
-    spelled-more (thread_bytes c.args.version) c.args.bytes.now.items c.loop-thread.bytes.items _ c.args.threads.now c.loop-thread.thread-index c.thread-item.result
+    spelled-more (thread_bytes c.args.version) c.args.bytes.now.items c.loop-thread.bytes.items _ c.args.threads.now c.loop-thread.thread-index
+    c.thread-item.result
     c.loop-thread-test.true c.thread-item.is c.loop-thread.invariant c.in_ok-append_thread.ensures
 
 pub returns : goal.returns

@@ -7,7 +7,8 @@ use Rattle.image_reading.proofs.promises.promises_end.Goals as goal
 pub returns-in_err-promise : goal.returns-in_err-promise
 returns-in_err-promise c =
     let p = err_from_is_err_and c.from_residual.result c.from_residual.ensures.1 in
-    rw (p.1, p.2) (end_of-refused (promise_format c.args.counts.objects) (λ r. r.header.endpoint + 1) c.loop.least c.args.count c.loop.counter c.args.bytes.now c.loop.at
+    rw (p.1, p.2) (end_of-refused (promise_format c.args.counts.objects) (λ r. r.header.endpoint + 1) c.loop.least c.args.count c.loop.counter c.args.bytes.now
+    c.loop.at
     c.in_err-promise.field-0.0 _ c.loop-test.true c.in_err-promise.ensures c.loop.invariant)
 
 pub loop-preserved : goal.loop-preserved

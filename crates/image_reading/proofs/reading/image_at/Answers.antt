@@ -136,7 +136,8 @@ returns-in_err-threads_at c =
     c.in_ok-tables_at.ensures in
     let tables = read_from_end ((tables_format h).reads bytes c.in_ok-tables_at.tables_at) c.in_ok-frames_at.frames_at c.in_ok-frames_at.ensures in
     let frames = read_from_end ((frames_format h).reads bytes c.in_ok-frames_at.frames_at) c.in_ok-contents_at.contents_at c.in_ok-contents_at.ensures in
-    let contents = read_from_end ((contents_format h).reads bytes c.in_ok-contents_at.contents_at) c.in_ok-promises_at.promises_at c.in_ok-promises_at.ensures in
+    let contents = read_from_end ((contents_format h).reads bytes c.in_ok-contents_at.contents_at) c.in_ok-promises_at.promises_at
+    c.in_ok-promises_at.ensures in
     let refused = refused_from_end ((promises_format h).reads bytes c.in_ok-promises_at.promises_at) c.in_err-threads_at.field-0.0
     c.in_err-threads_at.ensures in
     rw (p.1, p.2, ← c.in_ok-header.ensures, untypeds, objects, capabilities, interrupts, tables, frames, contents, refused) refl
@@ -157,7 +158,8 @@ returns-in_err-end c =
     c.in_ok-tables_at.ensures in
     let tables = read_from_end ((tables_format h).reads bytes c.in_ok-tables_at.tables_at) c.in_ok-frames_at.frames_at c.in_ok-frames_at.ensures in
     let frames = read_from_end ((frames_format h).reads bytes c.in_ok-frames_at.frames_at) c.in_ok-contents_at.contents_at c.in_ok-contents_at.ensures in
-    let contents = read_from_end ((contents_format h).reads bytes c.in_ok-contents_at.contents_at) c.in_ok-promises_at.promises_at c.in_ok-promises_at.ensures in
+    let contents = read_from_end ((contents_format h).reads bytes c.in_ok-contents_at.contents_at) c.in_ok-promises_at.promises_at
+    c.in_ok-promises_at.ensures in
     let promises = read_from_end ((promises_format h).reads bytes c.in_ok-promises_at.promises_at) c.in_ok-threads_at.threads_at c.in_ok-threads_at.ensures in
     let refused = refused_from_end ((threads_format h).reads bytes c.in_ok-threads_at.threads_at) c.in_err-end.field-0.0 c.in_err-end.ensures in
     rw (p.1, p.2, ← c.in_ok-header.ensures, untypeds, objects, capabilities, interrupts, tables, frames, contents, promises, refused) refl

@@ -19,7 +19,8 @@ invariant_of-self c =
 pub unreachable-requires : goal.unreachable-requires
 unreachable-requires c =
     let r = c.self.inside in
-    first_not_refused (promise_format r.counts.objects) (λ x. x.header.endpoint + 1) r.least r.left r.bytes.now r.at c.in-Err.field-0 (omega arith) c.self.invariant
+    first_not_refused (promise_format r.counts.objects) (λ x. x.header.endpoint + 1) r.least r.left r.bytes.now r.at c.in-Err.field-0 (omega arith)
+    c.self.invariant
     c.in-Err.ensures
 
 pub returns-clause-steps : goal.returns-clause-steps

@@ -9,7 +9,8 @@ unfolding threads_format
 unreachable-requires c =
     let i = c.self.inside in
     let image = c.args.self.now in
-    let many = list_length (λ _. thread_format (slots_format i.header.objects) i.header.version i.header.objects) (λ _. 0) 0 i.header.threads i.bytes.now i.threads_at
+    let many = list_length (λ _. thread_format (slots_format i.header.objects) i.header.version i.header.objects) (λ _. 0) 0 i.header.threads i.bytes.now
+    i.threads_at
     c.self.invariant.threads_end in
     let inside : c.args.number < length image.threads =
     omega (arith, c.requires, many, ap (λ (x : Image). x.header.threads) c.self.view_is, ap (λ (x : Image). length x.threads) c.self.view_is) in
