@@ -35,7 +35,7 @@ or-false false = refl
 
 -- ---- among some slots
 
-changed-found : (cs : List NotedSlot) (key : SlotKey) → is_changed cs key ≡ is_some (slot_at cs key)
+pub changed-found : (cs : List NotedSlot) (key : SlotKey) → is_changed cs key ≡ is_some (slot_at cs key)
 changed-found [] key = refl
 changed-found (c ∷ rest) key = elim (is_same_key c.key key) as (λ b. (b || is_changed rest key) ≡ is_some (if b then Some c else slot_at rest key)) [
   | true ↦ refl

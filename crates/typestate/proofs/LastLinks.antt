@@ -1,9 +1,15 @@
 -- Links from a name, where none is from a later one.
-use Rattle.std.proofs.Common.{ℕ, suc, ◌≡◌, ◌∙◌, ◌==◌, ◌<◌, ◌≤◌, ◌&&◌, Bool, true, false, if◌then◌else◌, List, [], ◌∷◌, refl, ap, arith}
+use Rattle.std.proofs.Common.{ℕ, suc, ◌≡◌, ◌∙◌, ◌==◌, ◌<◌, ◌≤◌, ◌||◌, ◌&&◌, Bool, true, false, if◌then◌else◌, Option, Some, None, List, [], ◌∷◌, refl, sym}
+use Rattle.std.proofs.Common.{ap, arith}
 use Rattle.std.specs.List.{All, filter}
-use Rattle.std.specs.Ordering.{is_le, is_lt, nat_cmp, ordering_then}
+use Rattle.std.specs.Option.{option_map_or}
+use Rattle.std.specs.Ordering.{is_eq, is_le, is_lt, nat_cmp, ordering_then}
 use Rattle.std.proofs.lemmas.Bool.Decides.{nat_tests}
-use Rattle.typestate.specs.Families.{link_cmp}
+use Rattle.model.specs.Acceptance.NotedStates.{NotedSlot, number_of}
+use Rattle.typestate.specs.Families.{found, has_link, link_cmp}
+use Rattle.typestate.specs.Orders.{Rise}
+use Rattle.typestate.proofs.Linked.{filter-found, filter-rises, kept}
+use Rattle.typestate.proofs.Rising.{from-first, looks-equal}
 
 pub at-most : (l k a b : ℕ) → is_lt (ordering_then (nat_cmp l a) (nat_cmp k b)) ≡ false → a ≤ l
 at-most l k a b up = grind (arith, nat_tests)
@@ -46,3 +52,35 @@ no-links m last (q ∷ rest) less up =
     ap (λ b. if b then q ∷ filter (λ (q : ℕ × ℕ). q.0 == m) rest else filter (λ (q : ℕ × ℕ). q.0 == m) rest)
     (elsewhere q.0 m (omega (arith, here, less)))
     ∙ no-links m last rest less (rest-up-to last q rest up)
+
+-- ---- what is derived from a slot without links
+
+module _ (m : ℕ) (test : NotedSlot → Bool) where
+  no-link : (links : List (ℕ × ℕ)) (slot : ℕ) → filter (λ (q : ℕ × ℕ). q.0 == m) links ≡ [] → has_link links m slot ≡ false
+  no-link [] slot none = refl
+  no-link (q ∷ rest) slot none = elim (q.0 == m) as (λ b. q.0 == m ≡ b
+      → (if b then q ∷ filter (λ (q : ℕ × ℕ). q.0 == m) rest else filter (λ (q : ℕ × ℕ). q.0 == m) rest) ≡ [] → has_link (q ∷ rest) m slot ≡ false) [
+        | true ↦ λ _ clash. absurd (let no : q ∷ filter (λ (q : ℕ × ℕ). q.0 == m) rest ≡ [] = clash in cc)
+        | false ↦ λ off left. ap (λ b. b || has_link rest m slot) (other-name q.0 q.1 slot off) ∙ no-link rest slot left
+      ] refl none
+    where
+      other-name : (a b slot : ℕ) → (a == m) ≡ false → is_eq (ordering_then (nat_cmp m a) (nat_cmp slot b)) ≡ false
+      other-name a b slot off = grind (arith, nat_tests)
+
+  -- where each that passes has its link, none passes
+  pub none-passes : (links : List (ℕ × ℕ)) (changes : List NotedSlot) → Rise changes → filter (λ (q : ℕ × ℕ). q.0 == m) links ≡ []
+      → ((slot : ℕ) → option_map_or test (found changes slot) false ≡ true → has_link links m slot ≡ true) → filter test changes ≡ []
+  none-passes links changes rises none linked =
+      let first = from-first changes rises in
+      looks-equal (filter test changes) [] 0 0 (filter-rises test changes 0 first) tt
+      (λ key. filter-found test changes 0 (number_of key) first ∙ fails (number_of key) (found changes (number_of key)) refl)
+    where
+      clash : (slot : ℕ) → has_link links m slot ≡ true → ⊥
+      clash slot has = let no : true ≡ false = sym has ∙ no-link links slot none in cc
+
+      fails : (slot : ℕ) (o : Option NotedSlot) → found changes slot ≡ o → kept test o ≡ None
+      fails slot None is = refl
+      fails slot (Some c) is = elim (test c) as (λ b. test c ≡ b → (if b then Some c else None) ≡ None) [
+        | true ↦ λ passes. absurd (clash slot (linked slot (ap (λ o. option_map_or test o false) is ∙ passes)))
+        | false ↦ λ _. refl
+      ] refl

@@ -21,6 +21,7 @@ mod Linked
 mod Appended
 mod LinkedChanges
 mod LastLinks
+mod SingleLevel
 mod PagedChanges
 mod LevelByLevel
 mod Descents

@@ -151,6 +151,14 @@ impl Changes {
         self.families.named(self.names.name(parent.number()))
     }
 
+    /// Whether no slot was derived from the slot of this key, where the last of all links shows that.
+    pub(crate) fn is_childless(&self, parent: SlotKey) -> bool
+        requires { Rise self.now }
+        ensures { result ≡ true → children_of self.now parent ≡ [] }
+    {
+        self.families.has_none(self.names.name(parent.number()))
+    }
+
     /// Puts a change among the others, and answers the one to the same slot in whose place it stands. Memory may be refused.
     pub(crate) fn put(&mut self, change: NotedSlot) -> Result<Option<NotedSlot>, AllocError>
         ensures before { IfOk result (λ before. before ≡ slot_at self.old change.key) }

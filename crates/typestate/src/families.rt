@@ -1,6 +1,6 @@
 //! Which changes leave slots that were derived from others, found by the names of what these were derived from.
 
-ghost use Rattle.std.specs.Prelude.{ℕ, ◌≡◌, ◌≤◌, ◌==◌, IfOk, false, true};
+ghost use Rattle.std.specs.Prelude.{ℕ, ◌≡◌, ◌≤◌, ◌==◌, [], IfOk, false, true};
 ghost use Rattle.std.specs.List.{All, filter};
 ghost use Rattle.std.specs.List.Sorted.{IsStrictlySortedBy};
 ghost use Rattle.typestate.specs.Families.{KeepsLinks, has_link, link_cmp};
@@ -39,6 +39,13 @@ impl Families {
             self.links
                 .range((Bound::Included((name, 0)), Bound::Unbounded))
         }
+    }
+
+    /// Whether there is no link from a name, where the last one shows that.
+    pub(crate) fn has_none(&self, name: u64) -> bool
+        ensures { result ≡ true → filter (λ q. q.0 == name) self.now.links.keys ≡ [] }
+    {
+        self.last_name() < name
     }
 
     /// No links.

@@ -1,7 +1,7 @@
 //! What descends from a slot, level by level: what the next level adds are the children of the newest one.
 //! seL4 Reference Manual, "Capability Derivation Tree".
 
-ghost use Rattle.std.specs.Prelude.{ℕ, ◌≡◌, ◌==◌, ◌+◌, ◌++◌, ◌||◌, [], IfOk, flat_map};
+ghost use Rattle.std.specs.Prelude.{ℕ, ◌≡◌, ◌==◌, ◌+◌, ◌++◌, ◌||◌, [], IfOk, IfSome, flat_map};
 ghost use Rattle.std.specs.List.{filter_map, list_any};
 ghost use Rattle.std.specs.List.Sorted.{IsStrictlySortedBy};
 ghost use Rattle.std.specs.Ordering.{nat_cmp};
@@ -168,8 +168,31 @@ impl NotedSlots<'_> {
         Ok(touched)
     }
 
-    /// What goes, and what was derived from what goes or is named. Memory may be refused.
-    pub(crate) fn affected(&self, alloc: Global, which: &Removed) -> Result<Affected, AllocError>
+    /// What goes where all of it was derived from the slot that is named: nothing is noted of other removals. It is all that is touched.
+    /// Memory may be refused.
+    fn single_level(
+        &self,
+        alloc: Global,
+        which: &Removed,
+    ) -> Result<Option<Vec<NotedSlot>>, AllocError>
+        ensures listed { IfOk result (λ found. IfSome found (λ all. all.items ≡ all_below self.now which.now)) }
+        ensures told { IfOk result (λ found. IfSome found (λ all. all.items ≡ touched_by self.now which.now)) }
+        ensures rising { IfOk result (λ found. IfSome found (λ all. Rise all.items)) }
+    {
+        let Removed::Below(root) = which else {
+            return Ok(None);
+        };
+        let mut children = Vec::new(alloc);
+        self.note_children_of(*root, &mut children)?;
+        if self.are_childless(&children) {
+            Ok(Some(children))
+        } else {
+            Ok(None)
+        }
+    }
+
+    /// What goes, and what was derived from what goes or is named, level by level. Memory may be refused.
+    fn affected_levels(&self, alloc: Global, which: &Removed) -> Result<Affected, AllocError>
         ensures listed { IfOk result (λ all. all.below.items ≡ all_below self.now which.now) }
         ensures told { IfOk result (λ all. touched_of all ≡ touched_by self.now which.now) }
         ensures rising { IfOk result (λ all. Rise all.below.items) }
@@ -189,5 +212,20 @@ impl NotedSlots<'_> {
             below,
             others: Some(touched),
         })
+    }
+
+    /// What goes, and what was derived from what goes or is named. Memory may be refused.
+    pub(crate) fn affected(&self, alloc: Global, which: &Removed) -> Result<Affected, AllocError>
+        ensures listed { IfOk result (λ all. all.below.items ≡ all_below self.now which.now) }
+        ensures told { IfOk result (λ all. touched_of all ≡ touched_by self.now which.now) }
+        ensures rising { IfOk result (λ all. Rise all.below.items) }
+    {
+        match self.single_level(alloc, which)? {
+            Some(below) => Ok(Affected {
+                below,
+                others: None,
+            }),
+            None => self.affected_levels(alloc, which),
+        }
     }
 }

@@ -1,6 +1,6 @@
 //! Look-ups in the slots at a point.
 
-ghost use Rattle.std.specs.Prelude.{◌≡◌, ◌++◌, IfOk};
+ghost use Rattle.std.specs.Prelude.{◌≡◌, [], ◌++◌, IfOk, false, flat_map, is_some, true};
 ghost use Rattle.model.specs.Acceptance.NotedStates.{slot_at};
 ghost use Rattle.model.specs.Capabilities.CapabilityWords.{IsCapability};
 ghost use Rattle.model.specs.declared.capabilities.Cap.TheVariants.{Empty};
@@ -60,6 +60,16 @@ impl NotedSlots<'_> {
         }
     }
 
+    /// Whether there is a change of a slot's number, and its slot was derived from the slot of this key.
+    fn is_child(&self, parent: SlotKey, number: u64) -> bool
+        ensures { result ≡ is_some (child_at self.now.changes.now parent number) }
+    {
+        match self.child(parent, number) {
+            Some(_) => true,
+            None => false,
+        }
+    }
+
     /// Appends the changes whose slots were derived from the slot of this key, in the order of their keys. Memory may be refused.
     pub(crate) fn note_children_of(
         &self,
@@ -68,11 +78,41 @@ impl NotedSlots<'_> {
     ) -> Result<(), AllocError>
         ensures { IfOk result (λ _. found.new.items ≡ found.old.items ++ children_of self.now.changes.now parent) }
     {
+        if self.changes.is_childless(parent) {
+            return Ok(());
+        }
         for link in self.changes.links(parent) {
             let change = self.child(parent, link.1);
             note_found(change, found)?;
         }
         Ok(())
+    }
+
+    /// Whether a change leaves a slot that was derived from the slot of this key.
+    fn has_child(&self, parent: SlotKey) -> bool
+        ensures { result ≡ false → children_of self.now.changes.now parent ≡ [] }
+    {
+        if self.changes.is_childless(parent) {
+            return false;
+        }
+        for link in self.changes.links(parent) {
+            if self.is_child(parent, link.1) {
+                return true;
+            }
+        }
+        false
+    }
+
+    /// Whether no change leaves a slot that was derived from one of these.
+    pub(crate) fn are_childless(&self, slots: &[NotedSlot]) -> bool
+        ensures { result ≡ true → flat_map (λ s. children_of self.now.changes.now s.key) slots.now ≡ [] }
+    {
+        for slot in slots {
+            if self.has_child(slot.key) {
+                return false;
+            }
+        }
+        true
     }
 
     /// The slot of this key, if it is full.

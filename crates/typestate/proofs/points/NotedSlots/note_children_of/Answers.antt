@@ -1,11 +1,17 @@
 -- Child by child.
-use Rattle.std.proofs.Common.{ℕ, ◌∙◌, ◌++◌, Option, List, ap}
+use Rattle.std.proofs.Common.{ℕ, ◌∙◌, ◌++◌, Option, List, sym, ap}
 use Rattle.std.specs.List.{filter_map}
 use Rattle.std.specs.Option.{option_to_list}
 use Rattle.model.specs.Acceptance.NotedStates.{NotedSlot}
 use Rattle.typestate.specs.Families.{child_at, children_of}
 use Rattle.typestate.proofs.Appended.{one-more-found}
+use Rattle.typestate.proofs.Linked.{append-none}
 use Rattle.typestate.proofs.points.NotedSlots.note_children_of.Goals as goal
+
+pub returns-then-is_childless : goal.returns-then-is_childless
+returns-then-is_childless c =
+    sym (append-none c.args.found.now.items)
+    ∙ ap (λ (l : List NotedSlot). c.args.found.now.items ++ l) (sym (c.is_childless.ensures c.if-is_childless.true))
 
 pub loop-link-init : goal.loop-link-init
 loop-link-init c =

@@ -8,7 +8,7 @@ use Rattle.typestate.specs.Orders.{Rise}
 use Rattle.typestate.specs.declared.points.NotedSlots.{NotedSlots}
 use Rattle.typestate.specs.declared.slot_changes.Removed.{Removed}
 use Rattle.typestate.proofs.Descents.{all-are-below, below-levels, below-rises, numbered-below, touched-levels}
-use Rattle.typestate.proofs.points.NotedSlots.affected.Goals as goal
+use Rattle.typestate.proofs.points.NotedSlots.affected_levels.Goals as goal
 
 goes-below : (n : NotedSlots) (which : Removed) (k : ℕ) (root : SlotKey) → k ≡ levels_of which → root ≡ named which → below_by k n root ≡ all_below n which
 goes-below n which k root levels is = ap (λ (j : ℕ). below_by j n root) levels ∙ ap (λ (r : SlotKey). below_by (levels_of which) n r) is ∙ below-levels n which
