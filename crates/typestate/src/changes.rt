@@ -153,8 +153,7 @@ impl Changes {
 
     /// Whether no slot was derived from the slot of this key, where the last of all links shows that.
     pub(crate) fn is_childless(&self, parent: SlotKey) -> bool
-        requires { Rise self.now }
-        ensures { result ≡ true → children_of self.now parent ≡ [] }
+        ensures { Rise self.now → result ≡ true → children_of self.now parent ≡ [] }
     {
         self.families.has_none(self.names.name(parent.number()))
     }

@@ -12,7 +12,7 @@ nothing None none = refl
 nothing (Some s) clash = absurd (let no : is_some (Some s) ≡ false = clash in cc)
 
 pub returns-then-is_childless : goal.returns-then-is_childless
-returns-then-is_childless c = λ _. c.is_childless.ensures c.if-is_childless.true
+returns-then-is_childless c = λ _. c.is_childless.ensures c.args.self.now.ordered c.if-is_childless.true
 
 pub returns-then-is_child : goal.returns-then-is_child
 returns-then-is_child c = λ clash. absurd (let no : true ≡ false = clash in cc)

@@ -11,7 +11,7 @@ use Rattle.typestate.proofs.points.NotedSlots.note_children_of.Goals as goal
 pub returns-then-is_childless : goal.returns-then-is_childless
 returns-then-is_childless c =
     sym (append-none c.args.found.now.items)
-    ∙ ap (λ (l : List NotedSlot). c.args.found.now.items ++ l) (sym (c.is_childless.ensures c.if-is_childless.true))
+    ∙ ap (λ (l : List NotedSlot). c.args.found.now.items ++ l) (sym (c.is_childless.ensures c.args.self.now.ordered c.if-is_childless.true))
 
 pub loop-link-init : goal.loop-link-init
 loop-link-init c =
