@@ -15,7 +15,8 @@ wait, load, add, store, branch and count, and begin with a record that notes a r
 232 there is one thread of 16384 words, with 16 there are 15 of 16384.
 
 `make.py KIND SHARE FILE` writes an accepted image in which one count grows: `noted` (each word has a record of 29 ranges and four terms), `carried`
-(four terms are carried over programs of 65536 words), `jumps` (each word leads half the program away, and has a record), `threads`,
+(four terms are carried over programs of 65536 words), `jumps` (each word leads half the program away, and has a record), `calls` (each
+second word is a system call), `threads`,
 `capabilities` (of one CNode), `objects`, `mappings` (of one root table, with its tables) and `chain` (CNodes, each held by the next); and in which
 a thread's calls change many slots: `fan` (copies of one capability), `descents` (chains of copies), `deletes` (copies, of which every second one is
 deleted), `revokes` (of nothing, beside many capabilities that the image lists), `searches` (of nothing, beside chains of copies), `branches` (beside copies), `retypes` (endpoints, one a call), `maps` (frames that are made, mapped
@@ -243,6 +244,14 @@ def jumping_program(count):
     return (*there, *back, *waiting(count)), [record(i, count + 10 - at) for i, at in enumerate(order)]
 
 
+# Each second word is a system call: a Send to the notification in slot 1, which leaves registers and slots as they were.
+def calling_program(count):
+    calls = (count - 6) // 2
+    begin = (immediate(0, 17, 0, SEND), immediate(0, 10, 0, 1))
+    words = (*begin, *(NOTHING, ECALL) * calls)
+    return (*words, *waiting(len(words) + 4)), [record(0, count + 10)]
+
+
 def quiet_program(count):
     return (NOTHING,) * (count - 4) + waiting(count), [record(0, count + 10)]
 
@@ -457,6 +466,7 @@ GROWING = {
     "noted": lambda share: image_of([noted_program(16384 // share)]),
     "carried": lambda share: image_of([carried_program(65536)] * (16 // share)),
     "jumps": lambda share: image_of([jumping_program(65536 // share)]),
+    "calls": lambda share: image_of([calling_program(65536 // share)]),
     "threads": lambda share: image_of([quiet_program(1024)] * (64 // share)),
     "capabilities": lambda share: image_of([quiet_program(1024)], listed=16320 // share, radix=14),
     "objects": lambda share: image_of([quiet_program(1024)], endpoints=4064 // share),

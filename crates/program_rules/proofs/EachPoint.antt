@@ -1,15 +1,16 @@
 -- What is kept of each point, as the points are gone through.
 use Rattle.std.proofs.Common.{ℕ, zero, suc, ◌≡◌, ◌∙◌, ◌+◌, Option, Some, None, List, refl, sym, ap, subst, arith}
-use Rattle.std.specs.Prelude.{slice_index_or}
 use Rattle.measure.specs.Measures.{measure_of}
 use Rattle.model.specs.Acceptance.NotedStates.{NotedSlot, record_of}
 use Rattle.model.specs.Acceptance.PointStates.{Noted, Known, follows, noted, noted_or}
 use Rattle.model.specs.Images.Described.{Numbered}
 use Rattle.model.specs.Images.Image.{Image, StateRecord, Thread}
-use Rattle.program_rules.specs.Kept.{AreKept, HasPart, IsCleanIn, IsKeptAt, IsPlain, IsRead, IsSound, before, noted_by}
+use Rattle.program_rules.specs.Kept.{AreKept, HasPart, IsAt, IsCleanIn, IsKeptAt, IsPlain, IsRead, IsSound, before, noted_by}
 use Rattle.program_rules.specs.declared.kept.Kept.TheVariants as kept
 use Rattle.program_rules.specs.declared.kept.Kept.{Kept}
 use Rattle.program_rules.specs.declared.kept_points.KeptPoints.{KeptPoints}
+use Rattle.program_rules.specs.declared.places.Place.TheVariants as place
+use Rattle.program_rules.specs.declared.places.Place.{Place}
 use Rattle.typestate.specs.Logs.{KeepsParts}
 use Rattle.typestate.specs.Strays.{NoneStray}
 use Rattle.typestate.specs.Replays.{replayed}
@@ -57,13 +58,38 @@ grown-at image t slots old new point k keeps is = record {
   clean = clean-grown image t.thread slots old new point k keeps is.sound is.clean;
 }
 
+at-grown : (image : Image) (t : Numbered) (slots : List NotedSlot) (old new : List LogEntry) (ks : KeptPoints) (point : ℕ) (p : Place) → KeepsParts old new
+    → IsAt image t slots old ks point p → IsAt image t slots new ks point p
+at-grown image t slots old new ks point place.Missing keeps is = grown-at image t slots old new point kept.Missing keeps is
+at-grown image t slots old new ks point place.Unmeasured keeps is = grown-at image t slots old new point kept.Unmeasured keeps is
+at-grown image t slots old new ks point (place.Whole at) keeps is = record {
+  inside = is.inside;
+  known = is.known;
+  kept = λ k got. grown-at image t slots old new point (kept.Known k) keeps (is.kept k got);
+}
+at-grown image t slots old new ks point (place.Recorded at) keeps is = record {
+  inside = is.inside;
+  known = is.known;
+  kept = λ r got k in_record. grown-at image t slots old new point (kept.Known k) keeps (is.kept r got k in_record);
+}
+at-grown image t slots old new ks point (place.Clean at) keeps is = record {
+  inside = is.inside;
+  known = is.known;
+  kept = λ r got k in_record. grown-at image t slots old new point (kept.Known k) keeps (is.kept r got k in_record);
+}
+at-grown image t slots old new ks point place.Plain keeps is = is
+at-grown image t slots old new ks point (place.Called at) keeps is = record {
+  inside = is.inside;
+  some = is.some;
+  known = is.known;
+  before = is.before;
+  kept = λ last follows c got s noted_s k next bounds measure called.
+      grown-at image t slots old new point (kept.Known next) keeps (is.kept last follows c got s noted_s k next bounds measure called);
+}
+
 pub grown : (image : Image) (t : Numbered) (slots : List NotedSlot) (old new : List LogEntry) (ks : KeptPoints) → KeepsParts old new
     → AreKept image t slots old ks → AreKept image t slots new ks
-grown image t slots old new ks keeps are = record {
-  each = λ k d below. let one = slice_index_or ks.points.items k d in grown-at image t slots old new one.point one.kept keeps (are.each k d below);
-  placed = are.placed;
-  alike = are.alike;
-}
+grown image t slots old new ks keeps are = record { each = λ point p got. at-grown image t slots old new ks point p keeps (are.each point p got) }
 
 -- what follows from a point is what is before the next one
 pub next-before : (image : Image) (t : Numbered) (point : ℕ) → follows image t point (noted image t point) ≡ before image t (point + 1)

@@ -4,6 +4,7 @@ mod NextRecords
 mod FirstBroken
 mod Called
 mod EachPoint
+mod LongRanges
 mod Placed
 mod EdgeRules
 mod PointLists

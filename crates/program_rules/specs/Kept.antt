@@ -1,9 +1,13 @@
 -- What is kept of points, and what it says that the certificate notes of them.
-use Rattle.std.specs.Prelude.{ℕ, zero, suc, ◌≡◌, ◌+◌, ◌≢◌, ◌^◌, ◌<◌, ◌≤◌, ◌≤ℤ◌, negsuc, Bool, true, false, Option, Some, None, Result, Ok, Err, List, length}
-use Rattle.std.specs.Prelude.{slice_get, slice_index_or}
-use Rattle.std.specs.List.{All}
+use Rattle.std.specs.Prelude.{ℕ, zero, suc, ◌≡◌, ◌+◌, ◌≢◌, ◌^◌, ◌<◌, ◌≤◌, ◌≤ℤ◌, pos, negsuc, Bool, true, false, if◌then◌else◌, Option, Some, None, Result, Ok}
+use Rattle.std.specs.Prelude.{Err, List, [], length, slice_get}
 use Rattle.measure.specs.Measures.{measure_of}
-use Rattle.model.specs.Acceptance.NotedStates.{NotedSlot, PointState, record_of}
+use Rattle.model.specs.Acceptance.NotedStates.{NotedSlot, PointState, record_measure, record_of, record_ranges}
+use Rattle.model.specs.Acceptance.CallRules.{with_answer, with_message}
+use Rattle.model.specs.Acceptance.Measures.{Measure, lowered}
+use Rattle.model.specs.Acceptance.Ranges.{with_range}
+use Rattle.model.specs.Kernel.Messages.{a0}
+use Rattle.model.specs.declared.ranges.Range.{Range}
 use Rattle.model.specs.Acceptance.PointStates.{Noted, Known, Missing, Unmeasured, follows, instruction_at, noted}
 use Rattle.model.specs.Images.Described.{Numbered}
 use Rattle.model.specs.Images.Image.{Image, Thread}
@@ -14,11 +18,17 @@ use Rattle.program_rules.specs.declared.point_rules.following.Left.{Left}
 use Rattle.program_rules.specs.declared.kept.Kept.TheVariants as kept
 use Rattle.program_rules.specs.declared.kept.Kept.{Kept}
 use Rattle.program_rules.specs.declared.kept.Known.{Known as State}
-use Rattle.program_rules.specs.declared.kept_points.KeptPoint.{KeptPoint}
+use Rattle.program_rules.specs.declared.places.CalledPoint.{CalledPoint}
 use Rattle.program_rules.specs.declared.kept_points.KeptPoints.{KeptPoints}
+use Rattle.program_rules.specs.declared.places.Place.TheVariants as place
+use Rattle.program_rules.specs.declared.places.Place.{Place}
+use Rattle.program_rules.specs.declared.places.RecordedPoint.{RecordedPoint}
+use Rattle.program_rules.specs.declared.places.ShortPart.{ShortPart}
 use Rattle.typestate.specs.Logs.{Holds, Shows, part_of}
 use Rattle.typestate.specs.Strays.{NoneStray}
 use Rattle.typestate.specs.declared.behind.Behind.{Behind}
+use Rattle.typestate.specs.declared.behind.Written.TheVariants as written
+use Rattle.typestate.specs.declared.behind.Written.{Written}
 use Rattle.typestate.specs.declared.logs.Part.{Part}
 use Rattle.typestate.specs.declared.logs.ShownPart.{ShownPart}
 use Rattle.typestate.specs.Replays.{replayed}
@@ -87,11 +97,118 @@ pub record IsPlain (t : Thread) (point : ℕ) : Type 0 where
   pub bare : record_of t (point + 1) ≡ None
   pub plain : instruction_at t point ≢ Some Ecall
 
--- a point follows from that of a place
-pub record IsPlaced (t : Thread) (points : List KeptPoint) (point place : ℕ) : Type 0 where
-  pub inside : place < length points
-  pub before : (d : KeptPoint) → (slice_index_or points place d).point ≤ point
-  pub plain : (d : KeptPoint) (other : ℕ) → (slice_index_or points place d).point ≤ other → other < point → IsPlain t other
+-- ---- parts, records and calls in few bytes
+
+abbrev pub wide : ShortPart → Part
+wide part = record { first = part.first; end = part.end }
+
+-- the state of a record, with the part that its slots have
+pub record IsRecorded (r : RecordedPoint) (is_clean : Bool) (k : State) : Type 0 where
+  pub bounds : k.bounds ≡ record_ranges r.noted
+  pub measure : measure_of k.measure ≡ record_measure r.noted
+  pub part : k.part ≡ wide r.part
+  pub clean : k.is_clean ≡ is_clean
+
+-- the ranges after a call that writes such registers
+abbrev pub ranges_behind : Written → Range → List Range → List Range
+ranges_behind written.Nothing badge ranges = ranges
+ranges_behind written.Badge badge ranges = with_range ranges a0 badge
+ranges_behind written.Answer badge ranges = with_answer ranges
+ranges_behind written.Message badge ranges = with_message ranges badge
+
+abbrev pub measure_behind : ℕ → Bool → Measure → Measure
+measure_behind budget is_wait m = if is_wait then record { constant = pos budget; terms = [] } else lowered m (pos 1)
+
+-- the state after a call, by the one before it
+pub record IsCalled (budget : ℕ) (c : CalledPoint) (k next : State) : Type 0 where
+  pub bounds : next.bounds ≡ ranges_behind c.written c.badge k.bounds
+  pub measure : measure_of next.measure ≡ measure_behind budget c.is_wait (measure_of k.measure)
+  pub part : next.part ≡ wide c.part
+  pub clean : next.is_clean ≡ c.is_clean
+
+-- two states are one
+pub record AreOne (k other : State) : Type 0 where
+  pub bounds : k.bounds ≡ other.bounds
+  pub measure : measure_of k.measure ≡ measure_of other.measure
+  pub part : k.part ≡ other.part
+  pub clean : k.is_clean ≡ other.is_clean
+
+-- a call leads from one state to another one
+abbrev pub Leads : ℕ → CalledPoint → State → State → Type 0
+Leads budget c before after = length before.bounds ≡ 31 → length after.bounds ≡ 31 → (next : State) → IsCalled budget c before next → AreOne next after
+
+-- ---- what is kept of one point of many
+
+-- a state is kept whole
+pub record IsWhole (image : Image) (t : Numbered) (slots : List NotedSlot) (log : List LogEntry) (whole : List State) (point at : ℕ) : Type 0 where
+  pub inside : at < length whole
+  pub known : has_state (noted image t point) ≡ true
+  pub kept : (k : State) → slice_get whole at ≡ Some k → IsKeptAt image t slots log point (kept.Known k)
+
+-- a state is that of a record
+pub record IsInRecord (image : Image) (t : Numbered) (slots : List NotedSlot) (log : List LogEntry) (recorded : List RecordedPoint) (point at : ℕ)
+    (clean : Bool) : Type 0 where
+  pub inside : at < length recorded
+  pub known : has_state (noted image t point) ≡ true
+  pub kept : (r : RecordedPoint) → slice_get recorded at ≡ Some r → (k : State) → IsRecorded r clean k → IsKeptAt image t slots log point (kept.Known k)
+
+-- a state follows from that of the point before by an instruction
+pub record IsBehindPlain (image : Image) (t : Numbered) (point : ℕ) : Type 0 where
+  pub some : 1 ≤ point
+  pub known : has_state (noted image t point) ≡ true
+  pub plain : (before : ℕ) → before + 1 ≡ point → IsPlain t.thread before
+
+-- a state follows from that of the point before by a system call
+pub record IsBehindCall (image : Image) (t : Numbered) (slots : List NotedSlot) (log : List LogEntry) (called : List CalledPoint) (point at : ℕ) : Type 0 where
+  pub inside : at < length called
+  pub some : 1 ≤ point
+  pub known : has_state (noted image t point) ≡ true
+  pub before : (before : ℕ) → before + 1 ≡ point → has_state (noted image t before) ≡ true
+  pub kept : (before : ℕ) → before + 1 ≡ point → (c : CalledPoint) → slice_get called at ≡ Some c → (s : PointState) → noted image t before ≡ Known s →
+      (k next : State)
+      → k.bounds ≡ s.ranges → measure_of k.measure ≡ s.measure → IsCalled t.thread.header.budget c k next → IsKeptAt image t slots log point (kept.Known next)
+
+abbrev pub IsAt : Image → Numbered → List NotedSlot → List LogEntry → KeptPoints → ℕ → Place → Type 0
+IsAt image t slots log ks point place.Missing = IsKeptAt image t slots log point kept.Missing
+IsAt image t slots log ks point place.Unmeasured = IsKeptAt image t slots log point kept.Unmeasured
+IsAt image t slots log ks point (place.Whole at) = IsWhole image t slots log ks.whole.items point at
+IsAt image t slots log ks point (place.Recorded at) = IsInRecord image t slots log ks.recorded.items point at false
+IsAt image t slots log ks point (place.Clean at) = IsInRecord image t slots log ks.recorded.items point at true
+IsAt image t slots log ks point place.Plain = IsBehindPlain image t point
+IsAt image t slots log ks point (place.Called at) = IsBehindCall image t slots log ks.called.items point at
+
+-- the state follows from that of the point before
+abbrev pub is_step : Place → Bool
+is_step place.Missing = false
+is_step place.Unmeasured = false
+is_step (place.Whole at) = false
+is_step (place.Recorded at) = false
+is_step (place.Clean at) = false
+is_step place.Plain = true
+is_step (place.Called at) = true
+
+-- there is a state
+abbrev pub is_known_at : Place → Bool
+is_known_at place.Missing = false
+is_known_at place.Unmeasured = false
+is_known_at (place.Whole at) = true
+is_known_at (place.Recorded at) = true
+is_known_at (place.Clean at) = true
+is_known_at place.Plain = true
+is_known_at (place.Called at) = true
+
+-- of what is kept of points nothing is lost
+abbrev pub KeepsAll : KeptPoints → KeptPoints → Type 0
+KeepsAll old new =
+    (image : Image) (t : Numbered) (slots : List NotedSlot) (log : List LogEntry) (point : ℕ) (place : Place) → IsAt image t slots log old point place →
+    IsAt image t slots log new point place
+
+-- what is kept of the next point
+abbrev pub IsNextAt : Thread → KeptPoints → Kept → ℕ → Kept → Place → Type 0
+IsNextAt own new last point k place =
+    (image : Image) (t : Numbered) (slots : List NotedSlot) (log : List LogEntry) → t.thread ≡ own →
+    ((before : ℕ) → before + 1 ≡ point → IsKeptAt image t slots log before last)
+    → IsKeptAt image t slots log point k → IsAt image t slots log new point place
 
 -- whether a state is kept
 abbrev pub is_known : Kept → Bool
@@ -99,15 +216,9 @@ is_known (kept.Known k) = true
 is_known kept.Missing = false
 is_known kept.Unmeasured = false
 
--- of a place a state is kept, or not
-abbrev pub HasKept : List KeptPoint → ℕ → Bool → Type 0
-HasKept points place has = (d : KeptPoint) → is_known (slice_index_or points place d).kept ≡ has
-
--- of some points, and where the others begin: at one that has a state, if they have one
+-- of each point so far
 pub record AreKept (image : Image) (t : Numbered) (slots : List NotedSlot) (log : List LogEntry) (kept : KeptPoints) : Type 0 where
-  pub each : All (λ k. IsKeptAt image t slots log k.point k.kept) kept.points.items
-  pub placed : (point place : ℕ) → slice_get kept.places.items point ≡ Some place → IsPlaced t.thread kept.points.items point place
-  pub alike : (point place : ℕ) → slice_get kept.places.items point ≡ Some place → HasKept kept.points.items place (has_state (noted image t point))
+  pub each : (point : ℕ) (place : Place) → slice_get kept.places.items point ≡ Some place → IsAt image t slots log kept point place
 
 -- all points of the program
 pub record IsRead (image : Image) (t : Numbered) (slots : List NotedSlot) (log : List LogEntry) (kept : KeptPoints) : Type 0 where
@@ -119,11 +230,12 @@ abbrev pub before : Image → Numbered → ℕ → Noted
 before image t zero = Missing
 before image t (suc point) = follows image t point (noted image t point)
 
--- the points up to this one, and what is left for it, if it has no record
-pub record IsReadTo (image : Image) (t : Numbered) (slots : List NotedSlot) (point : ℕ) (log : List LogEntry) (kept : KeptPoints) (derived : Kept) : Type
-    0 where
+-- the points up to this one, the last of them by itself, and what is left for it, if it has no record
+pub record IsReadTo (image : Image) (t : Numbered) (slots : List NotedSlot) (point : ℕ) (log : List LogEntry) (kept : KeptPoints)
+    (previous derived : Kept) : Type 0 where
   pub count : length kept.places.items ≡ point
   pub noted : AreKept image t slots log kept
+  pub last : (before : ℕ) → before + 1 ≡ point → IsKeptAt image t slots log before previous
   pub same : record_of t.thread point ≡ None → noted_by slots log derived ≡ before image t point
   pub sound : IsSound log point derived
   pub clean : IsCleanIn image t.thread slots log derived

@@ -31,7 +31,7 @@ impl Program<'_, '_> {
     /// an `Err` names the first that it breaks, or says that memory was refused.
     fn way_behind<'n>(
         &'n self,
-        points: &Points,
+        points: &Points<'_>,
         shown: &'n ShownPart,
         point: u32,
         known: &'n Known,
@@ -75,7 +75,7 @@ impl Program<'_, '_> {
     /// to the slots that it leaves.
     fn behind_rules(
         &self,
-        points: &mut Points,
+        points: &mut Points<'_>,
         shown: &mut ShownPart,
         point: u32,
         known: &Known,
@@ -101,7 +101,7 @@ impl Program<'_, '_> {
     /// has the state that it leaves.
     pub(crate) fn call_rules(
         &self,
-        points: &mut Points,
+        points: &mut Points<'_>,
         shown: &mut ShownPart,
         point: u32,
         noted: Option<&RecordRef<'_>>,

@@ -1,41 +1,43 @@
-//! What is kept of the points of a program: of some the whole state, and of others where to begin.
+//! What is kept of the points of a program: of some the whole state, of those with records where these are, and of others how their
+//! states follow.
 
-ghost use Rattle.std.specs.Prelude.{ℕ, ◌≡◌, ◌≢◌, ◌+◌, ◌-◌, ◌<◌, ◌≤◌, IfOk, IfSome, List, Some, None, false, length, slice_get, true};
+ghost use Rattle.std.specs.Prelude.{ℕ, ◌≡◌, ◌≢◌, ◌+◌, ◌<◌, ◌≤◌, ◌^◌, IfOk, List, None, Some, false, length, slice_get, true};
 ghost use Rattle.model.specs.Acceptance.NotedStates.{NotedSlot, record_of};
 ghost use Rattle.model.specs.Acceptance.PointStates.{noted};
 ghost use Rattle.model.specs.Images.Described.{Numbered};
 ghost use Rattle.model.specs.Images.Image.{Image};
 ghost use Rattle.model.specs.Machine.Decoding.{decoded};
 ghost use Rattle.model.specs.declared.instructions.Instr.TheVariants.{Ecall};
-ghost use Rattle.program_rules.specs.Kept.{AreKept, HasKept, IsKeptAt, IsPlain, has_state};
+ghost use Rattle.program_rules.specs.Kept.{AreKept, IsAt, IsInRecord, IsKeptAt, IsNextAt, IsWhole, KeepsAll, has_state, is_step};
 ghost use Rattle.program_rules.specs.Programs.{thread_of};
+ghost use Rattle.program_rules.specs.declared.kept.Kept.TheVariants as kept;
+ghost use Rattle.program_rules.specs.declared.kept.Known.{Known as State};
+ghost use Rattle.program_rules.specs.declared.places.Place.TheVariants as place;
+ghost use Rattle.program_rules.specs.declared.places.Place.{Place};
 ghost use Rattle.typestate.specs.declared.log_entries.LogEntry.{LogEntry};
 
-use crate::kept::Kept;
+use crate::kept::{Kept, Known};
+use crate::places::{CalledPoint, Place, RecordedPoint, ShortPart, narrowed};
 use crate::programs::Program;
-use image_reading::ThreadRef;
+use image_reading::RecordRef;
 use model::Instr;
 use rv32_isa::decode;
 use std::alloc::{AllocError, Global};
 use typestate::SlotLog;
 
-/// How many points one after another begin at the same one: a state has some 340 bytes.
-const MOST_STEPS: u32 = 8;
+/// How many points one after another follow from a state that is kept: that has some 320 bytes.
+const MOST_STEPS: u32 = 7;
 
-/// What is kept of a point.
-#[derive(Clone, Copy)]
-pub(crate) struct KeptPoint {
-    pub(crate) point: u32,
-    pub(crate) kept: Kept,
-}
-
-/// What is kept of points, one after another. What is noted of a point between two of them follows from the first, instruction by
-/// instruction.
+/// What is kept of points, one after another.
 #[derive(Drop)]
-pub(crate) struct KeptPoints {
-    pub(crate) points: Vec<KeptPoint>,
-    /// Of each point of the program the place of that from which it follows.
-    pub(crate) places: Vec<usize>,
+pub(crate) struct KeptPoints<'a> {
+    /// Of each point.
+    pub(crate) places: Vec<Place>,
+    pub(crate) whole: Vec<Known>,
+    pub(crate) recorded: Vec<RecordedPoint<'a>>,
+    pub(crate) called: Vec<CalledPoint>,
+    /// How many of the last points follow from one before them.
+    pub(crate) steps: u32,
 }
 
 /// Whether a word is a system call.
@@ -45,34 +47,29 @@ fn is_call(word: u32) -> bool
     matches!(decode(word), Some(Instr::Ecall))
 }
 
-/// Whether both are true, or neither.
-fn are_alike(one: bool, other: bool) -> bool
-    ensures { result ≡ true → one ≡ other }
+/// A state, if there is one.
+fn known_or_none(known: Option<Known>) -> Kept
+    ensures { (k : State) → known ≡ Some k → result ≡ kept.Known k }
 {
-    if one { other } else { !other }
+    match known {
+        Some(known) => Kept::Known(known),
+        None => Kept::Missing,
+    }
 }
 
-impl KeptPoints {
+impl<'a> KeptPoints<'a> {
     /// Nothing is kept.
     pub(crate) fn new(alloc: Global) -> Self
         ensures count { length result.places.items ≡ 0 }
         ensures kept { (image : Image) (t : Numbered) (slots : List NotedSlot) (log : List LogEntry) → AreKept image t slots log result }
     {
         KeptPoints {
-            points: Vec::new(alloc),
             places: Vec::new(alloc),
+            whole: Vec::new(alloc),
+            recorded: Vec::new(alloc),
+            called: Vec::new(alloc),
+            steps: 0,
         }
-    }
-
-    /// Whether a state is kept at a place, if one should be, or none, if none should be.
-    fn is_alike(&self, place: usize, has_state: bool) -> bool
-        ensures { result ≡ true → HasKept self.now.points.items place has_state }
-    {
-        if self.points.len() <= place {
-            return false;
-        }
-        let first = &self.points[place];
-        are_alike(first.kept.has_state(), has_state)
     }
 
     /// Whether a point has a state.
@@ -82,60 +79,221 @@ impl KeptPoints {
         if self.places.len() <= point as usize {
             return false;
         }
-        self.is_alike(self.places[point as usize], true)
+        self.places[point as usize].has_state()
     }
 
-    /// The place of that from which the next point follows: that of the last one, where no record notes the next one, no system call
-    /// leads to it, it is near, and both have a state, or neither.
-    fn place_before(
-        &self,
-        thread: &ThreadRef<'_>,
-        point: u32,
-        is_bare: bool,
-        has_state: bool,
-    ) -> Option<usize>
-        requires within { point < thread.now.header.words }
-        requires count { length self.now.places.items ≡ point }
-        requires bare { is_bare ≡ true → record_of thread.now point ≡ None }
-        ensures before { IfSome result (λ place. (1 ≤ point) × (slice_get self.now.places.items (point - 1) ≡ Some place) × IsPlain thread.now (point - 1)) }
-        ensures alike { IfSome result (λ place. HasKept self.now.points.items place has_state) }
+    /// Keeps a state whole. Memory may be refused.
+    fn keep_whole(&mut self, known: Known) -> Result<Place, AllocError>
+        ensures same { IfOk result (λ _. self.new.places ≡ self.old.places) }
+        ensures others { IfOk result (λ _. KeepsAll self.old self.new) }
+        ensures at { IfOk result (λ place. (image : Image) (t : Numbered) (slots : List NotedSlot) (log : List LogEntry) (point : ℕ) → IsKeptAt image t slots log point (kept.Known known) → IsAt image t slots log self.new point place) }
     {
-        if !is_bare {
-            return None;
-        }
-        let place = *self.places.last()?;
-        let first = self.points.get(place)?;
-        if MOST_STEPS <= point.saturating_sub(first.point) || is_call(thread.word(point - 1)) {
-            return None;
-        }
-        if !self.is_alike(place, has_state) {
-            return None;
-        }
-        Some(place)
+        let at = narrowed(self.whole.len())?;
+        self.whole.push(known)?;
+        Ok(Place::Whole(at))
     }
 
-    /// Keeps the next point, or where it begins. Memory may be refused.
+    /// Keeps where the record of a state is. Memory may be refused.
+    fn keep_record(&mut self, noted: RecordRef<'a>, known: Known) -> Result<Place, AllocError>
+        requires { length noted.terms ≤ 4 }
+        ensures same { IfOk result (λ _. self.new.places ≡ self.old.places) }
+        ensures others { IfOk result (λ _. KeepsAll self.old self.new) }
+        ensures at { IfOk result (λ place. (image : Image) (t : Numbered) (slots : List NotedSlot) (log : List LogEntry) (point : ℕ) → record_of t.thread point ≡ Some noted.entry
+            → IsKeptAt image t slots log point (kept.Known known) → IsAt image t slots log self.new point place) }
+    {
+        let Some(part) = ShortPart::of(known.part) else {
+            return self.keep_whole(known);
+        };
+        let at = narrowed(self.recorded.len())?;
+        self.recorded.push(RecordedPoint { noted, part })?;
+        if known.is_clean {
+            Ok(Place::Clean(at))
+        } else {
+            Ok(Place::Recorded(at))
+        }
+    }
+
+    /// Keeps what the system call before a state leaves, or that state. Memory may be refused.
+    fn keep_call(
+        &mut self,
+        program: &Program<'_, '_>,
+        before: &Kept,
+        known: Known,
+    ) -> Result<Place, AllocError>
+        ensures same { IfOk result (λ _. self.new.places ≡ self.old.places) }
+        ensures others { IfOk result (λ _. KeepsAll self.old self.new) }
+        ensures at { IfOk result (λ place. (point : ℕ) → 1 ≤ point → IsNextAt program.now.space.thread.now self.new before.now point (kept.Known known) place) }
+    {
+        let Kept::Known(before) = before else {
+            return self.keep_whole(known);
+        };
+        let Some(called) = CalledPoint::between(program, before, &known) else {
+            return self.keep_whole(known);
+        };
+        let at = narrowed(self.called.len())?;
+        self.called.push(called)?;
+        Ok(Place::Called(at))
+    }
+
+    /// Keeps how the state of a point without a record follows, or that state. Memory may be refused.
+    fn keep_step(
+        &mut self,
+        program: &Program<'_, '_>,
+        point: u32,
+        before: &Kept,
+        known: Known,
+    ) -> Result<Place, AllocError>
+        requires { point < program.now.space.thread.now.header.words }
+        ensures same { IfOk result (λ _. self.new.places ≡ self.old.places) }
+        ensures others { IfOk result (λ _. KeepsAll self.old self.new) }
+        ensures at { IfOk result (λ place. record_of program.now.space.thread.now point ≡ None → IsNextAt program.now.space.thread.now self.new before.now point (kept.Known known) place) }
+    {
+        if point == 0 {
+            return self.keep_whole(known);
+        }
+        if MOST_STEPS <= self.steps {
+            return self.keep_whole(known);
+        }
+        if is_call(program.space.thread.word(point - 1)) {
+            return self.keep_call(program, before, known);
+        }
+        Ok(Place::Plain)
+    }
+
+    /// Keeps what is kept of a point. Memory may be refused.
+    fn keep(
+        &mut self,
+        program: &Program<'_, '_>,
+        point: u32,
+        noted: Option<RecordRef<'a>>,
+        before: &Kept,
+        kept: Kept,
+    ) -> Result<Place, AllocError>
+        requires within { point < program.now.space.thread.now.header.words }
+        requires noted { noted ≡ record_of program.now.space.thread.now point }
+        ensures same { IfOk result (λ _. self.new.places ≡ self.old.places) }
+        ensures others { IfOk result (λ _. KeepsAll self.old self.new) }
+        ensures at { IfOk result (IsNextAt program.now.space.thread.now self.new before.now point kept) }
+    {
+        match kept {
+            Kept::Missing => Ok(Place::Missing),
+            Kept::Unmeasured => Ok(Place::Unmeasured),
+            Kept::Known(known) => match noted {
+                Some(noted) => self.keep_record(noted, known),
+                None => self.keep_step(program, point, before, known),
+            },
+        }
+    }
+
+    /// Keeps the next point, by what is kept of the one before it. Memory may be refused.
     pub(crate) fn push(
         &mut self,
-        thread: &ThreadRef<'_>,
+        program: &Program<'_, '_>,
         point: u32,
-        is_bare: bool,
+        noted: Option<RecordRef<'a>>,
+        before: &Kept,
         kept: Kept,
     ) -> Result<(), AllocError>
-        requires within { point < thread.now.header.words }
-        requires count { length self.old.places.items ≡ point }
-        requires bare { is_bare ≡ true → record_of thread.now point ≡ None }
-        ensures count { IfOk result (λ _. length self.new.places.items ≡ point + 1) }
-        ensures kept { IfOk result (λ _. (image : Image) (t : Numbered) (slots : List NotedSlot) (log : List LogEntry) → t.thread ≡ thread.now → IsKeptAt image t slots log point kept
-            → AreKept image t slots log self.old → AreKept image t slots log self.new) }
+        requires within { point < program.now.space.thread.now.header.words }
+        requires noted { noted ≡ record_of program.now.space.thread.now point }
+        ensures count { IfOk result (λ _. length self.new.places.items ≡ length self.old.places.items + 1) }
+        ensures kept { IfOk result (λ _. (image : Image) (t : Numbered) (slots : List NotedSlot) (log : List LogEntry) → t.thread ≡ program.now.space.thread.now → length self.old.places.items ≡ point
+            → ((last : ℕ) → last + 1 ≡ point → IsKeptAt image t slots log last before.now) → IsKeptAt image t slots log point kept → AreKept image t slots log self.old → AreKept image t slots log self.new) }
     {
-        if let Some(place) = self.place_before(thread, point, is_bare, kept.has_state()) {
-            self.places.push(place)?;
-            return Ok(());
-        }
-        self.places.push(self.points.len())?;
-        self.points.push(KeptPoint { point, kept })?;
+        let place = self.keep(program, point, noted, before, kept)?;
+        self.places.push(place)?;
+        self.steps = if place.is_step() {
+            self.steps.saturating_add(1)
+        } else {
+            0
+        };
         Ok(())
+    }
+
+    /// What is kept of the point of a record.
+    fn record_at(&self, at: u32, is_clean: bool) -> Kept
+        ensures { (image : Image) (t : Numbered) (slots : List NotedSlot) (log : List LogEntry) (point : ℕ) → IsInRecord image t slots log self.now.recorded.items point at is_clean → IsKeptAt image t slots log point result }
+    {
+        if self.recorded.len() <= at as usize {
+            return Kept::Missing;
+        }
+        Kept::Known(self.recorded[at as usize].known(is_clean))
+    }
+
+    /// What is kept of the point of a state that is kept whole.
+    fn whole_at(&self, at: u32) -> Kept
+        ensures { (image : Image) (t : Numbered) (slots : List NotedSlot) (log : List LogEntry) (point : ℕ) → IsWhole image t slots log self.now.whole.items point at → IsKeptAt image t slots log point result }
+    {
+        if self.whole.len() <= at as usize {
+            return Kept::Missing;
+        }
+        Kept::Known(self.whole[at as usize])
+    }
+
+    /// What is kept of a point that does not follow from the one before it.
+    fn first(&self, point: u32) -> Kept
+        ensures { (image : Image) (t : Numbered) (slots : List NotedSlot) (log : List LogEntry) → AreKept image t slots log self.now → point < length self.now.places.items
+            → ((place : Place) → slice_get self.now.places.items point ≡ Some place → is_step place ≡ true → point ≡ 0) → IsKeptAt image t slots log point result }
+    {
+        if self.places.len() <= point as usize {
+            return Kept::Missing;
+        }
+        self.at_place(self.places[point as usize])
+    }
+
+    /// What is kept at a place.
+    fn at_place(&self, place: Place) -> Kept
+        ensures { (image : Image) (t : Numbered) (slots : List NotedSlot) (log : List LogEntry) (point : ℕ) → IsAt image t slots log self.now point place → (is_step place ≡ true → point ≡ 0)
+            → IsKeptAt image t slots log point result }
+    {
+        match place {
+            Place::Missing => Kept::Missing,
+            Place::Unmeasured => Kept::Unmeasured,
+            Place::Whole(at) => self.whole_at(at),
+            Place::Recorded(at) => self.record_at(at, false),
+            Place::Clean(at) => self.record_at(at, true),
+            Place::Plain => Kept::Missing,
+            Place::Called(_) => Kept::Missing,
+        }
+    }
+
+    /// Whether a point follows from the one before it.
+    fn is_step(&self, point: u32) -> bool
+        ensures { (place : Place) → slice_get self.now.places.items point ≡ Some place → is_step place ≡ result }
+    {
+        if self.places.len() <= point as usize {
+            return false;
+        }
+        self.places[point as usize].is_step()
+    }
+
+    /// The last point up to this one that does not follow from the one before it.
+    fn first_of(&self, point: u32) -> u32
+        ensures near { result ≤ point }
+        ensures first { (place : Place) → slice_get self.now.places.items result ≡ Some place → is_step place ≡ true → result ≡ 0 }
+    {
+        'back: for steps in 0..point {
+            let first = point - steps;
+            if !self.is_step(first) {
+                return first;
+            }
+        }
+        0
+    }
+
+    /// What is kept of the point after one of which this is kept, by what is kept of the system call there.
+    fn after_call(&self, program: &Program<'_, '_>, at: u32, kept: &Kept) -> Kept
+        ensures { (image : Image) (t : Numbered) (slots : List NotedSlot) (log : List LogEntry) (point : ℕ) → t.thread ≡ program.now.space.thread.now → point ≤ 2 ^ 32
+            → IsKeptAt image t slots log point kept.now → IsAt image t slots log self.now (point + 1) (place.Called at) → IsKeptAt image t slots log (point + 1) result }
+    {
+        if self.called.len() <= at as usize {
+            return Kept::Missing;
+        }
+        match kept {
+            Kept::Known(known) => known_or_none(self.called[at as usize].behind(program, known)),
+            Kept::Missing => Kept::Missing,
+            Kept::Unmeasured => Kept::Missing,
+        }
     }
 
     /// What is kept of the point after one of which this is kept, if the program has one.
@@ -154,11 +312,12 @@ impl KeptPoints {
         if self.places.len() <= point as usize + 1 {
             return Kept::Missing;
         }
-        let first = &self.points[self.places[point as usize + 1]];
-        if point < first.point {
-            return first.kept;
+        let place = self.places[point as usize + 1];
+        match place {
+            Place::Plain => program.behind_plain(point, kept, log),
+            Place::Called(at) => self.after_call(program, at, kept),
+            _ => self.at_place(place),
         }
-        program.behind_plain(point, kept, log)
     }
 
     /// What is kept of a point.
@@ -168,10 +327,10 @@ impl KeptPoints {
         requires kept { AreKept program.now.space.image.now (thread_of program.now) program.now.slots.now log.now self.now }
         ensures { IsKeptAt program.now.space.image.now (thread_of program.now) program.now.slots.now log.now point result }
     {
-        let first = self.points[self.places[point as usize]];
-        let mut kept = first.kept;
-        'steps: for before in first.point..point {
-            kept = program.behind_plain(before, &kept, log);
+        let first = self.first_of(point);
+        let mut kept = self.first(first);
+        'steps: for before in first..point {
+            kept = self.after(program, log, before, &kept);
         }
         kept
     }

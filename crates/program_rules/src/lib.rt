@@ -3,12 +3,14 @@
 #![tactic(auto)]
 
 mod call_checks;
+mod called_points;
 mod checking;
 mod following;
 mod kept;
 mod kept_points;
 mod notes;
 mod own_checks;
+mod places;
 mod point_rules;
 mod points;
 mod points_checks;

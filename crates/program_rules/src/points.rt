@@ -20,8 +20,8 @@ use typestate::{ShownPart, SlotLog};
 
 /// What is noted of each point of a program.
 #[derive(Drop)]
-pub(crate) struct Points {
-    pub(crate) kept: KeptPoints,
+pub(crate) struct Points<'a> {
+    pub(crate) kept: KeptPoints<'a>,
     pub(crate) log: SlotLog,
 }
 
@@ -63,37 +63,39 @@ fn noted_or(
     }
 }
 
-impl Points {
-    /// Notes the next point: by its record, or by what the point before leaves. An `Ok` is what it leaves in turn, if no record notes
+impl<'a> Points<'a> {
+    /// Notes the next point, and that it is the last one: by its record, or by what the point before leaves. An `Ok` is what it leaves in turn, if no record notes
     /// the point after it. Memory may be refused.
     fn note(
         &mut self,
         program: &Program<'_, '_>,
         point: u32,
-        noted: Option<&RecordRef<'_>>,
+        noted: Option<RecordRef<'a>>,
         is_next_noted: bool,
+        last: &mut Kept,
         derived: Kept,
         shown: &mut ShownPart,
     ) -> Result<Kept, AllocError>
         requires within { point < program.now.space.thread.now.header.words }
-        requires noted { option_map (λ r. r.now) noted ≡ record_of program.now.space.thread.now point }
+        requires noted { noted ≡ record_of program.now.space.thread.now point }
         requires next { is_next_noted ≡ is_some (record_of program.now.space.thread.now (point + 1)) }
-        requires read { IsReadTo program.now.space.image.now (thread_of program.now) program.now.slots.now point self.old.log self.old.kept derived }
+        requires read { IsReadTo program.now.space.image.now (thread_of program.now) program.now.slots.now point self.old.log self.old.kept last.old derived }
         requires shown { ShowsSome self.old.log shown.old }
-        ensures read { IfOk result (IsReadTo program.now.space.image.now (thread_of program.now) program.now.slots.now (point + 1) self.new.log self.new.kept) }
+        ensures read { IfOk result (IsReadTo program.now.space.image.now (thread_of program.now) program.now.slots.now (point + 1) self.new.log self.new.kept last.new) }
         ensures shown { IfOk result (λ _. ShowsSome self.new.log shown.new) }
     {
-        let found = noted_or(&mut self.log, noted, derived)?;
+        let own = noted.as_ref();
+        let found = noted_or(&mut self.log, own, derived)?;
         found.show(&self.log, shown)?;
-        let state = program.looked_at(point, noted, &found, &self.log, shown);
-        let left = program.following(point, noted, is_next_noted, &state, &mut self.log, shown)?;
-        self.kept
-            .push(program.space.thread, point, noted.is_none(), state)?;
+        let state = program.looked_at(point, own, &found, &self.log, shown);
+        let left = program.following(point, own, is_next_noted, &state, &mut self.log, shown)?;
+        self.kept.push(program, point, noted, last, state)?;
+        *last = state;
         Ok(left)
     }
 
     /// The points of a program: each has the state of its record, or what the point before leaves. Memory may be refused.
-    pub(crate) fn of(program: &Program<'_, '_>) -> Result<Self, AllocError>
+    pub(crate) fn of(program: &Program<'a, '_>) -> Result<Self, AllocError>
         ensures { IfOk result (λ points. IsRead program.now.space.image.now (thread_of program.now) program.now.slots.now points.log points.kept) }
     {
         let mut records = RecordsLeft::of(program.space.thread);
@@ -101,6 +103,7 @@ impl Points {
             kept: KeptPoints::new(program.alloc),
             log: SlotLog::new(program.alloc),
         };
+        let mut last = Kept::Missing;
         let mut derived = Kept::Missing;
         let mut shown = ShownPart::new(program.alloc);
         'notes: for point in 0..program.space.thread.word_count() {
@@ -109,8 +112,9 @@ impl Points {
             derived = points.note(
                 program,
                 point,
-                noted.as_ref(),
+                noted,
                 is_next_noted,
+                &mut last,
                 derived,
                 &mut shown,
             )?;

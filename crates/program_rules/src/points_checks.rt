@@ -30,7 +30,7 @@ impl Program<'_, '_> {
     #[tactic(auto, unfolding(model::specs::Acceptance::PointRules::state_rules))]
     fn state_rules(
         &self,
-        points: &mut Points,
+        points: &mut Points<'_>,
         shown: &mut ShownPart,
         point: u32,
         noted: Option<&RecordRef<'_>>,
@@ -73,7 +73,7 @@ impl Program<'_, '_> {
     #[tactic(auto, unfolding(model::specs::Acceptance::PointRules::point_rules))]
     fn point_rules(
         &self,
-        points: &mut Points,
+        points: &mut Points<'_>,
         shown: &mut ShownPart,
         point: u32,
         noted: Option<&RecordRef<'_>>,
@@ -117,7 +117,7 @@ impl Program<'_, '_> {
     }
 
     /// The rules on all points, in their order.
-    fn points_rules(&self, points: &mut Points) -> Result<(), Refusal>
+    fn points_rules(&self, points: &mut Points<'_>) -> Result<(), Refusal>
         requires read { IsRead self.now.space.image.now (thread_of self.now) self.now.slots.now points.old.log points.old.kept }
         ensures { Answers (first_broken (flat_map (point_rules self.now.space.image.now (thread_of self.now)) (range_with_len 0 self.now.space.thread.now.header.words))) result }
     {
@@ -145,7 +145,7 @@ impl Program<'_, '_> {
     }
 
     /// The rules on the state of the thread's entry.
-    fn entry_rules(&self, points: &Points) -> Result<(), Refusal>
+    fn entry_rules(&self, points: &Points<'_>) -> Result<(), Refusal>
         requires read { IsRead self.now.space.image.now (thread_of self.now) self.now.slots.now points.now.log points.now.kept }
         ensures { Answers (first_broken (entry_rules self.now.space.image.now (thread_of self.now)
             (noted self.now.space.image.now (thread_of self.now) self.now.space.thread.now.header.entry))) result }

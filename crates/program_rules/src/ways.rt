@@ -74,7 +74,7 @@ impl Program<'_, '_> {
     }
 
     /// What is kept of the point at an address: nothing, where the program has none there.
-    fn kept_at(&self, points: &Points, address: u32) -> Kept
+    fn kept_at(&self, points: &Points<'_>, address: u32) -> Kept
         requires read { IsRead self.now.space.image.now (thread_of self.now) self.now.slots.now points.now.log points.now.kept }
         ensures noted { noted_by self.now.slots.now points.now.log result ≡ noted_at self.now.space.image.now (thread_of self.now) address }
         ensures held { HasPart points.now.log result }
@@ -88,7 +88,7 @@ impl Program<'_, '_> {
     /// Whether the slots of a part, which is shown, are those of another one. Those that were found to be are not compared again.
     fn has_same_slots(
         &self,
-        points: &Points,
+        points: &Points<'_>,
         shown: &ShownPart,
         part: Part,
         other: Part,
@@ -153,7 +153,7 @@ impl Program<'_, '_> {
     /// Whether a way on to a point of which this is kept keeps its rules: their slots are compared.
     fn way_compared<S: Step>(
         &self,
-        points: &Points,
+        points: &Points<'_>,
         at: Point,
         measure: &Measure,
         way: &Way<'_>,
@@ -182,7 +182,7 @@ impl Program<'_, '_> {
     /// the same are not compared again.
     fn way_known<S: Step>(
         &self,
-        points: &Points,
+        points: &Points<'_>,
         shown: &ShownPart,
         part: Part,
         at: Point,
@@ -213,7 +213,7 @@ impl Program<'_, '_> {
     /// says that memory was refused.
     pub(crate) fn way_to<S: Step>(
         &self,
-        points: &Points,
+        points: &Points<'_>,
         shown: &ShownPart,
         part: Part,
         at: Point,
@@ -247,7 +247,7 @@ impl Program<'_, '_> {
     /// The same of a way on from an instruction at a point, whose part is shown.
     fn way_rules(
         &self,
-        points: &Points,
+        points: &Points<'_>,
         shown: &ShownPart,
         point: u32,
         instr: Instr,
@@ -288,7 +288,7 @@ impl Program<'_, '_> {
     /// The same, where there may be no such way.
     fn option_rules(
         &self,
-        points: &Points,
+        points: &Points<'_>,
         shown: &ShownPart,
         point: u32,
         instr: Instr,
@@ -312,7 +312,7 @@ impl Program<'_, '_> {
 
     /// Whether the next point has the very state that this one leaves: no record notes it, and it has a state. The way to it keeps its
     /// rules then, and a system call before it is not refused.
-    pub(crate) fn leaves_next(&self, points: &Points, point: u32, is_next_noted: bool) -> bool
+    pub(crate) fn leaves_next(&self, points: &Points<'_>, point: u32, is_next_noted: bool) -> bool
         requires read { IsRead self.now.space.image.now (thread_of self.now) self.now.slots.now points.now.log points.now.kept }
         requires within { point < self.now.space.thread.now.header.words }
         requires next { is_next_noted ≡ false → record_of self.now.space.thread.now (point + 1) ≡ None }
@@ -337,7 +337,7 @@ impl Program<'_, '_> {
     /// The rules on the taken way on from an instruction.
     fn taken_rules(
         &self,
-        points: &Points,
+        points: &Points<'_>,
         shown: &ShownPart,
         point: u32,
         instr: Instr,
@@ -362,7 +362,7 @@ impl Program<'_, '_> {
     /// The rules on the ways on from an instruction that is no system call, the taken one first.
     pub(crate) fn ways_rules(
         &self,
-        points: &Points,
+        points: &Points<'_>,
         shown: &ShownPart,
         point: u32,
         instr: Instr,

@@ -1,11 +1,11 @@
--- The next point is kept itself, or follows from this one.
-use Rattle.std.proofs.Common.{ℕ, ◌≡◌, ◌∙◌, ◌+◌, ◌<◌, ◌≤◌, Some, length, sym, ap, subst, arith}
+-- By the place of the next point.
+use Rattle.std.proofs.Common.{◌∙◌, ◌+◌, ◌^◌, ◌<◌, ◌≤◌, Some, length, refl, sym, ap, subst, arith}
 use Rattle.program_rules.proofs.EachPoint.{next-point}
-use Rattle.program_rules.proofs.Placed.{some-place}
+use Rattle.program_rules.proofs.Placed.{not-step, some-place}
 use Rattle.program_rules.proofs.kept_points.KeptPoints.after.Goals as goal
-use Rattle.program_rules.specs.Kept.{IsKeptAt}
+use Rattle.program_rules.specs.Kept.{IsAt, IsBehindPlain}
 use Rattle.program_rules.specs.Programs.{thread_of}
-use Rattle.program_rules.specs.declared.kept_points.KeptPoint.{KeptPoint}
+use Rattle.program_rules.specs.declared.places.Place.{Place}
 
 pub returns-then-len-point : goal.returns-then-len-point
 returns-then-len-point c = λ less.
@@ -14,49 +14,57 @@ returns-then-len-point c = λ less.
     let count = c.requires.count in
     absurd (omega (arith, less, short, long, count))
 
-pub returns-then-point-first : goal.returns-then-point-first
-returns-then-point-first c = λ less.
+pub behind_plain-requires-clause-plain : goal.behind_plain-requires-clause-plain
+behind_plain-requires-clause-plain c =
+    let image = c.args.program.now.space.image.now in
+    let t = thread_of c.args.program.now in
+    let slots = c.args.program.now.slots.now in
+    let next = c.args.point + 1 in
+    let long = c.if-len-point.false in
+    let count = c.len.ensures in
+    let inside : next < length c.args.self.now.places.items = omega (arith, long, count) in
+    let p = c.index-place.result.now in
+    let got = some-place c.args.self.now.places.items next p inside ∙ ap (λ (q : Place). Some q) (sym c.index-place.ensures) in
+    let step : IsBehindPlain image t next = subst (IsAt image t slots c.args.log.now c.args.self.now next) c.in-Plain.is (c.requires.all.each next p got) in
+    (step.plain c.args.point refl).plain
+
+pub returns-in-Plain : goal.returns-in-Plain
+returns-in-Plain c = λ less.
     let image = c.args.program.now.space.image.now in
     let t = thread_of c.args.program.now in
     let slots = c.args.program.now.slots.now in
     let next = c.args.point + 1 in
     let count = c.requires.count in
     let inside : next < length c.args.self.now.places.items = omega (arith, less, count) in
-    let place = c.index.result.now in
-    let placed = c.requires.all.placed next place (some-place c.args.self.now.places.items next place inside ∙ ap (λ (n : ℕ). Some n) (sym c.index.ensures)) in
-    let first = c.index-first.result.now in
-    let near = subst (λ (k : KeptPoint). k.point ≤ next) (sym c.index-first.ensures) (placed.before first) in
-    let far = c.if-point-first.true in
-    let same : first.point ≡ next = omega (arith, near, far) in
-    subst (λ (n : ℕ). IsKeptAt image t slots c.args.log.now n first.kept) same
-    (subst (λ (k : KeptPoint). IsKeptAt image t slots c.args.log.now k.point k.kept) (sym c.index-first.ensures)
-    (c.requires.all.each place first placed.inside))
+    let p = c.index-place.result.now in
+    let got = some-place c.args.self.now.places.items next p inside ∙ ap (λ (q : Place). Some q) (sym c.index-place.ensures) in
+    let step : IsBehindPlain image t next = subst (IsAt image t slots c.args.log.now c.args.self.now next) c.in-Plain.is (c.requires.all.each next p got) in
+    next-point image t slots c.args.log.now c.args.point c.args.kept.now c.behind_plain.result (step.plain c.args.point refl)
+    c.requires.kept c.behind_plain.ensures.same c.behind_plain.ensures.sound c.behind_plain.ensures.clean
 
-pub behind_plain-requires-clause-plain : goal.behind_plain-requires-clause-plain
-behind_plain-requires-clause-plain c =
+pub returns-in-Called : goal.returns-in-Called
+returns-in-Called c = λ less.
+    let image = c.args.program.now.space.image.now in
+    let t = thread_of c.args.program.now in
+    let slots = c.args.program.now.slots.now in
     let next = c.args.point + 1 in
-    let long = c.if-len-point.false in
-    let count = c.len.ensures in
-    let inside : next < length c.args.self.now.places.items = omega (arith, long, count) in
-    let place = c.index.result.now in
-    let placed = c.requires.all.placed next place (some-place c.args.self.now.places.items next place inside ∙ ap (λ (n : ℕ). Some n) (sym c.index.ensures)) in
-    let first = c.index-first.result.now in
-    let near = c.if-point-first.false in
-    let from : first.point ≤ c.args.point = omega (arith, near) in
-    (placed.plain first c.args.point (subst (λ (k : KeptPoint). k.point ≤ c.args.point) c.index-first.ensures from) (omega arith)).plain
+    let count = c.requires.count in
+    let inside : next < length c.args.self.now.places.items = omega (arith, less, count) in
+    let p = c.index-place.result.now in
+    let got = some-place c.args.self.now.places.items next p inside ∙ ap (λ (q : Place). Some q) (sym c.index-place.ensures) in
+    let small : c.args.point ≤ 2 ^ 32 = let memory = c.args.program.now.inside in omega (arith, less, memory) in
+    c.after_call.ensures image t slots c.args.log.now c.args.point refl small c.requires.kept
+    (subst (IsAt image t slots c.args.log.now c.args.self.now next) c.in-Called.is (c.requires.all.each next p got))
 
-pub returns : goal.returns
-returns c = λ less.
+pub returns-in_default : goal.returns-in_default
+returns-in_default c = λ less.
+    let image = c.args.program.now.space.image.now in
+    let t = thread_of c.args.program.now in
+    let slots = c.args.program.now.slots.now in
     let next = c.args.point + 1 in
-    let long = c.if-len-point.false in
-    let count = c.len.ensures in
-    let inside : next < length c.args.self.now.places.items = omega (arith, long, count) in
-    let place = c.index.result.now in
-    let placed = c.requires.all.placed next place (some-place c.args.self.now.places.items next place inside ∙ ap (λ (n : ℕ). Some n) (sym c.index.ensures)) in
-    let first = c.index-first.result.now in
-    let near = c.if-point-first.false in
-    let from : first.point ≤ c.args.point = omega (arith, near) in
-    let plain = placed.plain first c.args.point (subst (λ (k : KeptPoint). k.point ≤ c.args.point) c.index-first.ensures from) (omega arith) in
-    next-point c.args.program.now.space.image.now (thread_of c.args.program.now) c.args.program.now.slots.now c.args.log.now c.args.point c.args.kept.now
-    c.behind_plain.result
-    plain c.requires.kept c.behind_plain.ensures.same c.behind_plain.ensures.sound c.behind_plain.ensures.clean
+    let count = c.requires.count in
+    let inside : next < length c.args.self.now.places.items = omega (arith, less, count) in
+    let p = c.index-place.result.now in
+    let got = some-place c.args.self.now.places.items next p inside ∙ ap (λ (q : Place). Some q) (sym c.index-place.ensures) in
+    c.at_place.ensures image t slots c.args.log.now next (c.requires.all.each next p got)
+    (λ step. absurd (not-step p c.in_default.not-Plain (λ at is. c.in_default.not-Called at is) step))

@@ -1,10 +1,10 @@
 -- A point has the state of its record, or what the point before leaves.
-use Rattle.std.proofs.Common.{◌≡◌, ◌∙◌, ◌≤◌, ◌^◌, negsuc, Option, Some, None, option_map, is_some, IfSome, List, length, refl, sym, ap, subst}
+use Rattle.std.proofs.Common.{ℕ, ◌≡◌, ◌∙◌, ◌+◌, ◌≤◌, ◌^◌, negsuc, Option, Some, None, option_map, is_some, IfSome, List, length, refl, sym, ap, subst, arith}
 use Rattle.std.specs.Prelude.{◌≤ℤ◌}
 use Rattle.model.specs.Acceptance.NotedStates.{NotedSlot, image_slots, record_of}
 use Rattle.model.specs.Acceptance.PointStates.{follows, noted, noted_or}
 use Rattle.model.specs.Images.Image.{StateRecord}
-use Rattle.program_rules.proofs.EachPoint.{grown, has-part, next-before, noted-is, noted-or-same}
+use Rattle.program_rules.proofs.EachPoint.{grown, grown-at, has-part, next-before, noted-is, noted-or-same}
 use Rattle.program_rules.proofs.NextRecords.{record-fits}
 use Rattle.program_rules.proofs.ShownParts.{some-grown}
 use Rattle.program_rules.proofs.points.Points.note.Goals as goal
@@ -15,11 +15,11 @@ use Rattle.typestate.specs.Orders.{Rise}
 pub noted_or-requires : goal.noted_or-requires
 noted_or-requires c =
     let own = c.args.program.now.space.thread.now in
-    elim c.args.noted as (λ o. option_map (λ r. r.now) o ≡ record_of own c.args.point
+    elim c.as_ref-own.result as (λ o. option_map (λ r. r.now) o ≡ record_of own c.args.point
     → IfSome o (λ r. (length r.now.terms ≤ 4) × (negsuc (2 ^ 62) ≤ℤ r.now.header.constant))) [
       | None ↦ λ is. tt
       | Some r ↦ λ is. let fits = record-fits own c.args.point r.now c.args.program.now.fits (sym is) in (fits.terms, fits.constant)
-    ] c.requires.noted
+    ] (c.as_ref-own.ensures.value ∙ c.requires.noted)
 
 pub looked_at-state-requires-clause-sound : goal.looked_at-state-requires-clause-sound
 looked_at-state-requires-clause-sound c = c.in_ok-found.ensures.sound c.args.point c.requires.read.sound
@@ -51,20 +51,34 @@ returns-clause-read c =
     c.looked_at-state.ensures.same
     ∙ ap (λ (all : List NotedSlot). noted_by all log found) c.args.program.now.listed
     ∙ c.in_ok-found.ensures.same image own (subst Rise c.args.program.now.listed c.args.program.now.rising)
-    ∙ ap (λ (r : Option StateRecord). noted_or image own r (noted_by (image_slots image own) old c.args.derived)) c.requires.noted
+    ∙ ap (λ (r : Option StateRecord). noted_or image own r (noted_by (image_slots image own) old c.args.derived))
+    (c.as_ref-own.ensures.value ∙ c.requires.noted)
     ∙ ap (λ (all : List NotedSlot). noted_or image own (record_of own point) (noted_by all old c.args.derived)) (sym c.args.program.now.listed)
     ∙ noted-or-same image own (record_of own point) (noted_by slots old c.args.derived) (states_before image t point) before.same
     ∙ sym (noted-is image t point) in
     let is : IsKeptAt image t slots log point state =
     record { same = same; sound = c.looked_at-state.ensures.sound; clean = c.looked_at-state.ensures.clean } in
-    let more = c.in_ok-push.ensures.kept image t slots log refl is (grown image t slots old log kept c.in_ok-found.ensures.others before.noted) in
+    let lasts : (last : ℕ) → last + 1 ≡ point → IsKeptAt image t slots log last c.args.last.now =
+    λ last follows. grown-at image t slots old log last c.args.last.now c.in_ok-found.ensures.others (before.last last follows) in
+    let more = c.in_ok-push.ensures.kept image t slots log refl before.count lasts is
+    (grown image t slots old log kept c.in_ok-found.ensures.others before.noted) in
     record {
-      count = c.in_ok-push.ensures.count;
+      count = c.in_ok-push.ensures.count ∙ ap (λ (n : ℕ). n + 1) before.count;
       noted = grown image t slots log c.following.new.log c.push.new.self c.in_ok-left.ensures.others more;
+      last = λ last follows.
+          let one : point ≡ last = omega (arith, follows) in
+          subst (λ (n : ℕ). IsKeptAt image t slots c.following.new.log n state) one
+          (grown-at image t slots log c.following.new.log point state c.in_ok-left.ensures.others is);
       same = λ none. c.in_ok-left.ensures.same (c.requires.next ∙ ap is_some none) ∙ ap (follows image t point) same ∙ next-before image t point;
       sound = c.in_ok-left.ensures.sound;
       clean = c.in_ok-left.ensures.clean;
     }
+
+pub looked_at-state-requires-clause-noted : goal.looked_at-state-requires-clause-noted
+looked_at-state-requires-clause-noted c = c.as_ref-own.ensures.value ∙ c.requires.noted
+
+pub following-requires-clause-noted : goal.following-requires-clause-noted
+following-requires-clause-noted c = c.as_ref-own.ensures.value ∙ c.requires.noted
 
 pub returns-clause-shown : goal.returns-clause-shown
 returns-clause-shown c = some-grown c.noted_or.new.log c.following.new.log c.show.new.shown c.in_ok-left.ensures.others c.in_ok-show.ensures.some

@@ -1,5 +1,5 @@
 -- One point after another.
-use Rattle.std.proofs.Common.{◌∙◌, ◌+◌, List, refl, sym, subst}
+use Rattle.std.proofs.Common.{◌∙◌, ◌+◌, List, refl, sym, subst, arith}
 use Rattle.model.specs.Images.Image.{StateRecord}
 use Rattle.program_rules.proofs.NextRecords.{AreLeft, all-left, is-next, next-record}
 use Rattle.program_rules.proofs.points.Points.of.Goals as goal
@@ -14,6 +14,7 @@ notes-init c =
       record {
         count = c.new.ensures.count;
         noted = c.new.ensures.kept image t c.args.program.now.slots.now log;
+        last = λ last follows. absurd (omega (arith, follows));
         same = λ none. refl;
         sound = tt;
         clean = tt;
@@ -24,7 +25,7 @@ notes-init c =
 
 pub note-requires-clause-noted : goal.note-requires-clause-noted
 note-requires-clause-noted c =
-    c.as_ref.ensures.value ∙ c.take-noted.ensures.record
+    c.take-noted.ensures.record
     ∙ sym (next-record c.args.program.now.space.thread.now c.notes.point c.notes.records c.notes.invariant.1).0
 
 pub note-requires-clause-next : goal.note-requires-clause-next
