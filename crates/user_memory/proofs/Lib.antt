@@ -2,11 +2,16 @@ pub mod BytesMore
 pub mod Executed
 pub mod Filled
 pub mod FilledFrames
+pub mod Iterated
+pub mod KeptSteps
+pub mod Laws
 pub mod Leaves
 pub mod Named
+pub mod PagePlaces
 pub mod Reading
 pub mod Running
 pub mod Stored
+pub mod ThreadsNear
 pub mod Unchanged
 pub mod WordStores
 pub mod Words

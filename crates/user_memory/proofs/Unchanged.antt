@@ -43,7 +43,7 @@ module _ (r : RegisterFile) (content : Content) where
   store-still (Ok after) = goes _ _
   store-still (Err fault) = λ differs. (refl, refl)
 
-  effect-still : (i : Instr) → IsStill r content (effect r content i)
+  pub effect-still : (i : Instr) → IsStill r content (effect r content i)
   unfolding effect
   effect-still (Upper op rd immediate) = goes _ _
   effect-still (Jal rd offset) = jump-still (write r rd (next_pc r)) (plus r.pc offset)
@@ -66,7 +66,7 @@ same-byte : (b : Option ℕ) → option_map_or (λ _. Some (option_map_or (λ by
 same-byte None = refl
 same-byte (Some byte) = refl
 
-same-content : (s : State) (thread : ℕ) → with_content s (content_of s thread) ≡ s
+pub same-content : (s : State) (thread : ℕ) → with_content s (content_of s thread) ≡ s
 same-content s thread = λ i. record s { bytes = λ place. same-byte (s.bytes place) i }
 
 thread-there : (o : Option Object) → option_map kind_of o ≡ Some NewThread → Some (ThreadObject (option_map_or (λ t. t) (as_thread o) new_thread)) ≡ o
@@ -85,7 +85,7 @@ put-same objects place value other is = elim (eqb_tells other place) [
   | inr apart ↦ ap (λ b. if b then value else objects other) apart.0
 ]
 
-same-registers : (s : State) (thread : ℕ) → kind_at s thread ≡ Some NewThread → with_registers s thread (thread_at s thread).registers ≡ s
+pub same-registers : (s : State) (thread : ℕ) → kind_at s thread ≡ Some NewThread → with_registers s thread (thread_at s thread).registers ≡ s
 same-registers s thread there = λ i. record s {
   objects = λ other. put-same s.objects thread (Some (ThreadObject (thread_at s thread))) other (thread-there (s.objects thread) there) i;
 }

@@ -1,2 +1,4 @@
+pub mod CodePages
 pub mod Fills
+pub mod Runs
 pub mod Views

@@ -42,7 +42,7 @@ pub fn fetch<S: WalkStore>(
 }
 
 /// The same of any address: at first as it is kept.
-fn fetch_at<S: WalkStore>(
+pub(crate) fn fetch_at<S: WalkStore>(
     kernel: &mut Kernel<S>,
     thread: u32,
     root: Option<u32>,
@@ -104,7 +104,7 @@ fn walked_word<S: WalkStore>(
 }
 
 /// Runs an instruction over the memory of a thread.
-fn run<S: WalkStore>(
+pub(crate) fn run<S: WalkStore>(
     kernel: &mut Kernel<S>,
     thread: u32,
     root: Option<u32>,

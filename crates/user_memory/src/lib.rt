@@ -3,13 +3,18 @@
 //! Virtual Memory".
 #![tactic(auto)]
 
+mod code_pages;
 mod execution;
 mod filling;
 mod keeping;
+mod labels;
+mod plain_runs;
 mod roots;
 mod spaces;
 mod view;
 
 pub use execution::{execute, fetch};
 pub use filling::fill;
+pub use labels::Labels;
+pub use plain_runs::run_plain;
 pub use roots::root_of;
