@@ -5,6 +5,7 @@
 mod events;
 mod failures;
 mod instructions;
+mod runs;
 mod setup;
 mod system;
 mod system_calls;
@@ -12,3 +13,4 @@ mod system_calls;
 pub use kernel_machine::Machine;
 pub use setup::Setup;
 pub use system::System;
+pub use user_memory::Labels;

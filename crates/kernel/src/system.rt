@@ -1,14 +1,15 @@
 //! A system whose threads run.
 
-ghost use Rattle.std.specs.Prelude.{◌≡◌, IfSome, option_and_then, option_map};
+ghost use Rattle.std.specs.Prelude.{◌≡◌, ◌≤◌, ◌++◌, IfSome, flat_map, option_and_then, option_map, replicate, true};
 ghost use Rattle.kernel_machine.specs.Setups.{IsPlace, register_in, seen_entry, slot_in, state_in};
 ghost use Rattle.model.specs.Kernel.State.{as_thread};
-ghost use Rattle.model.specs.Kernel.Steps.{step};
+ghost use Rattle.model.specs.Kernel.Steps.{state_after, step, trace};
 
-use crate::events;
+use crate::{events, runs};
 use kernel_machine::Machine;
 use model::{Cap, Event, Label};
 use std::marker::Model;
+use user_memory::Labels;
 
 /// The kernel with its threads, which goes on by events. None of them takes memory.
 #[derive(Drop)]
@@ -39,6 +40,19 @@ impl System {
         ensures label { result ≡ (step (state_in self.old) event).1 }
     {
         events::step(&mut self.machine.kernel, event)
+    }
+
+    /// Makes steps, until there were `most` or `labels` wants no more; each puts its label. The answer is how many there
+    /// were. It does what `step` by `step` does, faster: between two system calls the registers of the thread, its root
+    /// table and its page of code are looked for once.
+    pub fn run<L: Labels>(&mut self, most: u32, labels: &mut L) -> u32
+        ensures few { result ≤ most }
+        ensures state { state_in self.new ≡ state_after (state_in self.old) (replicate result Event.Step) }
+        ensures labels { L.seen labels.new
+            ≡ L.seen labels.old ++ flat_map L.kept (trace (state_in self.old) (replicate result Event.Step)) }
+        ensures all { L.wants labels.new ≡ true → result ≡ most }
+    {
+        runs::run(&mut self.machine.kernel, most, labels)
     }
 
     /// A register of the thread at an offset: its program counter by index 0, and else that of this index, 1 to 31.

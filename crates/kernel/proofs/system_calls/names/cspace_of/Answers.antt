@@ -6,7 +6,7 @@ use Rattle.model.specs.Kernel.State.{cspace_slot}
 use Rattle.model.specs.Kernel.Steps.{cspace_of}
 use Rattle.objects.specs.Tables.{state_of}
 use Rattle.std.proofs.Common.{ℕ, ◌≡◌, ◌∙◌, ap, arith, subst}
-use Rattle.kernel.proofs.system_calls.ThreadsNear.{thread-near}
+use Rattle.user_memory.proofs.Laws.{thread-near}
 use Rattle.kernel.proofs.system_calls.names.cspace_of.Goals as goal
 use Rattle.cnode_ops.proofs.Laws.{whole-of}
 
