@@ -2,7 +2,7 @@
 //! call is named by its index in the thread's CNode of 16 slots.
 
 use crate::kernel_calls::scripts::{runs, sets_up};
-use kernel::Setup;
+use kernel::{Setup, System};
 use std::process::Abort;
 use std::test::Fail;
 
@@ -47,6 +47,11 @@ pub(crate) fn builds_small<R: Abort + AllocGlobal>(rt: &R, text: &str) -> Result
     sets_up(rt, &mut setup, text)
 }
 
+/// A system that texts set up.
+pub(crate) fn starts<R: Abort + AllocGlobal>(rt: &R, before: &[&str]) -> Result<System, Fail> {
+    Ok(made(rt, before)?.start())
+}
+
 /// A system that texts set up, and what happens in it by further texts. A failure prints the last text of the former.
 pub(crate) fn plays<R: Abort + AllocGlobal>(
     rt: &R,
@@ -54,7 +59,7 @@ pub(crate) fn plays<R: Abort + AllocGlobal>(
     behind: &[&str],
 ) -> Result<(), Fail> {
     let title = before.last().unwrap_or(&"");
-    let mut system = made(rt, before)?.start();
+    let mut system = starts(rt, before)?;
     for text in behind {
         runs(rt, &mut system, text, title)?;
     }
