@@ -1,11 +1,11 @@
 -- Putting the lines of a trace, one after another.
-use Rattle.std.proofs.Common.{◌≡◌, ◌∙◌, inl, inr, ℕ, zero, suc, ◌+◌, ◌-◌, ◌<◌, ◌^◌, List, [], ◌∷◌, ◌++◌, length, take, drop, Option, Result, Ok, Err, refl, sym}
+use Rattle.std.proofs.Common.{◌≡◌, ◌∙◌, inl, inr, ℕ, zero, suc, ◌+◌, ◌-◌, ◌^◌, List, [], ◌∷◌, ◌++◌, length, take, Option, Result, Ok, Err, refl, sym}
 use Rattle.std.proofs.Common.{ap, subst, append_assoc, arith}
-use Rattle.std.specs.Prelude.{OnErr, min, slice_index_or}
+use Rattle.std.specs.Prelude.{OnErr, min}
 use Rattle.std.proofs.Math.Nat.{min-eq_left, min-eq_right}
 use Rattle.std.proofs.lemmas.Bool.{cases_lt}
+use Rattle.std.proofs.lemmas.Grind.{flat_map-append}
 use Rattle.std.proofs.lemmas.List.{append-nil}
-use Rattle.model.specs.declared.events.Event.{Event}
 use Rattle.model.specs.declared.labels.Label.{Label}
 use Rattle.kernel_trace.specs.Lines.{Failed, PutsFront, ended, lines_of}
 use Rattle.sinks.specs.Sinks.{Grows, GrowsByBeginning, one_more}
@@ -50,23 +50,23 @@ pub record ArePut (labels : List Label) (old : Option (List ℕ)) (rest : List L
   pub whole : lines_of labels ≡ printed ++ (held ++ lines_of rest)
   pub grown : Grows old new printed
 
-lines-step : (label : Label) (rest : List Label) → lines_of (label ∷ rest) ≡ ended label ++ lines_of rest
+pub lines-step : (label : Label) (rest : List Label) → lines_of (label ∷ rest) ≡ ended label ++ lines_of rest
 unfolding lines_of
 lines-step label rest = refl
+
+pub lines-both : (first rest : List Label) → lines_of (first ++ rest) ≡ lines_of first ++ lines_of rest
+unfolding lines_of
+lines-both first rest = flat_map-append ended first rest
 
 lines-none : lines_of [] ≡ []
 unfolding lines_of
 lines-none = refl
 
--- the line of the next label is held too
-pub one_held : (labels : List Label) (old : Option (List ℕ)) (next rest : List Label) (label : Label) (held more : List ℕ) (new : Option (List ℕ))
-    → ArePut labels old next held new → next ≡ label ∷ rest → more ≡ held ++ ended label → ArePut labels old rest more new
-one_held labels old next rest label held more new put is holds =
-    let same : lines_of labels ≡ put.printed ++ ((held ++ ended label) ++ lines_of rest) =
-    put.whole ∙ ap (λ (ls : List Label). put.printed ++ (held ++ lines_of ls)) is
-    ∙ ap (λ (t : List ℕ). put.printed ++ (held ++ t)) (lines-step label rest)
-    ∙ sym (ap (λ (t : List ℕ). put.printed ++ t) (append_assoc held (ended label) (lines_of rest))) in
-    record { printed = put.printed; whole = same ∙ ap (λ (t : List ℕ). put.printed ++ (t ++ lines_of rest)) (sym holds); grown = put.grown }
+-- the lines of some of what was left are held too
+pub more_held : (labels : List Label) (old : Option (List ℕ)) (next rest : List Label) (held more : List ℕ) (new : Option (List ℕ))
+    → ArePut labels old next held new → held ++ lines_of next ≡ more ++ lines_of rest → ArePut labels old rest more new
+more_held labels old next rest held more new put same =
+    record { printed = put.printed; whole = put.whole ∙ ap (λ (t : List ℕ). put.printed ++ t) same; grown = put.grown }
 
 -- a front of what was held is put
 pub front_put : (labels : List Label) (old : Option (List ℕ)) (left : List Label) (held rest : List ℕ) (mid new : Option (List ℕ))
@@ -93,16 +93,6 @@ all_put labels old left held mid new put none grows =
     put.whole ∙ ap (λ (ls : List Label). put.printed ++ (held ++ lines_of ls)) none ∙ ap (λ (t : List ℕ). put.printed ++ (held ++ t)) lines-none
     ∙ ap (λ (t : List ℕ). put.printed ++ t) (append-nil held) in
     subst (λ (t : List ℕ). Grows old new t) (sym whole) (Grows-then old mid new put.printed held put.grown grows)
-
--- ---- the events that are left
-
--- the rest begins with the next event
-pub next_event : (all : List Event) (done : ℕ) (other : Event) → done < length all → drop done all ≡ slice_index_or all done other ∷ drop (done + 1) all
-next_event [] done other below = absurd (omega (arith, below))
-next_event (e ∷ all) zero other below = refl
-next_event (e ∷ all) (suc done) other below =
-    let step : suc done + 1 ≡ suc (done + 1) = omega arith in
-    next_event all done other (omega (arith, below)) ∙ ap (λ (n : ℕ). slice_index_or all done other ∷ drop n (e ∷ all)) (sym step)
 
 -- ---- failures
 

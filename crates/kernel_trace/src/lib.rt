@@ -1,6 +1,7 @@
 //! The kernel's trace in a sink: a system goes on by events, and each puts a line.
 #![tactic(auto)]
 
+mod held_lines;
 mod traces;
 
 pub use traces::put_trace;

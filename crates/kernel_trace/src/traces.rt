@@ -1,23 +1,19 @@
 //! The lines of a trace, put in pieces larger than a line.
 
-ghost use Rattle.std.specs.Prelude.{◌≡◌, ◌+◌, ◌≤◌, ◌++◌, OnErr, OnOk, if◌then◌else◌, is_ok};
+ghost use Rattle.std.specs.Prelude.{ℕ, ◌≡◌, ◌+◌, ◌<◌, ◌≤◌, ◌++◌, OnErr, OnOk, if◌then◌else◌, drop, is_ok, length, replicate};
 ghost use Rattle.arrayvec.specs.ArrayVec.{array_vec_len};
 ghost use Rattle.kernel_machine.specs.Setups.{state_in};
 ghost use Rattle.model.specs.Kernel.Steps.{trace};
-ghost use Rattle.kernel_trace.specs.Lines.{Failed, PutsFront, ended, lines_of};
+ghost use Rattle.kernel_trace.specs.Lines.{Failed, PutsFront, lines_of};
 ghost use Rattle.sinks.specs.Sinks.{Grows, GrowsByBeginning, one_more};
 
-use arrayvec::ArrayVec;
-use kernel::System;
-use model::{Event, Label};
+use crate::held_lines::HeldLines;
+use kernel::{Labels, System};
+use model::Event;
 use sinks::{Sink, SinkFault, put_all};
-use trace::line;
 
-/// Lines that wait to be put.
-type Piece = ArrayVec<u8, 8192>;
-
-/// How many bytes the longest line has, with its line feed.
-const LONGEST_LINE: usize = 33;
+/// How many steps are made at once at most.
+const MOST_STEPS: u32 = 0x100;
 
 /// Puts the line of each event that the kernel goes on by, as many at once as a piece holds.
 ///
@@ -33,35 +29,61 @@ pub fn put_trace<S: Sink>(
     ensures err { OnErr result (GrowsByBeginning (S.contents sink.old) (S.contents sink.new) (lines_of (trace (state_in system.old) events.now))) }
     ensures failed { OnErr result (Failed (S.failures sink.old) (S.failures sink.new)) }
 {
-    let mut piece = Piece::new();
-    for event in events {
-        make_room(sink, &mut piece)?;
-        push_line(&mut piece, system.step(*event));
+    let mut lines = HeldLines::new();
+    let mut done = 0;
+    'events: while done < events.len() {
+        make_room(sink, &mut lines)?;
+        done += go_on(system, &events[done..], &mut lines);
     }
-    put_all(sink, piece.as_slice())?;
+    put_all(sink, lines.bytes.as_slice())?;
     Ok(())
 }
 
-/// Puts what the piece holds, if it has no room for another line.
-fn make_room<S: Sink>(sink: &mut S, piece: &mut Piece) -> Result<(), SinkFault>
-    ensures ok { OnOk result (PutsFront (S.contents sink.old) (S.contents sink.new) piece.old.items piece.new.items) }
-    ensures room { OnOk result (array_vec_len piece.new + 33 ≤ 8192) }
-    ensures err { OnErr result (GrowsByBeginning (S.contents sink.old) (S.contents sink.new) piece.old.items) }
+/// Puts the lines that are held, if there is no room for another one.
+fn make_room<S: Sink>(sink: &mut S, lines: &mut HeldLines) -> Result<(), SinkFault>
+    ensures ok { OnOk result (PutsFront (S.contents sink.old) (S.contents sink.new) lines.old.bytes.items lines.new.bytes.items) }
+    ensures room { OnOk result (array_vec_len lines.new.bytes + 33 ≤ 8192) }
+    ensures err { OnErr result (GrowsByBeginning (S.contents sink.old) (S.contents sink.new) lines.old.bytes.items) }
     ensures counted { S.failures sink.new ≡ (if is_ok result then S.failures sink.old else one_more (S.failures sink.old)) }
 {
-    if piece.remaining_capacity() < LONGEST_LINE {
-        put_all(sink, piece.as_slice())?;
-        piece.clear();
+    if !lines.wants_more() {
+        put_all(sink, lines.bytes.as_slice())?;
+        lines.bytes.clear();
     }
     Ok(())
 }
 
-/// Appends the line of a label, with its line feed.
-fn push_line(piece: &mut Piece, label: Label)
-    requires { array_vec_len piece.old + 33 ≤ 8192 }
-    ensures { piece.new.items ≡ piece.old.items ++ ended label }
+/// Goes on by the event that is next, or by some of the steps that are, and holds their lines. The answer is how many of the
+/// events that are left these were.
+fn go_on(system: &mut System, left: &[Event], lines: &mut HeldLines) -> usize
+    requires { array_vec_len lines.old.bytes + 33 ≤ 8192 }
+    ensures some { 0 < length left.now → 0 < result }
+    ensures within { result ≤ length left.now }
+    ensures lines { lines.old.bytes.items ++ lines_of (trace (state_in system.old) left.now)
+        ≡ lines.new.bytes.items ++ lines_of (trace (state_in system.new) (drop result left.now)) }
 {
-    let text = line(label);
-    let _fits = piece.try_extend_from_slice(text.as_slice());
-    piece.push(b'\n');
+    let steps = steps_next(left);
+    if steps > 0 {
+        return system.run(steps, lines) as usize;
+    }
+    let Some(event) = left.first() else {
+        return 0;
+    };
+    lines.put(system.step(*event));
+    1
+}
+
+/// How many of the events that are left are steps, before any other and up to 256.
+fn steps_next(left: &[Event]) -> u32
+    ensures within { result ≤ length left.now }
+    ensures steps { (count : ℕ) → count ≤ result → left.now ≡ replicate count Event.Step ++ drop count left.now }
+{
+    let mut count = 0;
+    'steps: while count < MOST_STEPS && (count as usize) < left.len() {
+        let Event::Step = left[count as usize] else {
+            return count;
+        };
+        count += 1;
+    }
+    count
 }
