@@ -244,11 +244,12 @@ def jumping_program(count):
     return (*there, *back, *waiting(count)), [record(i, count + 10 - at) for i, at in enumerate(order)]
 
 
-# Each second word is a system call: a Send to the notification in slot 1, which leaves registers and slots as they were.
+POLL = 8
+
+
+# Each second word is a system call: a look at the notification in slot 1, which does not wait.
 def calling_program(count):
-    calls = (count - 6) // 2
-    begin = (immediate(0, 17, 0, SEND), immediate(0, 10, 0, 1))
-    words = (*begin, *(NOTHING, ECALL) * calls)
+    words = (immediate(0, 17, 0, POLL), NOTHING, *(immediate(0, 10, 0, 1), ECALL) * ((count - 6) // 2))
     return (*words, *waiting(len(words) + 4)), [record(0, count + 10)]
 
 
