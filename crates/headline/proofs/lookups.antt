@@ -5,4 +5,5 @@ mod RootCNode
 mod TwoLookups
 mod NotedLookups
 mod NotedParents
+mod NotedSlots
 pub mod Laws

@@ -1,5 +1,5 @@
 -- Registers that lie in ranges of one value hold it, so what the rules know of a call is so.
-use Rattle.std.proofs.Common.{ℕ, ◌≡◌, ◌∙◌, ◌<◌, ◌≤◌, Bool, true, false, if◌then◌else◌, List, [], ◌∷◌, map, Option, Some, None, Result, Ok, Err, refl, ap, arith}
+use Rattle.std.proofs.Common.{ℕ, ◌≡◌, ◌∙◌, ◌<◌, ◌≤◌, Bool, true, false, if◌then◌else◌, List, [], ◌∷◌, map, Option, Some, None, Result, Ok, Err, refl, sym, ap, arith}
 use Rattle.std.specs.List.{All}
 use Rattle.std.proofs.lemmas.Bool.{eqb-true}
 use Rattle.std.proofs.lemmas.List.Elements.{All-head, All-tail}
@@ -16,7 +16,7 @@ use Rattle.model.specs.Acceptance.CallRules.{AfterCall, after_call, all_known, b
 use Rattle.model.specs.Acceptance.NotedKernel.{noted_kernel, noted_root}
 use Rattle.model.specs.Acceptance.NotedStates.{PointState}
 use Rattle.model.specs.Acceptance.RangeRules.{is_single}
-use Rattle.model.specs.Acceptance.Ranges.{range_of}
+use Rattle.model.specs.Acceptance.Ranges.{range_of, single}
 use Rattle.model.specs.Acceptance.ThreadInvariants.{LieWithin}
 use Rattle.model.specs.Capabilities.Lookup.{called_slot}
 use Rattle.model.specs.Capabilities.Slots.{Slots, capability_at}
@@ -48,6 +48,17 @@ value-in n k at r low high is =
           let same : r.low ≡ r.high = eqb-true r.low r.high one in
           let here : r.low ≡ n = let equal : ◌≡◌ {A = Result ℕ Refusal} (Ok r.low) (Ok n) = some in cc in
           omega (arith, same, here, low, high)
+      | false ↦ λ many none. absurd (let clash : ◌≡◌ {A = Result ℕ Refusal} (Err (CallNotConstant at)) (Ok n) = none in cc)
+    ] refl is
+
+-- such a range is that of one value
+range-known : (n : ℕ) (at : Point) (r : Range) → one_value at r ≡ Ok n → r ≡ single n
+range-known n at r is =
+    elim (is_single r) as (λ (b : Bool). is_single r ≡ b → (if b then Ok r.low else Err (CallNotConstant at)) ≡ Ok n → r ≡ single n) [
+      | true ↦ λ one some.
+          let same : r.low ≡ r.high = eqb-true r.low r.high one in
+          let here : r.low ≡ n = let equal : ◌≡◌ {A = Result ℕ Refusal} (Ok r.low) (Ok n) = some in cc in
+          ap (λ (high : ℕ). record r { high = high }) (sym same) ∙ ap single here
       | false ↦ λ many none. absurd (let clash : ◌≡◌ {A = Result ℕ Refusal} (Err (CallNotConstant at)) (Ok n) = none in cc)
     ] refl is
 
@@ -110,6 +121,7 @@ name-known image t at state rule left registers is within =
     let here : read registers a0 ≡ Passes.value first = word-known at state a0 (Passes.value first) registers (omega arith) (Passes.is first) within in
     let called : Result ℕ LookupFailure = called_slot slots (noted_root image t) (Passes.value first) in
     record {
+      known = range-known (Passes.value first) at (range_of state.ranges a0) (Passes.is first) ∙ ap single (sym here);
       slot = Passes.value named;
       found = ap (called_slot slots (noted_root image t)) here ∙ slot-found at called (Passes.value named) (Passes.is named);
       rule = Passes.goes named;

@@ -1,4 +1,4 @@
--- Nobody waits at what ends with a thread's slots: who waits holds a capability to its queue, in slots of its own.
+-- Nobody waits at what ends with a thread's slots: who waits holds the capability that its call names, in slots of its own.
 use Rattle.std.proofs.Common.{ℕ, ◌≡◌, ◌∙◌, ◌==◌, ◌&&◌, inl, inr, Bool, true, false, not, if◌then◌else◌, Option, Some, None, Result, Ok, Err, List, [], ◌∷◌}
 use Rattle.std.proofs.Common.{filter, refl, sym, ap, subst}
 use Rattle.std.specs.Prelude.{fold}
@@ -25,7 +25,8 @@ use Rattle.model.specs.Kernel.State.{NotificationObject, CNodeObject, FrameObjec
 use Rattle.model.specs.declared.capabilities.Cap.{Cap}
 use Rattle.model.specs.declared.capabilities.Cap.TheVariants.{Empty, Untyped, Endpoint, Notification, CNode, Frame, PageTable, Tcb, RootTable, InterruptControl}
 use Rattle.model.specs.declared.capabilities.Cap.TheVariants.{InterruptHandler}
-use Rattle.headline.proofs.moves.Laws.{StandsWaiting, stands-waiting}
+use Rattle.headline.proofs.lookups.Laws.{holds-noted, looks-up-noted}
+use Rattle.headline.proofs.moves.Laws.{StandsWaiting, held-there, stands-waiting}
 use Rattle.headline.specs.invocations.Mirrors.{Mirrors}
 use Rattle.headline.specs.invocations.Running.{Runs}
 use Rattle.headline.proofs.invocations.RealRemoval.{closes-none, stays-named, wants-none}
@@ -99,7 +100,11 @@ module _ (image : Image) (t : Numbered) (s : State) (slots : List NotedSlot) (m 
       let u = StandsWaiting.thread w in
       let so : QueuesSo image u s (StandsWaiting.state w) (StandsWaiting.left w) queue =
       subst (λ (status : Status). WaitsSo image u s (StandsWaiting.state w) (StandsWaiting.left w) status) blocked (StandsWaiting.so w) in
-      queue-stays u queue (QueuesSo.held so)
+      let held : Holds image u.thread s (NamesQueue queue) =
+      held-there holds-noted looks-up-noted m.bytes image u s m.accepted (StandsWaiting.listed w) own (StandsWaiting.point w) (StandsWaiting.state w)
+      (StandsWaiting.left w) (StandsWaiting.stands w) (StandsWaiting.call w) (NamesQueue queue) (QueuesSo.capability so) (QueuesSo.named so)
+      (QueuesSo.leads so) in
+      queue-stays u queue held
       (λ same.
       let at : offset ≡ tcb_of image t = StandsWaiting.is w ∙ ap (tcb_of image) same in
       let running : Runnable ≡ Blocked queue = sym (runs own (ap s.objects (sym at) ∙ there)) ∙ blocked in

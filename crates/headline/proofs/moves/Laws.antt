@@ -3,7 +3,7 @@ pub use Rattle.headline.proofs.moves.Calling.{IsCounted, NoThread, counted}
 pub use Rattle.headline.proofs.moves.Interrupts.{bound-there, unchanged-stand}
 pub use Rattle.headline.proofs.moves.LeftAlone.{one-thread, stands-alone}
 pub use Rattle.headline.proofs.moves.MessageSteps.{call-goes-well}
-pub use Rattle.headline.proofs.moves.NamedSlots.{named-here}
+pub use Rattle.headline.proofs.moves.NamedSlots.{held-there, named-here}
 pub use Rattle.headline.proofs.moves.NotificationCalls.{HasSignalled, signal-leaves-so}
 pub use Rattle.headline.proofs.moves.Passing.{next-address}
 pub use Rattle.headline.proofs.moves.Places.{passed, passed-there, went-here, went-there}

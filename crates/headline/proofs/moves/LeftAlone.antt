@@ -1,17 +1,13 @@
 -- The invariant of a thread that is left alone still holds, and it waits for what it asked.
 use Rattle.std.proofs.Common.{ℕ, ◌≡◌, ◌∙◌, Option, Some, List, pos, ◌+ℤ◌, ◌≤ℤ◌, refl, sym, ap, subst}
 use Rattle.std.specs.Option.{option_map_or}
-use Rattle.headline.specs.facts.Waiting.{NamesQueue, WaitsAsAsked, WaitsSo}
-use Rattle.model.specs.declared.capabilities.Cap.TheVariants.{Empty}
+use Rattle.headline.specs.facts.Waiting.{WaitsAsAsked, WaitsSo}
 use Rattle.model.specs.declared.labels.Label.{Label}
-use Rattle.model.specs.declared.slot_entries.Entry.{Entry}
-use Rattle.model.specs.Acceptance.Authority.{Holds}
 use Rattle.model.specs.Acceptance.CallRules.{AfterCall}
 use Rattle.model.specs.Acceptance.Measures.{measured}
 use Rattle.model.specs.Acceptance.NotedStates.{PointState}
 use Rattle.model.specs.Acceptance.ThreadInvariants.{IsWaiting, IsWithinBudget, LieWithin, StandsAt, ThreadInvariant, WaitsThere, runs as runs_so}
 use Rattle.model.specs.Acceptance.ThreadInvariants.{waits as waits_so, tcb_of}
-use Rattle.model.specs.Capabilities.Slots.{capability_at}
 use Rattle.model.specs.Images.Described.{Numbered}
 use Rattle.model.specs.Images.Image.{Image}
 use Rattle.model.specs.Kernel.State.{State, Status, Inactive, Runnable, Blocked, AwaitsReply, AwaitsHandler, Object, ThreadObject, ThreadState, as_thread}
@@ -26,26 +22,16 @@ pub one-thread : (object : Option Object) (a b : ThreadState) → object ≡ Som
 one-thread object a b first second =
     ap (λ (o : Option Object). option_map_or (λ (u : ThreadState). u) (as_thread o) new_thread) (sym first ∙ second)
 
--- a capability stays where its slot stays
-same-held : (s after : State) (slot : ℕ) → after.slots slot ≡ s.slots slot → capability_at after.slots slot ≡ capability_at s.slots slot
-same-held s after slot same = ap (λ (o : Option Entry). option_map_or (λ (held : Entry). held.capability) o Empty) same
-
 module _ (image : Image) (t : Numbered) (s after : State) (alone : IsLeftAlone image t s after) (queued : WaitsOn s after (tcb_of image t)) where
-  still-held : (queue : ℕ) → Holds image t.thread s (NamesQueue queue) → Holds image t.thread after (NamesQueue queue)
-  still-held queue held =
-      record {
-        slot = held.slot;
-        own = held.own;
-        such = subst (NamesQueue queue) (sym (same-held s after held.slot (alone.untouched.slots held.slot held.own))) held.such;
-      }
-
   still-waits : (state : PointState) (left : AfterCall) (status : Status) → WaitsSo image t s state left status → WaitsSo image t after state left status
   still-waits state left Inactive so = so
   still-waits state left Runnable so = so
   still-waits state left AwaitsReply so = so
   still-waits state left AwaitsHandler so = so
   still-waits state left (Blocked queue) so = record {
-    held = still-held queue so.held;
+    capability = so.capability;
+    named = so.named;
+    leads = so.leads;
     sends = λ e x there among own. let old = queued.sends queue e x there among own in so.sends old.0 x old.1 old.2 own;
     receives = λ e there among. let old = queued.receives queue e there among in so.receives old.0 old.1 old.2;
     waits = λ n there among. let old = queued.waits queue n there among in so.waits old.0 old.1 old.2;

@@ -5,13 +5,11 @@ use Rattle.std.specs.Prelude.{Contains, bit_or}
 use Rattle.std.specs.Option.{option_map_or}
 use Rattle.std.proofs.lemmas.Bool.{eqb-true, eqb-false}
 use Rattle.headline.specs.facts.Standing.{AllStand}
-use Rattle.headline.specs.facts.Waiting.{NamesQueue, QueuesSo, WaitsAsAsked, behind_signal}
+use Rattle.headline.specs.facts.Waiting.{NamesQueue, NamesThere, QueuesSo, WaitsAsAsked, behind_signal}
 use Rattle.headline.proofs.facts.Laws.{at-place}
-use Rattle.model.specs.declared.capabilities.Cap.TheVariants.{Empty}
+use Rattle.model.specs.declared.capabilities.Cap.{Cap}
 use Rattle.model.specs.declared.labels.Label.{Label}
-use Rattle.model.specs.declared.slot_entries.Entry.{Entry}
 use Rattle.model.specs.Acceptance.Accepted.{IsAccepted}
-use Rattle.model.specs.Acceptance.Authority.{Holds}
 use Rattle.headline.specs.moves.Ground.{SameGround}
 use Rattle.model.specs.Acceptance.CallRules.{AfterCall, badges, known_behind}
 use Rattle.model.specs.Acceptance.NotedStates.{PointState}
@@ -39,16 +37,6 @@ use Rattle.headline.proofs.moves.Queued.{IsBlockedAt, contains-before, first-tim
 use Rattle.headline.proofs.moves.Signals.{signal-stands}
 use Rattle.headline.proofs.moves.SimpleCalls.{calls-on, it-moves, with-registers}
 use Rattle.headline.proofs.moves.Standing.{touches-none}
-
--- ---- what a thread holds, it holds where slots stay
-
-pub holds-on : (image : Image) (t : Numbered) (s after : State) (queue : ℕ) → SameGround image s after
-    → Holds image t.thread s (NamesQueue queue) → Holds image t.thread after (NamesQueue queue)
-holds-on image t s after queue store held = record {
-  slot = held.slot;
-  own = held.own;
-  such = subst (NamesQueue queue) (ap (λ (o : Option Entry). option_map_or (λ (x : Entry). x.capability) o Empty) (sym (store.slots held.slot))) held.such;
-}
 
 module _ (laws : Laws) (bytes : List ℕ) (image : Image) (s : State) (labels later : List Label) (accepted : IsAccepted bytes image)
     (all : AllStand image s labels)
@@ -150,7 +138,7 @@ module _ (laws : Laws) (bytes : List ℕ) (image : Image) (s : State) (labels la
 
   -- ---- the thread waits
 
-  module _ (left_is : left ≡ behind_signal state) (held : Holds image t.thread s (NamesQueue n))
+  module _ (left_is : left ≡ behind_signal state) (capability : Cap) (named : NamesThere image t state capability) (leads : NamesQueue n capability)
       (after : State) (sound : IsSound after) (store : SameGround image s after)
       (objects : (y : ℕ) → after.objects y
       ≡ (block (with_notification s n (record old { waiters = old.waiters ++ tcb_of image t ∷ [] })) (tcb_of image t) (Blocked n)).objects y) where
@@ -172,7 +160,9 @@ module _ (laws : Laws) (bytes : List ℕ) (image : Image) (s : State) (labels la
 
     queues-so : QueuesSo image t after state left n
     queues-so = record {
-      held = holds-on image t s after n store held;
+      capability = capability;
+      named = named;
+      leads = leads;
       sends = λ e x there among mine. absurd (let clash : Some (NotificationObject longer) ≡ Some (EndpointObject e) = sym queue-there ∙ there in cc);
       receives = λ e there among. absurd (let clash : Some (NotificationObject longer) ≡ Some (EndpointObject e) = sym queue-there ∙ there in cc);
       waits = λ m there among. left_is;
@@ -195,13 +185,13 @@ module _ (laws : Laws) (bytes : List ℕ) (image : Image) (s : State) (labels la
 
   -- ---- the two calls
 
-  pub wait-stands : left ≡ behind_signal state → Holds image t.thread s (NamesQueue n) → IsSound (wait s n (tcb_of image t)) →
-      AllStand image (wait s n (tcb_of image t)) later
-  wait-stands left_is held =
+  pub wait-stands : left ≡ behind_signal state → (capability : Cap) → NamesThere image t state capability → NamesQueue n capability
+      → IsSound (wait s n (tcb_of image t)) → AllStand image (wait s n (tcb_of image t)) later
+  wait-stands left_is capability named leads =
       let m = notification_at s n in
       let taken = deliver_word (with_notification s n (record m { word = 0 })) tcb m.word in
       elim (m.word == 0) as (λ b. let after = if b then waits_for_signal s n tcb else taken in IsSound after → AllStand image after later) [
-        | true ↦ λ sound. blocks left_is held (waits_for_signal s n tcb) sound
+        | true ↦ λ sound. blocks left_is capability named leads (waits_for_signal s n tcb) sound
             (record { memory_bits = refl; boot_radix = refl; slots = λ slot. refl; bytes = λ frame place code low high. refl })
             (λ y. ap (λ (o : NotificationState). (block (with_notification s n (record o { waiters = o.waiters ++ tcb ∷ [] })) tcb (Blocked n)).objects y)
             read-there)

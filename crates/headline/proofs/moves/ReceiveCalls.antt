@@ -1,17 +1,18 @@
 -- Recv and NBRecv on what the thread names: the step goes well.
-use Rattle.std.proofs.Common.{ℕ, ◌≡◌, ◌∙◌, ◌+◌, ◌++◌, Bool, true, false, if◌then◌else◌, Some, None, Ok, List, [], ◌∷◌, refl, sym, ap, subst}
+use Rattle.std.proofs.Common.{ℕ, ◌≡◌, ◌∙◌, ◌+◌, ◌++◌, inl, inr, Bool, true, false, if◌then◌else◌, Some, None, Ok, List, [], ◌∷◌, refl, sym, ap, subst}
 use Rattle.std.specs.Prelude.{Contains}
 use Rattle.headline.specs.calls.Messages.{ReceivesBy}
 use Rattle.headline.specs.facts.Standing.{AllStand}
-use Rattle.headline.specs.facts.Waiting.{NamesQueue, behind_receive}
+use Rattle.headline.specs.facts.Waiting.{NamesQueue, NamesThere, behind_receive}
 use Rattle.headline.proofs.facts.Laws.{at-place}
+use Rattle.model.specs.declared.capabilities.Cap.{Cap}
+use Rattle.model.specs.declared.capabilities.Cap.TheVariants.{Endpoint, Notification}
 use Rattle.model.specs.declared.labels.Label.{Label}
 use Rattle.model.specs.declared.labels.Label.TheVariants.{Ran}
 use Rattle.model.specs.declared.labels.Outcome.{Outcome}
 use Rattle.model.specs.declared.labels.Outcome.TheVariants.{Waited, Plain}
 use Rattle.model.specs.declared.lookup_failures.LookupFailure.TheVariants.{MissingCapability}
 use Rattle.model.specs.Acceptance.Accepted.{IsAccepted}
-use Rattle.model.specs.Acceptance.Authority.{Holds, IsOwnSlot}
 use Rattle.headline.specs.moves.Ground.{SameGround}
 use Rattle.model.specs.Acceptance.CallRules.{AfterCall, badges, by_capability, known_behind, message_registers, receive_rule, with_message}
 use Rattle.model.specs.Acceptance.NotedStates.{PointState}
@@ -80,28 +81,29 @@ module _ (laws : Laws) (bytes : List ℕ) (image : Image) (s : State) (labels : 
 
     some-sends : (outcome : Outcome) → is_waited outcome ≡ left.is_wait →
         left ≡ known_behind state (with_message state.ranges badges) left.is_wait message_registers
-        → Holds image t.thread s (NamesQueue e) → (otherwise : State) (x : Sender) (others : List Sender) → (endpoint_at ready e).senders ≡ x ∷ others
+        → (otherwise : State) (x : Sender) (others : List Sender) → (endpoint_at ready e).senders ≡ x ∷ others
         → IsSound (receives ready e tcb otherwise (x ∷ others)) → AllStand image (receives ready e tcb otherwise (x ∷ others)) (behind outcome)
-    some-sends outcome waited asks held otherwise x others first sound =
+    some-sends outcome waited asks otherwise x others first sound =
         let f = record (endpoint_at ready e) { senders = others } in
         let after = receive_from (with_endpoint ready e f) x tcb in
-        receives-stand laws bytes image s labels (behind outcome) accepted all t listed own point state left at (counts outcome waited) e old was held after
+        receives-stand laws bytes image s labels (behind outcome) accepted all t listed own point state left at (counts outcome waited) e old was after
         sound
         (store-received x f x.badge (message_sent (with_endpoint ready e f) x x.sent) x.sent) x others first (λ y. refl) asks
 
-    receive-waits : left ≡ behind_receive state → Holds image t.thread s (NamesQueue e) → IsSound (receive s e tcb) →
-        AllStand image (receive s e tcb) (behind Waited)
-    receive-waits asks held =
+    receive-waits : left ≡ behind_receive state → (capability : Cap) → NamesThere image t state capability → NamesQueue e capability
+        → IsSound (receive s e tcb) → AllStand image (receive s e tcb) (behind Waited)
+    receive-waits asks capability named leads =
         let wait : true ≡ left.is_wait = sym (ap (λ (l : AfterCall). l.is_wait) asks) in
         let asks_so : left ≡ known_behind state (with_message state.ranges badges) left.is_wait message_registers = asks
         ∙ ap (λ b. known_behind state (with_message state.ranges badges) b message_registers) wait in
         elim (endpoint_at ready e).senders as (λ xs. (endpoint_at ready e).senders ≡ xs → IsSound (receives ready e tcb (waits_to_receive ready e tcb) xs) →
         AllStand image (receives ready e tcb (waits_to_receive ready e tcb) xs) (behind Waited)) [
           | [] ↦ λ none sound.
-              blocks-stand laws bytes image s labels (behind Waited) accepted all t listed own point state left at (counts Waited wait) e old was held
+              blocks-stand laws bytes image s labels (behind Waited) accepted all t listed own point state left at (counts Waited wait) e old was
               (waits_to_receive ready e tcb) sound
               (record { memory_bits = refl; boot_radix = refl; slots = λ slot. refl; bytes = λ frame place code low high. refl }) none (λ y. refl) asks
-          | x ∷ others ↦ λ first sound. some-sends Waited wait asks_so held (waits_to_receive ready e tcb) x others first sound
+              capability named leads
+          | x ∷ others ↦ λ first sound. some-sends Waited wait asks_so (waits_to_receive ready e tcb) x others first sound
         ] refl
 
     -- nothing is there: a0 becomes 0
@@ -131,16 +133,16 @@ module _ (laws : Laws) (bytes : List ℕ) (image : Image) (s : State) (labels : 
         (ap (λ (l : AfterCall). l.slots) asks) passes
         (λ y other. passed-there ready tcb (write (thread_at ready tcb).registers a0 0) y other ∙ caller-there s tcb None y other)
 
-    receive-polls : left ≡ known_behind state (with_message state.ranges badges) false message_registers → Holds image t.thread s (NamesQueue e) →
+    receive-polls : left ≡ known_behind state (with_message state.ranges badges) false message_registers →
         IsSound (try_to_receive s e tcb) → AllStand image (try_to_receive s e tcb) (behind Plain)
-    receive-polls asks held =
+    receive-polls asks =
         let wait : false ≡ left.is_wait = sym (ap (λ (l : AfterCall). l.is_wait) asks) in
         let asks_so : left ≡ known_behind state (with_message state.ranges badges) left.is_wait message_registers = asks
         ∙ ap (λ b. known_behind state (with_message state.ranges badges) b message_registers) wait in
         elim (endpoint_at ready e).senders as (λ xs. (endpoint_at ready e).senders ≡ xs → IsSound (receives ready e tcb (deliver_word ready tcb 0) xs) →
         AllStand image (receives ready e tcb (deliver_word ready tcb 0) xs) (behind Plain)) [
           | [] ↦ λ none sound. finds-nothing asks sound
-          | x ∷ others ↦ λ first sound. some-sends Plain wait asks_so held (deliver_word ready tcb 0) x others first sound
+          | x ∷ others ↦ λ first sound. some-sends Plain wait asks_so (deliver_word ready tcb 0) x others first sound
         ] refl
 
   -- ---- whatever the thread names
@@ -153,30 +155,32 @@ module _ (laws : Laws) (bytes : List ℕ) (image : Image) (s : State) (labels : 
       AllStand image after (behind outcome) → IsFine image t labels pc (after, outcome)
   fine outcome after runs allowed stands = record { faults = runs; errors = allowed; stands = stands }
 
-  by-object : (kind : ReceiveCall) (slot : ℕ) → IsOwnSlot image t.thread slot → ReceivesBy state (is_wait_of kind) (capability_at s.slots slot) left
+  by-object : (kind : ReceiveCall) (slot : ℕ) → NamesThere image t state (capability_at s.slots slot) → ReceivesBy state (is_wait_of kind) (capability_at s.slots slot) left
       → IsSound (receive_by s tcb kind (capability_at s.slots slot)).0 → IsFine image t labels pc (receive_by s tcb kind (capability_at s.slots slot))
-  by-object Receiving slot mine (ReceivesBy.on_endpoint offset r badge is reads asks) =
-      let there = endpoint-named image t s labels all slot mine offset r badge is in
+  by-object Receiving slot names (ReceivesBy.on_endpoint offset r badge is reads asks) =
+      let there = endpoint-named image t s labels all state slot names offset r badge is in
       let same : receive_by s tcb Receiving (capability_at s.slots slot) ≡ (receive s offset tcb, Waited) =
       ap (receive_by s tcb Receiving) is ∙ ap (λ b. if b then (receive s offset tcb, Waited) else lacks_capability s tcb 1 MissingCapability) reads in
       subst (λ (done : Done). IsSound done.0 → IsFine image t labels pc done) (sym same)
-      (λ sound. fine Waited (receive s offset tcb) refl refl (receive-waits offset there.old there.was asks there.held sound))
-  by-object Polling slot mine (ReceivesBy.on_endpoint offset r badge is reads asks) =
-      let there = endpoint-named image t s labels all slot mine offset r badge is in
+      (λ sound. fine Waited (receive s offset tcb) refl refl (receive-waits offset there.old there.was asks (Endpoint offset r badge)
+      there.named (inl refl) sound))
+  by-object Polling slot names (ReceivesBy.on_endpoint offset r badge is reads asks) =
+      let there = endpoint-named image t s labels all state slot names offset r badge is in
       let same : receive_by s tcb Polling (capability_at s.slots slot) ≡ (try_to_receive s offset tcb, Plain) =
       ap (receive_by s tcb Polling) is ∙ ap (λ b. if b then (try_to_receive s offset tcb, Plain) else lacks_capability s tcb 1 MissingCapability) reads in
       subst (λ (done : Done). IsSound done.0 → IsFine image t labels pc done) (sym same)
-      (λ sound. fine Plain (try_to_receive s offset tcb) refl refl (receive-polls offset there.old there.was asks there.held sound))
-  by-object Receiving slot mine (ReceivesBy.on_notification offset r badge is reads asks) =
-      let there = notification-named image t s labels all slot mine offset r badge is in
+      (λ sound. fine Plain (try_to_receive s offset tcb) refl refl (receive-polls offset there.old there.was asks sound))
+  by-object Receiving slot names (ReceivesBy.on_notification offset r badge is reads asks) =
+      let there = notification-named image t s labels all state slot names offset r badge is in
       let same : receive_by s tcb Receiving (capability_at s.slots slot) ≡ (wait s offset tcb, Waited) =
       ap (receive_by s tcb Receiving) is ∙ ap (λ b. if b then (wait s offset tcb, Waited) else lacks_capability s tcb 1 MissingCapability) reads in
       subst (λ (done : Done). IsSound done.0 → IsFine image t labels pc done) (sym same)
       (λ sound. fine Waited (wait s offset tcb) refl refl
       (wait-stands laws bytes image s labels (behind Waited) accepted all t listed own point state left at
-      (counts Waited (sym (ap (λ (l : AfterCall). l.is_wait) asks))) offset there.old there.was asks there.held sound))
-  by-object Polling slot mine (ReceivesBy.on_notification offset r badge is reads asks) =
-      let there = notification-named image t s labels all slot mine offset r badge is in
+      (counts Waited (sym (ap (λ (l : AfterCall). l.is_wait) asks))) offset there.old there.was asks
+      (Notification offset r badge) there.named (inr refl) sound))
+  by-object Polling slot names (ReceivesBy.on_notification offset r badge is reads asks) =
+      let there = notification-named image t s labels all state slot names offset r badge is in
       let same : receive_by s tcb Polling (capability_at s.slots slot) ≡ (poll s offset tcb, Plain) =
       ap (receive_by s tcb Polling) is ∙ ap (λ b. if b then (poll s offset tcb, Plain) else lacks_capability s tcb 1 MissingCapability) reads in
       subst (λ (done : Done). IsSound done.0 → IsFine image t labels pc done) (sym same)
@@ -192,4 +196,4 @@ module _ (laws : Laws) (bytes : List ℕ) (image : Image) (s : State) (labels : 
       (λ slot. receive_rule (point_of t point) state (is_wait_of kind)) rule in
       let by = laws.receives (point_of t point) state (is_wait_of kind) (capability_at s.slots names.slot) left names.rule in
       subst (λ (done : Done). IsSound done.0 → IsFine image t labels pc done) (sym (ap (receive_named s tcb kind) names.named))
-      (by-object kind names.slot names.own by)
+      (by-object kind names.slot names.there by)

@@ -4,11 +4,11 @@ use Rattle.std.proofs.Common.{sym, ap, subst, arith}
 use Rattle.std.specs.Prelude.{Contains}
 use Rattle.std.proofs.lemmas.Bool.{eqb-true, eqb-false}
 use Rattle.headline.specs.facts.Standing.{AllStand}
-use Rattle.headline.specs.facts.Waiting.{NamesQueue, SendsSo, WaitsAsAsked, WaitsSo, behind_receive}
+use Rattle.headline.specs.facts.Waiting.{NamesQueue, NamesThere, SendsAs, WaitsAsAsked, WaitsSo, behind_receive}
 use Rattle.headline.proofs.facts.Laws.{at-place}
+use Rattle.model.specs.declared.capabilities.Cap.{Cap}
 use Rattle.model.specs.declared.labels.Label.{Label}
 use Rattle.model.specs.Acceptance.Accepted.{IsAccepted}
-use Rattle.model.specs.Acceptance.Authority.{Holds}
 use Rattle.headline.specs.moves.Ground.{SameGround}
 use Rattle.model.specs.Acceptance.CallRules.{AfterCall, badges, known_behind, message_registers, with_message}
 use Rattle.model.specs.Acceptance.NotedStates.{PointState}
@@ -31,7 +31,6 @@ use Rattle.headline.specs.calls.Laws.{IsMessage}
 use Rattle.headline.proofs.moves.LeftAlone.{one-thread}
 use Rattle.headline.proofs.moves.Asked.{asked-once}
 use Rattle.headline.proofs.moves.Calling.{IsCounted, QueueChanges, QueuesOn, own-passes, own-registers, rest-by-queue}
-use Rattle.headline.proofs.moves.NotificationCalls.{holds-on}
 use Rattle.headline.proofs.moves.Pairs.{two-move}
 use Rattle.headline.proofs.moves.Passing.{begins}
 use Rattle.headline.proofs.moves.Places.{at-endpoint, blocked, blocked-there, caller-here, caller-there, delivered-here, delivered-there, endpoint-here}
@@ -49,7 +48,7 @@ module _ (laws : Laws) (bytes : List ℕ) (image : Image) (s : State) (labels la
     (all : AllStand image s labels)
     (t : Numbered) (listed : Contains (numbered_threads image) t) (own : ThreadState) (point : ℕ) (state : PointState) (left : AfterCall)
     (at : CallsAt image t s labels own point state left) (counts : IsCounted image t labels later left.is_wait)
-    (e : ℕ) (old : EndpointState) (was : s.objects e ≡ Some (EndpointObject old)) (held : Holds image t.thread s (NamesQueue e))
+    (e : ℕ) (old : EndpointState) (was : s.objects e ≡ Some (EndpointObject old))
     (after : State) (sound : IsSound after) (store : SameGround image s after) where
   abbrev tcb : ℕ
   tcb = tcb_of image t
@@ -77,7 +76,8 @@ module _ (laws : Laws) (bytes : List ℕ) (image : Image) (s : State) (labels la
 
   -- ---- nobody sends
 
-  module _ (none : ep.senders ≡ []) (objects : (y : ℕ) → after.objects y ≡ (waits_to_receive ready e tcb).objects y) (asks : left ≡ behind_receive state) where
+  module _ (none : ep.senders ≡ []) (objects : (y : ℕ) → after.objects y ≡ (waits_to_receive ready e tcb).objects y) (asks : left ≡ behind_receive state)
+      (capability : Cap) (named : NamesThere image t state capability) (leads : NamesQueue e capability) where
     abbrev queued : EndpointState
     queued = record ep { receivers = ep.receivers ++ tcb ∷ [] }
 
@@ -125,7 +125,9 @@ module _ (laws : Laws) (bytes : List ℕ) (image : Image) (s : State) (labels la
     asked =
         asked-once image t after next after-own point state left at.stands.pc at.stands.known at.call
         (record {
-          held = holds-on image t s after e store held;
+          capability = capability;
+          named = named;
+          leads = leads;
           sends = λ f x is among mine. absurd (let same : queued ≡ f = let both : Some (EndpointObject queued) ≡ Some (EndpointObject f) = sym after-queue
               ∙ is in cc in
               let empty : Contains [] x = subst (λ (xs : List Sender). Contains xs x) (ap (λ (g : EndpointState). g.senders) (sym same) ∙ none) among in
@@ -211,10 +213,10 @@ module _ (laws : Laws) (bytes : List ℕ) (image : Image) (s : State) (labels la
     waits-so = stands-waiting image s labels all from sender blocked-from.is (subst IsWaiting (sym blocked-from.status) tt)
 
     sends-so : (u : Numbered) (state : PointState) (left : AfterCall) → from ≡ tcb_of image u → WaitsSo image u s state left sender.status →
-        SendsSo state left x
+        SendsAs state left x
     sends-so u state left is so =
-        (subst (WaitsSo image u s state left) blocked-from.status so).sends ep x was-ep
-        (subst (λ (xs : List Sender). Contains xs x) (sym first) (0, omega arith, refl)) is
+        ((subst (WaitsSo image u s state left) blocked-from.status so).sends ep x was-ep
+        (subst (λ (xs : List Sender). Contains xs x) (sym first) (0, omega arith, refl)) is).kind
 
     queued-still : (thread : ℕ) → QueuesOn (EndpointObject ep) (EndpointObject fewer) thread
     queued-still thread = record {

@@ -1,10 +1,11 @@
 -- Call, Send and NBSend on an endpoint or a notification: the step goes well.
-use Rattle.std.proofs.Common.{ℕ, ◌≡◌, ◌∙◌, ◌+◌, ◌++◌, ◌^◌, ◌<◌, Bool, true, false, if◌then◌else◌, Some, option_map, Ok, List, [], ◌∷◌, refl, sym, ap, subst}
+use Rattle.std.proofs.Common.{ℕ, ◌≡◌, ◌∙◌, ◌+◌, ◌++◌, ◌^◌, ◌<◌, inl, Bool, true, false, if◌then◌else◌, Some, option_map, Ok, List, [], ◌∷◌, refl, sym, ap, subst}
 use Rattle.std.specs.Prelude.{Contains}
 use Rattle.headline.specs.calls.Messages.{IsInvoked, SendsBy}
 use Rattle.headline.specs.facts.Standing.{AllStand}
-use Rattle.headline.specs.facts.Waiting.{NamesQueue, SendsSo, behind_reply}
+use Rattle.headline.specs.facts.Waiting.{NamesThere, SendsAs, behind_reply}
 use Rattle.model.specs.declared.capabilities.Cap.{Cap}
+use Rattle.model.specs.declared.capabilities.Cap.TheVariants.{Endpoint}
 use Rattle.model.specs.declared.errors.KError.TheVariants.{InvalidCapability}
 use Rattle.model.specs.declared.labels.Label.{Label}
 use Rattle.model.specs.declared.labels.Label.TheVariants.{Ran}
@@ -12,7 +13,6 @@ use Rattle.model.specs.declared.labels.Outcome.{Outcome}
 use Rattle.model.specs.declared.labels.Outcome.TheVariants.{Waited, Plain}
 use Rattle.model.specs.declared.rights.Rights.{Rights}
 use Rattle.model.specs.Acceptance.Accepted.{IsAccepted}
-use Rattle.model.specs.Acceptance.Authority.{Holds, IsOwnSlot}
 use Rattle.headline.specs.moves.Ground.{SameGround}
 use Rattle.model.specs.Acceptance.CallRules.{AfterCall, answers, by_capability, changes_nothing, known_behind, send_rule, with_answer}
 use Rattle.model.specs.Acceptance.NotedStates.{PointState}
@@ -54,23 +54,23 @@ module _ (laws : Laws) (bytes : List ℕ) (image : Image) (s : State) (labels : 
 
   -- ---- endpoints
 
-  module _ (e badge : ℕ) (small : badge < 2 ^ 28) (old : EndpointState) (was : s.objects e ≡ Some (EndpointObject old))
-      (held : Holds image t.thread s (NamesQueue e)) where
-    by-call : (grants : Bool) → grants ≡ true → left ≡ behind_reply state → IsSound (send s e (sender tcb ByCall badge grants)) →
+  module _ (e : ℕ) (r : Rights) (badge : ℕ) (small : badge < 2 ^ 28) (old : EndpointState) (was : s.objects e ≡ Some (EndpointObject old))
+      (named : NamesThere image t state (Endpoint e r badge)) where
+    by-call : (grants : Bool) → grants ≡ may_grant_reply r → grants ≡ true → left ≡ behind_reply state → IsSound (send s e (sender tcb ByCall badge grants)) →
         AllStand image (send s e (sender tcb ByCall badge grants)) (behind Waited)
-    by-call grants grant asks =
+    by-call grants same grant asks =
         let x = sender tcb ByCall badge grants in
         let wait : true ≡ left.is_wait = sym (ap (λ (l : AfterCall). l.is_wait) asks) in
         elim (endpoint_at s e).receivers as (λ xs. (endpoint_at s e).receivers ≡ xs → IsSound (sends s e x xs) →
         AllStand image (sends s e x xs) (behind Waited)) [
           | [] ↦ λ none sound.
-              waits-stand laws bytes image s labels (behind Waited) accepted all t listed own point state left at (counts Waited wait) e old was held ByCall
+              waits-stand laws bytes image s labels (behind Waited) accepted all t listed own point state left at (counts Waited wait) e old was ByCall
               badge grants (waits_to_send s e x) sound
               (record { memory_bits = refl; boot_radix = refl; slots = λ slot. refl; bytes = λ frame place code low high. refl }) none (λ y. refl) (sym wait)
-              (SendsSo.by_call refl grant asks)
+              (Endpoint e r badge) named (inl refl) (record { badge = refl; grants = same; kind = SendsAs.by_call refl grant asks })
           | r ∷ others ↦ λ first sound.
               let one = with_endpoint s e (record (endpoint_at s e) { receivers = others }) in
-              called-stands laws bytes image s labels (behind Waited) accepted all t listed own point state left at (counts Waited wait) e old was held ByCall
+              called-stands laws bytes image s labels (behind Waited) accepted all t listed own point state left at (counts Waited wait) e old was ByCall
               badge grants (send_to one x r) sound
               (elim grants as (λ g. SameGround image s (send_to one (sender tcb ByCall badge g) r)) [
                 | true ↦ record { memory_bits = refl; boot_radix = refl; slots = λ slot. refl; bytes = λ frame place code low high. refl }
@@ -78,18 +78,18 @@ module _ (laws : Laws) (bytes : List ℕ) (image : Image) (s : State) (labels : 
               ]) r others first small (λ y. refl) refl grant asks
         ] refl
 
-    by-send : (grants : Bool) → left ≡ changes_nothing state true → IsSound (send s e (sender tcb BySend badge grants)) →
+    by-send : (grants : Bool) → grants ≡ may_grant_reply r → left ≡ changes_nothing state true → IsSound (send s e (sender tcb BySend badge grants)) →
         AllStand image (send s e (sender tcb BySend badge grants)) (behind Waited)
-    by-send grants asks =
+    by-send grants same asks =
         let x = sender tcb BySend badge grants in
         let wait : true ≡ left.is_wait = sym (ap (λ (l : AfterCall). l.is_wait) asks) in
         elim (endpoint_at s e).receivers as (λ xs. (endpoint_at s e).receivers ≡ xs → IsSound (sends s e x xs) →
         AllStand image (sends s e x xs) (behind Waited)) [
           | [] ↦ λ none sound.
-              waits-stand laws bytes image s labels (behind Waited) accepted all t listed own point state left at (counts Waited wait) e old was held BySend
+              waits-stand laws bytes image s labels (behind Waited) accepted all t listed own point state left at (counts Waited wait) e old was BySend
               badge grants (waits_to_send s e x) sound
               (record { memory_bits = refl; boot_radix = refl; slots = λ slot. refl; bytes = λ frame place code low high. refl }) none (λ y. refl) (sym wait)
-              (SendsSo.by_send refl asks)
+              (Endpoint e r badge) named (inl refl) (record { badge = refl; grants = same; kind = SendsAs.by_send refl asks })
           | r ∷ others ↦ λ first sound. to-receiver Waited wait grants r others first (asks ∙ ap (changes_nothing state) wait) sound
         ] refl
       where
@@ -98,7 +98,7 @@ module _ (laws : Laws) (bytes : List ℕ) (image : Image) (s : State) (labels : 
             → IsSound (sends s e (sender tcb BySend badge grants) (r ∷ others)) →
             AllStand image (sends s e (sender tcb BySend badge grants) (r ∷ others)) (behind outcome)
         to-receiver outcome waited grants r others first asks sound =
-            sent-stands laws bytes image s labels (behind outcome) accepted all t listed own point state left at (counts outcome waited) e old was held BySend
+            sent-stands laws bytes image s labels (behind outcome) accepted all t listed own point state left at (counts outcome waited) e old was BySend
             badge grants
             (send_to (with_endpoint s e (record (endpoint_at s e) { receivers = others })) (sender tcb BySend badge grants) r) sound
             (record { memory_bits = refl; boot_radix = refl; slots = λ slot. refl; bytes = λ frame place code low high. refl }) r others first small (λ y. refl)
@@ -114,7 +114,7 @@ module _ (laws : Laws) (bytes : List ℕ) (image : Image) (s : State) (labels : 
           | [] ↦ λ none sound. passes-stand laws bytes image s labels (behind Plain) accepted all t listed own point state left at (counts Plain wait) asks
               sound
           | r ∷ others ↦ λ first sound.
-              sent-stands laws bytes image s labels (behind Plain) accepted all t listed own point state left at (counts Plain wait) e old was held BySend badge
+              sent-stands laws bytes image s labels (behind Plain) accepted all t listed own point state left at (counts Plain wait) e old was BySend badge
               grants
               (send_to (with_endpoint s e (record (endpoint_at s e) { receivers = others })) x r) sound
               (record { memory_bits = refl; boot_radix = refl; slots = λ slot. refl; bytes = λ frame place code low high. refl }) r others first small
@@ -159,11 +159,11 @@ module _ (laws : Laws) (bytes : List ℕ) (image : Image) (s : State) (labels : 
       let same : send_by s tcb kind slot c ≡ by = is ∙ ap (λ b. if b then by else refused s tcb kind InvalidCapability) writes in
       λ goes. subst (λ (d : Done). IsSound d.0 → IsFine image t labels pc d) (sym same) goes
 
-  by-object : (kind : SendCall) (slot : ℕ) → IsOwnSlot image t.thread slot → (IsInvoked (capability_at s.slots slot) → ⊥)
+  by-object : (kind : SendCall) (slot : ℕ) → NamesThere image t state (capability_at s.slots slot) → (IsInvoked (capability_at s.slots slot) → ⊥)
       → SendsBy image t.thread (point_of t point) state kind slot (capability_at s.slots slot) left
       → IsSound (send_by s tcb kind slot (capability_at s.slots slot)).0 → IsFine image t labels pc (send_by s tcb kind slot (capability_at s.slots slot))
-  by-object kind slot mine quiet (SendsBy.calls offset r badge kind_is is writes grants asks) =
-      let there = endpoint-named image t s labels all slot mine offset r badge is in
+  by-object kind slot names quiet (SendsBy.calls offset r badge kind_is is writes grants asks) =
+      let there = endpoint-named image t s labels all state slot names offset r badge is in
       let by : Done = send_on s tcb Calling offset badge (may_grant_reply r) in
       used kind slot (capability_at s.slots slot) by r writes
       (ap (λ k. send_by s tcb k slot (capability_at s.slots slot)) kind_is ∙ ap (send_by s tcb Calling slot) is
@@ -172,10 +172,10 @@ module _ (laws : Laws) (bytes : List ℕ) (image : Image) (s : State) (labels : 
         faults = refl;
         errors = refl;
         stands =
-            by-call offset badge there.small there.old there.was there.held (may_grant_reply r) grants asks sound;
+            by-call offset r badge there.small there.old there.was there.named (may_grant_reply r) refl grants asks sound;
       })
-  by-object kind slot mine quiet (SendsBy.sends offset r badge kind_is is writes asks) =
-      let there = endpoint-named image t s labels all slot mine offset r badge is in
+  by-object kind slot names quiet (SendsBy.sends offset r badge kind_is is writes asks) =
+      let there = endpoint-named image t s labels all state slot names offset r badge is in
       let by : Done = send_on s tcb Sending offset badge (may_grant_reply r) in
       used kind slot (capability_at s.slots slot) by r writes
       (ap (λ k. send_by s tcb k slot (capability_at s.slots slot)) kind_is ∙ ap (send_by s tcb Sending slot) is
@@ -184,21 +184,21 @@ module _ (laws : Laws) (bytes : List ℕ) (image : Image) (s : State) (labels : 
         faults = refl;
         errors = refl;
         stands =
-            by-send offset badge there.small there.old there.was there.held (may_grant_reply r) asks sound;
+            by-send offset r badge there.small there.old there.was there.named (may_grant_reply r) refl asks sound;
       })
-  by-object kind slot mine quiet (SendsBy.tries offset r badge kind_is is writes asks) =
-      let there = endpoint-named image t s labels all slot mine offset r badge is in
+  by-object kind slot names quiet (SendsBy.tries offset r badge kind_is is writes asks) =
+      let there = endpoint-named image t s labels all state slot names offset r badge is in
       let by : Done = send_on s tcb Trying offset badge (may_grant_reply r) in
       used kind slot (capability_at s.slots slot) by r writes
       (ap (λ k. send_by s tcb k slot (capability_at s.slots slot)) kind_is ∙ ap (send_by s tcb Trying slot) is
       ∙ ap (λ k. if may_write r then by else refused s tcb k InvalidCapability) (sym kind_is))
-      (λ sound. record { faults = refl; errors = refl; stands = by-try offset badge there.small there.old there.was there.held (may_grant_reply r) asks sound })
-  by-object kind slot mine quiet (SendsBy.signals offset r badge is writes asks) =
-      let there = notification-named image t s labels all slot mine offset r badge is in
+      (λ sound. record { faults = refl; errors = refl; stands = by-try offset r badge there.small there.old there.was there.named (may_grant_reply r) asks sound })
+  by-object kind slot names quiet (SendsBy.signals offset r badge is writes asks) =
+      let there = notification-named image t s labels all state slot names offset r badge is in
       let by : Done = signal_on s tcb kind offset badge in
       used kind slot (capability_at s.slots slot) by r writes (ap (send_by s tcb kind slot) is)
       (signal-fine offset badge there.small there.old there.was kind asks)
-  by-object kind slot mine quiet (SendsBy.invokes invoked asks) = absurd (quiet invoked)
+  by-object kind slot names quiet (SendsBy.invokes invoked asks) = absurd (quiet invoked)
 
   pub send-fine : (kind : SendCall) → by_capability image t.thread (point_of t point) state (send_rule image t.thread (point_of t point) state kind) ≡ Ok left
       → ((slot : ℕ) → named_slot s tcb ≡ Ok slot → IsInvoked (capability_at s.slots slot) → ⊥) → IsSound (send_call s tcb kind).0 →
@@ -208,4 +208,4 @@ module _ (laws : Laws) (bytes : List ℕ) (image : Image) (s : State) (labels : 
       rule in
       let by = laws.sends image t.thread (point_of t point) state kind names.slot (capability_at s.slots names.slot) left names.rule in
       subst (λ (done : Done). IsSound done.0 → IsFine image t labels pc done) (sym (ap (send_named s tcb kind) names.named))
-      (by-object kind names.slot names.own (quiet names.slot names.named) by)
+      (by-object kind names.slot names.there (quiet names.slot names.named) by)

@@ -4,11 +4,11 @@ use Rattle.std.proofs.Common.{length, map, get_or, refl, sym, ap, subst, arith}
 use Rattle.std.specs.Prelude.{Contains}
 use Rattle.std.proofs.lemmas.Bool.{eqb-true, eqb-false}
 use Rattle.headline.specs.facts.Standing.{AllStand}
-use Rattle.headline.specs.facts.Waiting.{NamesQueue, SendsSo, WaitsAsAsked, WaitsSo, behind_receive, behind_reply}
+use Rattle.headline.specs.facts.Waiting.{NamesQueue, NamesThere, SendsSo, WaitsAsAsked, WaitsSo, behind_receive, behind_reply}
 use Rattle.headline.proofs.facts.Laws.{at-place}
+use Rattle.model.specs.declared.capabilities.Cap.{Cap}
 use Rattle.model.specs.declared.labels.Label.{Label}
 use Rattle.model.specs.Acceptance.Accepted.{IsAccepted}
-use Rattle.model.specs.Acceptance.Authority.{Holds}
 use Rattle.headline.specs.moves.Ground.{SameGround}
 use Rattle.model.specs.Acceptance.CallRules.{AfterCall, changes_nothing}
 use Rattle.model.specs.Acceptance.NotedStates.{PointState}
@@ -32,7 +32,6 @@ use Rattle.headline.specs.calls.Laws.{IsMessage}
 use Rattle.headline.proofs.moves.LeftAlone.{one-thread}
 use Rattle.headline.proofs.moves.Asked.{asked-once}
 use Rattle.headline.proofs.moves.Calling.{IsCounted, QueueChanges, QueuesOn, own-passes, rest-by-queue}
-use Rattle.headline.proofs.moves.NotificationCalls.{holds-on}
 use Rattle.headline.proofs.moves.Pairs.{two-move}
 use Rattle.headline.proofs.moves.Passing.{begins}
 use Rattle.headline.proofs.moves.Places.{at-endpoint, blocked, blocked-there, caller-here, caller-there, delivered-here, delivered-there, endpoint-here}
@@ -69,7 +68,7 @@ module _ (laws : Laws) (bytes : List ℕ) (image : Image) (s : State) (labels la
     (all : AllStand image s labels)
     (t : Numbered) (listed : Contains (numbered_threads image) t) (own : ThreadState) (point : ℕ) (state : PointState) (left : AfterCall)
     (at : CallsAt image t s labels own point state left) (counts : IsCounted image t labels later left.is_wait)
-    (e : ℕ) (old : EndpointState) (was : s.objects e ≡ Some (EndpointObject old)) (held : Holds image t.thread s (NamesQueue e))
+    (e : ℕ) (old : EndpointState) (was : s.objects e ≡ Some (EndpointObject old))
     (sent : Sent) (badge : ℕ) (grants : Bool) (after : State) (sound : IsSound after) (store : SameGround image s after) where
   abbrev tcb : ℕ
   tcb = tcb_of image t
@@ -89,7 +88,7 @@ module _ (laws : Laws) (bytes : List ℕ) (image : Image) (s : State) (labels la
   -- ---- nobody receives
 
   module _ (none : ep.receivers ≡ []) (objects : (y : ℕ) → after.objects y ≡ (waits_to_send s e x).objects y) (waits : left.is_wait ≡ true)
-      (so : SendsSo state left x) where
+      (capability : Cap) (named : NamesThere image t state capability) (leads : NamesQueue e capability) (so : SendsSo state left capability x) where
     abbrev queued : EndpointState
     queued = record ep { senders = ep.senders ++ x ∷ [] }
 
@@ -139,19 +138,22 @@ module _ (laws : Laws) (bytes : List ℕ) (image : Image) (s : State) (labels la
         let same : there.own ≡ own = one-thread (s.objects tcb) there.own own (ap s.objects (sym mine) ∙ there.is) at.there in
         let clash : Blocked e ≡ Runnable = sym there.status ∙ ap (λ (u : ThreadState). u.status) same ∙ at.status in absurd cc
 
-    sends-own : (f : EndpointState) (y : Sender) → after.objects e ≡ Some (EndpointObject f) → Contains f.senders y → y.thread ≡ tcb → SendsSo state left y
+    sends-own : (f : EndpointState) (y : Sender) → after.objects e ≡ Some (EndpointObject f) → Contains f.senders y → y.thread ≡ tcb
+        → SendsSo state left capability y
     sends-own f y is among mine =
         let same : queued ≡ f = let both : Some (EndpointObject queued) ≡ Some (EndpointObject f) = sym after-queue ∙ is in cc in
         elim (contains-last ep.senders y x (subst (λ (g : EndpointState). Contains g.senders y) (sym same) among)) [
           | inl before ↦ absurd (not-queued y before mine)
-          | inr last ↦ subst (SendsSo state left) last so
+          | inr last ↦ subst (SendsSo state left capability) last so
         ]
 
     asked : WaitsAsAsked image t after
     asked =
         asked-once image t after next after-own point state left at.stands.pc at.stands.known at.call
         (record {
-          held = holds-on image t s after e store held;
+          capability = capability;
+          named = named;
+          leads = leads;
           sends = sends-own;
           receives = λ f is among. absurd (let same : queued ≡ f = let both : Some (EndpointObject queued) ≡ Some (EndpointObject f) = sym after-queue ∙ is in
               cc in

@@ -4,7 +4,7 @@ use Rattle.std.proofs.Common.{All, refl, sym, ap, subst, arith}
 use Rattle.std.specs.Prelude.{Contains, slice_set}
 use Rattle.std.proofs.lemmas.List.Elements.{All-cons, All-nil}
 use Rattle.headline.specs.facts.Standing.{AllStand, IsControlBlock}
-use Rattle.headline.specs.facts.Waiting.{SendsSo, WaitsSo, behind_reply}
+use Rattle.headline.specs.facts.Waiting.{SendsAs, WaitsSo, behind_reply}
 use Rattle.headline.proofs.facts.Laws.{read-less}
 use Rattle.model.specs.declared.instructions.Instr.TheVariants.{Ecall}
 use Rattle.model.specs.declared.instructions.Register.{Register}
@@ -88,18 +88,18 @@ module _ (image : Image) (s : State) (labels : List Label) (all : AllStand image
 
 -- ---- what it sends
 
-pub sent-so : (state : PointState) (left : AfterCall) (x : Sender) → SendsSo state left x → x.sent ≡ BySend → left ≡ changes_nothing state true
-sent-so state left x (SendsSo.by_send sent is) kind = is
-sent-so state left x (SendsSo.by_call sent grants is) kind = let clash : ByCall ≡ BySend = sym sent ∙ kind in absurd cc
+pub sent-so : (state : PointState) (left : AfterCall) (x : Sender) → SendsAs state left x → x.sent ≡ BySend → left ≡ changes_nothing state true
+sent-so state left x (SendsAs.by_send sent is) kind = is
+sent-so state left x (SendsAs.by_call sent grants is) kind = let clash : ByCall ≡ BySend = sym sent ∙ kind in absurd cc
 
-pub called-so : (state : PointState) (left : AfterCall) (x : Sender) → SendsSo state left x → x.sent ≡ ByCall → (x.grant_reply ≡ true)
+pub called-so : (state : PointState) (left : AfterCall) (x : Sender) → SendsAs state left x → x.sent ≡ ByCall → (x.grant_reply ≡ true)
     × (left ≡ behind_reply state)
-called-so state left x (SendsSo.by_send sent is) kind = let clash : BySend ≡ ByCall = sym sent ∙ kind in absurd cc
-called-so state left x (SendsSo.by_call sent grants is) kind = (grants, is)
+called-so state left x (SendsAs.by_send sent is) kind = let clash : BySend ≡ ByCall = sym sent ∙ kind in absurd cc
+called-so state left x (SendsAs.by_call sent grants is) kind = (grants, is)
 
-pub no-fault : (state : PointState) (left : AfterCall) (x : Sender) (message : FaultMessage) → SendsSo state left x → x.sent ≡ ByFault message → ⊥
-no-fault state left x message (SendsSo.by_send sent is) kind = let clash : BySend ≡ ByFault message = sym sent ∙ kind in absurd cc
-no-fault state left x message (SendsSo.by_call sent grants is) kind = let clash : ByCall ≡ ByFault message = sym sent ∙ kind in absurd cc
+pub no-fault : (state : PointState) (left : AfterCall) (x : Sender) (message : FaultMessage) → SendsAs state left x → x.sent ≡ ByFault message → ⊥
+no-fault state left x message (SendsAs.by_send sent is) kind = let clash : BySend ≡ ByFault message = sym sent ∙ kind in absurd cc
+no-fault state left x message (SendsAs.by_call sent grants is) kind = let clash : ByCall ≡ ByFault message = sym sent ∙ kind in absurd cc
 
 -- ---- the words of a message
 

@@ -1,12 +1,16 @@
 -- What a thread waits for is what its system call asks: a message that reaches it finds what its certificate notes after the call.
 use Rattle.std.specs.Prelude.{ℕ, ◌≡◌, ◌⊎◌, ◌<◌, true, ⊤, Contains, Some, Ok, [], ◌∷◌}
 use Rattle.model.specs.declared.capabilities.Cap.{Cap}
-use Rattle.model.specs.Acceptance.Authority.{Holds}
+use Rattle.model.specs.Acceptance.Authority.{badge_of, rights_of}
 use Rattle.model.specs.Acceptance.CallRules.{AfterCall, badges, changes_nothing, known_behind, message_registers, with_message}
+use Rattle.model.specs.Acceptance.NotedKernel.{noted_root}
 use Rattle.model.specs.Acceptance.NotedStates.{PointState}
 use Rattle.model.specs.Acceptance.PointStates.{Known, address_of, call_at, noted}
-use Rattle.model.specs.Acceptance.Ranges.{single, with_range}
+use Rattle.model.specs.Acceptance.Ranges.{range_of, single, with_range}
 use Rattle.model.specs.Acceptance.ThreadInvariants.{tcb_of}
+use Rattle.model.specs.Capabilities.Lookup.{called_slot}
+use Rattle.model.specs.Capabilities.Rights.{may_grant_reply}
+use Rattle.model.specs.Capabilities.Slots.{capability_at}
 use Rattle.model.specs.Images.Described.{Numbered}
 use Rattle.model.specs.Images.Image.{Image}
 use Rattle.model.specs.Kernel.Kinds.{Names}
@@ -14,6 +18,7 @@ use Rattle.model.specs.Kernel.Messages.{a0}
 use Rattle.model.specs.Kernel.Retype.{NewEndpoint, NewNotification}
 use Rattle.model.specs.Kernel.State.{State, Status, Inactive, Runnable, Blocked, AwaitsReply, AwaitsHandler, Sender, BySend, ByCall, EndpointObject}
 use Rattle.model.specs.Kernel.State.{EndpointState, NotificationObject, NotificationState, ThreadObject, ThreadState}
+use Rattle.headline.specs.lookups.Found.{slots_noted}
 
 -- ---- what is known after a call that waits
 
@@ -35,15 +40,32 @@ behind_reply state = known_behind state (with_message state.ranges (single 0)) t
 abbrev pub NamesQueue : ℕ → Cap → Type 0
 NamesQueue queue capability = Names NewEndpoint queue capability ⊎ Names NewNotification queue capability
 
--- it sends, or calls with the right to get an answer
-pub data SendsSo (state : PointState) (left : AfterCall) (x : Sender) : Type 0 where
-  by_send : x.sent ≡ BySend → left ≡ changes_nothing state true → SendsSo state left x
-  by_call : x.sent ≡ ByCall → x.grant_reply ≡ true → left ≡ behind_reply state → SendsSo state left x
+-- The capability that the call at a point names: its address is known, and leads, by what is noted, to a slot that holds it.
+pub record NamesThere (image : Image) (t : Numbered) (state : PointState) (capability : Cap) : Type 0 where
+  pub address : ℕ
+  pub known : range_of state.ranges a0 ≡ single address
+  pub slot : ℕ
+  pub found : called_slot (slots_noted image t state.slots) (noted_root image t.thread) address ≡ Ok slot
+  pub is : capability_at (slots_noted image t state.slots) slot ≡ capability
 
+-- it sends, or calls with the right to get an answer
+pub data SendsAs (state : PointState) (left : AfterCall) (x : Sender) : Type 0 where
+  by_send : x.sent ≡ BySend → left ≡ changes_nothing state true → SendsAs state left x
+  by_call : x.sent ≡ ByCall → x.grant_reply ≡ true → left ≡ behind_reply state → SendsAs state left x
+
+-- with the capability's badge, and its right to get an answer
+pub record SendsSo (state : PointState) (left : AfterCall) (capability : Cap) (x : Sender) : Type 0 where
+  pub badge : x.badge ≡ badge_of capability
+  pub grants : x.grant_reply ≡ may_grant_reply (rights_of capability)
+  pub kind : SendsAs state left x
+
+-- it is queued at what the capability leads to that its call names
 pub record QueuesSo (image : Image) (t : Numbered) (s : State) (state : PointState) (left : AfterCall) (queue : ℕ) : Type 0 where
-  pub held : Holds image t.thread s (NamesQueue queue)
+  pub capability : Cap
+  pub named : NamesThere image t state capability
+  pub leads : NamesQueue queue capability
   pub sends : (e : EndpointState) (x : Sender) → s.objects queue ≡ Some (EndpointObject e) → Contains e.senders x → x.thread ≡ tcb_of image t
-      → SendsSo state left x
+      → SendsSo state left capability x
   pub receives : (e : EndpointState) → s.objects queue ≡ Some (EndpointObject e) → Contains e.receivers (tcb_of image t)
       → left ≡ behind_receive state
   pub waits : (n : NotificationState) → s.objects queue ≡ Some (NotificationObject n) → Contains n.waiters (tcb_of image t)
