@@ -1,11 +1,10 @@
 //! Changes to slots, each found by the number of its slot, and by what that was derived from.
 
-ghost use Rattle.std.specs.Prelude.{◌≡◌, [], IfErr, IfOk, None, Some, filter_map, if◌then◌else◌, length, map, true, ◌<◌, ◌^◌};
+ghost use Rattle.std.specs.Prelude.{◌≡◌, [], IfErr, IfOk, Some, filter_map, if◌then◌else◌, length, map, true, ◌<◌, ◌^◌};
 ghost use Rattle.std.specs.Iterator.{YieldsFirst, item_count};
 ghost use Rattle.model.specs.Acceptance.NotedStates.{NotedSlot, SlotKey, is_same_key, slot_at};
 ghost use Rattle.typestate.specs.Families.{child_at, children_of, found};
 ghost use Rattle.typestate.specs.Orders.{AreNarrow, Rise};
-ghost use Rattle.typestate.specs.PackedChanges.{packed_at};
 ghost use Rattle.typestate.specs.Replays.{exchanged};
 
 use crate::families::Families;
@@ -70,26 +69,6 @@ impl<'c> Iterator for ChangesLeft<'c> {
     }
 }
 
-/// Whether a number is after the last one. Slots that are filled in their order are looked up here alone.
-fn is_after_all(packed: &BTreeMap<u64, PackedChange>, number: u64) -> bool
-    ensures { result ≡ true → packed_at packed.now.entries number ≡ None }
-{
-    match packed.last_key_value() {
-        Some((last, _)) => *last < number,
-        None => false,
-    }
-}
-
-/// Whether a number is before the first one.
-fn is_before_all(packed: &BTreeMap<u64, PackedChange>, number: u64) -> bool
-    ensures { result ≡ true → packed_at packed.now.entries number ≡ None }
-{
-    match packed.first_key_value() {
-        Some((first, _)) => number < *first,
-        None => false,
-    }
-}
-
 impl Changes {
     /// No changes.
     pub(crate) fn new(alloc: Global) -> Self
@@ -124,12 +103,6 @@ impl Changes {
     pub(crate) fn numbered(&self, number: u64) -> Option<NotedSlot>
         ensures { result ≡ found self.now number }
     {
-        if is_after_all(&self.packed, number) {
-            return None;
-        }
-        if is_before_all(&self.packed, number) {
-            return None;
-        }
         match self.packed.get(&number) {
             Some(packed) => Some(packed.at(number, &self.names)),
             None => None,
