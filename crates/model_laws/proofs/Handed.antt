@@ -7,8 +7,9 @@ use Rattle.std.specs.Option.{option_map_or}
 use Rattle.std.proofs.lemmas.Bool.{eq-eqb, ne_eqb}
 use Rattle.std.proofs.lemmas.Bool.Decides.{eqb_tells}
 use Rattle.std.proofs.lemmas.List.Elements.{filter-append}
-use Rattle.model.specs.Acceptance.Authority.{CallNames, EndpointChange, IsWoken, NotificationChange, ReadyChange, RightChange, dropped, kept, WithinAuthority}
-use Rattle.model.specs.Acceptance.Authority.{self_of}
+use Rattle.model.specs.Acceptance.Authority.{CallNames, EndpointChange, IsWoken, NotificationChange, ReadyChange, RightChange, dropped, kept, SliceChange}
+use Rattle.model.specs.Acceptance.Authority.{same_slice}
+use Rattle.model.specs.Acceptance.Authority.{WithinAuthority, self_of}
 use Rattle.model.specs.Capabilities.Slots.{capability_at}
 use Rattle.model.specs.Images.Image.{Image, Thread}
 use Rattle.model.specs.Kernel.Deliveries.{Reason, woken}
@@ -82,10 +83,13 @@ pub record MayHand (image : Image) (t : Thread) (s : State) (base : ℕ) (held :
   pub thread : (u : ThreadState) → held ≡ ThreadObject u → base ≡ self_of image t
   -- a thread loses its right to reply alone; beside another object it may reply to a fourth
   pub drops : (u : ThreadState) → held ≡ ThreadObject u → (u.caller ≡ None) × (u.priority ≡ own.priority) × (u.fault_address ≡ own.fault_address)
+      × (u.slice ≡ own.slice)
   pub fourth : (caller : ℕ) → self_of image t ≢ base → own.caller ≡ Some caller → (caller ≢ self_of image t) × (caller ≢ other) × (caller ≢ base)
-  pub endpoint : (old new : EndpointState) → s.objects base ≡ Some (EndpointObject old) → held ≡ EndpointObject new → EndpointChange image t s base old new
-  pub notification : (old new : NotificationState) → s.objects base ≡ Some (NotificationObject old) → held ≡ NotificationObject new
-      → NotificationChange image t s base old new
+  -- in each state in which the other runs
+  pub endpoint : (after : State) → (thread_at after other).status ≡ Runnable → (old new : EndpointState) → s.objects base ≡ Some (EndpointObject old)
+      → held ≡ EndpointObject new → EndpointChange image t s after base old new
+  pub notification : (after : State) → (thread_at after other).status ≡ Runnable → (old new : NotificationState)
+      → s.objects base ≡ Some (NotificationObject old) → held ≡ NotificationObject new → NotificationChange image t s after base old new
 
 module _ (image : Image) (t : Thread) (s : State) (base : ℕ) (held : Object) (other : ℕ) (hands : RegisterFile → RegisterFile) (waiter : ThreadState)
     (may : MayHand image t s base held other waiter) where
@@ -242,6 +246,20 @@ module _ (image : Image) (t : Thread) (s : State) (base : ℕ) (held : Object) (
     | inr apart ↦ last-part ℕ (λ u. u.fault_address) (λ u r. refl) ∙ ap (λ (o : Option Object). (thread_of o).fault_address) (own-moved apart.1)
   ]
 
+  own-slice : last.slice ≡ may.own.slice
+  unfolding thread_of
+  own-slice = elim (eqb_tells self base) [
+    | inl here ↦
+        let thread = held-thread here.1 in
+        last-part ℕ (λ u. u.slice) (λ u r. refl) ∙ ap (λ (o : Option Object). (thread_of o).slice) thread.2 ∙ (may.drops thread.0 thread.1).3
+    | inr apart ↦ last-part ℕ (λ u. u.slice) (λ u r. refl) ∙ ap (λ (o : Option Object). (thread_of o).slice) (own-moved apart.1)
+  ]
+
+  -- the other thread runs
+  other-runs : (thread_at after other).status ≡ Runnable
+  unfolding changed
+  other-runs = ap (λ (o : Option Object). (option_map_or (λ (v : ThreadState). v) (as_thread o) new_thread).status) at-other
+
   -- ---- the ready list
 
   tail : ℕ
@@ -310,6 +328,11 @@ module _ (image : Image) (t : Thread) (s : State) (base : ℕ) (held : Object) (
 
   -- ---- all together
 
+  -- the object between them, where it is neither thread
+  pub handed-base : base ≢ self_of image t → base ≢ other → (handed s (self_of image t) base held other hands).objects base ≡ Some held
+  unfolding after
+  handed-base not_self not_other = at-base base refl not_self not_other
+
   pub handed-within : Reason s (handed s (self_of image t) base held other hands) (self_of image t) (CallNames image t s) other waiter
       (woken waiter (advanced (hands waiter.registers)))
       → WithinAuthority image t s (handed s (self_of image t) base held other hands)
@@ -334,7 +357,7 @@ module _ (image : Image) (t : Thread) (s : State) (base : ℕ) (held : Object) (
       | at_base here not_self not_other ↦
           let e : Some held ≡ Some (EndpointObject new) = sym (at-base offset here not_self not_other) ∙ behind in
           let f : held ≡ EndpointObject new = cc in
-          subst (λ (o : ℕ). EndpointChange image t s o old new) (sym here) (may.endpoint old new (ap s.objects (sym here) ∙ before) f)
+          subst (λ (o : ℕ). EndpointChange image t s after o old new) (sym here) (may.endpoint after other-runs old new (ap s.objects (sym here) ∙ before) f)
       | away not_self not_other not_base ↦
           let e : Some (EndpointObject old) ≡ Some (EndpointObject new) = sym before ∙ sym (beyond offset not_self not_other not_base) ∙ behind in
           let f : old ≡ new = cc in absurd (differs f)
@@ -349,14 +372,16 @@ module _ (image : Image) (t : Thread) (s : State) (base : ℕ) (held : Object) (
       | at_base here not_self not_other ↦
           let e : Some held ≡ Some (NotificationObject new) = sym (at-base offset here not_self not_other) ∙ behind in
           let f : held ≡ NotificationObject new = cc in
-          subst (λ (o : ℕ). NotificationChange image t s o old new) (sym here) (may.notification old new (ap s.objects (sym here) ∙ before) f)
+          subst (λ (o : ℕ). NotificationChange image t s after o old new) (sym here)
+          (may.notification after other-runs old new (ap s.objects (sym here) ∙ before) f)
       | away not_self not_other not_base ↦
           let e : Some (NotificationObject old) ≡ Some (NotificationObject new) = sym before ∙ sym (beyond offset not_self not_other not_base) ∙ behind in
           let f : old ≡ new = cc in absurd (differs f)
     ];
-    parents = λ slot parent there fresh. absurd (fresh there);
+    parents = λ slot differs. absurd (differs refl);
     used = λ slot offset bits old new before behind differs. absurd (one-used (capability_at s.slots slot) offset bits old new before behind differs);
     priority = between (λ old new. new.priority ≡ old.priority) (s.objects self) (after.objects self) may.own last may.is at-self own-priority;
+    slice = between (SliceChange s after self) (s.objects self) (after.objects self) may.own last may.is at-self (same_slice own-slice);
     fault_address =
         between (λ old new. new.fault_address ≡ old.fault_address) (s.objects self) (after.objects self) may.own last may.is at-self own-fault_address;
     right =

@@ -16,7 +16,7 @@ use Rattle.model.specs.Kernel.Deliveries.{by_right, as_before, Reason, receiver,
 use Rattle.model.specs.Kernel.Kinds.{kind_at, kind_of, object_named}
 use Rattle.model.specs.Kernel.Messages.{a0, a7, delivered, message_of, passes, replied, sends, signals}
 use Rattle.model.specs.Kernel.Retype.{NewEndpoint, NewNotification}
-use Rattle.model.specs.Kernel.Scheduling.{head_of, is_runnable}
+use Rattle.model.specs.Kernel.Scheduling.{is_runnable}
 use Rattle.model.specs.Kernel.Soundness.{IsSound, awaits_answer, waiting_at}
 use Rattle.model.specs.Kernel.State.{State, Status, Runnable, Blocked, Object, ThreadObject, EndpointObject, NotificationObject, EndpointState}
 use Rattle.model.specs.Kernel.State.{NotificationState}
@@ -28,7 +28,7 @@ use Rattle.model.specs.Machine.Effects.{advanced}
 use Rattle.model.specs.Machine.ProgramMemory.{RegisterFile, read, write}
 use Rattle.model.specs.Shared.Lists.{times_in}
 use Rattle.model_laws.proofs.Below.{endpoint-kind, notification-kind}
-use Rattle.model_laws.proofs.Handed.{MayHand, handed, handed-within}
+use Rattle.model_laws.proofs.Handed.{MayHand, handed, handed-base, handed-within}
 use Rattle.model_laws.proofs.Interrupted.{Waits, one-more, rests-nowhere, waits-own}
 use Rattle.model_laws.specs.Scenarios.{CallsOn, RepliesTo}
 use Rattle.headline.proofs.Laws.{at-place}
@@ -146,13 +146,14 @@ module _ (image : Image) (t : Thread) (s : State) (sound : IsSound s) (endpoint 
       awaited-apart s sound (self_of image t) caller call.own call.is right endpoint
           (ap (λ (o : Option Object). awaits_answer (option_map_or (λ (v : ThreadState). v) (as_thread o) new_thread).status) queue.1),
     );
-    endpoint = λ old new was f.
+    endpoint = λ after runs old new was f.
         let now : record (endpoint_at s endpoint) { receivers = others } ≡ new = cc in
         let before : endpoint_at s endpoint ≡ old = ap (λ (o : Option Object). option_map_or (λ (x : EndpointState). x) (as_endpoint o) new_endpoint) was in
         takes_receiver badge first names
         (sym (ap (λ (x : EndpointState). x.receivers) before) ∙ list ∙ ap (λ (x : EndpointState). first ∷ x.receivers) now)
-        (sym (ap (λ (x : EndpointState). x.senders) now) ∙ ap (λ (x : EndpointState). x.senders) before);
-    notification = λ old new was f. absurd cc;
+        (sym (ap (λ (x : EndpointState). x.senders) now) ∙ ap (λ (x : EndpointState). x.senders) before)
+        (λ still. let e : Runnable ≡ Blocked endpoint = sym runs ∙ still in cc);
+    notification = λ after runs old new was f. absurd cc;
   }
 
   hands : RegisterFile → RegisterFile
@@ -169,7 +170,11 @@ module _ (image : Image) (t : Thread) (s : State) (sound : IsSound s) (endpoint 
       (woken waits.own (advanced (hands waits.own.registers)))
   unfolding hands
   reason =
-      receiver endpoint badge waits.own.caller (ap head_of list) waits.blocked names
+      receiver endpoint badge waits.own.caller
+      (list ∙ ap (λ (o : Option Object). first ∷ (option_map_or (λ (x : EndpointState). x) (as_endpoint o) new_endpoint).receivers)
+      (sym (handed-base image t s endpoint shorter first hands waits.own may (λ same. not_queue (self_of image t) call.own call.is (sym same))
+      (λ same. not_queue first waits.own waits.is (sym same)))))
+      waits.blocked names
       (as_before refl)
       (ap (λ (u : ThreadState). woken waits.own (advanced (delivered waits.own.registers badge (message_of u))))
       (thread-beside s endpoint shorter (self_of image t) (ne_eqb (self_of image t) endpoint (not_queue (self_of image t) call.own call.is))))
@@ -202,6 +207,11 @@ module _ (image : Image) (t : Thread) (s : State) (sound : IsSound s) (notificat
   rests : Waits s first notification
   rests = first-waits s sound notification first others waiting
 
+  not_word : (thread : ℕ) (own : ThreadState) → s.objects thread ≡ Some (ThreadObject own) → thread ≢ notification
+  not_word thread own is same =
+      let e : Some (ThreadObject own) ≡ Some (NotificationObject word.0) = sym is ∙ ap s.objects same ∙ word.1 in
+      let f : ThreadObject own ≡ NotificationObject word.0 = cc in cc
+
   signal : CallNames image t s (Signals s notification badge)
   signal = record { slot = call.slot; own = call.among; named = call.named; such = by_right allowed call.holds writes }
 
@@ -211,9 +221,7 @@ module _ (image : Image) (t : Thread) (s : State) (sound : IsSound s) (notificat
     is = call.is;
     there = rests.is;
     apart = resting-apart s first (self_of image t) rests.own call.own rests.is call.is rests.rests call.runs;
-    aside = λ same.
-        let e : Some (ThreadObject rests.own) ≡ Some (NotificationObject word.0) = sym rests.is ∙ ap s.objects same ∙ word.1 in
-        let f : ThreadObject rests.own ≡ NotificationObject word.0 = cc in cc;
+    aside = not_word first rests.own rests.is;
     rests = rests.rests;
     absent = resting-absent s sound first rests.own rests.is rests.rests;
     kind = signalled;
@@ -225,14 +233,15 @@ module _ (image : Image) (t : Thread) (s : State) (sound : IsSound s) (notificat
       awaited-apart s sound (self_of image t) caller call.own call.is right notification
           (ap (λ (o : Option Object). awaits_answer (option_map_or (λ (v : ThreadState). v) (as_thread o) new_thread).status) word.1),
     );
-    endpoint = λ old new was f. absurd cc;
-    notification = λ old new was f.
+    endpoint = λ after runs old new was f. absurd cc;
+    notification = λ after runs old new was f.
         let now : record (notification_at s notification) { waiters = others } ≡ new = cc in
         let before : notification_at s notification ≡ old =
         ap (λ (o : Option Object). option_map_or (λ (x : NotificationState). x) (as_notification o) new_notification) was in
         passes_on badge first signal
         (sym (ap (λ (x : NotificationState). x.waiters) before) ∙ list ∙ ap (λ (x : NotificationState). first ∷ x.waiters) now)
-        (sym (ap (λ (x : NotificationState). x.word) now) ∙ ap (λ (x : NotificationState). x.word) before);
+        (sym (ap (λ (x : NotificationState). x.word) now) ∙ ap (λ (x : NotificationState). x.word) before)
+        (λ still. let e : Runnable ≡ Blocked notification = sym runs ∙ still in cc);
   }
 
   gives : RegisterFile → RegisterFile
@@ -250,7 +259,11 @@ module _ (image : Image) (t : Thread) (s : State) (sound : IsSound s) (notificat
       (woken rests.own (advanced (gives rests.own.registers)))
   unfolding gives
   wake_reason =
-      woken_waiter notification badge (ap head_of list) rests.blocked signal refl
+      woken_waiter notification badge
+      (list ∙ ap (λ (o : Option Object). first ∷ (option_map_or (λ (x : NotificationState). x) (as_notification o) new_notification).waiters)
+      (sym (handed-base image t s notification fewer first gives rests.own may_wake (λ same. not_word (self_of image t) call.own call.is (sym same))
+      (λ same. not_word first rests.own rests.is (sym same)))))
+      rests.blocked signal refl
 
   pub signal-within : WithinAuthority image t s (system_call s (self_of image t)).0
   signal-within =
@@ -286,10 +299,11 @@ module _ (image : Image) (t : Thread) (s : State) (sound : IsSound s) (other : �
           sym (ap (λ (v : ThreadState). v.caller) same),
           sym (ap (λ (v : ThreadState). v.priority) same) ∙ ap (λ (v : ThreadState). v.priority) before,
           sym (ap (λ (v : ThreadState). v.fault_address) same) ∙ ap (λ (v : ThreadState). v.fault_address) before,
+          sym (ap (λ (v : ThreadState). v.slice) same) ∙ ap (λ (v : ThreadState). v.slice) before,
         );
     fourth = λ caller apart_from_itself right. absurd (apart_from_itself refl);
-    endpoint = λ old new was f. absurd cc;
-    notification = λ old new was f. absurd cc;
+    endpoint = λ after runs old new was f. absurd cc;
+    notification = λ after runs old new was f. absurd cc;
   }
 
   answers : RegisterFile → RegisterFile

@@ -17,7 +17,8 @@ use Rattle.model.specs.declared.invocations.Invocation.TheVariants.{OnUntyped}
 use Rattle.model.specs.declared.invocations.RetypeCall.{RetypeCall}
 use Rattle.model.specs.declared.invocations.UntypedMemory.{UntypedMemory}
 use Rattle.model.specs.declared.slot_entries.Entry.{Entry}
-use Rattle.model.specs.Acceptance.Authority.{Granted, appeared, IsOwnSlot, NewParent, own, ObjectChange, appears, RightChange, kept, UsedChange, uses}
+use Rattle.model.specs.Acceptance.Authority.{Granted, appeared, IsOwnSlot, NewParent, own, ObjectChange, appears, RightChange, kept, SliceChange, same_slice}
+use Rattle.model.specs.Acceptance.Authority.{UsedChange, uses}
 use Rattle.model.specs.Acceptance.Authority.{WithinAuthority, self_of, without_use}
 use Rattle.model.specs.Capabilities.CapabilityKinds.{frame_mapping, table_mapping}
 use Rattle.model.specs.Capabilities.Rights.{endpoint_rights}
@@ -328,18 +329,20 @@ module _ (image : Image) (t : Thread) (s : State) (offset bits watermark used fi
   unfolding last
   own-priority = stays ℕ (λ u. u.priority)
 
+  own-slice : SliceChange s after self call.own last
+  unfolding last
+  own-slice = same_slice (stays ℕ (λ u. u.slice))
+
   own-fault_address : last.fault_address ≡ call.own.fault_address
   unfolding last
   own-fault_address = stays ℕ (λ u. u.fault_address)
 
   -- the new capability hangs below the untyped memory, and nothing else hangs elsewhere
-  new-parents : (x : ℕ) (parent : ℕ) → parent_at after.slots x ≡ Some parent → parent_at s.slots x ≢ Some parent → NewParent image t s parent
-  new-parents = slot-cases (λ x. (parent : ℕ) → parent_at after.slots x ≡ Some parent → parent_at s.slots x ≢ Some parent → NewParent image t s parent)
-      (λ parent there differs.
-      let e : Some call.slot ≡ Some parent = sym (ap parent_of (slot-window window refl)) ∙ there in
-      let same : call.slot ≡ parent = cc in own (subst (λ (x : ℕ). IsOwnSlot image t x) same call.among))
-      (λ apart parent there differs. absurd (differs (sym (ap parent_of (slot-used call.slot apart refl)) ∙ there)))
-      (λ x outside apart parent there differs. absurd (differs (sym (ap parent_of (slot-away x outside apart)) ∙ there)))
+  new-parents : (x : ℕ) → parent_at s.slots x ≢ parent_at after.slots x → NewParent image t s after x (parent_at after.slots x)
+  new-parents = slot-cases (λ x. parent_at s.slots x ≢ parent_at after.slots x → NewParent image t s after x (parent_at after.slots x))
+      (λ differs. own call.slot call.among (ap parent_of (slot-window window refl)))
+      (λ apart differs. absurd (differs (sym (ap parent_of (slot-used call.slot apart refl)))))
+      (λ x outside apart differs. absurd (differs (sym (ap parent_of (slot-away x outside apart)))))
 
   -- the call is a Retype of that memory, and uses more of it
   rises : watermark < used
@@ -404,6 +407,7 @@ module _ (image : Image) (t : Thread) (s : State) (offset bits watermark used fi
     parents = new-parents;
     used = new-use;
     priority = between (λ old new. new.priority ≡ old.priority) (s.objects self) (after.objects self) call.own last call.is at-self own-priority;
+    slice = between (SliceChange s after self) (s.objects self) (after.objects self) call.own last call.is at-self own-slice;
     fault_address =
         between (λ old new. new.fault_address ≡ old.fault_address) (s.objects self) (after.objects self) call.own last call.is at-self own-fault_address;
     right =

@@ -98,10 +98,9 @@ module _ (image : Image) (t : Thread) (s : State) (call : CallsOn image t s 3 In
         (λ differs some. subst (λ (c : Cap). Granted image t s (passes (with_slots s slots) self) c) (sym new-capability)
         (made_handler gets.number near (record { slot = call.slot; own = call.among; such = call.holds })))
         (λ x same differs some. absurd (differs (ap (λ (o : Option Entry). without_use (capability_of o)) (sym same))));
-    parents = by-slot (λ x. (parent : ℕ) → parent_at slots x ≡ Some parent → parent_at s.slots x ≢ Some parent → NewParent image t s parent)
-        (λ parent there fresh. let e : Some call.slot ≡ Some parent = sym new-parent ∙ there in
-        let same : call.slot ≡ parent = cc in own_parent (subst (λ (x : ℕ). IsOwnSlot image t x) same call.among))
-        (λ x same parent there fresh. absurd (fresh (ap parent_of (sym same) ∙ there)));
+    parents = by-slot (λ x. parent_at s.slots x ≢ parent_at slots x → NewParent image t s (passes (with_slots s slots) self) x (parent_at slots x))
+        (λ differs. own_parent call.slot call.among new-parent)
+        (λ x same differs. absurd (differs (ap parent_of (sym same))));
     used = by-slot (λ x. (o b old new : ℕ) → capability_at s.slots x ≡ Untyped o b old → capability_at slots x ≡ Untyped o b new → old ≢ new →
         UsedChange image t s (passes (with_slots s slots) self) x old new)
         (λ o b old new before behind differs. let e : Empty ≡ Untyped o b old = sym was-empty ∙ before in absurd cc)

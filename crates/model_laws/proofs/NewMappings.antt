@@ -111,9 +111,9 @@ module _ (image : Image) (t : Thread) (s : State) (offset : ℕ) (allowed : Righ
         Granted image t s (passes (with_slots s slots) self) (capability_at slots x))
         (λ differs some. absurd (differs (ap without_use call.holds ∙ sym (ap without_use new-capability))))
         (λ x same differs some. absurd (differs (ap (λ (o : Option Entry). without_use (capability_of o)) (sym same))));
-    parents = by-slot (λ x. (parent : ℕ) → parent_at slots x ≡ Some parent → parent_at s.slots x ≢ Some parent → NewParent image t s parent)
-        (λ parent there fresh. absurd (fresh (sym same-parent ∙ there)))
-        (λ x same parent there fresh. absurd (fresh (ap parent_of (sym same) ∙ there)));
+    parents = by-slot (λ x. parent_at s.slots x ≢ parent_at slots x → NewParent image t s (passes (with_slots s slots) self) x (parent_at slots x))
+        (λ differs. absurd (differs (sym same-parent)))
+        (λ x same differs. absurd (differs (ap parent_of (sym same))));
     used = by-slot (λ x. (o b old new : ℕ) → capability_at s.slots x ≡ Untyped o b old → capability_at slots x ≡ Untyped o b new → old ≢ new →
         UsedChange image t s (passes (with_slots s slots) self) x old new)
         (λ o b old new before behind differs. let e : Frame offset allowed None ≡ Untyped o b old = sym call.holds ∙ before in absurd cc)

@@ -5,7 +5,7 @@ use Rattle.std.proofs.lemmas.Bool.{eq-eqb, ne_eqb}
 use Rattle.std.proofs.lemmas.Bool.Decides.{eqb_tells}
 use Rattle.model.specs.declared.capabilities.Cap.{Cap}
 use Rattle.model.specs.declared.capabilities.Cap.TheVariants.{Untyped}
-use Rattle.model.specs.Acceptance.Authority.{RightChange, kept, WithinAuthority, written, self_of}
+use Rattle.model.specs.Acceptance.Authority.{RightChange, kept, SliceChange, same_slice, WithinAuthority, written, self_of}
 use Rattle.model.specs.Capabilities.Slots.{capability_at}
 use Rattle.model.specs.Images.Image.{Image, Thread}
 use Rattle.model.specs.Kernel.Kinds.{kind_at, kind_of}
@@ -91,10 +91,12 @@ module _ (image : Image) (t : Thread) (s : State) (own : ThreadState) (registers
         let apart = never-self offset (NotificationObject old) before (λ e. cc) in
         let e : Some (NotificationObject new) ≡ Some (NotificationObject old) = sym behind ∙ other-same offset apart ∙ before in
         let f : old ≡ new = cc in absurd (differs f);
-    parents = λ slot parent there fresh. absurd (fresh there);
+    parents = λ slot differs. absurd (differs refl);
     used = λ slot offset bits old new before behind differs. absurd (one-used (capability_at s.slots slot) offset bits old new before behind differs);
     priority = between (λ old new. new.priority ≡ old.priority) (s.objects (self_of image t)) _ own last is at-self
         (ap (λ (u : ThreadState). u.priority) own-is);
+    slice = between (SliceChange s (record (with_registers s (self_of image t) registers) { bytes = bytes }) (self_of image t)) (s.objects (self_of image t)) _
+        own last is at-self (same_slice (ap (λ (u : ThreadState). u.slice) own-is));
     fault_address = between (λ old new. new.fault_address ≡ old.fault_address) (s.objects (self_of image t)) _ own last is at-self
         (ap (λ (u : ThreadState). u.fault_address) own-is);
     right = between

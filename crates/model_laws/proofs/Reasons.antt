@@ -1,5 +1,5 @@
 -- What no reason makes of another thread.
-use Rattle.std.proofs.Common.{ℕ, ◌≡◌, ◌≢◌, true, Option, Some, None, Ok, [], refl, sym, subst, ap, ◌∙◌}
+use Rattle.std.proofs.Common.{ℕ, ◌≡◌, ◌≢◌, true, false, List, Option, Some, None, Ok, [], ◌∷◌, refl, sym, subst, ap, ◌∙◌}
 use Rattle.std.specs.Option.{option_map_or}
 use Rattle.model.specs.declared.capabilities.Cap.{Cap}
 use Rattle.model.specs.declared.capabilities.Cap.TheVariants.{Endpoint, InterruptHandler, Notification}
@@ -7,12 +7,12 @@ use Rattle.model.specs.declared.rights.Rights.{Rights}
 use Rattle.model.specs.Capabilities.Rights.{may_write}
 use Rattle.model.specs.Capabilities.Slots.{capability_at}
 use Rattle.model.specs.Kernel.Deliveries.{MayReply, as_before, to_sender, Reason, receiver, sender, waiter, caller, faulted, set_back, once_received, by_line}
-use Rattle.model.specs.Kernel.Deliveries.{by_right, ReceivesFrom, SendsTo, Signals}
+use Rattle.model.specs.Kernel.Deliveries.{by_right, CallsTo, ReceivesFrom, SendsTo, Signals}
 use Rattle.model.specs.Kernel.Interrupts.{Signal, binding}
 use Rattle.model.specs.Kernel.Messages.{a0, delivered, message_of}
-use Rattle.model.specs.Kernel.Scheduling.{head_of}
 use Rattle.model.specs.Kernel.State.{State, Inactive, Runnable, Blocked, AwaitsReply, AwaitsHandler, Sender, Sent, BySend, ByCall, ByFault, ThreadState}
-use Rattle.model.specs.Kernel.State.{endpoint_at, thread_at}
+use Rattle.model.specs.Kernel.State.{Object, EndpointObject, EndpointState, NotificationState, as_endpoint, as_notification, endpoint_at, new_endpoint}
+use Rattle.model.specs.Kernel.State.{new_notification, notification_at, thread_at}
 use Rattle.model.specs.Kernel.Steps.{named_slot}
 use Rattle.model.specs.Machine.Effects.{advanced}
 use Rattle.model.specs.Machine.ProgramMemory.{write}
@@ -29,7 +29,7 @@ never_stopped s after self Held other endpoint old waits nobody (receiver e badg
     let f : Inactive ≡ Runnable = ap (λ (t : ThreadState). t.status) is in cc
 never_stopped s after self Held other endpoint old waits nobody (sender e first there names blocked held is) =
     let here : e ≡ endpoint = blocked_is e endpoint old blocked waits in
-    let f : None ≡ Some first = sym (ap (λ (n : ℕ). head_of (endpoint_at s n).senders) here ∙ ap head_of nobody) ∙ there in cc
+    let f : [] ≡ first ∷ (endpoint_at after e).senders = sym (ap (λ (n : ℕ). (endpoint_at s n).senders) here ∙ nobody) ∙ there in cc
 never_stopped s after self Held other endpoint old waits nobody (waiter n badge first blocked held is) =
     let f : Inactive ≡ Runnable = ap (λ (t : ThreadState). t.status) is in cc
 never_stopped s after self Held other endpoint old waits nobody (caller right awaits is) = let f : Blocked endpoint ≡ AwaitsReply = sym waits ∙ awaits in cc
@@ -51,9 +51,10 @@ no_word s after self Held other old new waits nobody (set_back queue blocked the
 pub third_differs : (old new : ThreadState) (third : ℕ) → old.caller ≡ None → new.caller ≡ Some third → old ≢ new
 third_differs old new third none has same = let e : None ≡ Some third = sym none ∙ ap (λ (t : ThreadState). t.caller) same ∙ has in cc
 
-not_third : (after : State) (self third : ℕ) (before c : Option ℕ) → third ≢ self → before ≡ None → c ≡ Some third → MayReply after self before c → ⊥
-not_third after self third before c another none has (as_before same) = let e : None ≡ Some third = sym none ∙ sym same ∙ has in cc
-not_third after self third before c another none has (to_sender is waits) =
+not_third : (after : State) (self : ℕ) (Held : (Cap → Type 0) → Type 0) (endpoint badge third : ℕ) (before c : Option ℕ) → third ≢ self → before ≡ None
+    → c ≡ Some third → MayReply after self Held endpoint badge before c → ⊥
+not_third after self Held endpoint badge third before c another none has (as_before same) = let e : None ≡ Some third = sym none ∙ sym same ∙ has in cc
+not_third after self Held endpoint badge third before c another none has (to_sender names is waits) =
     let e : Some third ≡ Some self = sym has ∙ is in
     let f : third ≡ self = cc in another f
 
@@ -65,7 +66,7 @@ received_caller first (ByFault message) old = refl
 pub no_third : (s after : State) (self : ℕ) (Held : (Cap → Type 0) → Type 0) (other third endpoint : ℕ) (old new : ThreadState) → third ≢ self
     → old.status ≡ Blocked endpoint → old.caller ≡ None → new.caller ≡ Some third → Reason s after self Held other old new → ⊥
 no_third s after self Held other third endpoint old new another waits none has (receiver e badge c first blocked held right is) =
-    not_third after self third old.caller c another none (sym (ap (λ (t : ThreadState). t.caller) is) ∙ has) right
+    not_third after self Held e badge third old.caller c another none (sym (ap (λ (t : ThreadState). t.caller) is) ∙ has) right
 no_third s after self Held other third endpoint old new another waits none has (sender e first there names blocked held is) =
     let f : None ≡ Some third = sym none ∙ sym (received_caller first first.sent old) ∙ sym (ap (λ (t : ThreadState). t.caller) is) ∙ has in cc
 no_third s after self Held other third endpoint old new another waits none has (waiter n badge first blocked held is) =
@@ -86,7 +87,7 @@ receivers_badge s after self Held other endpoint badge old new waits nobody stay
     ap (λ (t : ThreadState). t.registers) is ∙ ap (λ (n : ℕ). advanced (delivered old.registers n (message_of (thread_at s self)))) (badges e b held)
 receivers_badge s after self Held other endpoint badge old new waits nobody stays badges no_signal (sender e first there names blocked held is) =
     let here : e ≡ endpoint = blocked_is e endpoint old blocked waits in
-    let f : None ≡ Some first = sym (ap (λ (n : ℕ). head_of (endpoint_at s n).senders) here ∙ ap head_of nobody) ∙ there in absurd cc
+    let f : [] ≡ first ∷ (endpoint_at after e).senders = sym (ap (λ (n : ℕ). (endpoint_at s n).senders) here ∙ nobody) ∙ there in absurd cc
 receivers_badge s after self Held other endpoint badge old new waits nobody stays badges no_signal (waiter n b first blocked held is) =
     absurd (no_signal n b held)
 receivers_badge s after self Held other endpoint badge old new waits nobody stays badges no_signal (caller right awaits is) =
@@ -133,13 +134,14 @@ named-capability s self a b one two =
 pub no-signal : (s : State) (n b endpoint badge : ℕ) (r : Rights) (capability : Cap) → capability ≡ Endpoint endpoint r badge → Signals s n b capability → ⊥
 no-signal s n b endpoint badge r capability is (by_right allowed other writes) = let f : Endpoint endpoint r badge ≡ Notification n allowed b = sym is
     ∙ other in cc
-no-signal s n b endpoint badge r capability is (by_line number other bound) = let f : Endpoint endpoint r badge ≡ InterruptHandler number = sym is ∙ other in cc
+no-signal s n b endpoint badge r capability is (by_line number other bound pending) =
+    let f : Endpoint endpoint r badge ≡ InterruptHandler number = sym is ∙ other in cc
 
 pub one-signal : (s : State) (n b notification badge : ℕ) (r : Rights) (capability : Cap) → capability ≡ Notification notification r badge →
     Signals s n b capability → b ≡ badge
 one-signal s n b notification badge r capability is (by_right allowed other writes) =
     let f : Notification n allowed b ≡ Notification notification r badge = sym other ∙ is in cc
-one-signal s n b notification badge r capability is (by_line number other bound) =
+one-signal s n b notification badge r capability is (by_line number other bound pending) =
     let f : Notification notification r badge ≡ InterruptHandler number = sym is ∙ other in absurd cc
 
 -- who signals by a notification's capability may write by it
@@ -148,7 +150,7 @@ pub signal-writes : (s : State) (n b notification badge : ℕ) (r : Rights) (cap
 signal-writes s n b notification badge r capability is (by_right allowed other writes) =
     let f : Notification n allowed b ≡ Notification notification r badge = sym other ∙ is in
     let same : allowed ≡ r = cc in subst (λ (q : Rights). may_write q ≡ true) same writes
-signal-writes s n b notification badge r capability is (by_line number other bound) =
+signal-writes s n b notification badge r capability is (by_line number other bound pending) =
     let f : Notification notification r badge ≡ InterruptHandler number = sym is ∙ other in absurd cc
 
 -- a handler signals what its line is bound to
@@ -156,7 +158,89 @@ pub line-signal : (s : State) (n b number badge : ℕ) (capability : Cap) → ca
     → binding s number ≡ Some (record { notification = n; badge = badge }) → Signals s n b capability → b ≡ badge
 line-signal s n b number badge capability is bound (by_right allowed other writes) =
     let f : Notification n allowed b ≡ InterruptHandler number = sym other ∙ is in absurd cc
-line-signal s n b number badge capability is bound (by_line line other there) =
+line-signal s n b number badge capability is bound (by_line line other there pending) =
     let f : InterruptHandler line ≡ InterruptHandler number = sym other ∙ is in
     let same : line ≡ number = cc in
     ap (λ (o : Option Signal). option_map_or (λ signal. signal.badge) o 0) (sym there ∙ ap (binding s) same ∙ bound)
+
+-- ---- what a right to reply, a signal and a queue ask
+
+-- the right to reply to a thread comes by a capability that grants it
+pub granted-by : (s after : State) (self : ℕ) (Held : (Cap → Type 0) → Type 0) (other endpoint : ℕ) (old new : ThreadState)
+    → old.status ≡ Blocked endpoint → old.caller ≡ None → new.caller ≡ Some self → ((e b : ℕ) → Held (CallsTo e b) → ⊥)
+    → Reason s after self Held other old new → ⊥
+granted-by s after self Held other endpoint old new waits none has refused (receiver e badge c first blocked held (as_before same) is) =
+    let f : None ≡ Some self = sym none ∙ sym same ∙ sym (ap (λ (t : ThreadState). t.caller) is) ∙ has in cc
+granted-by s after self Held other endpoint old new waits none has refused (receiver e badge c first blocked held (to_sender names to waiting) is) =
+    refused e badge names
+granted-by s after self Held other endpoint old new waits none has refused (sender e first there names blocked held is) =
+    let f : None ≡ Some self = sym none ∙ sym (received_caller first first.sent old) ∙ sym (ap (λ (t : ThreadState). t.caller) is) ∙ has in cc
+granted-by s after self Held other endpoint old new waits none has refused (waiter n badge first blocked held is) =
+    let f : None ≡ Some self = sym none ∙ sym (ap (λ (t : ThreadState). t.caller) is) ∙ has in cc
+granted-by s after self Held other endpoint old new waits none has refused (caller right awaits is) =
+    let f : Blocked endpoint ≡ AwaitsReply = sym waits ∙ awaits in cc
+granted-by s after self Held other endpoint old new waits none has refused (faulted right awaits is) =
+    let f : Blocked endpoint ≡ AwaitsHandler = sym waits ∙ awaits in cc
+granted-by s after self Held other endpoint old new waits none has refused (set_back queue blocked there gone is) =
+    let f : None ≡ Some self = sym none ∙ sym (ap (λ (t : ThreadState). t.caller) is) ∙ has in cc
+
+-- who waits at a queue that stays changes by no call that neither sends, receives nor signals
+pub nothing_signalled : (s after : State) (self : ℕ) (Held : (Cap → Type 0) → Type 0) (other queue : ℕ) (old new : ThreadState) → old.status ≡ Blocked queue
+    → after.objects queue ≢ None → ((e b : ℕ) → Held (SendsTo e b) → ⊥) → ((e : ℕ) → Held (ReceivesFrom e) → ⊥) → ((n b : ℕ) → Held (Signals s n b) → ⊥)
+    → Reason s after self Held other old new → ⊥
+nothing_signalled s after self Held other queue old new waits stays no_send no_receive no_signal (receiver e b c first blocked held right is) =
+    no_send e b held
+nothing_signalled s after self Held other queue old new waits stays no_send no_receive no_signal (sender e first there names blocked held is) =
+    no_receive e held
+nothing_signalled s after self Held other queue old new waits stays no_send no_receive no_signal (waiter n b first blocked held is) =
+    no_signal n b held
+nothing_signalled s after self Held other queue old new waits stays no_send no_receive no_signal (caller right awaits is) =
+    let f : Blocked queue ≡ AwaitsReply = sym waits ∙ awaits in cc
+nothing_signalled s after self Held other queue old new waits stays no_send no_receive no_signal (faulted right awaits is) =
+    let f : Blocked queue ≡ AwaitsHandler = sym waits ∙ awaits in cc
+nothing_signalled s after self Held other queue old new waits stays no_send no_receive no_signal (set_back q blocked there gone is) =
+    stays (ap after.objects (blocked_is queue q old waits blocked) ∙ gone)
+
+-- a handler signals nothing where no interrupt is pending
+pub idle-line : (s : State) (n b number : ℕ) (capability : Cap) → capability ≡ InterruptHandler number → s.pending number ≡ false
+    → Signals s n b capability → ⊥
+idle-line s n b number capability is idle (by_right allowed other writes) = let f : Notification n allowed b ≡ InterruptHandler number = sym other ∙ is in cc
+idle-line s n b number capability is idle (by_line line other there pending) =
+    let f : InterruptHandler line ≡ InterruptHandler number = sym other ∙ is in
+    let same : line ≡ number = cc in
+    let clash : true ≡ false = sym pending ∙ ap s.pending same ∙ idle in cc
+
+-- a queue that stays serves nobody
+longer : {A : Type 0} (x : A) (xs : List A) → xs ≡ x ∷ xs → ⊥
+longer x [] is = let e : [] ≡ x ∷ [] = is in cc
+longer x (y ∷ xs) is =
+    let rest : xs ≡ y ∷ xs = cc in
+    longer y xs rest
+
+pub queue-stays : (s after : State) (self : ℕ) (Held : (Cap → Type 0) → Type 0) (other endpoint : ℕ) (e : EndpointState) (old new : ThreadState)
+    → s.objects endpoint ≡ Some (EndpointObject e) → after.objects endpoint ≡ Some (EndpointObject e) → e.senders ≡ []
+    → old.status ≡ Blocked endpoint → Reason s after self Held other old new → ⊥
+queue-stays s after self Held other endpoint e old new here there nobody waits (receiver at badge c first blocked held right is) =
+    let place : at ≡ endpoint = blocked_is at endpoint old blocked waits in
+    let was : (endpoint_at s at).receivers ≡ e.receivers = ap (λ (n : ℕ). (endpoint_at s n).receivers) place
+    ∙ ap (λ (o : Option Object). (option_map_or (λ (x : EndpointState). x) (as_endpoint o) new_endpoint).receivers) here in
+    let now : (endpoint_at after at).receivers ≡ e.receivers = ap (λ (n : ℕ). (endpoint_at after n).receivers) place
+    ∙ ap (λ (o : Option Object). (option_map_or (λ (x : EndpointState). x) (as_endpoint o) new_endpoint).receivers) there in
+    longer other e.receivers (sym was ∙ first ∙ ap (λ (l : List ℕ). other ∷ l) now)
+queue-stays s after self Held other endpoint e old new here there nobody waits (sender at first listed names blocked held is) =
+    let place : at ≡ endpoint = blocked_is at endpoint old blocked waits in
+    let was : (endpoint_at s at).senders ≡ [] = ap (λ (n : ℕ). (endpoint_at s n).senders) place
+    ∙ ap (λ (o : Option Object). (option_map_or (λ (x : EndpointState). x) (as_endpoint o) new_endpoint).senders) here ∙ nobody in
+    let f : [] ≡ first ∷ (endpoint_at after at).senders = sym was ∙ listed in cc
+queue-stays s after self Held other endpoint e old new here there nobody waits (waiter n badge first blocked held is) =
+    let place : n ≡ endpoint = blocked_is n endpoint old blocked waits in
+    let was : (notification_at s n).waiters ≡ [] = ap (λ (m : ℕ). (notification_at s m).waiters) place
+    ∙ ap (λ (o : Option Object). (option_map_or (λ (x : NotificationState). x) (as_notification o) new_notification).waiters) here in
+    let f : [] ≡ other ∷ (notification_at after n).waiters = sym was ∙ first in cc
+queue-stays s after self Held other endpoint e old new here there nobody waits (caller right awaits is) =
+    let f : Blocked endpoint ≡ AwaitsReply = sym waits ∙ awaits in cc
+queue-stays s after self Held other endpoint e old new here there nobody waits (faulted right awaits is) =
+    let f : Blocked endpoint ≡ AwaitsHandler = sym waits ∙ awaits in cc
+queue-stays s after self Held other endpoint e old new here there nobody waits (set_back queue blocked full gone is) =
+    let place : endpoint ≡ queue = blocked_is endpoint queue old waits blocked in
+    let f : Some (EndpointObject e) ≡ None = sym there ∙ ap after.objects place ∙ gone in cc

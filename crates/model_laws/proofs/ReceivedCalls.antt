@@ -9,7 +9,8 @@ use Rattle.model.specs.declared.capabilities.Cap.TheVariants.{Endpoint}
 use Rattle.model.specs.declared.lookup_failures.LookupFailure.{LookupFailure}
 use Rattle.model.specs.declared.lookup_failures.LookupFailure.TheVariants.{MissingCapability}
 use Rattle.model.specs.declared.rights.Rights.{Rights}
-use Rattle.model.specs.Acceptance.Authority.{CallNames, EndpointChange, takes_sender, RightChange, of_sender, gives_right, WithinAuthority, self_of}
+use Rattle.model.specs.Acceptance.Authority.{CallNames, EndpointChange, takes_sender, RightChange, of_sender, gives_right, SliceChange, same_slice}
+use Rattle.model.specs.Acceptance.Authority.{WithinAuthority, self_of}
 use Rattle.model.specs.Capabilities.Rights.{may_read}
 use Rattle.model.specs.Capabilities.Slots.{capability_at}
 use Rattle.model.specs.Images.Image.{Image, Thread}
@@ -17,9 +18,10 @@ use Rattle.model.specs.Kernel.Deliveries.{Reason, sender as first_sender, Receiv
 use Rattle.model.specs.Kernel.Kinds.{kind_at, kind_of, object_named}
 use Rattle.model.specs.Kernel.Messages.{deliver, delivered, message_sent, receives, received_waiting, waits_to_receive, with_caller}
 use Rattle.model.specs.Kernel.Retype.{NewEndpoint}
-use Rattle.model.specs.Kernel.Scheduling.{block, head_of}
+use Rattle.model.specs.Kernel.Scheduling.{block}
 use Rattle.model.specs.Kernel.Soundness.{IsSound, waiting_at}
-use Rattle.model.specs.Kernel.State.{State, Inactive, AwaitsReply, Object, ThreadObject, EndpointObject, NotificationObject, EndpointState, Sender, Sent}
+use Rattle.model.specs.Kernel.State.{State, Inactive, Blocked, AwaitsReply, Object, ThreadObject, EndpointObject, NotificationObject, EndpointState, Sender}
+use Rattle.model.specs.Kernel.State.{Sent}
 use Rattle.model.specs.Kernel.State.{ByCall, ThreadState, as_endpoint, as_thread, endpoint_at, new_endpoint, new_thread, thread_at, with_object}
 use Rattle.model.specs.Kernel.Steps.{call_of, calls_known, lacks_capability, receive_by, receive_named, receive_on_endpoint, system_call}
 use Rattle.model.specs.declared.system_calls.ReceiveCall.TheVariants.{Receiving}
@@ -170,10 +172,17 @@ module _ (image : Image) (t : Thread) (s : State) (sound : IsSound s) (endpoint 
   names : CallNames image t s (ReceivesFrom endpoint)
   names = record { slot = call.slot; own = call.among; named = call.named; such = record { allowed = allowed; badge = badge; is = call.holds; reads = reads } }
 
+  -- the queue before is the sender and the queue after
+  shorter-list : (endpoint_at s endpoint).senders ≡ first ∷ (endpoint_at after endpoint).senders
+  unfolding shorter
+  shorter-list =
+      list ∙ ap (λ (o : Option Object). first ∷ (option_map_or (λ (x : EndpointState). x) (as_endpoint o) new_endpoint).senders)
+      (sym (at-base endpoint refl (λ same. not_queue self call.own call.is (sym same)) (λ same. not_queue other waits.own waits.is (sym same))))
+
   reason : Reason s after self (CallNames image t s) other waits.own changed
   unfolding changed
   reason =
-      first_sender endpoint first (ap head_of list) refl waits.blocked names
+      first_sender endpoint first shorter-list refl waits.blocked names
       (sym (ap (λ (sent : Sent). once_received first sent waits.own) called
       ∙ ap (λ (b : Bool). record waits.own { status = if b then AwaitsReply else Inactive }) granted))
 
@@ -214,8 +223,8 @@ module _ (image : Image) (t : Thread) (s : State) (sound : IsSound s) (endpoint 
 
   -- the queue of the endpoint loses its first sender
   takes : (old new : EndpointState) → s.objects endpoint ≡ Some (EndpointObject old) → shorter ≡ EndpointObject new
-      → EndpointChange image t s endpoint old new
-  unfolding shorter zero cleared
+      → EndpointChange image t s after endpoint old new
+  unfolding shorter changed zero cleared
   takes old new was is =
       let now : record (endpoint_at zero endpoint) { senders = others } ≡ new = cc in
       let before : endpoint_at s endpoint ≡ old = ap (λ (o : Option Object). option_map_or (λ (x : EndpointState). x) (as_endpoint o) new_endpoint) was in
@@ -225,10 +234,11 @@ module _ (image : Image) (t : Thread) (s : State) (sound : IsSound s) (endpoint 
       takes_sender first names
       (sym (ap (λ (x : EndpointState). x.senders) before) ∙ list ∙ ap (λ (x : EndpointState). first ∷ x.senders) now)
       (sym (ap (λ (x : EndpointState). x.receivers) now) ∙ ap (λ (x : EndpointState). x.receivers) (cleared_away ∙ before))
+      (λ still. let e : AwaitsReply ≡ Blocked endpoint = sym (ap (λ (o : Option Object). (thread_of o).status) at-other) ∙ still in cc)
 
   own-right : RightChange image t s after call.own.caller last.caller
   unfolding last
-  own-right = of_sender endpoint first names (ap head_of list) (ap (gives_right first) called ∙ granted) refl
+  own-right = of_sender endpoint first names shorter-list (ap (gives_right first) called ∙ granted) refl
 
   received-within : WithinAuthority image t s after
   unfolding zero begun one got blocked after changed shorter
@@ -252,7 +262,7 @@ module _ (image : Image) (t : Thread) (s : State) (sound : IsSound s) (endpoint 
       | at_base here not_self not_other ↦
           let e : Some shorter ≡ Some (EndpointObject new) = sym (at-base offset here not_self not_other) ∙ behind in
           let f : shorter ≡ EndpointObject new = cc in
-          subst (λ (o : ℕ). EndpointChange image t s o old new) (sym here) (takes old new (ap s.objects (sym here) ∙ before) f)
+          subst (λ (o : ℕ). EndpointChange image t s after o old new) (sym here) (takes old new (ap s.objects (sym here) ∙ before) f)
       | away not_self not_other not_base ↦
           let e : Some (EndpointObject old) ≡ Some (EndpointObject new) = sym before ∙ sym (beyond offset not_self not_other not_base) ∙ behind in
           let f : old ≡ new = cc in absurd (differs f)
@@ -271,10 +281,12 @@ module _ (image : Image) (t : Thread) (s : State) (sound : IsSound s) (endpoint 
           let e : Some (NotificationObject old) ≡ Some (NotificationObject new) = sym before ∙ sym (beyond offset not_self not_other not_base) ∙ behind in
           let f : old ≡ new = cc in absurd (differs f)
     ];
-    parents = λ slot parent was_none is. absurd (is was_none);
+    parents = λ slot differs. absurd (differs refl);
     used = λ slot offset bits old new before behind differs. absurd (one-used (capability_at s.slots slot) offset bits old new before behind differs);
     priority = between (λ old new. new.priority ≡ old.priority) (s.objects self) (after.objects self) call.own last call.is at-self
         (last-part ℕ (λ u. u.priority) (λ u r. refl) (λ u c. refl));
+    slice = between (SliceChange s after self) (s.objects self) (after.objects self) call.own last call.is at-self
+        (same_slice (last-part ℕ (λ u. u.slice) (λ u r. refl) (λ u c. refl)));
     fault_address = between (λ old new. new.fault_address ≡ old.fault_address) (s.objects self) (after.objects self) call.own last call.is at-self
         (last-part ℕ (λ u. u.fault_address) (λ u r. refl) (λ u c. refl));
     right =

@@ -9,7 +9,8 @@ use Rattle.model.specs.declared.capabilities.Cap.TheVariants.{Empty, Untyped}
 use Rattle.model.specs.declared.capabilities.FrameMapping.{FrameMapping}
 use Rattle.model.specs.declared.errors.KError.{KError}
 use Rattle.model.specs.declared.slot_entries.Entry.{Entry}
-use Rattle.model.specs.Acceptance.Authority.{Granted, IsOwnSlot, MappingGranted, NewParent, RightChange, kept, UsedChange, WithinAuthority, self_of}
+use Rattle.model.specs.Acceptance.Authority.{Granted, IsOwnSlot, MappingGranted, NewParent, RightChange, kept, SliceChange, same_slice, UsedChange}
+use Rattle.model.specs.Acceptance.Authority.{WithinAuthority, self_of}
 use Rattle.model.specs.Acceptance.Authority.{without_use}
 use Rattle.model.specs.Capabilities.CapabilityKinds.{frame_mapping, table_mapping}
 use Rattle.model.specs.Capabilities.Slots.{Slots, capability_at, parent_at}
@@ -54,7 +55,7 @@ pub record MayStore (image : Image) (t : Thread) (s after : State) (slots : Slot
       → frame_mapping (capability_at slots slot) ≡ Some mapping → MappingGranted image t s (capability_at slots slot) mapping
   pub granted : (slot : ℕ) → without_use (capability_at s.slots slot) ≢ without_use (capability_at slots slot)
       → capability_at slots slot ≢ Empty → Granted image t s after (capability_at slots slot)
-  pub parents : (slot parent : ℕ) → parent_at slots slot ≡ Some parent → parent_at s.slots slot ≢ Some parent → NewParent image t s parent
+  pub parents : (slot : ℕ) → parent_at s.slots slot ≢ parent_at slots slot → NewParent image t s after slot (parent_at slots slot)
   pub used : (slot offset bits old new : ℕ) → capability_at s.slots slot ≡ Untyped offset bits old → capability_at slots slot ≡ Untyped offset bits new
       → old ≢ new → UsedChange image t s after slot old new
 
@@ -101,6 +102,10 @@ module _ (image : Image) (t : Thread) (s : State) (own : ThreadState) (is : s.ob
   unfolding last
   own-priority = stays ℕ (λ u. u.priority)
 
+  own-slice : SliceChange s (passes (with_slots s slots) self) self own last
+  unfolding last
+  own-slice = same_slice (stays ℕ (λ u. u.slice))
+
   own-fault_address : last.fault_address ≡ own.fault_address
   unfolding last
   own-fault_address = stays ℕ (λ u. u.fault_address)
@@ -127,6 +132,7 @@ module _ (image : Image) (t : Thread) (s : State) (own : ThreadState) (is : s.ob
     parents = may.parents;
     used = may.used;
     priority = between (λ old new. new.priority ≡ old.priority) (s.objects self) _ own last is at-self own-priority;
+    slice = between (SliceChange s (passes (with_slots s slots) self) self) (s.objects self) _ own last is at-self own-slice;
     fault_address = between (λ old new. new.fault_address ≡ old.fault_address) (s.objects self) _ own last is at-self own-fault_address;
     right =
         between (λ old new. RightChange image t s (passes (with_slots s slots) self) old.caller new.caller) (s.objects self) _ own last is at-self own-right;

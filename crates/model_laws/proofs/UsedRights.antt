@@ -39,9 +39,9 @@ pub used-right : (image : Image) (t : Thread) (s after : State) → IsSound s �
     → RightChange image t s after own.caller now → ⊥
 used-right image t s after sound own caller now is right answered still (kept same waits) = answered (sym (waits caller right))
 used-right image t s after sound own caller now is right answered still (dropped none) = let e : None ≡ Some caller = sym none ∙ still in cc
-used-right image t s after sound own caller now is right answered still (of_sender endpoint first names head gives new) =
+used-right image t s after sound own caller now is right answered still (of_sender endpoint first names list gives new) =
     let e : Some first.thread ≡ Some caller = sym new ∙ still in
     let same : first.thread ≡ caller = cc in
-    let waits = sender-waits s sound endpoint first head in
+    let waits = sender-waits s sound endpoint first (ap head_of list) in
     awaited-apart s sound (self_of image t) caller own is right first.thread
     (blocked-awaits s first.thread waits.own endpoint waits.is waits.blocked) (sym same)

@@ -1,21 +1,21 @@
 //! What authority rules out, case by case.
 
-ghost use Rattle.std.specs.Prelude.{ℕ, ◌≡◌, ◌≢◌, ◌<◌, false, bit_or, [], ◌∷◌, Contains, List, Some, None, Ok, Err};
+ghost use Rattle.std.specs.Prelude.{ℕ, ◌≡◌, ◌≢◌, ◌<◌, true, false, bit_or, [], ◌∷◌, Contains, List, Some, None, Ok, Err};
 ghost use Rattle.model.specs.declared.capabilities.Cap.TheVariants.{CNode, Empty, Endpoint, Frame, InterruptControl, InterruptHandler, Notification, PageTable, Tcb, Untyped};
 ghost use Rattle.model.specs.declared.rights.Rights.{Rights};
 ghost use Rattle.model.specs.declared.lookup_failures.LookupFailure.{LookupFailure};
 ghost use Rattle.model.specs.Acceptance.Authority.{IsOwnSlot, WithinAuthority, WithinInterrupt, WithinTick, self_of};
 ghost use Rattle.model.specs.Capabilities.Rights.{may_grant_reply, rights};
-ghost use Rattle.model.specs.Capabilities.Slots.{capability_at, parent_at};
+ghost use Rattle.model.specs.Capabilities.Slots.{IsFull, capability_at, parent_at};
 ghost use Rattle.model.specs.Images.Image.{Image, Thread};
 ghost use Rattle.model.specs.Images.Places.{offset_of};
 ghost use Rattle.model.specs.Kernel.Deliveries.{woken};
 ghost use Rattle.model.specs.Kernel.Interrupts.{binding};
 ghost use Rattle.model.specs.Kernel.Kinds.{frame_around};
 ghost use Rattle.model.specs.Kernel.Messages.{a0, delivered, message_of};
-ghost use Rattle.model.specs.Kernel.Scheduling.{current};
+ghost use Rattle.model.specs.Kernel.Scheduling.{current, full_slice};
 ghost use Rattle.model.specs.Kernel.Soundness.{IsSound};
-ghost use Rattle.model.specs.Kernel.State.{State, Inactive, Blocked, AwaitsReply, Sender, BySend, ByCall, CNodeObject, EndpointObject, EndpointState, FrameObject, NotificationObject, NotificationState, ThreadObject, ThreadState, endpoint_at, thread_at};
+ghost use Rattle.model.specs.Kernel.State.{State, Inactive, Blocked, AwaitsReply, Sender, BySend, ByCall, ByFault, FaultMessage, CNodeObject, EndpointObject, EndpointState, FrameObject, NotificationObject, NotificationState, ThreadObject, ThreadState, endpoint_at, thread_at};
 ghost use Rattle.model.specs.Kernel.Steps.{named_slot};
 ghost use Rattle.model.specs.Machine.Effects.{advanced};
 ghost use Rattle.model.specs.Machine.ProgramMemory.{write};
@@ -198,7 +198,7 @@ pub fn a_handler_is_of_a_line()
 {}
 
 /// Who is new among the senders of an endpoint is the thread itself, with the badge of the capability that its call names, and with the
-/// right to get a reply that this one gives; who is new among the receivers is the thread itself; the second does not leave before
+/// right to get a reply that this one gives, and reports no fault; who is new among the receivers is the thread itself; the second does not leave before
 /// the first; and a call that names another capability, or none, changes no endpoint. It checks that an endpoint changes only by the
 /// capability that the call names (`endpoints`).
 pub fn a_sender_that_joins_is_the_caller()
@@ -213,6 +213,9 @@ pub fn a_sender_that_joins_is_the_caller()
         → named_slot s (self_of image t) ≡ Ok slot → capability_at s.slots slot ≡ Endpoint endpoint r badge
         → s.objects endpoint ≡ Some (EndpointObject old) → after.objects endpoint ≡ Some (EndpointObject new)
         → Contains new.senders x → (Contains old.senders x → ⊥) → x.grant_reply ≢ may_grant_reply r → WithinAuthority image t s after → ⊥ }
+    ensures fault { (image : Image) (t : Thread) (s after : State) (endpoint : ℕ) (old new : EndpointState) (x : Sender) (message : FaultMessage)
+        → s.objects endpoint ≡ Some (EndpointObject old) → after.objects endpoint ≡ Some (EndpointObject new)
+        → Contains new.senders x → (Contains old.senders x → ⊥) → x.sent ≡ ByFault message → WithinAuthority image t s after → ⊥ }
     ensures receiver { (image : Image) (t : Thread) (s after : State) (endpoint other : ℕ) (old new : EndpointState)
         → s.objects endpoint ≡ Some (EndpointObject old) → after.objects endpoint ≡ Some (EndpointObject new)
         → Contains new.receivers other → (Contains old.receivers other → ⊥) → other ≢ self_of image t → WithinAuthority image t s after → ⊥ }
@@ -274,12 +277,62 @@ pub fn a_thread_keeps_its_priority_and_its_handler()
         → new.fault_address ≢ old.fault_address → WithinAuthority image t s after → ⊥ }
 {}
 
-/// A slot comes to hang below no slot that is neither the thread's own nor was above one of its own. It checks what a new parent is
-/// (`parents`).
+/// A slot comes to hang below no slot that is neither the thread's own nor was above one of its own, and a full slot does not come to hang
+/// below nothing where each of the thread's hung below some slot. It checks what a new parent is (`parents`).
 pub fn a_new_parent_is_an_own_slot_or_was_above_one()
-    ensures { (image : Image) (t : Thread) (s after : State) (slot parent : ℕ) → (IsOwnSlot image t parent → ⊥)
+    ensures foreign { (image : Image) (t : Thread) (s after : State) (slot parent : ℕ) → (IsOwnSlot image t parent → ⊥)
         → ((child : ℕ) → IsOwnSlot image t child → parent_at s.slots child ≢ Some parent) → parent_at s.slots slot ≢ Some parent
         → parent_at after.slots slot ≡ Some parent → WithinAuthority image t s after → ⊥ }
+    ensures none { (image : Image) (t : Thread) (s after : State) (slot parent : ℕ)
+        → ((child : ℕ) → IsOwnSlot image t child → IsFull s.slots child → parent_at s.slots child ≢ None) → parent_at s.slots slot ≡ Some parent
+        → parent_at after.slots slot ≡ None → capability_at after.slots slot ≢ Empty → WithinAuthority image t s after → ⊥ }
+{}
+
+/// A thread does not renew its slice at the head of its priority, and takes no longer one. It checks that the slice stays, or is full where
+/// the thread goes to the tail (`slice`).
+pub fn a_thread_runs_on_for_its_slice()
+    ensures longer { (image : Image) (t : Thread) (s after : State) (old new : ThreadState)
+        → s.objects (self_of image t) ≡ Some (ThreadObject old) → after.objects (self_of image t) ≡ Some (ThreadObject new)
+        → new.slice ≢ old.slice → new.slice ≢ full_slice → WithinAuthority image t s after → ⊥ }
+    ensures head { (image : Image) (t : Thread) (s after : State) (other : ℕ) (old new : ThreadState)
+        → s.objects (self_of image t) ≡ Some (ThreadObject old) → after.objects (self_of image t) ≡ Some (ThreadObject new)
+        → other ≢ self_of image t → s.ready new.priority ≡ self_of image t ∷ other ∷ []
+        → after.ready new.priority ≡ self_of image t ∷ other ∷ [] → new.slice ≢ old.slice → WithinAuthority image t s after → ⊥ }
+{}
+
+/// A receiver gets no right to reply to a thread whose call names a capability without grant-reply. It checks who may give that right
+/// (`MayReply` of `threads`).
+pub fn a_reply_is_granted_by_the_capability()
+    ensures { (image : Image) (t : Thread) (s after : State) (slot other endpoint badge : ℕ) (r : Rights) (old new : ThreadState)
+        → other ≢ self_of image t → named_slot s (self_of image t) ≡ Ok slot → capability_at s.slots slot ≡ Endpoint endpoint r badge
+        → may_grant_reply r ≡ false → s.objects other ≡ Some (ThreadObject old) → old.status ≡ Blocked endpoint → old.caller ≡ None
+        → after.objects other ≡ Some (ThreadObject new) → new.caller ≡ Some (self_of image t) → WithinAuthority image t s after → ⊥ }
+{}
+
+/// By a handler of which no interrupt is pending a thread signals nobody, and makes none pending. It checks when an acknowledgement signals
+/// (`Signals.by_line`), and what becomes of a line (`lines`).
+pub fn an_interrupt_is_not_forged()
+    ensures signal { (image : Image) (t : Thread) (s after : State) (slot other notification number : ℕ) (old new : ThreadState)
+        → other ≢ self_of image t → named_slot s (self_of image t) ≡ Ok slot → capability_at s.slots slot ≡ InterruptHandler number
+        → s.pending number ≡ false → s.objects other ≡ Some (ThreadObject old) → old.status ≡ Blocked notification
+        → after.objects other ≡ Some (ThreadObject new) → old ≢ new → after.objects notification ≢ None → WithinAuthority image t s after → ⊥ }
+    ensures pending { (image : Image) (t : Thread) (s after : State) (number : ℕ) → s.pending number ≡ false → after.pending number ≡ true
+        → WithinAuthority image t s after → ⊥ }
+    ensures masks { (image : Image) (t : Thread) (s after : State) (number : ℕ) → s.pending number ≡ false → s.masked number ≡ false
+        → after.masked number ≡ true → WithinAuthority image t s after → ⊥ }
+{}
+
+/// Who gets a message leaves the queue, and who leaves it gets one. It checks that a queue and those that wait there change together
+/// (`Reason` of `threads`, and `endpoints`).
+pub fn a_receiver_leaves_the_queue_with_its_message()
+    ensures stays { (image : Image) (t : Thread) (s after : State) (other endpoint : ℕ) (e : EndpointState) (old new : ThreadState)
+        → other ≢ self_of image t → s.objects endpoint ≡ Some (EndpointObject e) → after.objects endpoint ≡ Some (EndpointObject e)
+        → e.senders ≡ [] → s.objects other ≡ Some (ThreadObject old) → old.status ≡ Blocked endpoint
+        → after.objects other ≡ Some (ThreadObject new) → old ≢ new → WithinAuthority image t s after → ⊥ }
+    ensures forgotten { (image : Image) (t : Thread) (s after : State) (other endpoint : ℕ) (old new : EndpointState) (own : ThreadState)
+        → s.objects endpoint ≡ Some (EndpointObject old) → after.objects endpoint ≡ Some (EndpointObject new)
+        → old.receivers ≡ other ∷ [] → new.receivers ≡ [] → after.objects other ≡ Some (ThreadObject own) → own.status ≡ Blocked endpoint
+        → WithinAuthority image t s after → ⊥ }
 {}
 
 /// The watermark of untyped memory does not fall while a child hangs below it, nor to another number than 0, and does not rise where the call

@@ -16,7 +16,7 @@ use Rattle.model.specs.Acceptance.NotedKernel.{stands_in}
 use Rattle.model.specs.Acceptance.ThreadRules.{reached}
 use Rattle.model.specs.Capabilities.CapabilityKinds.{frame_mapping, table_mapping, unmapped}
 use Rattle.model.specs.Capabilities.Rights.{mapping_rights, may_grant_reply, may_read, may_write, rights}
-use Rattle.model.specs.Capabilities.Slots.{capability_at, parent_at}
+use Rattle.model.specs.Capabilities.Slots.{IsFull, capability_at, parent_at}
 use Rattle.model.specs.Images.Image.{Image, Thread}
 use Rattle.model.specs.Images.Places.{offset_of}
 use Rattle.model.specs.Kernel.AddressSpaces.{content_of}
@@ -26,9 +26,10 @@ use Rattle.model.specs.Shared.Lists.{times_in, without}
 use Rattle.model.specs.Kernel.Kinds.{Names, frame_around, kind_at}
 use Rattle.model.specs.Kernel.Messages.{a0}
 use Rattle.model.specs.Kernel.Retype.{NewObject, NewFrame, object, object_bits}
-use Rattle.model.specs.Kernel.Scheduling.{current, head_of, is_runnable}
-use Rattle.model.specs.Kernel.State.{State, Runnable, ThreadObject, EndpointObject, NotificationObject, EndpointState, NotificationState, Sender, Sent, BySend}
-use Rattle.model.specs.Kernel.State.{ByCall, ByFault, ThreadState, endpoint_at, notification_at}
+use Rattle.model.specs.Kernel.Scheduling.{current, full_slice, head_of, is_runnable}
+use Rattle.model.specs.Kernel.State.{State, Runnable, Blocked, ThreadObject, EndpointObject, NotificationObject, EndpointState, NotificationState, Sender}
+use Rattle.model.specs.Kernel.State.{Sent, BySend}
+use Rattle.model.specs.Kernel.State.{ByCall, ByFault, ThreadState, endpoint_at, notification_at, thread_at}
 use Rattle.model.specs.Kernel.Steps.{named_slot}
 use Rattle.model.specs.Machine.Effects.{advanced}
 use Rattle.model.specs.Machine.ProgramMemory.{write}
@@ -127,35 +128,36 @@ gives_right sender ByCall = sender.grant_reply
 gives_right sender (ByFault fault) = true
 
 -- What becomes of the thread's own right to reply: it stays, and who waits for the answer waits on; it goes; or the thread's call receives
--- from the first sender of an endpoint, and gets the right to reply to that one.
+-- from the first sender of an endpoint, which leaves the queue, and gets the right to reply to that one.
 pub data RightChange (image : Image) (t : Thread) (s behind : State) (before after : Option ℕ) : Type 0 where
   kept : after ≡ before → ((caller : ℕ) → before ≡ Some caller → behind.objects caller ≡ s.objects caller) → RightChange image t s behind before after
   dropped : after ≡ None → RightChange image t s behind before after
   of_sender : (endpoint : ℕ) (first : Sender) → CallNames image t s (ReceivesFrom endpoint)
-      → head_of (endpoint_at s endpoint).senders ≡ Some first → gives_right first first.sent ≡ true → after ≡ Some first.thread
+      → (endpoint_at s endpoint).senders ≡ first ∷ (endpoint_at behind endpoint).senders → gives_right first first.sent ≡ true → after ≡ Some first.thread
       → RightChange image t s behind before after
 
 -- ---- queues
 
 -- how a thread that waits at an endpoint asked: with the badge of the capability that its call names, and a right to get a reply that
--- this one gives
+-- this one gives; it reports no fault
 pub record AsksAs (image : Image) (t : Thread) (s : State) (endpoint : ℕ) (x : Sender) : Type 0 where
   pub allowed : Rights
   pub named : CallNames image t s (λ capability. capability ≡ Endpoint endpoint allowed x.badge)
   pub writes : IsTrue (may_write allowed)
   pub thread : x.thread ≡ self_of image t
   pub replies : x.grant_reply ≡ may_grant_reply allowed
+  pub sends : (x.sent ≡ BySend) ⊎ (x.sent ≡ ByCall)
 
--- who waits at an endpoint changes by the call alone: the thread joins at the tail, or the first of those that wait goes
-pub data EndpointChange (image : Image) (t : Thread) (s : State) (endpoint : ℕ) (old new : EndpointState) : Type 0 where
+-- who waits at an endpoint changes by the call alone: the thread joins at the tail, or the first of those that wait goes, and waits no more
+pub data EndpointChange (image : Image) (t : Thread) (s after : State) (endpoint : ℕ) (old new : EndpointState) : Type 0 where
   waits_to_send : (x : Sender) → AsksAs image t s endpoint x → new ≡ record old { senders = old.senders ++ x ∷ [] }
-      → EndpointChange image t s endpoint old new
+      → EndpointChange image t s after endpoint old new
   waits_to_receive : CallNames image t s (ReceivesFrom endpoint) → new ≡ record old { receivers = old.receivers ++ self_of image t ∷ [] }
-      → EndpointChange image t s endpoint old new
+      → EndpointChange image t s after endpoint old new
   takes_sender : (first : Sender) → CallNames image t s (ReceivesFrom endpoint) → old.senders ≡ first ∷ new.senders → new.receivers ≡ old.receivers
-      → EndpointChange image t s endpoint old new
+      → (thread_at after first.thread).status ≢ Blocked endpoint → EndpointChange image t s after endpoint old new
   takes_receiver : (badge first : ℕ) → CallNames image t s (SendsTo endpoint badge) → old.receivers ≡ first ∷ new.receivers
-      → new.senders ≡ old.senders → EndpointChange image t s endpoint old new
+      → new.senders ≡ old.senders → (thread_at after first).status ≢ Blocked endpoint → EndpointChange image t s after endpoint old new
 
 -- a capability by which a thread waits for a notification
 pub record WaitsFor (notification : ℕ) (capability : Cap) : Type 0 where
@@ -164,28 +166,44 @@ pub record WaitsFor (notification : ℕ) (capability : Cap) : Type 0 where
   pub is : capability ≡ Notification notification allowed badge
   pub reads : IsTrue (may_read allowed)
 
--- a notification's word, and who waits for it, change by the call alone: a badge joins the word, the first of those that wait goes, the
--- word is taken, or the thread joins at the tail
-pub data NotificationChange (image : Image) (t : Thread) (s : State) (notification : ℕ) (old new : NotificationState) : Type 0 where
+-- a notification's word, and who waits for it, change by the call alone: a badge joins the word, the first of those that wait goes, and
+-- waits no more, the word is taken, or the thread joins at the tail
+pub data NotificationChange (image : Image) (t : Thread) (s after : State) (notification : ℕ) (old new : NotificationState) : Type 0 where
   joins : (badge : ℕ) → CallNames image t s (Signals s notification badge) → old.waiters ≡ [] → new ≡ record old { word = bit_or old.word badge }
-      → NotificationChange image t s notification old new
+      → NotificationChange image t s after notification old new
   passes_on : (badge first : ℕ) → CallNames image t s (Signals s notification badge) → old.waiters ≡ first ∷ new.waiters → new.word ≡ old.word
-      → NotificationChange image t s notification old new
-  taken : CallNames image t s (WaitsFor notification) → new ≡ record old { word = 0 } → NotificationChange image t s notification old new
+      → (thread_at after first).status ≢ Blocked notification → NotificationChange image t s after notification old new
+  taken : CallNames image t s (WaitsFor notification) → new ≡ record old { word = 0 } → NotificationChange image t s after notification old new
   waits : CallNames image t s (WaitsFor notification) → new ≡ record old { waiters = old.waiters ++ self_of image t ∷ [] }
-      → NotificationChange image t s notification old new
+      → NotificationChange image t s after notification old new
 
 -- ---- parents and watermarks
 
--- a parent that is new above a slot of the thread's: a slot of its own, or what was the parent of one
-pub data NewParent (image : Image) (t : Thread) (s : State) (parent : ℕ) : Type 0 where
-  own : IsOwnSlot image t parent → NewParent image t s parent
-  of_own : (slot : ℕ) → IsOwnSlot image t slot → parent_at s.slots slot ≡ Some parent → NewParent image t s parent
+-- a parent that is new above a slot, or none: where the slot is empty none, a slot of the thread's own, or what a full slot of its own had
+pub data NewParent (image : Image) (t : Thread) (s after : State) (slot : ℕ) (parent : Option ℕ) : Type 0 where
+  emptied : capability_at after.slots slot ≡ Empty → parent ≡ None → NewParent image t s after slot parent
+  own : (above : ℕ) → IsOwnSlot image t above → parent ≡ Some above → NewParent image t s after slot parent
+  of_own : (below : ℕ) → IsOwnSlot image t below → IsFull s.slots below → parent_at s.slots below ≡ parent → NewParent image t s after slot parent
 
 -- what was used of untyped memory: more, where the call names it, or nothing, where nothing hangs below it
 pub data UsedChange (image : Image) (t : Thread) (s after : State) (slot old new : ℕ) : Type 0 where
   uses : named_slot s (self_of image t) ≡ Ok slot → old < new → UsedChange image t s after slot old new
   freed : new ≡ 0 → ((child : ℕ) → parent_at after.slots child ≢ Some slot) → UsedChange image t s after slot old new
+
+-- ---- lines
+
+-- what becomes of a line: it is not masked any more, or what was pending is delivered, and it is masked
+pub data LineChange (s after : State) (number : ℕ) : Type 0 where
+  opens : after.masked number ≡ false → after.pending number ≡ s.pending number → LineChange s after number
+  delivers : s.pending number ≡ true → after.pending number ≡ false → after.masked number ≡ true → LineChange s after number
+
+-- ---- the thread's own slice
+
+-- how many ticks it runs on: as many as before, or a full slice where it goes to the tail of its priority
+pub data SliceChange (s after : State) (self : ℕ) (old new : ThreadState) : Type 0 where
+  same_slice : new.slice ≡ old.slice → SliceChange s after self old new
+  new_slice : new.slice ≡ full_slice → after.ready new.priority ≡ without self (s.ready new.priority) ++ self ∷ []
+      → SliceChange s after self old new
 
 -- ---- objects and bytes
 
@@ -257,14 +275,14 @@ pub record WithinAuthority (image : Image) (t : Thread) (s after : State) : Type
       → capability_at after.slots slot ≢ Empty → Granted image t s after (capability_at after.slots slot)
   -- endpoints change only by the capability that the call names
   pub endpoints : (offset : ℕ) (old new : EndpointState) → s.objects offset ≡ Some (EndpointObject old)
-      → after.objects offset ≡ Some (EndpointObject new) → old ≢ new → EndpointChange image t s offset old new
+      → after.objects offset ≡ Some (EndpointObject new) → old ≢ new → EndpointChange image t s after offset old new
   -- notifications change only by the capability that the call names: to one, or to the handler of a line that is bound to it
   pub notifications : (offset : ℕ) (old new : NotificationState) → s.objects offset ≡ Some (NotificationObject old)
       → after.objects offset ≡ Some (NotificationObject new) → old ≢ new
-      → NotificationChange image t s offset old new
-  -- a slot comes to hang only below a slot of its own, or below what one of its own hung below
-  pub parents : (slot parent : ℕ) → parent_at after.slots slot ≡ Some parent → parent_at s.slots slot ≢ Some parent → NewParent image t s parent
-  -- of untyped memory more is used only where the call names it, and nothing any more only where nothing hangs below it
+      → NotificationChange image t s after offset old new
+  -- a slot hangs where it did, or below a slot of its own, or where one of its own did
+  pub parents : (slot : ℕ) → parent_at s.slots slot ≢ parent_at after.slots slot → NewParent image t s after slot (parent_at after.slots slot)
+  -- of untyped memory more is used where the call names it, or nothing, where nothing hangs below it
   pub used : (slot offset bits old new : ℕ) → capability_at s.slots slot ≡ Untyped offset bits old
       → capability_at after.slots slot ≡ Untyped offset bits new → old ≢ new → UsedChange image t s after slot old new
   -- its own priority stays
@@ -273,15 +291,18 @@ pub record WithinAuthority (image : Image) (t : Thread) (s after : State) : Type
   -- who takes its faults stays
   pub fault_address : (old new : ThreadState) → s.objects (self_of image t) ≡ Some (ThreadObject old)
       → after.objects (self_of image t) ≡ Some (ThreadObject new) → new.fault_address ≡ old.fault_address
-  -- its own right to reply stays where it was not used, goes, or comes from the first sender of an endpoint that the call names
+  -- its own slice stays, or is full where it goes to the tail of its priority
+  pub slice : (old new : ThreadState) → s.objects (self_of image t) ≡ Some (ThreadObject old)
+      → after.objects (self_of image t) ≡ Some (ThreadObject new) → SliceChange s after (self_of image t) old new
+  -- its own right to reply stays where it was not used, goes, or comes with what its call receives
   pub right : (old new : ThreadState) → s.objects (self_of image t) ≡ Some (ThreadObject old)
       → after.objects (self_of image t) ≡ Some (ThreadObject new) → RightChange image t s after old.caller new.caller
   -- another thread changes only for one of the reasons, by the capability that the call names
   pub threads : (other : ℕ) (old new : ThreadState) → other ≢ self_of image t → s.objects other ≡ Some (ThreadObject old)
       → after.objects other ≡ Some (ThreadObject new) → old ≢ new → Reason s after (self_of image t) (CallNames image t s) other old new
-  -- lines change only where the call names the handler
+  -- lines change only where the call names the handler, as by an acknowledgement
   pub lines : (number : ℕ) → (s.masked number ≢ after.masked number) ⊎ (s.pending number ≢ after.pending number)
-      → CallNames image t s (λ capability. capability ≡ InterruptHandler number)
+      → CallNames image t s (λ capability. capability ≡ InterruptHandler number) × LineChange s after number
   -- a list of the ready gains only threads that were woken, at its tail, and loses none but the thread itself
   pub ready : (priority : ℕ) → ReadyChange s after (self_of image t) priority
 

@@ -2,14 +2,14 @@
 -- badge and the queue of that reason.
 -- seL4 Reference Manual, "Message Passing (IPC)" and "Notifications". The threads of accepted images have no faults, so
 -- no fault is reported to another thread here.
-use Rattle.std.specs.Prelude.{ℕ, ◌≡◌, ◌≢◌, ◌==◌, if◌then◌else◌, IsTrue, Option, Some, None}
+use Rattle.std.specs.Prelude.{ℕ, ◌≡◌, ◌≢◌, ◌==◌, if◌then◌else◌, true, IsTrue, Option, Some, None, ◌∷◌}
 use Rattle.model.specs.declared.capabilities.Cap.{Cap}
 use Rattle.model.specs.declared.capabilities.Cap.TheVariants.{Endpoint, Notification, InterruptHandler}
 use Rattle.model.specs.declared.rights.Rights.{Rights}
-use Rattle.model.specs.Capabilities.Rights.{may_read, may_write}
+use Rattle.model.specs.Capabilities.Rights.{may_grant_reply, may_read, may_write}
 use Rattle.model.specs.Kernel.Interrupts.{binding}
 use Rattle.model.specs.Kernel.Messages.{a0, delivered, message_of, resumption}
-use Rattle.model.specs.Kernel.Scheduling.{full_slice, head_of}
+use Rattle.model.specs.Kernel.Scheduling.{full_slice}
 use Rattle.model.specs.Kernel.State.{State, Inactive, Runnable, Blocked, AwaitsReply, AwaitsHandler, Sender, Sent, BySend, ByCall, ByFault, ThreadState}
 use Rattle.model.specs.Kernel.State.{endpoint_at, notification_at, thread_at}
 use Rattle.model.specs.Machine.Effects.{advanced}
@@ -27,6 +27,13 @@ pub record SendsTo (endpoint badge : ℕ) (capability : Cap) : Type 0 where
   pub is : capability ≡ Endpoint endpoint allowed badge
   pub writes : IsTrue (may_write allowed)
 
+-- a capability by which a thread calls at an endpoint, with this badge: it sends, and lets the receiver reply
+pub record CallsTo (endpoint badge : ℕ) (capability : Cap) : Type 0 where
+  pub allowed : Rights
+  pub is : capability ≡ Endpoint endpoint allowed badge
+  pub writes : IsTrue (may_write allowed)
+  pub replies : IsTrue (may_grant_reply allowed)
+
 -- a capability by which a thread receives from an endpoint
 pub record ReceivesFrom (endpoint : ℕ) (capability : Cap) : Type 0 where
   pub allowed : Rights
@@ -38,16 +45,18 @@ pub record ReceivesFrom (endpoint : ℕ) (capability : Cap) : Type 0 where
 pub data Signals (s : State) (notification badge : ℕ) (capability : Cap) : Type 0 where
   by_right : (allowed : Rights) → capability ≡ Notification notification allowed badge → IsTrue (may_write allowed)
       → Signals s notification badge capability
-  -- the acknowledgement of a line that is bound to it
+  -- the acknowledgement of a line that is bound to it, where an interrupt is pending
   by_line : (number : ℕ) → capability ≡ InterruptHandler number → binding s number ≡ Some (record { notification = notification; badge = badge })
-      → Signals s notification badge capability
+      → s.pending number ≡ true → Signals s notification badge capability
 
 -- ---- what becomes of the other thread
 
--- The receiver of a call has the right to reply to the caller, which waits for that from then on; one of a message keeps what it has.
-pub data MayReply (after : State) (sender : ℕ) (before caller : Option ℕ) : Type 0 where
-  as_before : caller ≡ before → MayReply after sender before caller
-  to_sender : caller ≡ Some sender → (thread_at after sender).status ≡ AwaitsReply → MayReply after sender before caller
+-- The receiver of a call that may be replied to has the right to do so, and the caller waits for that from then on; one of a message keeps
+-- what it has.
+pub data MayReply (after : State) (sender : ℕ) (Named : (Cap → Type 0) → Type 0) (endpoint badge : ℕ) (before caller : Option ℕ) : Type 0 where
+  as_before : caller ≡ before → MayReply after sender Named endpoint badge before caller
+  to_sender : Named (CallsTo endpoint badge) → caller ≡ Some sender → (thread_at after sender).status ≡ AwaitsReply
+      → MayReply after sender Named endpoint badge before caller
 
 -- a sender whose message was received: one that sent runs again, one that called waits for the reply or stops
 abbrev pub once_received : Sender → Sent → ThreadState → ThreadState
@@ -63,22 +72,23 @@ once_handled handler t =
     then woken t (record t.registers { pc = resumption t.registers.pc message.words })
     else record t { status = Inactive }
 
--- Why a step of the thread `self`, whose system call names such a capability, changed another thread from one state to another.
+-- Why a step of the thread `self`, whose system call names such a capability, changed another thread from one state to another. Who waited
+-- in a queue was the first there, and is there no more.
 pub data Reason (s after : State) (self : ℕ) (Named : (Cap → Type 0) → Type 0) (other : ℕ) (before changed : ThreadState) : Type 0 where
   -- the first receiver of an endpoint got the message of this thread
   receiver : (endpoint badge : ℕ) (caller : Option ℕ)
-      → head_of (endpoint_at s endpoint).receivers ≡ Some other → before.status ≡ Blocked endpoint → Named (SendsTo endpoint badge)
-      → MayReply after self before.caller caller
+      → (endpoint_at s endpoint).receivers ≡ other ∷ (endpoint_at after endpoint).receivers → before.status ≡ Blocked endpoint
+      → Named (SendsTo endpoint badge) → MayReply after self Named endpoint badge before.caller caller
       → changed ≡ record (woken before (advanced (delivered before.registers badge (message_of (thread_at s self))))) { caller = caller }
       → Reason s after self Named other before changed
   -- this thread received the message of the first sender
   sender : (endpoint : ℕ) (first : Sender)
-      → head_of (endpoint_at s endpoint).senders ≡ Some first → first.thread ≡ other → before.status ≡ Blocked endpoint
+      → (endpoint_at s endpoint).senders ≡ first ∷ (endpoint_at after endpoint).senders → first.thread ≡ other → before.status ≡ Blocked endpoint
       → Named (ReceivesFrom endpoint) → changed ≡ once_received first first.sent before
       → Reason s after self Named other before changed
   -- the first waiter of a notification got the badge of a signal
   waiter : (notification badge : ℕ)
-      → head_of (notification_at s notification).waiters ≡ Some other → before.status ≡ Blocked notification
+      → (notification_at s notification).waiters ≡ other ∷ (notification_at after notification).waiters → before.status ≡ Blocked notification
       → Named (Signals s notification badge) → changed ≡ woken before (advanced (write before.registers a0 badge))
       → Reason s after self Named other before changed
   -- this thread replied to its caller
