@@ -10,6 +10,7 @@ pub mod Arguments
 pub mod Removal
 pub mod Retype
 pub mod Kinds
+pub mod ObjectTypes
 pub mod CallForms
 pub mod ThreadCalls
 pub mod CNodeCalls

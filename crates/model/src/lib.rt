@@ -11,7 +11,9 @@ mod faults;
 mod instructions;
 mod invocations;
 mod labels;
+mod limits;
 mod lookup_failures;
+mod object_types;
 mod ranges;
 mod refusals;
 mod rights;
@@ -38,7 +40,13 @@ pub use invocations::{
     UntypedMemory,
 };
 pub use labels::{Label, Outcome};
+pub use limits::{
+    MOST_CAPABILITIES, MOST_CONTENT_WORDS, MOST_CONTENTS, MOST_FRAMES, MOST_INTERRUPTS,
+    MOST_OBJECTS, MOST_PROMISES, MOST_REGISTERS, MOST_SLOTS, MOST_TABLES, MOST_THREADS,
+    MOST_UNTYPEDS, MOST_WORDS,
+};
 pub use lookup_failures::LookupFailure;
+pub use object_types::{ObjectKind, ObjectType};
 pub use ranges::Range;
 pub use refusals::{Point, Refusal};
 pub use rights::Rights;
