@@ -17,6 +17,7 @@ lines-whole s masked pending whole =
       one_sided = threads.one_sided;
       senders = threads.senders;
       words = threads.words;
+      idle = threads.idle;
       callers = threads.callers;
       one_right = threads.one_right;
     })
@@ -75,6 +76,7 @@ module _ (s : State) (bytes : ℕ → Option ℕ) where
           one_sided = whole.threads.one_sided;
           senders = whole.threads.senders;
           words = whole.threads.words;
+          idle = whole.threads.idle;
           callers = whole.threads.callers;
           one_right = whole.threads.one_right;
         };

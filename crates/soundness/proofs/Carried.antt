@@ -209,6 +209,7 @@ threads-carried s new threads = record {
   one_sided = threads.one_sided;
   senders = threads.senders;
   words = threads.words;
+  idle = threads.idle;
   callers = threads.callers;
   one_right = threads.one_right;
 }

@@ -101,6 +101,7 @@ module _ (s : State) (bare : IsBare s) where
     one_sided = λ offset e is. absurd (no-object offset _ (s.objects offset) (bare.objects offset) is);
     senders = λ offset e is. absurd (no-object offset _ (s.objects offset) (bare.objects offset) is);
     words = λ offset n is. absurd (no-object offset _ (s.objects offset) (bare.objects offset) is);
+    idle = λ offset n is. absurd (no-object offset _ (s.objects offset) (bare.objects offset) is);
     callers = λ thread caller is.
         absurd (no-object thread caller (thread_at s thread).caller (ap (λ o. (option_map_or (λ t. t) (as_thread o) new_thread).caller) (bare.objects thread))
         is);

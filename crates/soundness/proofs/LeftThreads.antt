@@ -210,13 +210,19 @@ module _ (gone : ℕ → Bool) (lost : Status → Bool) where
     pub before : NotificationState
     pub was : o ≡ Some (NotificationObject before)
     pub word : n.word ≡ before.word
+    pub waiters : n.waiters ≡ filter (λ thread. not (gone thread)) before.waiters
 
   pub notification-was : (ending : Bool) (o : Option Object) (n : NotificationState) → calmed ending o ≡ Some (NotificationObject n) → NotificationWas o n
   notification-was true o n is = let clash : None ≡ Some (NotificationObject n) = sym (calmed-gone o) ∙ is in absurd cc
   notification-was false (Some (NotificationObject before)) n is =
       let now : NotificationState = record before { waiters = filter (λ thread. not (gone thread)) before.waiters } in
       let same : now ≡ n = cc is in
-      record { before = before; was = refl; word = sym (ap (λ (n : NotificationState). n.word) same) }
+      record {
+        before = before;
+        was = refl;
+        word = sym (ap (λ (n : NotificationState). n.word) same);
+        waiters = sym (ap (λ (n : NotificationState). n.waiters) same);
+      }
   notification-was false (Some (ThreadObject t)) n is = let clash : Some (ThreadObject (calm_thread t)) ≡ Some (NotificationObject n) = sym (calmed-thread t)
       ∙ is in absurd cc
   notification-was false None n is = let clash : None ≡ Some (NotificationObject n) = is in absurd cc
@@ -386,6 +392,12 @@ module _ (s : State) (set : SlotSet) (r : Removes s set) where
         words = λ offset n is.
             let was = notification-was gone lost (ends s set offset) (s.objects offset) n is in
             subst (λ (word : ℕ). word < 2 ^ 28) (sym (NotificationWas.word was)) (before.words offset (NotificationWas.before was) (NotificationWas.was was));
+        idle = λ offset n is.
+            let was = notification-was gone lost (ends s set offset) (s.objects offset) n is in
+            elim (before.idle offset (NotificationWas.before was) (NotificationWas.was was)) [
+              | inl none ↦ inl (NotificationWas.waiters was ∙ ap (filter (λ (thread : ℕ). not (gone thread))) none)
+              | inr clear ↦ inr (NotificationWas.word was ∙ clear)
+            ];
         callers = λ thread caller is.
             let was = caller-calm gone lost (ends s set thread) (s.objects thread) caller is in
             awaits-calm gone lost lost-awaits (ends s set caller) (s.objects caller) was.1 (before.callers thread caller was.0);

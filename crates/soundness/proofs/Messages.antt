@@ -1,8 +1,9 @@
 -- Messages, replies and signals.
 use Rattle.std.proofs.Common.{ℕ, ◌≡◌, ◌≢◌, ◌∙◌, ◌==◌, ◌^◌, ◌<◌, ◌++◌, true, false, if◌then◌else◌, List, [], ◌∷◌, Option, Some, None, option_map, refl, sym, ap}
-use Rattle.std.proofs.Common.{subst, arith}
+use Rattle.std.proofs.Common.{inl, inr, subst, arith}
 use Rattle.std.specs.Prelude.{bit_or, All}
 use Rattle.std.specs.Option.{option_map_or}
+use Rattle.std.proofs.lemmas.Bool.{eqb-true}
 use Rattle.std.proofs.lemmas.List.Elements.{All-head}
 use Rattle.std.proofs.lemmas.Nat.{or_lt}
 use Rattle.model.specs.Kernel.Kinds.{kind_at, kind_of}
@@ -236,7 +237,7 @@ module _ (s : State) (q : ℕ) (whole : IsSound s) (is : kind_at s q ≡ Some Ne
       → IsSound (signals s q badge own_notification waiters)
   signals-whole badge [] less none =
       with-word s whole q own_notification (bit_or own_notification.word badge) object
-      (or_lt 28 own_notification.word badge (whole.threads.words q own_notification object) less)
+      (or_lt 28 own_notification.word badge (whole.threads.words q own_notification object) less) (inl none)
   signals-whole badge (waiter ∷ others) less first =
       let s1 = with_notification s q (record own_notification { waiters = others }) in
       let waits = first-waiter s whole q own_notification waiter others object first in
@@ -248,27 +249,28 @@ module _ (s : State) (q : ℕ) (whole : IsSound s) (is : kind_at s q ≡ Some Ne
   pub signal-whole : (badge : ℕ) → badge < 2 ^ 28 → IsSound (signal s q badge)
   signal-whole badge less = signals-whole badge own_notification.waiters less refl
 
-  takes-whole : (thread : ℕ) (otherwise : State) → kind_at s thread ≡ Some NewThread → IsSound otherwise → IsSound (takes_word s q thread otherwise)
+  takes-whole : (thread : ℕ) (otherwise : State) → kind_at s thread ≡ Some NewThread → (own_notification.word ≡ 0 → IsSound otherwise)
+      → IsSound (takes_word s q thread otherwise)
   takes-whole thread otherwise is_thread whole_otherwise =
       let word = own_notification.word in
       let s1 = with_notification s q (record own_notification { word = 0 }) in
       let less = whole.threads.words q own_notification object in
-      elim (word == 0) as (λ b. IsSound (if b then otherwise else deliver_word s1 thread word)) [
-        | true ↦ whole_otherwise
-        | false ↦
-            deliver_word-whole s1 thread word (with-word s whole q own_notification 0 object (omega arith))
+      elim (word == 0) as (λ b. (word == 0) ≡ b → IsSound (if b then otherwise else deliver_word s1 thread word)) [
+        | true ↦ λ test. whole_otherwise (eqb-true word 0 test)
+        | false ↦ λ _.
+            deliver_word-whole s1 thread word (with-word s whole q own_notification 0 object (omega arith) (inr refl))
             (object-kinds s q (NotificationObject (record own_notification { word = 0 })) (sym is) thread ∙ is_thread) (omega (arith, less))
-      ]
+      ] refl
 
   pub wait-whole : (thread : ℕ) → IsRunning s thread → IsSound (wait s q thread)
   wait-whole thread runs =
       takes-whole thread (waits_for_signal s q thread) runs.kind
-      (stopped-whole (kind_at s) (with_notification s q (record own_notification { waiters = own_notification.waiters ++ thread ∷ [] })) thread
+      (λ clear. stopped-whole (kind_at s) (with_notification s q (record own_notification { waiters = own_notification.waiters ++ thread ∷ [] })) thread
       (runs_of (s.objects thread)) (in_queue (Blocked q)) false
-      (with-waiter s whole q own_notification thread object runs) runs.kind (Blocked q) refl (λ _. refl) (λ a. a))
+      (with-waiter s whole q own_notification thread object clear runs) runs.kind (Blocked q) refl (λ _. refl) (λ a. a))
 
   pub poll-whole : (thread : ℕ) → IsRunning s thread → IsSound (poll s q thread)
-  poll-whole thread runs = takes-whole thread (deliver_word s thread 0) runs.kind (deliver_word-whole s thread 0 whole runs.kind (omega arith))
+  poll-whole thread runs = takes-whole thread (deliver_word s thread 0) runs.kind (λ _. deliver_word-whole s thread 0 whole runs.kind (omega arith))
 
 -- ---- replies
 

@@ -84,6 +84,7 @@ pub record Listed (kinds : ℕ → Option NewObject) (s : State) (x : ℕ) (r w 
   pub one_sided : (offset : ℕ) (e : EndpointState) → s.objects offset ≡ Some (EndpointObject e) → (e.senders ≡ []) ⊎ (e.receivers ≡ [])
   pub senders : (offset : ℕ) (e : EndpointState) → s.objects offset ≡ Some (EndpointObject e) → All SenderIsSound e.senders
   pub words : (offset : ℕ) (n : NotificationState) → s.objects offset ≡ Some (NotificationObject n) → n.word < 2 ^ 28
+  pub idle : (offset : ℕ) (n : NotificationState) → s.objects offset ≡ Some (NotificationObject n) → (n.waiters ≡ []) ⊎ (n.word ≡ 0)
 
 -- Objects and lists that differ from those of a state as far as one thread is concerned.
 pub record Relists (s : State) (x : ℕ) (objects : ℕ → Option Object) (ready : ℕ → List ℕ) (r w : ℕ → ℕ) : Type 0 where
@@ -97,6 +98,7 @@ pub record Relists (s : State) (x : ℕ) (objects : ℕ → Option Object) (read
   pub one_sided : (offset : ℕ) (e : EndpointState) → objects offset ≡ Some (EndpointObject e) → (e.senders ≡ []) ⊎ (e.receivers ≡ [])
   pub senders : (offset : ℕ) (e : EndpointState) → objects offset ≡ Some (EndpointObject e) → All SenderIsSound e.senders
   pub words : (offset : ℕ) (n : NotificationState) → objects offset ≡ Some (NotificationObject n) → n.word < 2 ^ 28
+  pub idle : (offset : ℕ) (n : NotificationState) → objects offset ≡ Some (NotificationObject n) → (n.waiters ≡ []) ⊎ (n.word ≡ 0)
 
 pub relisted : (kinds : ℕ → Option NewObject) (s : State) (x : ℕ) (r w : ℕ → ℕ) (objects : ℕ → Option Object) (ready : ℕ → List ℕ) (after there : ℕ → ℕ)
     → Listed kinds s x r w → Relists s x objects ready after there → Listed kinds (record s { objects = objects; ready = ready }) x after there
@@ -111,6 +113,7 @@ relisted kinds s x r w objects ready after there listed change = record {
   one_sided = change.one_sided;
   senders = change.senders;
   words = change.words;
+  idle = change.idle;
 }
 
 -- ---- rights to reply
@@ -155,6 +158,7 @@ begins s x whole = record {
     one_sided = whole.threads.one_sided;
     senders = whole.threads.senders;
     words = whole.threads.words;
+    idle = whole.threads.idle;
   };
   rights = record {
     callers = λ thread caller _. whole.threads.callers thread caller;
@@ -183,6 +187,7 @@ ends kinds s x r w awaits moving runs waits answers =
       one_sided = moving.listed.one_sided;
       senders = moving.listed.senders;
       words = moving.listed.words;
+      idle = moving.listed.idle;
       callers = λ thread caller is. elim (eqb_tells caller x) [
         | inl here ↦
             ap (λ (y : ℕ). awaits_answer (thread_at s y).status) here.1
@@ -240,6 +245,9 @@ module _ (kinds : ℕ → Option NewObject) (s : State) (x : ℕ) (r w : ℕ →
             (λ e is. let f : Some (ThreadObject t) ≡ Some (EndpointObject e) = is in absurd cc) (λ offset _. listed.senders offset);
         words = put-either s.objects y (Some (ThreadObject t)) (λ offset o. (n : NotificationState) → o ≡ Some (NotificationObject n) → n.word < 2 ^ 28)
             (λ n is. let f : Some (ThreadObject t) ≡ Some (NotificationObject n) = is in absurd cc) (λ offset _. listed.words offset);
+        idle = put-either s.objects y (Some (ThreadObject t))
+            (λ offset o. (n : NotificationState) → o ≡ Some (NotificationObject n) → (n.waiters ≡ []) ⊎ (n.word ≡ 0))
+            (λ n is. let f : Some (ThreadObject t) ≡ Some (NotificationObject n) = is in absurd cc) (λ offset _. listed.idle offset);
       })
 
   rewritten-rights : (awaits : Bool) → Rights s x awaits → ((caller : ℕ) → t.caller ≡ Some caller → (thread_at s y).caller ≡ Some caller)
@@ -276,6 +284,7 @@ unreadied kinds s x r w awaits moving = record {
     one_sided = moving.listed.one_sided;
     senders = moving.listed.senders;
     words = moving.listed.words;
+    idle = moving.listed.idle;
   });
   rights = rights-kept s (unready s x) x awaits moving.rights (λ _ _ is. is) (λ _ _. refl);
 }
@@ -302,6 +311,7 @@ tailed kinds s x w awaits moving =
             one_sided = moving.listed.one_sided;
             senders = moving.listed.senders;
             words = moving.listed.words;
+            idle = moving.listed.idle;
           });
       rights = rights-kept s (at_tail s x) x awaits moving.rights (λ _ _ is. is) (λ _ _. refl);
     }

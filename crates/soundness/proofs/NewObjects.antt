@@ -879,6 +879,9 @@ module _ (s : State) (sound : IsSound s) (slot offset bits watermark : ℕ) (kin
         (λ o _. sound.threads.senders o);
     words = objects-by (λ o after. (n : NotificationState) → after ≡ Some (NotificationObject n) → n.word < 2 ^ 28)
         (λ i less n is. subst (λ (n : NotificationState). n.word < 2 ^ 28) ((born kind).notifications n is) (omega arith)) (λ o _. sound.threads.words o);
+    idle = objects-by (λ o after. (n : NotificationState) → after ≡ Some (NotificationObject n) → (n.waiters ≡ []) ⊎ (n.word ≡ 0))
+        (λ i less n is. subst (λ (n : NotificationState). (n.waiters ≡ []) ⊎ (n.word ≡ 0)) ((born kind).notifications n is) (inl refl))
+        (λ o _. sound.threads.idle o);
     callers = λ thread caller is. (stands-after caller).awaits ∙ sound.threads.callers thread caller (sym (caller-after thread) ∙ is);
     one_right = λ a b caller one other. sound.threads.one_right a b caller (sym (caller-after a) ∙ one) (sym (caller-after b) ∙ other);
   }

@@ -34,6 +34,7 @@ listed-as kinds s x r w v a b moving same answer = record {
     one_sided = moving.listed.one_sided;
     senders = moving.listed.senders;
     words = moving.listed.words;
+    idle = moving.listed.idle;
   };
   rights = subst (Rights s x) answer moving.rights;
 }
@@ -55,6 +56,7 @@ pub record Replaces (s : State) (x q : ℕ) (w v : ℕ → ℕ) (o : Object) : T
   pub one_sided : (e : EndpointState) → Some o ≡ Some (EndpointObject e) → (e.senders ≡ []) ⊎ (e.receivers ≡ [])
   pub senders : (e : EndpointState) → Some o ≡ Some (EndpointObject e) → All SenderIsSound e.senders
   pub words : (n : NotificationState) → Some o ≡ Some (NotificationObject n) → n.word < 2 ^ 28
+  pub idle : (n : NotificationState) → Some o ≡ Some (NotificationObject n) → (n.waiters ≡ []) ⊎ (n.word ≡ 0)
 
 pub replaced : (kinds : ℕ → Option NewObject) (s : State) (x q : ℕ) (r w v : ℕ → ℕ) (awaits : Bool) (o : Object)
     → Moving kinds s x r w awaits → Replaces s x q w v o
@@ -81,6 +83,8 @@ replaced kinds s x q r w v awaits o moving replaces =
             replaces.senders (λ offset _. moving.listed.senders offset);
         words = put-either s.objects q (Some o) (λ offset p. (n : NotificationState) → p ≡ Some (NotificationObject n) → n.word < 2 ^ 28)
             replaces.words (λ offset _. moving.listed.words offset);
+        idle = put-either s.objects q (Some o) (λ offset p. (n : NotificationState) → p ≡ Some (NotificationObject n) → (n.waiters ≡ []) ⊎ (n.word ≡ 0))
+            replaces.idle (λ offset _. moving.listed.idle offset);
       });
       rights = rights-kept s (with_object s q o) x awaits moving.rights
           (put-either s.objects q (Some o) (λ thread p. (caller : ℕ) → (own_of p).caller ≡ Some caller → (thread_at s thread).caller ≡ Some caller)
@@ -107,13 +111,15 @@ endpointed kinds s x q r w v awaits e f moving is others here elsewhere sides so
       one_sided = λ g same. let h : f ≡ g = cc same in subst (λ (e : EndpointState). (e.senders ≡ []) ⊎ (e.receivers ≡ [])) h sides;
       senders = λ g same. let h : f ≡ g = cc same in subst (λ (e : EndpointState). All SenderIsSound e.senders) h sound;
       words = λ n same. let h : Some (EndpointObject f) ≡ Some (NotificationObject n) = same in absurd cc;
+      idle = λ n same. let h : Some (EndpointObject f) ≡ Some (NotificationObject n) = same in absurd cc;
     })
 
 pub notified : (kinds : ℕ → Option NewObject) (s : State) (x q : ℕ) (r w v : ℕ → ℕ) (awaits : Bool) (n m : NotificationState)
     → Moving kinds s x r w awaits
     → s.objects q ≡ Some (NotificationObject n) → ((thread : ℕ) → thread ≢ x → times_in m.waiters thread ≡ times_in n.waiters thread)
-    → times_in m.waiters x ≡ v q → ((queue : ℕ) → queue ≢ q → w queue ≡ v queue) → m.word < 2 ^ 28 → Moving kinds (with_notification s q m) x r v awaits
-notified kinds s x q r w v awaits n m moving is others here elsewhere less =
+    → times_in m.waiters x ≡ v q → ((queue : ℕ) → queue ≢ q → w queue ≡ v queue) → m.word < 2 ^ 28 → (m.waiters ≡ []) ⊎ (m.word ≡ 0)
+    → Moving kinds (with_notification s q m) x r v awaits
+notified kinds s x q r w v awaits n m moving is others here elsewhere less idle =
     replaced kinds s x q r w v awaits (NotificationObject m) moving (record {
       none = refl;
       before = ap as_thread is;
@@ -124,6 +130,7 @@ notified kinds s x q r w v awaits n m moving is others here elsewhere less =
       one_sided = λ e same. let h : Some (NotificationObject m) ≡ Some (EndpointObject e) = same in absurd cc;
       senders = λ e same. let h : Some (NotificationObject m) ≡ Some (EndpointObject e) = same in absurd cc;
       words = λ k same. let h : m ≡ k = cc same in subst (λ (n : NotificationState). n.word < 2 ^ 28) h less;
+      idle = λ k same. let h : m ≡ k = cc same in subst (λ (n : NotificationState). (n.waiters ≡ []) ⊎ (n.word ≡ 0)) h idle;
     })
 
 -- ---- threads in queues, and those that run
@@ -212,6 +219,9 @@ sides-sender : (e : EndpointState) (x : Sender) (others : List Sender) → e.sen
     → e.receivers ≡ []
 sides-sender e x others is sides = elim sides [ inl none ↦ let clash : ◌≡◌ {A = List Sender} [] (x ∷ others) = sym none ∙ is in absurd cc | inr none ↦ none ]
 
+word-first : (n : NotificationState) (x : ℕ) (others : List ℕ) → n.waiters ≡ x ∷ others → (n.waiters ≡ []) ⊎ (n.word ≡ 0) → n.word ≡ 0
+word-first n x others is idle = elim idle [ inl none ↦ let clash : [] ≡ x ∷ others = sym none ∙ is in absurd cc | inr clear ↦ clear ]
+
 module _ (s : State) (whole : IsSound s) (q : ℕ) where
   -- the first that waits, of all that wait
   first-waits : (x : ℕ) (before others : List ℕ) → waiting_at (s.objects q) ≡ before ++ x ∷ others → WaitsAt s q x
@@ -285,7 +295,7 @@ module _ (s : State) (whole : IsSound s) (q : ℕ) where
       (standing s x (Blocked q) whole waits.status) is
       (λ thread other. then-others x [] others thread other ∙ sym (ap (λ (l : List ℕ). times_in l thread) first))
       (then-gone x [] others (ap waiting_at is ∙ first) waits.status)
-      (here-only q) (whole.threads.words q n is)
+      (here-only q) (whole.threads.words q n is) (inr (word-first n x others first (whole.threads.idle q n is)))
 
   -- ---- joining one
 
@@ -325,24 +335,24 @@ module _ (s : State) (whole : IsSound s) (q : ℕ) where
       let f = none-yet x runs in let g = ap (λ (o : Option Object). times_in (waiting_at o) x) is in omega (arith, a, b, c, d, f, g))
       (λ queue other. sym (here-only q queue other)) (inl none) (whole.threads.senders q e is)
 
-  pub with-waiter : (n : NotificationState) (x : ℕ) → s.objects q ≡ Some (NotificationObject n) → IsRunning s x
+  pub with-waiter : (n : NotificationState) (x : ℕ) → s.objects q ≡ Some (NotificationObject n) → n.word ≡ 0 → IsRunning s x
       → Moving (kind_at s) (with_notification s q (record n { waiters = n.waiters ++ x ∷ [] })) x (runs_of (s.objects x)) (in_queue (Blocked q)) false
-  with-waiter n x is runs =
+  with-waiter n x is clear runs =
       notified (kind_at s) s x q (runs_of (s.objects x)) (λ _. 0) (in_queue (Blocked q)) false n (record n { waiters = n.waiters ++ x ∷ [] })
       (running s x whole runs) is
       (λ thread other. times-end_other n.waiters x thread other)
       (let b = times-end_same n.waiters x in let d = here-once q in let f = none-yet x runs in let g = ap (λ (o : Option Object). times_in (waiting_at o) x) is in omega (arith, b, d, f, g))
-      (λ queue other. sym (here-only q queue other)) (whole.threads.words q n is)
+      (λ queue other. sym (here-only q queue other)) (whole.threads.words q n is) (inr clear)
 
   -- another word
-  pub with-word : (n : NotificationState) (word : ℕ) → s.objects q ≡ Some (NotificationObject n) → word < 2 ^ 28 →
-      IsSound (with_notification s q (record n { word = word }))
-  with-word n word is less =
+  pub with-word : (n : NotificationState) (word : ℕ) → s.objects q ≡ Some (NotificationObject n) → word < 2 ^ 28 → (n.waiters ≡ []) ⊎ (word ≡ 0)
+      → IsSound (with_notification s q (record n { word = word }))
+  with-word n word is less idle =
       let o : Option Object = Some (NotificationObject (record n { word = word })) in
       let waits = waits_of (s.objects q) in
       let moving = notified (kind_at s) s q q (runs_of (s.objects q)) waits waits (awaits_answer (thread_at s q).status) n (record n { word = word })
       (begins s q whole) is (λ _ _. refl)
-      (ap (λ (o : Option Object). times_in (waiting_at o) q) (sym is) ∙ whole.threads.queued q q) (λ _ _. refl) less in
+      (ap (λ (o : Option Object). times_in (waiting_at o) q) (sym is) ∙ whole.threads.queued q q) (λ _ _. refl) less idle in
       let stands : StandsAs (put s.objects q o q) (s.objects q) =
       subst (λ (p : Option Object). StandsAs p (s.objects q)) (sym (put-here s.objects q o)) (stands-none o (s.objects q) refl (ap as_thread is)) in
       ends (kind_at s) (with_notification s q (record n { word = word })) q (runs_of (s.objects q)) waits (awaits_answer (thread_at s q).status) moving

@@ -215,10 +215,10 @@ was-endpoint x (Some PageTableObject) e is = let f : Some PageTableObject ≡ So
 was-endpoint x (Some RootTableObject) e is = let f : Some RootTableObject ≡ Some (EndpointObject e) = is in absurd cc
 
 was-notification : (x : ℕ) (o : Option Object) (n : NotificationState) → option_map (forgetting x) o ≡ Some (NotificationObject n)
-    → (m : NotificationState) × (o ≡ Some (NotificationObject m)) × (n.word ≡ m.word)
+    → (m : NotificationState) × (o ≡ Some (NotificationObject m)) × (n.word ≡ m.word) × (n.waiters ≡ without x m.waiters)
 was-notification x (Some (NotificationObject m)) n is =
     let left : NotificationState = record m { waiters = without x m.waiters } in
-    let same : left ≡ n = cc is in (m, refl, sym (ap (λ (n : NotificationState). n.word) same))
+    let same : left ≡ n = cc is in (m, refl, sym (ap (λ (n : NotificationState). n.word) same), sym (ap (λ (n : NotificationState). n.waiters) same))
 was-notification x None n is = let f : None ≡ Some (NotificationObject n) = is in absurd cc
 was-notification x (Some (ThreadObject t)) n is = let f : Some (forgetting x (ThreadObject t)) ≡ Some (NotificationObject n) = is in absurd cc
 was-notification x (Some (EndpointObject e)) n is = let f : Some (forgetting x (EndpointObject e)) ≡ Some (NotificationObject n) = is in absurd cc
@@ -270,6 +270,10 @@ one-side x before e senders receivers sides = elim sides [
   | inr none ↦ inr (receivers ∙ ap (without x) none)
 ]
 
+still-idle : (x : ℕ) (before n : NotificationState) → n.word ≡ before.word → n.waiters ≡ without x before.waiters
+    → (before.waiters ≡ []) ⊎ (before.word ≡ 0) → (n.waiters ≡ []) ⊎ (n.word ≡ 0)
+still-idle x before n word waiters idle = elim idle [ inl none ↦ inl (waiters ∙ ap (without x) none) | inr clear ↦ inr (word ∙ clear) ]
+
 -- the thread is nowhere, and nobody holds a right for it
 pub left-moving : (kinds : ℕ → Option NewObject) (s : State) (x : ℕ) (r w : ℕ → ℕ) (awaits : Bool) → Moving kinds s x r w awaits
     → Moving kinds (leaves s x) x (λ _. 0) (λ _. 0) false
@@ -296,6 +300,8 @@ left-moving kinds s x r w awaits moving = record {
             (moving.listed.senders offset (WasEndpoint.before was) (WasEndpoint.was was)));
         words = λ offset n is.
             let was = was-notification x (s.objects offset) n is in subst (λ (word : ℕ). word < 2 ^ 28) (sym was.2) (moving.listed.words offset was.0 was.1);
+        idle = λ offset n is.
+            let was = was-notification x (s.objects offset) n is in still-idle x was.0 n was.2 was.3 (moving.listed.idle offset was.0 was.1);
       });
   rights = record {
     callers = λ thread caller other is.

@@ -150,6 +150,8 @@ pub record ThreadsAreSound (s : State) : Type 0 where
   pub one_sided : (offset : ℕ) (e : EndpointState) → s.objects offset ≡ Some (EndpointObject e) → (e.senders ≡ []) ⊎ (e.receivers ≡ [])
   pub senders : (offset : ℕ) (e : EndpointState) → s.objects offset ≡ Some (EndpointObject e) → All SenderIsSound e.senders
   pub words : (offset : ℕ) (n : NotificationState) → s.objects offset ≡ Some (NotificationObject n) → n.word < 2 ^ 28
+  -- a notification for which threads wait has nothing to give them
+  pub idle : (offset : ℕ) (n : NotificationState) → s.objects offset ≡ Some (NotificationObject n) → (n.waiters ≡ []) ⊎ (n.word ≡ 0)
   -- a right to reply is held for a thread that awaits an answer, by one thread
   pub callers : (thread caller : ℕ) → (thread_at s thread).caller ≡ Some caller → IsTrue (awaits_answer (thread_at s caller).status)
   pub one_right : (a b caller : ℕ) → (thread_at s a).caller ≡ Some caller → (thread_at s b).caller ≡ Some caller → a ≡ b
