@@ -10,10 +10,9 @@ use crate::fields::item_offset;
 use model::Refusal;
 use std::marker::{Model, PhantomData};
 
-/// What the ranges of fields depend on: the version of the image, and its counts.
+/// What the ranges of an entry's fields depend on. Four words, which are passed in registers.
 #[derive(Clone, Copy, Drop)]
 pub struct Counts {
-    pub(crate) version: u32,
     pub(crate) untypeds: u32,
     pub(crate) objects: u32,
     pub(crate) interrupts: u32,

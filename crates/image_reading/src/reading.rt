@@ -45,10 +45,9 @@ impl<'a> Model for ImageRef<'a> {
 
 /// The counts that the ranges of an image's fields depend on.
 fn counts_of(header: &ImageHeader) -> Counts
-    ensures { result ≡ record { version = header.now.version; untypeds = header.now.untypeds; objects = header.now.objects; interrupts = header.now.interrupts; words = 0 } }
+    ensures { result ≡ record { untypeds = header.now.untypeds; objects = header.now.objects; interrupts = header.now.interrupts; words = 0 } }
 {
     Counts {
-        version: header.version,
         untypeds: header.untypeds,
         objects: header.objects,
         interrupts: header.interrupts,
@@ -301,6 +300,7 @@ impl<'a> ImageRef<'a> {
         Threads {
             bytes: self.bytes,
             at: self.threads_at,
+            version: self.header.version,
             counts: counts_of(&self.header),
             left: self.header.threads,
         }
@@ -346,7 +346,6 @@ fn image_at(bytes: &[u8]) -> Result<(ImageRef<'_>, usize), Refusal>
 {
     let (header, untypeds_at) = image_header(bytes, 0)?;
     let counts = Counts {
-        version: header.version,
         untypeds: header.untypeds,
         objects: header.objects,
         interrupts: header.interrupts,
@@ -372,7 +371,7 @@ fn image_at(bytes: &[u8]) -> Result<(ImageRef<'_>, usize), Refusal>
     let contents_at = entries_end::<FrameEntry>(bytes, frames_at, counts, 0, header.frames)?;
     let promises_at = contents_end(bytes, contents_at, header.objects, header.contents)?;
     let threads_at = promises_end(bytes, promises_at, counts, header.promises)?;
-    let end = threads_end(bytes, threads_at, counts, header.threads)?;
+    let end = threads_end(bytes, threads_at, header.version, counts, header.threads)?;
     let image = ImageRef {
         bytes,
         header,

@@ -44,16 +44,17 @@ impl<'a> Model for ThreadRef<'a> {
         × (0 < t.header.words) };
 }
 
-/// The thread at `at`, and the offset after it.
+/// The thread at `at` of an image of this version, and the offset after it.
 #[tactic(auto, unfolding(model::specs::Images::Image::thread_format, model::specs::Images::Image::registers_format))]
 pub(crate) fn thread_at<'a>(
     bytes: &'a [u8],
     at: usize,
+    version: u32,
     counts: Counts,
 ) -> Result<(ThreadRef<'a>, usize), Refusal>
-    ensures { result ≡ (thread_format (slots_format counts.objects) counts.version counts.objects).reads bytes.now at }
+    ensures { result ≡ (thread_format (slots_format counts.objects) version counts.objects).reads bytes.now at }
 {
-    let (header, registers_at) = thread_header(bytes, at, counts.version, counts.objects)?;
+    let (header, registers_at) = thread_header(bytes, at, version, counts.objects)?;
     let counts = counts.with_words(header.words);
     let words_at = entries_end::<RegisterEntry>(bytes, registers_at, counts, 1, header.registers)?;
     let records_at = words_end(bytes, words_at, header.words)?;
@@ -130,18 +131,19 @@ impl<'a> ThreadRef<'a> {
     }
 }
 
-/// The offset after `count` threads from `start`.
+/// The offset after `count` threads from `start` of an image of this version.
 pub(crate) fn threads_end(
     bytes: &[u8],
     start: usize,
+    version: u32,
     counts: Counts,
     count: u32,
 ) -> Result<usize, Refusal>
-    ensures { result ≡ end_of ((many count (thread_format (slots_format counts.objects) counts.version counts.objects)).reads bytes.now start) }
+    ensures { result ≡ end_of ((many count (thread_format (slots_format counts.objects) version counts.objects)).reads bytes.now start) }
 {
     let mut at = start;
     for _ in 0..count {
-        let (_thread, next) = thread_at(bytes, at, counts)?;
+        let (_thread, next) = thread_at(bytes, at, version, counts)?;
         at = next;
     }
     Ok(at)
@@ -152,6 +154,7 @@ pub(crate) fn threads_end(
 pub struct Threads<'a> {
     pub(crate) bytes: &'a [u8],
     pub(crate) at: usize,
+    pub(crate) version: u32,
     pub(crate) counts: Counts,
     pub(crate) left: u32,
 }
@@ -163,9 +166,9 @@ impl<'a> Model for Threads<'a> {
 
     ghost Value = { List Thread };
 
-    ghost view = { λ r. values_of (many_read (λ _. thread_format (slots_format r.counts.objects) r.counts.version r.counts.objects) (λ _. 0) 0 r.left r.bytes.now r.at) };
+    ghost view = { λ r. values_of (many_read (λ _. thread_format (slots_format r.counts.objects) r.version r.counts.objects) (λ _. 0) 0 r.left r.bytes.now r.at) };
 
-    ghost invariant = { λ r. is_ok (many_read (λ _. thread_format (slots_format r.counts.objects) r.counts.version r.counts.objects) (λ _. 0) 0 r.left r.bytes.now r.at) ≡ true };
+    ghost invariant = { λ r. is_ok (many_read (λ _. thread_format (slots_format r.counts.objects) r.version r.counts.objects) (λ _. 0) 0 r.left r.bytes.now r.at) ≡ true };
 }
 
 impl<'a> Iterator for Threads<'a> {
@@ -179,7 +182,7 @@ impl<'a> Iterator for Threads<'a> {
         if self.left == 0 {
             return None;
         }
-        match thread_at(self.bytes, self.at, self.counts) {
+        match thread_at(self.bytes, self.at, self.version, self.counts) {
             Ok((thread, next)) => {
                 self.at = next;
                 self.left -= 1;

@@ -5,5 +5,5 @@ use Rattle.image_reading.proofs.threads.threads_end.Given as goal
 
 abbrev pub invariant-loop : goal.invariant-loop
 invariant-loop l =
-    end_of (many_read (λ _. thread_format (slots_format l.counts.objects) l.counts.version l.counts.objects) (λ _. 0) 0 (l.count - l.counter) l.bytes l.at)
-    ≡ end_of (many_read (λ _. thread_format (slots_format l.counts.objects) l.counts.version l.counts.objects) (λ _. 0) 0 l.count l.bytes l.fn.start)
+    end_of (many_read (λ _. thread_format (slots_format l.counts.objects) l.version l.counts.objects) (λ _. 0) 0 (l.count - l.counter) l.bytes l.at)
+    ≡ end_of (many_read (λ _. thread_format (slots_format l.counts.objects) l.version l.counts.objects) (λ _. 0) 0 l.count l.bytes l.fn.start)
