@@ -20,6 +20,7 @@ pub mod ReadySteps
 pub mod Reasons
 pub mod ReceivedCalls
 pub mod Removals
+pub mod RemovedInSentences
 pub mod Stored
 pub mod Ticks
 pub mod UsedRights

@@ -1,7 +1,7 @@
 //! Laws of derivation and removal.
 
 ghost use Rattle.std.specs.Prelude.{◌≡◌, ◌↔◌, ◌<◌, ◌^◌, ◌/◌, ℕ, true, false, Ok};
-ghost use Rattle.model.specs.Kernel.Removal.{SlotSet, kept, new_parent, remove, with_bindings};
+ghost use Rattle.model.specs.Kernel.Removal.{IsRemoval, SlotSet, kept, new_parent, remove, with_bindings, without_slots};
 ghost use Rattle.model.specs.Capabilities.Slots.{Descendant, IsDerivation, Slots, capability_at, is_descendant, is_full, parent_at};
 ghost use Rattle.model.specs.Kernel.State.{State};
 ghost use Rattle.model_laws.specs.Capabilities.{apart_from_mapping};
@@ -29,6 +29,12 @@ pub fn a_removal_keeps_other_slots()
 pub fn a_removal_changes_mappings_alone()
     ensures { (s : State) (set : SlotSet) (slot : ℕ)
         → apart_from_mapping (kept s set slot (capability_at s.slots slot)) ≡ apart_from_mapping (capability_at s.slots slot) }
+{}
+
+/// The state without a set of slots is what its sentences say, and no other state is.
+pub fn a_removal_is_what_its_sentences_say()
+    ensures holds { (s : State) (set : SlotSet) → IsRemoval s set (without_slots s set) }
+    ensures only { (s : State) (set : SlotSet) (t : State) → IsRemoval s set t → t ≡ without_slots s set }
 {}
 
 /// The test of descent says what descends.

@@ -77,6 +77,7 @@ pub use capability_laws::the_test_of_a_capability_decides;
 pub use capability_laws::the_test_of_a_guard_word_decides;
 pub use capability_laws::words_are_read_back;
 pub use descent_laws::a_removal_changes_mappings_alone;
+pub use descent_laws::a_removal_is_what_its_sentences_say;
 pub use descent_laws::a_removal_keeps_other_slots;
 pub use descent_laws::descendants_are_closed;
 pub use descent_laws::no_slot_descends_from_itself;

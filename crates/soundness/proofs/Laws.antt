@@ -36,6 +36,7 @@ pub use Rattle.soundness.proofs.SystemCalls.{answered-whole, called-whole, lacks
 pub use Rattle.soundness.proofs.ThreadCalls.{fine-of, passes-whole, registers-whole, resume-whole, set_priority-whole, set_register-whole, suspend-whole}
 pub use Rattle.soundness.proofs.ThreadCalls.{tick-whole}
 pub use Rattle.soundness.proofs.UnusedMemory.{unused-free}
+pub use Rattle.soundness.proofs.Waking.{AreApart, apart-filter, in-filter, is_in, places-apart}
 pub use Rattle.soundness.proofs.boot_laws.Laws.{AreFormed, CapabilityKept, CountsAreLengths, FrameKept, IsWithin, ReadsBoot, ReadsObjects, TableKept}
 pub use Rattle.soundness.proofs.boot_laws.Laws.{ThreadKept, any-taken, are-formed, boot-slots-suffice, boots-well, bytes-long, cnode-slot, cnode-type}
 pub use Rattle.soundness.proofs.boot_laws.Laws.{contents-fit, counts-are, cspace-slot, described-sound, each-all, entry, filtered-all, find-get, find-no}

@@ -1,7 +1,7 @@
 -- Removal: what a kernel call leaves that takes a whole set of slots away at once.
 -- seL4 Reference Manual, "Deletion, Revocation, and Recycling"; ours refuses to end what still holds capabilities.
-use Rattle.std.specs.Prelude.{ℕ, zero, suc, ◌==◌, ◌-◌, ◌*◌, ◌/◌, ◌%◌, ◌^◌, ◌&&◌, ◌||◌, Bool, false, not, if◌then◌else◌, Option, Some, None, option_map, List}
-use Rattle.std.specs.Prelude.{map, filter, fold, Result, Ok, Err}
+use Rattle.std.specs.Prelude.{ℕ, zero, suc, ◌≡◌, ◌==◌, ◌-◌, ◌*◌, ◌/◌, ◌%◌, ◌^◌, ◌&&◌, ◌||◌, ◌++◌, Bool, true, false, not, if◌then◌else◌, Option, Some, None}
+use Rattle.std.specs.Prelude.{option_map, List, map, filter, fold, Result, Ok, Err}
 use Rattle.std.specs.Option.{option_map_or}
 use Rattle.std.specs.List.{list_any, range_with_len}
 use Rattle.model.specs.declared.capabilities.Cap.{Cap}
@@ -13,11 +13,11 @@ use Rattle.model.specs.declared.errors.KError.TheVariants.{RevokeFirst}
 use Rattle.model.specs.declared.slot_entries.Entry.{Entry}
 use Rattle.model.specs.Kernel.AddressSpaces.{maps_region, page_size, region_pages}
 use Rattle.model.specs.Capabilities.CapabilityKinds.{is_handler_of, names_object, object_of}
-use Rattle.model.specs.Kernel.Scheduling.{all_leave, wake}
-use Rattle.model.specs.Capabilities.Slots.{Slots, capability_at, empty_entry, is_descendant, is_full, is_within, parent_at}
+use Rattle.model.specs.Kernel.Scheduling.{all_leave, full_slice, wake, without_threads}
+use Rattle.model.specs.Capabilities.Slots.{IsOpen, Slots, capability_at, empty_entry, is_descendant, is_full, is_within, parent_at}
 use Rattle.model.specs.Kernel.State.{State, Status, Inactive, Runnable, Blocked, AwaitsReply, AwaitsHandler, Object, ThreadObject, EndpointObject}
-use Rattle.model.specs.Kernel.State.{NotificationObject, CNodeObject, FrameObject, PageTableObject, RootTableObject, as_thread, binding_slot, slots_of}
-use Rattle.model.specs.Kernel.State.{with_slots}
+use Rattle.model.specs.Kernel.State.{NotificationObject, CNodeObject, FrameObject, PageTableObject, RootTableObject, ThreadState, as_thread, binding_slot}
+use Rattle.model.specs.Kernel.State.{slots_of, thread_at, with_slots}
 
 -- a set of slots, as a test
 abbrev pub SlotSet : Type 0
@@ -161,6 +161,10 @@ is_set_back s set offset =
 abbrev pub thread_places : State → List ℕ
 thread_places s = map (λ slot. 16 * slot) (slots_of s)
 
+-- those that are set back, in rising order of their addresses
+abbrev pub threads_set_back : State → SlotSet → List ℕ
+threads_set_back s set = filter (is_set_back s set) (thread_places s)
+
 -- ---- the whole
 
 -- the state with some of its slots closed
@@ -169,7 +173,53 @@ closing s set = with_slots s (λ slot. if set slot then None else s.slots slot)
 
 -- The state without the slots of a set, all of them gone at once. Threads run again in rising order of their addresses.
 abbrev pub without_slots : State → SlotSet → State
-without_slots s set = fold wake (closing (emptied s set) (closes s set)) (filter (is_set_back s set) (thread_places s))
+without_slots s set = fold wake (closing (emptied s set) (closes s set)) (threads_set_back s set)
+
+abbrev pub runs_again : State → SlotSet → ℕ → Bool
+runs_again s set offset = list_any (λ thread. offset == thread) (threads_set_back s set)
+
+-- The same in sentences, one a field: what the state after a removal of these slots is. `without_slots` is that state, and no other is.
+pub record IsRemoval (s : State) (set : SlotSet) (after : State) : Type 0 where
+  -- memory keeps its size
+  pub memory_bits : after.memory_bits ≡ s.memory_bits
+  -- the boot CNode keeps its size
+  pub boot_radix : after.boot_radix ≡ s.boot_radix
+  -- each line is masked as it was
+  pub masked : (line : ℕ) → after.masked line ≡ s.masked line
+  -- each line is pending as it was
+  pub pending : (line : ℕ) → after.pending line ≡ s.pending line
+  -- the slots of an object that ends are closed
+  pub closed_slots : (slot : ℕ) → closes s set slot ≡ true → after.slots slot ≡ None
+  -- the other slots of the set are open, and empty
+  pub emptied_slots : (slot : ℕ) → closes s set slot ≡ false → set slot ≡ true → after.slots slot ≡ Some empty_entry
+  -- any other slot stays open
+  pub open_slots : (slot : ℕ) → closes s set slot ≡ false → set slot ≡ false → IsOpen s.slots slot → IsOpen after.slots slot
+  -- no slot opens
+  pub no_slots : (slot : ℕ) → closes s set slot ≡ false → set slot ≡ false → s.slots slot ≡ None → after.slots slot ≡ None
+  -- a slot that stays open holds what it held, but for a mapping whose tables go, and for what was used of untyped memory whose last child goes
+  pub capabilities : (slot : ℕ) → closes s set slot ≡ false → set slot ≡ false → IsOpen s.slots slot
+      → capability_at after.slots slot ≡ kept s set slot (capability_at s.slots slot)
+  -- it hangs below its nearest ancestor that stays
+  pub parents : (slot : ℕ) → closes s set slot ≡ false → set slot ≡ false → IsOpen s.slots slot → parent_at after.slots slot ≡ new_parent s set slot
+  -- an object ends that loses its last capability
+  pub ended_objects : (offset : ℕ) → ends s set offset ≡ true → after.objects offset ≡ None
+  -- no object appears
+  pub no_objects : (offset : ℕ) → ends s set offset ≡ false → s.objects offset ≡ None → after.objects offset ≡ None
+  -- any other object stays, but threads that end leave its queues, and a right to reply to one of them is void
+  pub objects : (offset : ℕ) (object : Object) → ends s set offset ≡ false → runs_again s set offset ≡ false → s.objects offset ≡ Some object
+      → after.objects offset ≡ Some (without_threads (is_ending_thread s set) object)
+  -- a thread that waited at an object that ends runs again, with a full slice
+  pub threads : (offset : ℕ) (t : ThreadState) → runs_again s set offset ≡ true → s.objects offset ≡ Some (ThreadObject t)
+      → after.objects offset ≡ Some (without_threads (is_ending_thread s set) (ThreadObject (record t { status = Runnable; slice = full_slice })))
+  -- the bytes of a frame that ends go
+  pub ended_bytes : (place : ℕ) → ends s set (place - place % page_size) ≡ true → after.bytes place ≡ None
+  -- other bytes stay
+  pub bytes : (place : ℕ) → ends s set (place - place % page_size) ≡ false → after.bytes place ≡ s.bytes place
+  -- in the list of each priority threads that end are no more, and those that run again come after the others, in rising order of their
+  -- addresses
+  pub ready : (priority : ℕ) → after.ready priority
+      ≡ filter (λ thread. not (is_ending_thread s set thread) && not (runs_again s set thread)) (s.ready priority)
+      ++ filter (λ thread. (thread_at s thread).priority == priority) (threads_set_back s set)
 
 unfoldable pub remove : State → SlotSet → Result State KError
 remove s set =
