@@ -91,9 +91,12 @@ pub record IsUntypedAround (first size : ℕ) (capability : Cap) : Type 0 where
 pub record Covers (new : Cap) (held : Cap) : Type 0 where
   pub kind : NewObject
   pub offset : ℕ
+  -- both name one object of one type
   pub names : Names kind offset new
   pub same : Names kind offset held
+  -- the new one has no right that the other has not
   pub rights : bit_and (rights_of held).0 (rights_of new).0 ≡ (rights_of new).0
+  -- a badge is kept
   pub badge : (badge_of held ≡ 0) ⊎ (badge_of held ≡ badge_of new)
 
 -- why a thread may have a capability that is new in a slot of its own
@@ -142,10 +145,15 @@ pub data RightChange (image : Image) (t : Thread) (s behind : State) (before aft
 -- this one gives; it reports no fault
 pub record AsksAs (image : Image) (t : Thread) (s : State) (endpoint : ℕ) (x : Sender) : Type 0 where
   pub allowed : Rights
+  -- its call names a capability to the endpoint with this badge
   pub named : CallNames image t s (λ capability. capability ≡ Endpoint endpoint allowed x.badge)
+  -- which may write
   pub writes : IsTrue (may_write allowed)
+  -- it is the thread itself that asks
   pub thread : x.thread ≡ self_of image t
+  -- it may get a reply where the capability may
   pub replies : x.grant_reply ≡ may_grant_reply allowed
+  -- it sends or calls
   pub sends : (x.sent ≡ BySend) ⊎ (x.sent ≡ ByCall)
 
 -- who waits at an endpoint changes by the call alone: the thread joins at the tail, or the first of those that wait goes, and waits no more
@@ -229,23 +237,32 @@ pub data ByteChange (image : Image) (t : Thread) (s after : State) (place : ℕ)
 pub record IsWoken (s after : State) (priority thread : ℕ) : Type 0 where
   pub before : ThreadState
   pub changed : ThreadState
+  -- it was a thread
   pub was : s.objects thread ≡ Some (ThreadObject before)
+  -- it did not run
   pub rested : is_runnable before.status ≡ false
+  -- it is one still
   pub is : after.objects thread ≡ Some (ThreadObject changed)
+  -- it runs
   pub runs : changed.status ≡ Runnable
+  -- it has this priority
   pub at : changed.priority ≡ priority
 
--- Without the thread itself the list is the old one with threads after it that were woken, each once. The thread moves, or
--- leaves.
+-- What a step of a thread may change in the list of the ready of a priority.
 pub record ReadyChange (s after : State) (self priority : ℕ) : Type 0 where
   pub added : List ℕ
+  -- without the thread itself the list is the old one, with others after it
   pub list : without self (after.ready priority) ≡ without self (s.ready priority) ++ added
+  -- the others were woken
   pub woken : (thread : ℕ) → Contains added thread → IsWoken s after priority thread
+  -- each comes once
   pub once : (thread : ℕ) → times_in added thread ≤ 1
+  -- the thread itself stays, moves or leaves
   pub own : times_in (after.ready priority) self ≤ times_in (s.ready priority) self
 
 -- ---- a step of a thread
 
+-- What a step of a thread may change. Each sentence says of one part of the state when, or how, it changes.
 pub record WithinAuthority (image : Image) (t : Thread) (s after : State) : Type 0 where
   -- memory keeps its size
   pub memory_bits : after.memory_bits ≡ s.memory_bits
@@ -310,28 +327,42 @@ pub record WithinAuthority (image : Image) (t : Thread) (s after : State) : Type
 
 -- slots, bytes and the shape of the machine stay
 pub record SameStore (s after : State) : Type 0 where
+  -- memory keeps its size
   pub memory_bits : after.memory_bits ≡ s.memory_bits
+  -- the boot CNode keeps its size
   pub boot_radix : after.boot_radix ≡ s.boot_radix
+  -- each slot stays
   pub slots : (slot : ℕ) → after.slots slot ≡ s.slots slot
+  -- each byte stays
   pub bytes : (place : ℕ) → after.bytes place ≡ s.bytes place
 
 -- a tick changes the current thread's slice alone, and where it is in the list of its priority
 pub record WithinTick (s after : State) : Type 0 where
+  -- slots, bytes and the shape of the machine stay
   pub store : SameStore s after
+  -- each line is masked as it was
   pub masked : (number : ℕ) → after.masked number ≡ s.masked number
+  -- each line is pending as it was
   pub pending : (number : ℕ) → after.pending number ≡ s.pending number
+  -- each object stays but the current thread
   pub others : (offset : ℕ) → current s ≢ Some offset → after.objects offset ≡ s.objects offset
+  -- of the current thread the slice alone changes
   pub runs : (thread : ℕ) (old : ThreadState) → current s ≡ Some thread → s.objects thread ≡ Some (ThreadObject old)
       → (slice : ℕ) × (after.objects thread ≡ Some (ThreadObject (record old { slice = slice })))
+  -- where no thread runs, no list of the ready changes
   pub idle : current s ≡ None → (priority : ℕ) → after.ready priority ≡ s.ready priority
+  -- without the current thread each list of the ready is the old one
   pub ready : (thread priority : ℕ) → current s ≡ Some thread → without thread (after.ready priority) ≡ without thread (s.ready priority)
+  -- the current thread is in each list as often as before
   pub as_often : (thread priority : ℕ) → current s ≡ Some thread → times_in (after.ready priority) thread ≡ times_in (s.ready priority) thread
 
 -- ---- interrupts
 
 -- the interrupt of a line is delivered: the line is bound, and not masked
 pub record IsDelivered (number : ℕ) (s : State) (notification badge : ℕ) : Type 0 where
+  -- its binding names this notification, with this badge
   pub bound : binding s number ≡ Some (record { notification = notification; badge = badge })
+  -- no earlier interrupt of the line waits for its acknowledgement
   pub unmasked : s.masked number ≡ false
 
 -- what becomes of the notification that a line is bound to, and of the first thread that waits there
@@ -362,11 +393,17 @@ pub data InterruptReady (number : ℕ) (s after : State) (priority : ℕ) : Type
 -- An interrupt changes its line, the notification that is bound to it, and the first thread that waits there. There are 64 lines, and
 -- one of a greater number changes nothing.
 pub record WithinInterrupt (number : ℕ) (s after : State) : Type 0 where
+  -- one of no line changes nothing
   pub beyond : 63 < number → after ≡ s
+  -- slots, bytes and the shape of the machine stay
   pub store : SameStore s after
+  -- each other line is masked as it was
   pub masked : (other : ℕ) → other ≢ number → after.masked other ≡ s.masked other
+  -- each other line is pending as it was
   pub pending : (other : ℕ) → other ≢ number → after.pending other ≡ s.pending other
+  -- objects change only as the delivery to the line's notification says
   pub objects : (offset : ℕ) → s.objects offset ≢ after.objects offset → InterruptChange number s after offset
+  -- a list of the ready gains at most the first waiter, at its tail
   pub ready : (priority : ℕ) → InterruptReady number s after priority
 
 -- ---- an event

@@ -42,7 +42,7 @@ fields_of_kind kind detail bits offset word =
 abbrev pub fields_of : ℕ → ℕ → Cap
 fields_of head word = fields_of_kind (head % 16) (head / 2 ^ 4 % 2 ^ 5) (head / 2 ^ 9 % 2 ^ 3) (head / 2 ^ 12 * 16) word
 
--- ---- whether fields are in their ranges, as a test
+-- ---- whether fields are in their ranges: `IsCapability` as a test
 
 abbrev pub is_place : ℕ → ℕ → Bool
 is_place offset bits = (offset % 2 ^ bits == 0) && nat_lt offset (2 ^ 24)

@@ -30,7 +30,7 @@ abbrev pub IsTableMapping : Option TableMapping → Type 0
 IsTableMapping None = ⊤
 IsTableMapping (Some mapping) = IsPlace mapping.root 12 × (mapping.region < 2 ^ 9)
 
--- the fields are in their ranges
+-- The fields are in their ranges. `is_capability` computes it, and a law of `model_laws` says that the two agree.
 abbrev pub IsCapability : Cap → Type 0
 IsCapability Empty = ⊤
 IsCapability (Untyped offset bits watermark) = IsPlace offset bits × (4 ≤ bits) × (bits ≤ 24) × (watermark ≤ 2 ^ bits)

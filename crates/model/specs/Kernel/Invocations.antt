@@ -1,5 +1,19 @@
 -- Invocations: what a call on a capability does.
 -- seL4 Reference Manual, "System Calls" and "seL4 API Reference".
+--
+-- The order of the checks of a system call. The first that fails decides.
+--   1. a7 is the number of a call; else the thread faults (`calls_known` of `Steps`).
+--   2. ReplyRecv and Reply answer the caller that there is, whatever a0 names (`calls`).
+--   3. a0 names a full slot, through as many CNodes as its bits lead; bits that are left over are ignored. Else the thread faults, but for
+--      NBSend, which does nothing (`send_named`, `receive_named`).
+--   4. A receive has the right to read from an endpoint or a notification; else the thread faults (`receive_by`). A send has the right to
+--      write to one; else it is InvalidCapability. On any other capability Call, Send and NBSend are invocations (`send_by`).
+-- Of an invocation each check that fails is an error, and nothing has changed:
+--   5. No capabilities come along (TruncatedMessage); the capability has a call of this label (IllegalOperation); the message has as many
+--      words as that call lists (TruncatedMessage) (`form_called` of `CallForms`).
+--   6. What the call asks, line after line (`retype`, `configure`, `copy`, `map_frame` and the others). A slot that it names is looked up at
+--      the first line that needs it: of the address 1 to 32 bits count (RangeError), they are all used (FailedLookup), and then a source is
+--      full (FailedLookup), a destination empty (DeleteFirst) (`argument_slot` of `Arguments`). The CNode of a Retype may be the root itself.
 use Rattle.std.specs.Prelude.{ℕ, nat_le, Some, Result, List, length}
 use Rattle.model.specs.declared.errors.KError.{KError}
 use Rattle.model.specs.declared.errors.KError.TheVariants.{IllegalOperation, TruncatedMessage}
