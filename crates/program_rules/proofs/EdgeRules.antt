@@ -1,15 +1,15 @@
 -- The rules on the ways on from an instruction.
-use Rattle.std.proofs.Common.{ℕ, ℤ, ◌≡◌, ◌≢◌, ◌∙◌, ◌+◌, ◌++◌, ◌&&◌, Bool, true, false, not, Option, Some, None, Result, Ok, Err, List, [], ◌∷◌, refl, ap}
+use Rattle.std.proofs.Common.{ℕ, ℤ, ◌≡◌, ◌≢◌, ◌∙◌, ◌+◌, ◌++◌, true, false, Option, Some, None, Result, Ok, Err, List, [], ◌∷◌, refl, ap}
 use Rattle.std.specs.Prelude.{flat_map}
 use Rattle.std.specs.Option.{option_or}
 use Rattle.model.specs.Acceptance.CallRules.{AfterCall}
 use Rattle.model.specs.Acceptance.Edges.{Edge, after, behind, branch_edge, branch_ranges}
-use Rattle.model.specs.Acceptance.Measures.{Form, Measure, falls, stays_below}
-use Rattle.model.specs.Acceptance.NotedStates.{NotedSlot, PointState, are_same_slots}
-use Rattle.model.specs.Acceptance.PointRules.{ProgramEdge, are_ranges_within, call_edge, call_edges, edge_rules, kept_at, edges_at, edges_of, noted_at}
+use Rattle.model.specs.Acceptance.Measures.{Form, Measure}
+use Rattle.model.specs.Acceptance.NotedStates.{NotedSlot, PointState}
+use Rattle.model.specs.Acceptance.PointRules.{ProgramEdge, call_edge, call_edges, edge_rules, edges_at, edges_of, noted_at}
 use Rattle.model.specs.Acceptance.PointRules.{refused_call, rules_on_edges}
 use Rattle.model.specs.Acceptance.PointStates.{Noted, address_of, call_at, instruction_at, point_of}
-use Rattle.model.specs.Acceptance.Rules.{Rule, first_broken, refuse_if}
+use Rattle.model.specs.Acceptance.Rules.{Rule, first_broken}
 use Rattle.model.specs.Images.Described.{Numbered}
 use Rattle.model.specs.Images.Image.{Image, Thread}
 use Rattle.model.specs.Machine.Effects.{plus}
@@ -19,33 +19,20 @@ use Rattle.model.specs.declared.instructions.Instr.{Instr}
 use Rattle.model.specs.declared.instructions.Register.{Register}
 use Rattle.model.specs.declared.ranges.Range.{Range}
 use Rattle.model.specs.declared.refusals.Point.{Point}
-use Rattle.model.specs.declared.refusals.Refusal.TheVariants.{CapNotThere, MeasureNotFalling, OverBudget, RangeNotKept}
 use Rattle.model.specs.declared.refusals.Refusal.{Refusal}
 use Rattle.program_rules.proofs.FirstBroken.{first-both}
 use Rattle.program_rules.specs.PointChecks.{IsBefore, later_rules, way_rules}
 
--- ---- a point with the same slots
-
-pub kept-beside : (t : Thread) (at : Point) (m : Measure) (edge : ProgramEdge) (ranges : List Range) (here there : List NotedSlot) (measure : Measure)
-    → are_same_slots edge.slots here ≡ are_same_slots edge.slots there
-    → first_broken (kept_at t at m edge (record { ranges = ranges; slots = here; measure = measure }))
-    ≡ first_broken (kept_at t at m edge (record { ranges = ranges; slots = there; measure = measure }))
-kept-beside t at m edge ranges here there measure same =
-    ap (λ (b : Bool). first_broken (refuse_if (not (are_ranges_within edge.ranges ranges)) (RangeNotKept at)
-    ∷ refuse_if (not b) (CapNotThere at)
-    ∷ refuse_if (not edge.is_wait && not (falls m measure edge.value_of edge.before edge.ranges)) (MeasureNotFalling at)
-    ∷ refuse_if (edge.is_wait && not (stays_below t.header.budget measure edge.value_of edge.before edge.ranges)) (OverBudget at) ∷ [])) same
-
 -- ---- one way
 
 -- the same edge
-pub same-rules : (u : Thread) (at at' : Point) (m : Measure) (target : ℕ) (before before' ranges ranges' : List Range) (slots : List NotedSlot)
+pub same-rules : (u : Thread) (at at' : Point) (m : Measure) (target target' : ℕ) (before before' ranges ranges' : List Range) (slots : List NotedSlot)
     (value value' : ℕ → Form) (n n' : Noted)
-    → at ≡ at' → before ≡ before' → ranges ≡ ranges' → ((k : ℕ) → value k ≡ value' k) → n ≡ n'
+    → at ≡ at' → target ≡ target' → before ≡ before' → ranges ≡ ranges' → ((k : ℕ) → value k ≡ value' k) → n ≡ n'
     → first_broken (edge_rules u at m (record { target = target; before = before; ranges = ranges; slots = slots; value_of = value; is_wait = false }) n)
-    ≡ first_broken (edge_rules u at' m (record { target = target; before = before'; ranges = ranges'; slots = slots; value_of = value'; is_wait = false }) n')
-same-rules u at at' m target before before' ranges ranges' slots value value' n n' a b r v same =
-    λ i. first_broken (edge_rules u (a i) m (record { target = target; before = b i; ranges = r i; slots = slots; value_of = λ k. v k i; is_wait = false })
+    ≡ first_broken (edge_rules u at' m (record { target = target'; before = before'; ranges = ranges'; slots = slots; value_of = value'; is_wait = false }) n')
+same-rules u at at' m target target' before before' ranges ranges' slots value value' n n' a g b r v same =
+    λ i. first_broken (edge_rules u (a i) m (record { target = g i; before = b i; ranges = r i; slots = slots; value_of = λ k. v k i; is_wait = false })
     (same i))
 
 -- ---- the ranges before it

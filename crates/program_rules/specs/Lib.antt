@@ -5,3 +5,5 @@ pub mod FoundPages
 pub mod Programs
 pub mod PointChecks
 pub mod point_rules
+pub mod Propositions
+pub mod Visits

@@ -18,6 +18,7 @@ mod programs;
 mod records;
 mod same_parts;
 mod space_rules;
+mod visits;
 mod ways;
 
 pub use checking::check_programs;

@@ -1,26 +1,25 @@
 //! The entry of a thread.
 
-ghost use Rattle.std.specs.Prelude.{ℕ, ◌≡◌, ◌<◌, ◌+◌, int_lt, pos, slice_index, slice_index_or};
+ghost use Rattle.std.specs.Prelude.{ℕ, ◌≡◌, ◌<◌, ◌+◌, List, int_lt, pos, slice_index, slice_index_or};
 ghost use Rattle.std.specs.List.{list_all, range_with_len};
 ghost use Rattle.std.specs.Result.{result_err};
 ghost use Rattle.measure.specs.Measures.{measure_of};
 ghost use Rattle.model.specs.Acceptance.Measures.{measured};
-ghost use Rattle.model.specs.Acceptance.NotedStates.{image_slots};
+ghost use Rattle.model.specs.Acceptance.NotedStates.{NotedSlot, are_same_slots, image_slots};
 ghost use Rattle.model.specs.Acceptance.PointRules.{entry_rules, lies_in};
-ghost use Rattle.model.specs.Acceptance.PointStates.{Known, point_of};
+ghost use Rattle.model.specs.Acceptance.PointStates.{point_of};
+ghost use Rattle.model.specs.Acceptance.PointStates as states;
 ghost use Rattle.model.specs.Acceptance.Ranges.{full};
 ghost use Rattle.model.specs.Acceptance.Rules.{first_broken};
 ghost use Rattle.model.specs.Images.Described.{Numbered, listed_registers};
 ghost use Rattle.model.specs.Images.Image.{Image};
-ghost use Rattle.program_rules.specs.point_rules.Points.{state_of};
-ghost use Rattle.typestate.specs.Differences.{slots_of};
+ghost use Rattle.program_rules.specs.point_rules.Points.{known_of};
 
-use crate::point_rules::PointState;
+use crate::kept::Known;
 use image_reading::ThreadRef;
 use measure::{Measure, value_at};
 use model::{Point, Range, Refusal, Register};
 use ranges::Bounds;
-use typestate::NotedSlots;
 
 /// The values that a thread starts with. Registers that it does not list are 0.
 fn start_values(thread: &ThreadRef<'_>) -> [u32; 32]
@@ -72,27 +71,26 @@ fn exceeds(measure: &Measure, words: &[u32; 32], budget: u64) -> bool
     value_at(measure, words) > i128::from(budget)
 }
 
-/// Whether a thread may start in the state of its entry.
+/// Whether a thread may start in the state of its entry, if it is known whether that has the slots that the image lists.
 ///
 /// # Errors
 ///
 /// The first rule that it breaks: it starts within the ranges (`RangeNotKept`), with these slots (`CapNotThere`), and within
 /// its budget (`OverBudget`).
-pub fn entered(
+pub(crate) fn entered(
     thread: &ThreadRef<'_>,
     at: Point,
-    start: &NotedSlots<'_>,
-    state: &PointState<'_>,
+    state: &Known,
+    has_slots: bool,
 ) -> Result<(), Refusal>
-    requires { state.now.slots.image.now ≡ start.now.image.now }
-    ensures { (image : Image) (t : Numbered) → t.thread ≡ thread.now → at ≡ point_of t t.thread.header.entry → slots_of start.now ≡ image_slots image t.thread
-        → result_err result ≡ first_broken (entry_rules image t (Known (state_of state.now))) }
+    ensures { (image : Image) (t : Numbered) (slots : List NotedSlot) → t.thread ≡ thread.now → at ≡ point_of t t.thread.header.entry → has_slots ≡ are_same_slots slots (image_slots image t.thread)
+        → result_err result ≡ first_broken (entry_rules image t (states.Known (known_of slots state.now))) }
 {
     let words = start_values(thread);
     if !start_within(&words, &state.bounds) {
         return Err(Refusal::RangeNotKept(at));
     }
-    if !state.slots.is_same(start) {
+    if !has_slots {
         return Err(Refusal::CapNotThere(at));
     }
     if exceeds(&state.measure, &words, thread.header().budget) {

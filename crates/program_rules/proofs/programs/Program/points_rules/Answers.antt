@@ -1,13 +1,12 @@
 -- One point after another.
-use Rattle.std.proofs.Common.{◌∙◌, ◌+◌, is_some, List, ap, refl, sym, subst, arith}
+use Rattle.std.proofs.Common.{◌∙◌, ◌+◌, List, refl, sym, subst, arith}
 use Rattle.model.specs.Acceptance.PointRules.{point_rules}
 use Rattle.model.specs.Images.Image.{StateRecord}
 use Rattle.program_rules.proofs.EachPoint.{grown-at}
-use Rattle.program_rules.proofs.NextRecords.{AreLeft, all-left, next-record, no-record}
+use Rattle.program_rules.proofs.NextRecords.{AreLeft, all-left, is-next, next-record}
 use Rattle.program_rules.proofs.Outcomes.{passed-on}
 use Rattle.program_rules.proofs.PointLists.{one-more-kept, refused-here}
 use Rattle.program_rules.proofs.programs.Program.points_rules.Goals as goal
-use Rattle.program_rules.specs.Left.{behind, taken}
 use Rattle.program_rules.specs.Programs.{thread_of}
 
 pub rules-init : goal.rules-init
@@ -39,10 +38,18 @@ after-kept-requires-clause-kept c =
     c.rules.kept
     c.in_ok-point_rules.ensures.others (c.rules.invariant.6 (omega (arith, least, count)))
 
-pub point_rules-requires-clause-noted : goal.point_rules-requires-clause-noted
-point_rules-requires-clause-noted c =
-    c.as_ref.ensures.value ∙ c.take-noted.ensures.record
-    ∙ sym (next-record c.args.self.now.space.thread.now c.rules.point c.rules.records c.rules.invariant.1).0
+pub invariant_of-visit : goal.invariant_of-visit
+invariant_of-visit c =
+    let own = c.args.self.now.space.thread.now in
+    let least = c.rules-test.true in
+    let count = c.word_count-point-end.ensures.value in
+    record {
+      within = omega (arith, least, count);
+      listed = c.as_ref.ensures.value ∙ c.take-noted.ensures.record ∙ sym (next-record own c.rules.point c.rules.records c.rules.invariant.1).0;
+      next = is-next own c.rules.point c.rules.records c.take-noted.new.self c.is_next-is_next_noted.result c.rules.invariant.1
+          c.take-noted.ensures.left
+          c.is_next-is_next_noted.ensures;
+    }
 
 pub returns-in_err-point_rules : goal.returns-in_err-point_rules
 returns-in_err-point_rules c =
@@ -65,12 +72,3 @@ rules-preserved c =
       c.in_ok-point_rules.ensures.found,
       c.after-kept.ensures,
     )
-
-pub point_rules-requires-clause-next : goal.point_rules-requires-clause-next
-point_rules-requires-clause-next c = λ no.
-    let own = c.args.self.now.space.thread.now in
-    let point = c.rules.point in
-    let left = (next-record own point c.rules.records c.rules.invariant.1).1 in
-    (next-record own (point + 1) (behind point c.rules.records) left).0
-    ∙ no-record (taken (point + 1) (behind point c.rules.records))
-    (ap (λ (rs : List StateRecord). is_some (taken (point + 1) rs)) (sym c.take-noted.ensures.left) ∙ sym c.is_next-is_next_noted.ensures ∙ no)

@@ -1,0 +1,162 @@
+-- The first broken rule is one of its own, or else one on its call and its ways.
+use Rattle.std.proofs.Common.{rules, ◌≡◌, ◌≢◌, ◌∙◌, inr, Option, Some, List, sym, ap, subst}
+use Rattle.std.specs.Option.{option_or}
+use Rattle.measure.specs.Measures.{measure_of}
+use Rattle.model.specs.Acceptance.NotedStates.{NotedSlot}
+use Rattle.model.specs.Acceptance.Rules.{first_broken}
+use Rattle.model.specs.Machine.Decoding.{decoded}
+use Rattle.model.specs.declared.instructions.Instr.TheVariants.{Ecall}
+use Rattle.model.specs.declared.refusals.Refusal.{Refusal}
+use Rattle.program_rules.proofs.MappedSoFar.{at-part, found-grown, still-found}
+use Rattle.program_rules.proofs.Outcomes.{always, follows-from, passed-on}
+use Rattle.program_rules.proofs.PointLists.{illegal-breaks, later-answers, plain-later, state-first}
+use Rattle.program_rules.proofs.visits.Visit.state_rules.Goals as goal
+use Rattle.program_rules.specs.FoundPages.{AreFound, AreMapped}
+use Rattle.program_rules.specs.Kept.{state_by}
+use Rattle.program_rules.specs.PointChecks.{later_rules, own_rules}
+use Rattle.program_rules.specs.Programs.{thread_of}
+use Rattle.program_rules.specs.SameParts.{AreSame}
+use Rattle.program_rules.proofs.ShownParts.{same-grown, some-shown}
+use Rattle.typestate.specs.Logs.{KeepsParts, ShowsSome}
+use Rattle.typestate.specs.Calls.{known_with}
+use Rattle.typestate.specs.Differences.{slots_of}
+use Rattle.typestate.specs.Strays.{NoneStray}
+use Rattle.wellformed.specs.Answering.{Answers}
+
+pub own_rules-requires-clause-clean : goal.own_rules-requires-clause-clean
+own_rules-requires-clause-clean c = λ is.
+    subst (λ (all : List NotedSlot). NoneStray c.args.self.now.program.now.space.image.now c.args.self.now.program.now.space.thread.now all)
+    (sym (c.slots-slots.ensures.slots ∙ c.requires.part.same c.args.self.now.program.now.slots.now c.args.self.now.program.now.rising
+    c.args.self.now.program.now.unlinked))
+    (c.requires.kept.clean is)
+
+pub returns-in_err-own_rules-clause-broken : goal.returns-in_err-own_rules-clause-broken
+returns-in_err-own_rules-clause-broken c =
+    let image = c.args.self.now.program.now.space.image.now in
+    let t = thread_of c.args.self.now.program.now in
+    let s = state_by c.args.self.now.program.now.slots.now c.args.points.now.log c.args.known.now in
+    let instr = c.decode-instr.result in
+    let refusal = c.in_err-own_rules.field-0.0 in
+    let own : Some refusal ≡ first_broken (own_rules image t c.args.self.now.point s instr) =
+    c.in_err-own_rules.ensures.broken
+    ∙ ap (λ (all : List NotedSlot).
+    first_broken (own_rules image t c.args.self.now.point (known_with c.args.known.now.bounds all (measure_of c.args.known.now.measure)) instr))
+    (c.slots-slots.ensures.slots ∙ c.requires.part.same c.args.self.now.program.now.slots.now c.args.self.now.program.now.rising
+    c.args.self.now.program.now.unlinked) in
+    passed-on _ c.from_residual.result refusal c.from_residual.ensures.1
+    (inr (state-first image t c.args.self.now.point s instr (ap decoded (sym c.word.ensures) ∙ sym c.decode-instr.ensures.value)
+    ∙ ap (λ (o : Option Refusal). option_or o (first_broken (later_rules image t c.args.self.now.point s instr))) (sym own)))
+
+pub returns-in-Some-Ecall-clause-broken : goal.returns-in-Some-Ecall-clause-broken
+returns-in-Some-Ecall-clause-broken c =
+    let bounds = c.args.known.now.bounds in
+    let m = measure_of c.args.known.now.measure in
+    let call : c.decode-instr.result ≡ Some Ecall = search rules in
+    later-answers c.args.self.now.program.now.space.image.now (thread_of c.args.self.now.program.now) c.args.self.now.point (known_with bounds (slots_of
+    c.slots-slots.result) m)
+    (state_by c.args.self.now.program.now.slots.now c.args.points.now.log c.args.known.now) c.decode-instr.result (Some Ecall) c.call_rules.result
+    (ap decoded (sym c.word.ensures) ∙ sym c.decode-instr.ensures.value) call
+    (ap (λ (all : List NotedSlot). known_with bounds all m) (c.slots-slots.ensures.slots
+    ∙ c.requires.part.same c.args.self.now.program.now.slots.now c.args.self.now.program.now.rising c.args.self.now.program.now.unlinked))
+    c.in_ok-own_rules.ensures.broken c.call_rules.ensures.broken
+
+pub returns-in-None-clause-broken : goal.returns-in-None-clause-broken
+returns-in-None-clause-broken c =
+    absurd (illegal-breaks c.args.self.now.program.now.space.image.now (thread_of c.args.self.now.program.now) c.args.self.now.point
+    (known_with c.args.known.now.bounds (slots_of c.slots-slots.result) (measure_of c.args.known.now.measure)) c.decode-instr.result c.in-None.is
+    c.in_ok-own_rules.ensures.broken)
+
+pub returns-in-Some-clause-broken : goal.returns-in-Some-clause-broken
+returns-in-Some-clause-broken c =
+    let image = c.args.self.now.program.now.space.image.now in
+    let t = thread_of c.args.self.now.program.now in
+    let s = state_by c.args.self.now.program.now.slots.now c.args.points.now.log c.args.known.now in
+    let bounds = c.args.known.now.bounds in
+    let m = measure_of c.args.known.now.measure in
+    let is-plain : c.in-Some.instr ≢ Ecall = search rules in
+    later-answers image t c.args.self.now.point (known_with bounds (slots_of c.slots-slots.result) m) s c.decode-instr.result (Some c.in-Some.instr)
+    c.ways_rules.result
+    (ap decoded (sym c.word.ensures) ∙ sym c.decode-instr.ensures.value) c.in-Some.is
+    (ap (λ (all : List NotedSlot). known_with bounds all m) (c.slots-slots.ensures.slots
+    ∙ c.requires.part.same c.args.self.now.program.now.slots.now c.args.self.now.program.now.rising c.args.self.now.program.now.unlinked))
+    c.in_ok-own_rules.ensures.broken
+    (subst (λ (broken : Option Refusal). Answers broken c.ways_rules.result) (sym (plain-later image t c.args.self.now.point s c.in-Some.instr is-plain))
+    c.ways_rules.ensures.answers)
+
+pub returns-in-Some-clause-shown : goal.returns-in-Some-clause-shown
+returns-in-Some-clause-shown c =
+    let log = c.args.points.now.log in
+    let shown = c.args.shown.now in
+    always (ShowsSome log shown) c.ways_rules.result (some-shown log c.args.known.now.part shown c.requires.part)
+
+pub returns-in-None-clause-shown : goal.returns-in-None-clause-shown
+returns-in-None-clause-shown c = some-shown c.args.points.now.log c.args.known.now.part c.args.shown.now c.requires.part
+
+pub returns-in-Some-Ecall-clause-same : goal.returns-in-Some-Ecall-clause-same
+returns-in-Some-Ecall-clause-same c =
+    let slots = c.args.self.now.program.now.slots.now in
+    let old = c.args.points.now.log in
+    let new = c.call_rules.new.points.log in
+    follows-from (λ _. KeepsParts old new) (λ _. AreSame slots new c.args.same.now) c.call_rules.result
+    (λ _ keeps. same-grown slots old new c.args.same.now keeps c.requires.same) c.call_rules.ensures.others
+
+pub own_rules-requires-clause-found : goal.own_rules-requires-clause-found
+own_rules-requires-clause-found c =
+    let image = c.args.self.now.program.now.space.image.now in
+    let own = c.args.self.now.program.now.space.thread.now in
+    let slots = c.args.self.now.program.now.slots.now in
+    subst (λ (all : List NotedSlot). AreMapped image own all c.args.found.now)
+    (sym (c.slots-slots.ensures.slots ∙ c.requires.part.same slots c.args.self.now.program.now.rising c.args.self.now.program.now.unlinked))
+    (at-part image own slots c.args.points.now.log c.args.known.now.part c.args.found.now c.requires.found_part c.requires.found)
+
+pub returns-in-Some-clause-found : goal.returns-in-Some-clause-found
+returns-in-Some-clause-found c =
+    let image = c.args.self.now.program.now.space.image.now in
+    let own = c.args.self.now.program.now.space.thread.now in
+    let slots = c.args.self.now.program.now.slots.now in
+    let log = c.args.points.now.log in
+    let found = c.own_rules.new.found in
+    always (AreFound image own slots log found) c.ways_rules.result
+    (still-found image own slots log c.args.known.now.part found c.requires.part.held (c.in_ok-own_rules.ensures.part ∙ c.requires.found_part)
+    (subst (λ (all : List NotedSlot). AreMapped image own all found)
+    (c.slots-slots.ensures.slots ∙ c.requires.part.same slots c.args.self.now.program.now.rising c.args.self.now.program.now.unlinked)
+    c.in_ok-own_rules.ensures.found))
+
+pub returns-in-None-clause-found : goal.returns-in-None-clause-found
+returns-in-None-clause-found c =
+    let image = c.args.self.now.program.now.space.image.now in
+    let own = c.args.self.now.program.now.space.thread.now in
+    let slots = c.args.self.now.program.now.slots.now in
+    let log = c.args.points.now.log in
+    let found = c.own_rules.new.found in
+    still-found image own slots log c.args.known.now.part found c.requires.part.held (c.in_ok-own_rules.ensures.part ∙ c.requires.found_part)
+    (subst (λ (all : List NotedSlot). AreMapped image own all found)
+    (c.slots-slots.ensures.slots ∙ c.requires.part.same slots c.args.self.now.program.now.rising c.args.self.now.program.now.unlinked)
+    c.in_ok-own_rules.ensures.found)
+
+pub returns-in-Some-Ecall-clause-found : goal.returns-in-Some-Ecall-clause-found
+returns-in-Some-Ecall-clause-found c =
+    let image = c.args.self.now.program.now.space.image.now in
+    let own = c.args.self.now.program.now.space.thread.now in
+    let slots = c.args.self.now.program.now.slots.now in
+    let old = c.args.points.now.log in
+    let new = c.call_rules.new.points.log in
+    let found = c.own_rules.new.found in
+    follows-from (λ _. KeepsParts old new) (λ _. AreFound image own slots new found) c.call_rules.result
+    (λ _ keeps. found-grown image own slots old new found keeps
+    (still-found image own slots old c.args.known.now.part found c.requires.part.held (c.in_ok-own_rules.ensures.part ∙ c.requires.found_part)
+    (subst (λ (all : List NotedSlot). AreMapped image own all found)
+    (c.slots-slots.ensures.slots ∙ c.requires.part.same slots c.args.self.now.program.now.rising c.args.self.now.program.now.unlinked)
+    c.in_ok-own_rules.ensures.found)))
+    c.call_rules.ensures.others
+
+pub invariant_of-plain : goal.invariant_of-plain
+invariant_of-plain c =
+    record {
+      read = c.requires.read;
+      shows = c.requires.part;
+      kept = c.requires.kept.same;
+      valid = search rules;
+      is = ap decoded (sym c.word.ensures) ∙ sym c.decode-instr.ensures.value ∙ c.in-Some.is;
+      plain = search rules;
+    }
