@@ -1,3 +1,4 @@
+pub mod authority
 pub mod calls
 pub mod facts
 pub mod invocations

@@ -1,9 +1,10 @@
 //! The headline: whatever happens to an accepted image goes well; and the laws below it, on its threads: where they start, what a step
-//! leaves of them, and that all of them stay as their certificates say. There is no code here: each law is the contract
+//! leaves of them, that all of them stay as their certificates say, and what an event may change. There is no code here: each law is the contract
 //! of a function that does nothing. What several of them use, definitions and lemmas on threads and on the states in
 //! which they are, is in `specs/facts` and `proofs/facts`.
 #![tactic(auto)]
 
+pub mod authority;
 mod budget_laws;
 pub mod calls;
 mod event_laws;

@@ -8,8 +8,7 @@ use Rattle.model.specs.Kernel.Scheduling.{head_of}
 use Rattle.model.specs.Kernel.Soundness.{IsSound, waiting_at}
 use Rattle.model.specs.Kernel.State.{State, Object, ThreadObject, EndpointObject, NotificationObject, CNodeObject, FrameObject, PageTableObject}
 use Rattle.model.specs.Kernel.State.{RootTableObject, EndpointState, Sender, ThreadState, as_endpoint, endpoint_at, new_endpoint}
-use Rattle.model_laws.proofs.HandingCalls.{awaited-apart, blocked-awaits, first-waits}
-use Rattle.model_laws.proofs.Interrupted.{Waits}
+use Rattle.headline.proofs.Laws.{Waits, awaited-apart, blocked-awaits, first-waits}
 
 -- the first sender of an endpoint is the first that waits there
 listed-first : (receivers : List ℕ) (senders : List Sender) (first : Sender) → head_of senders ≡ Some first
