@@ -2,21 +2,13 @@
 -- seL4 Reference Manual, "Kernel Memory Allocation", "Reusing Memory".
 use Rattle.std.specs.Prelude.{ℕ, ◌≡◌, ◌+◌, ◌*◌, ◌%◌, ◌^◌, ◌≤◌, true}
 use Rattle.cnode_ops.specs.declared.beginnings.NewRange.{NewRange}
-use Rattle.cnode_ops.specs.declared.beginnings.NewType.{NewType}
-use Rattle.cnode_ops.specs.declared.beginnings.NewType.TheVariants as types
 use Rattle.cnode_ops.specs.declared.beginnings.Placing.{Placing}
 use Rattle.model.specs.Capabilities.Slots.{capability_at, recapped}
-use Rattle.model.specs.Kernel.Kinds.{kind_of}
-use Rattle.model.specs.Kernel.Retype.{NewObject, NewObjects, NewUntyped, is_large_enough, is_small_enough, size_of, with_new}
+use Rattle.model.specs.Kernel.Retype.{NewObjects, is_large_enough, is_small_enough, size_of, with_new}
 use Rattle.model.specs.Kernel.State.{State, with_slots}
 use Rattle.model.specs.declared.capabilities.Cap.{Cap}
 use Rattle.model.specs.declared.capabilities.Cap.TheVariants.{Untyped}
-use Rattle.objects.specs.Threads.{new_object}
-
--- the same type in the words of Retype
-abbrev pub new_type : NewType → NewObject
-new_type (types.Untyped bits) = NewUntyped bits
-new_type (types.Object kind) = kind_of (new_object kind)
+use Rattle.model.specs.Kernel.ObjectTypes.{new_type}
 
 abbrev pub new_objects : NewRange → NewObjects
 new_objects new = record { kind = new_type new.kind; first = new.first; count = new.count }

@@ -6,21 +6,13 @@ ghost use Rattle.model.specs.Capabilities.Slots.{Slots, depth_of, empty_entry};
 ghost use Rattle.model.specs.Kernel.Soundness.{IsSound};
 ghost use Rattle.model.specs.Kernel.State.{State};
 
-use model::Slot;
-use objects::Kind;
+use model::{ObjectType, Slot};
 use slots::SlotStore;
-
-/// What Retype makes: untyped memory of 2^`bits` bytes, or objects of a kind.
-#[derive(Clone, Copy)]
-pub enum NewType {
-    Untyped { bits: u8 },
-    Object(Kind),
-}
 
 /// Some objects of one type, one after another from an offset on.
 #[derive(Clone, Copy)]
 pub struct NewRange {
-    pub kind: NewType,
+    pub kind: ObjectType,
     pub first: u32,
     pub count: u32,
 }

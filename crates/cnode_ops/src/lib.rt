@@ -23,7 +23,7 @@ mod sets;
 mod settling;
 mod windows;
 
-pub use beginnings::{Begins, NewRange, NewType, Placing};
+pub use beginnings::{Begins, NewRange, Placing};
 pub use copies::{copy, mint};
 pub use deletions::{delete, revoke};
 pub use endings::Ends;

@@ -3,7 +3,7 @@
 ghost use Rattle.std.specs.Prelude.{◌≡◌, ◌≤◌, true, OnErr};
 ghost use Rattle.cnode_ops.specs.Nodes.{HasOpenSlots};
 ghost use Rattle.model.specs.Kernel.Outcomes.{GivesState};
-ghost use Rattle.cnode_ops.specs.Placed.{new_type};
+ghost use Rattle.model.specs.Kernel.ObjectTypes.{new_type};
 ghost use Rattle.cnode_ops.specs.RetypeChecks.{places};
 ghost use Rattle.model.specs.Capabilities.CapabilityWords.{IsCapability};
 ghost use Rattle.model.specs.Capabilities.Slots.{IsOpen, capability_at};
@@ -14,8 +14,8 @@ ghost use Rattle.model.specs.declared.capabilities.Cap.TheVariants.{Untyped};
 
 use crate::new_types::{asked_type, object_bits};
 use crate::windows::{named_node, window};
-use crate::{Begins, NewRange, NewType, Placing};
-use model::{Cap, KError, RetypeCall, Slot, UntypedMemory};
+use crate::{Begins, NewRange, Placing};
+use model::{Cap, KError, ObjectType, RetypeCall, Slot, UntypedMemory};
 use slots::SlotStore;
 use untyped::place;
 
@@ -36,7 +36,7 @@ pub fn may_have_child<S: SlotStore>(store: &S, slot: Slot) -> Result<(), KError>
 
 /// Where so many objects are after the watermark of untyped memory, and the watermark after them, if
 /// they fit (`NotEnoughMemory`).
-fn places(memory: UntypedMemory, new: NewType, count: u32) -> Result<(u32, u32), KError>
+fn places(memory: UntypedMemory, new: ObjectType, count: u32) -> Result<(u32, u32), KError>
     requires valid { IsCapability (Untyped memory.offset memory.bits memory.watermark) }
     requires small { is_small_enough (new_type new) ≡ true }
     requires few { count ≤ 256 }

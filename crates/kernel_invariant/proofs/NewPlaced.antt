@@ -15,9 +15,9 @@ use Rattle.model.specs.Kernel.Retype.{with_new_objects, with_new_slots}
 use Rattle.model.specs.Kernel.State.{Object, State, put, with_slots}
 use Rattle.model.specs.declared.slot_entries.Entry.{Entry}
 use Rattle.objects.specs.Changes.{begun, is_frame_kind}
-use Rattle.objects.specs.Threads.{new_object}
-use Rattle.objects.specs.declared.records.Kind.{Kind}
-use Rattle.objects.specs.declared.records.Kind.TheVariants as kinds
+use Rattle.model.specs.Kernel.ObjectTypes.{new_object}
+use Rattle.model.specs.declared.object_types.ObjectKind.{ObjectKind}
+use Rattle.model.specs.declared.object_types.ObjectKind.TheVariants as kinds
 
 -- ---- the capability
 
@@ -53,7 +53,7 @@ inserted-first kind place slot parent room = λ i x. at x i where
 
 -- ---- the object
 
-new-is : (k : Kind) → object (kind_of (new_object k)) ≡ Some (new_object k)
+new-is : (k : ObjectKind) → object (kind_of (new_object k)) ≡ Some (new_object k)
 new-is kinds.Thread = refl
 new-is kinds.Endpoint = refl
 new-is kinds.Notification = refl
@@ -68,7 +68,7 @@ swapped a b = elim (eqb_tells a b) [
   | inr apart ↦ apart.0 ∙ sym (elim (eqb_tells b a) [ inl same ↦ absurd (apart.1 (sym same.1)) | inr other ↦ other.0 ])
 ]
 
-object-placed : (k : Kind) (place : ℕ) (objects : ℕ → Option Object) (other : ℕ)
+object-placed : (k : ObjectKind) (place : ℕ) (objects : ℕ → Option Object) (other : ℕ)
     → put objects place (Some (new_object k)) other ≡ with_new_objects (alone (kind_of (new_object k)) place) objects other
 object-placed k place objects other =
     ap (λ b. if b then Some (new_object k) else objects other) (swapped other place ∙ sym (some-alone (kind_of (new_object k)) place (λ at. at == other)))
@@ -87,7 +87,7 @@ frame-within place other aligned = elim (eqb_tells place (frame_around other)) [
       ] refl)
 ]
 
-byte-placed : (k : Kind) (place : ℕ) (bytes : ℕ → Option ℕ) (made : List ℕ) → (is_frame_kind k ≡ true → place % page_size ≡ 0)
+byte-placed : (k : ObjectKind) (place : ℕ) (bytes : ℕ → Option ℕ) (made : List ℕ) → (is_frame_kind k ≡ true → place % page_size ≡ 0)
     → (is_frame_kind k ≡ true → (other : ℕ) → place ≤ other → other < place + page_size → slice_index made other ≡ 0) → (other : ℕ)
     → (if is_frame_kind k && (place == frame_around other) then Some (slice_index made other) else bytes other)
     ≡ with_new_bytes (alone (kind_of (new_object k)) place) bytes other
@@ -107,7 +107,7 @@ byte-placed kinds.RootTable place bytes made aligned zero other = refl
 
 -- ---- the state
 
-pub placed-object : (s : State) (k : Kind) (place slot parent : ℕ) (room now : Slots) (made : List ℕ) → (is_frame_kind k ≡ true → place % page_size ≡ 0)
+pub placed-object : (s : State) (k : ObjectKind) (place slot parent : ℕ) (room now : Slots) (made : List ℕ) → (is_frame_kind k ≡ true → place % page_size ≡ 0)
     → (is_frame_kind k ≡ true → (other : ℕ) → place ≤ other → other < place + page_size → slice_index made other ≡ 0)
     → now ≡ with_first_capabilities (alone (kind_of (new_object k)) place) slot parent (with_new_slots (alone (kind_of (new_object k)) place) s.slots)
     → with_slots (begun (with_slots s room) made k place) now ≡ one_placed s (kind_of (new_object k)) place slot parent

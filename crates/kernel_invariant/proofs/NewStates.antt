@@ -20,9 +20,9 @@ use Rattle.objects.specs.Changes.{MayStand}
 use Rattle.objects.specs.Frames.{IsInRecord, IsRoom, SameKept, has_slots, slot_bytes}
 use Rattle.objects.specs.Standing.{Standing}
 use Rattle.objects.specs.Tables.{Tables, state_of}
-use Rattle.objects.specs.Threads.{new_object}
-use Rattle.objects.specs.declared.records.Kind.{Kind}
-use Rattle.objects.specs.declared.records.Kind.TheVariants as kinds
+use Rattle.model.specs.Kernel.ObjectTypes.{new_object}
+use Rattle.model.specs.declared.object_types.ObjectKind.{ObjectKind}
+use Rattle.model.specs.declared.object_types.ObjectKind.TheVariants as kinds
 
 -- ---- places
 
@@ -44,7 +44,7 @@ sixteen kind place large aligned =
     let same : place % 2 ^ (object_bits kind - 4 + 4) ≡ 0 = ap (λ (n : ℕ). place % 2 ^ n) (sym wide) ∙ aligned in
     omega (arith, parts, same)
 
-pub may-stand : (kind : Kind) (place bits : ℕ) → place % 2 ^ object_bits (kind_of (new_object kind)) ≡ 0 → place < 2 ^ bits
+pub may-stand : (kind : ObjectKind) (place bits : ℕ) → place % 2 ^ object_bits (kind_of (new_object kind)) ≡ 0 → place < 2 ^ bits
     → is_large_enough (kind_of (new_object kind)) ≡ true → is_small_enough (kind_of (new_object kind)) ≡ true → MayStand bits kind place
 may-stand kinds.Thread place bits aligned near large small = (aligned, near)
 may-stand (kinds.CNode radix) place bits aligned near large small = (sixteen (NewCNode radix) place large aligned, near, leb-true radix 14 small)

@@ -15,11 +15,11 @@ use Rattle.objects.proofs.Vacating.{other-same}
 use Rattle.objects.specs.Changes.{begun, is_frame_kind}
 use Rattle.objects.proofs.Linked.{Linked}
 use Rattle.objects.specs.Contents.{Contents, byte_in, is_frame, object_from, object_in, object_of, sending_in, contents_state, told_by, waiting_of}
-use Rattle.objects.specs.Threads.{new_object}
+use Rattle.model.specs.Kernel.ObjectTypes.{new_object}
 use Rattle.objects.specs.thread_records.Threads.{thread_state}
 use Rattle.objects.specs.Waiting.{has_waiting}
-use Rattle.objects.specs.declared.records.Kind.{Kind}
-use Rattle.objects.specs.declared.records.Kind.TheVariants as kinds
+use Rattle.model.specs.declared.object_types.ObjectKind.{ObjectKind}
+use Rattle.model.specs.declared.object_types.ObjectKind.TheVariants as kinds
 use Rattle.objects.specs.Contents.{Record}
 use Rattle.objects.specs.Contents.{Endpoint, Notification, CNode, Frame, PageTable, RootTable}
 use Rattle.objects.specs.declared.thread_records.records.Thread.{Thread}
@@ -44,7 +44,7 @@ nobody queues queue none = elim (queues queue) as (λ l. ((thread : ℕ) → 0 <
 ] none
 
 -- what is at the offset of a new object that is no thread
-abbrev pub record_of : Kind → Option Record
+abbrev pub record_of : ObjectKind → Option Record
 record_of kinds.Thread = None
 record_of kinds.Endpoint = Some Endpoint
 record_of kinds.Notification = Some (Notification 0)
@@ -56,7 +56,7 @@ record_of kinds.RootTable = Some RootTable
 same-record : (a b : Record) → Some a ≡ Some b → a ≡ b
 same-record a b same = cc
 
-new-record : (threads : ℕ → Option Thread) (kind : Kind) (r : Record) → record_of kind ≡ Some r
+new-record : (threads : ℕ → Option Thread) (kind : ObjectKind) (r : Record) → record_of kind ≡ Some r
     → (object_of threads [] r ≡ new_object kind) × (is_frame r ≡ is_frame_kind kind)
 new-record threads kinds.Thread r is = absurd (let clash : None ≡ Some r = is in cc)
 new-record threads kinds.Endpoint r is = let e = same-record r Endpoint (sym is) in (ap (object_of threads []) e, ap is_frame e)
@@ -124,7 +124,7 @@ module _ (o : Contents) (slots : Slots) (memory : List ℕ) (offset : ℕ) (stan
 
   -- ---- another object
 
-  module _ (records : ℕ → Option Record) (kind : Kind) (new : Record) (is : record_of kind ≡ Some new)
+  module _ (records : ℕ → Option Record) (kind : ObjectKind) (new : Record) (is : record_of kind ≡ Some new)
       (recorded : (other : ℕ) → records other ≡ put (o.records) offset (Some new) other) where
     object-recorded : (other : ℕ) → object_in (record o { records = records }) (waiting_of o memory) other ≡ put (object_in o (waiting_of o memory)) offset
         (Some (new_object kind)) other

@@ -29,9 +29,9 @@ use Rattle.queues.specs.Words.{end_at, end_of, link_at, link_in}
 use Rattle.queues.specs.declared.words.Ends.{Ends}
 use Rattle.queues.proofs.Laws.{ready_stays, waiting_stays}
 use Rattle.objects.specs.Contents.{Contents, byte_in, is_thread_kind, kind_in, places_of, ready_at, contents_state, waiting_of}
-use Rattle.objects.specs.Threads.{new_object}
-use Rattle.objects.specs.declared.records.Kind.{Kind}
-use Rattle.objects.specs.declared.records.Kind.TheVariants as kinds
+use Rattle.model.specs.Kernel.ObjectTypes.{new_object}
+use Rattle.model.specs.declared.object_types.ObjectKind.{ObjectKind}
+use Rattle.model.specs.declared.object_types.ObjectKind.TheVariants as kinds
 use Rattle.removal_laws.specs.Finishing.{is_stranded, waits_nowhere}
 
 -- ---- threads that wake
@@ -79,7 +79,7 @@ record IsPage (k : NewObject) : Type 0 where
   before : slot_bytes k ≡ 0
   records : has_record k ≡ false
 
-frame-page : (k : Kind) → is_frame_kind k ≡ true → IsPage (kind_of (new_object k))
+frame-page : (k : ObjectKind) → is_frame_kind k ≡ true → IsPage (kind_of (new_object k))
 frame-page kinds.Frame is = record { bits = refl; slots = refl; before = refl; records = refl }
 frame-page kinds.Thread is = absurd (let clash : false ≡ true = is in cc)
 frame-page kinds.Endpoint is = absurd (let clash : false ≡ true = is in cc)
@@ -96,7 +96,7 @@ framed-if true place offset is = elim (eqb_tells offset (frame_around place)) [
   | inr apart ↦ absurd (let clash : true ≡ false = sym is ∙ apart.0 in cc)
 ]
 
-module _ (s : State) (memory : List ℕ) (kind : Kind) (offset : ℕ) (fits : FitsMemory s memory) (room : IsRoom s (kind_of (new_object kind)) offset) where
+module _ (s : State) (memory : List ℕ) (kind : ObjectKind) (offset : ℕ) (fits : FitsMemory s memory) (room : IsRoom s (kind_of (new_object kind)) offset) where
   abbrev k : NewObject
   k = kind_of (new_object kind)
 
@@ -184,7 +184,7 @@ module _ (s : State) (memory : List ℕ) (kind : Kind) (offset : ℕ) (fits : Fi
 
 -- ---- the invariant of objects is kept
 
-module _ (o n : Contents) (before after : Slots) (old new : List ℕ) (kind : Kind) (offset : ℕ) (stands : Linked o before old) (same_slots : after ≡ before)
+module _ (o n : Contents) (before after : Slots) (old new : List ℕ) (kind : ObjectKind) (offset : ℕ) (stands : Linked o before old) (same_slots : after ≡ before)
     (free : (contents_state o before old).objects offset ≡ None) (room : IsRoom (contents_state o before old) (kind_of (new_object kind)) offset)
     (same_ready : n.ready ≡ o.ready)
     (begins : (ready : ℕ → List ℕ) → state_with n (waiting_of o old) ready before old ≡ begun (state_with o (waiting_of o old) ready before old) old kind

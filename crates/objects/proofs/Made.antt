@@ -11,7 +11,7 @@ use Rattle.queues.specs.Words.{end_at, link_at, somebody, with_ends, without_lin
 use Rattle.queues.proofs.Laws.{begins_empty}
 use Rattle.objects.specs.Laid.{BegunAt, SameBesidePoint}
 use Rattle.objects.specs.Rights.{SameBesideReplier}
-use Rattle.objects.specs.declared.records.Kind.TheVariants as kinds
+use Rattle.model.specs.declared.object_types.ObjectKind.TheVariants as kinds
 use Rattle.objects.proofs.thread_records.Laws.{record_stays}
 use Rattle.objects.specs.thread_records.Records as thread_words
 use Rattle.objects.specs.thread_records.Records.{SameBesideRecord}

@@ -24,12 +24,12 @@ use Rattle.objects.specs.Laid.{AreThreadsPlaced, BegunAt}
 use Rattle.objects.specs.Rights.{AreKnown, has_right}
 use Rattle.objects.specs.Standing.{Standing}
 use Rattle.objects.specs.Tables.{Tables, contents_of, entry_in, entry_of, kind_in, kind_of_entry, record_from, state_of, thread_from, thread_in}
-use Rattle.objects.specs.Threads.{new_object}
+use Rattle.model.specs.Kernel.ObjectTypes.{new_object}
 use Rattle.objects.specs.Waiting.{has_waiting}
 use Rattle.objects.specs.declared.records.Entry.{Entry}
 use Rattle.objects.specs.declared.records.Entry.TheVariants as entries
-use Rattle.objects.specs.declared.records.Kind.{Kind}
-use Rattle.objects.specs.declared.records.Kind.TheVariants as kinds
+use Rattle.model.specs.declared.object_types.ObjectKind.{ObjectKind}
+use Rattle.model.specs.declared.object_types.ObjectKind.TheVariants as kinds
 use Rattle.objects.specs.thread_records.Records as thread_words
 use Rattle.objects.specs.declared.thread_records.records.Thread.{Thread}
 
@@ -43,7 +43,7 @@ nothing-entry entries.Frame is = absurd cc
 nothing-entry entries.PageTable is = absurd cc
 nothing-entry entries.RootTable is = absurd cc
 
-module _ (o : Tables) (before after : Slots) (old new : List ℕ) (kind : Kind) (offset : ℕ) (stands : Standing o before old) (same_slots : after ≡ before)
+module _ (o : Tables) (before after : Slots) (old new : List ℕ) (kind : ObjectKind) (offset : ℕ) (stands : Standing o before old) (same_slots : after ≡ before)
     (free : (state_of o before old).objects offset ≡ None) (room : IsRoom (state_of o before old) (kind_of (new_object kind)) offset)
     (entries_now : List Entry) (entered : (other : ℕ) → entry_in entries_now other ≡ put (entry_in o.entries) offset (entry_of kind) other)
     (bytes : BegunAt kind offset old new) (placed : AreThreadsPlaced entries_now (length new)) where
@@ -126,13 +126,13 @@ module _ (o : Tables) (before after : Slots) (old new : List ℕ) (kind : Kind) 
   unfolding state_of
   as-thread is ready =
       let threads : (other : ℕ) → e.threads other ≡ put c.threads offset (Some (thread_words.thread_at new offset)) other = λ other.
-      threads-put other ∙ ap (λ (k : Kind). put c.threads offset (thread_from (entry_of k) (thread_words.thread_at new offset)) other) is in
+      threads-put other ∙ ap (λ (k : ObjectKind). put c.threads offset (thread_from (entry_of k) (thread_words.thread_at new offset)) other) is in
       let records : (other : ℕ) → e.records other ≡ c.records other = λ other.
-      records-put other ∙ ap (λ (k : Kind). put c.records offset (record_from (entry_of k) (word_at new (offset + 8))) other) is
+      records-put other ∙ ap (λ (k : ObjectKind). put c.records offset (record_from (entry_of k) (word_at new (offset + 8))) other) is
       ∙ put-nothing c.records no-record other in
       (λ i. state_with (record e { records = λ other. records other i }) (contents.waiting_of c old) ready before old)
       ∙ begun-thread c before old offset links free e.threads (thread_words.thread_at new offset) threads (bytes.thread is) ready
-      ∙ ap (λ (k : Kind). begun (state_with c (contents.waiting_of c old) ready before old) old k offset) (sym is)
+      ∙ ap (λ (k : ObjectKind). begun (state_with c (contents.waiting_of c old) ready before old) old k offset) (sym is)
 
   as-record : (r : Record) → record_of kind ≡ Some r → thread_from (entry_of kind) (thread_words.thread_at new offset) ≡ None
       → record_from (entry_of kind) (word_at new (offset + 8)) ≡ Some r → Begins
@@ -145,10 +145,10 @@ module _ (o : Tables) (before after : Slots) (old new : List ℕ) (kind : Kind) 
       (λ i. state_with (record e { threads = λ other. threads other i }) (contents.waiting_of c old) ready before old)
       ∙ begun-record c before old offset links free e.records kind r made records ready
 
-  abbrev fresh : Kind → Option Thread
+  abbrev fresh : ObjectKind → Option Thread
   fresh k = thread_from (entry_of k) (thread_words.thread_at new offset)
 
-  abbrev held : Kind → ℕ → Option Record
+  abbrev held : ObjectKind → ℕ → Option Record
   held k word = record_from (entry_of k) word
 
   abbrev word : ℕ
@@ -159,7 +159,7 @@ module _ (o : Tables) (before after : Slots) (old new : List ℕ) (kind : Kind) 
     | kinds.Thread ↦ λ is. as-thread is
     | kinds.Endpoint ↦ λ is. as-record Endpoint (ap record_of is) (ap fresh is) (ap (λ k. held k word) is)
     | kinds.Notification ↦ λ is. as-record (Notification 0) (ap record_of is) (ap fresh is)
-        (ap (λ k. held k word) is ∙ ap (λ (w : ℕ). Some (Notification w)) (bytes.word (ap (λ (k : Kind). has_waiting (Some (kind_of (new_object k)))) is)))
+        (ap (λ k. held k word) is ∙ ap (λ (w : ℕ). Some (Notification w)) (bytes.word (ap (λ (k : ObjectKind). has_waiting (Some (kind_of (new_object k)))) is)))
     | kinds.CNode radix ↦ λ is. as-record (CNode radix) (ap record_of is) (ap fresh is) (ap (λ k. held k word) is)
     | kinds.Frame ↦ λ is. as-record Frame (ap record_of is) (ap fresh is) (ap (λ k. held k word) is)
     | kinds.PageTable ↦ λ is. as-record PageTable (ap record_of is) (ap fresh is) (ap (λ k. held k word) is)
@@ -171,14 +171,14 @@ module _ (o : Tables) (before after : Slots) (old new : List ℕ) (kind : Kind) 
   no-right : (caller : ℕ) → has_right (fresh kind) caller ≡ false
   no-right caller = elim kind as (λ k. kind ≡ k → has_right (fresh kind) caller ≡ false) [
     | kinds.Thread ↦ λ is.
-        ap (λ (k : Kind). has_right (fresh k) caller) is
+        ap (λ (k : ObjectKind). has_right (fresh k) caller) is
         ∙ ap (λ (t : ThreadState). option_map_or (λ x. x == caller) t.caller false) (bytes.thread is)
-    | kinds.Endpoint ↦ λ is. ap (λ (k : Kind). has_right (fresh k) caller) is
-    | kinds.Notification ↦ λ is. ap (λ (k : Kind). has_right (fresh k) caller) is
-    | kinds.CNode radix ↦ λ is. ap (λ (k : Kind). has_right (fresh k) caller) is
-    | kinds.Frame ↦ λ is. ap (λ (k : Kind). has_right (fresh k) caller) is
-    | kinds.PageTable ↦ λ is. ap (λ (k : Kind). has_right (fresh k) caller) is
-    | kinds.RootTable ↦ λ is. ap (λ (k : Kind). has_right (fresh k) caller) is
+    | kinds.Endpoint ↦ λ is. ap (λ (k : ObjectKind). has_right (fresh k) caller) is
+    | kinds.Notification ↦ λ is. ap (λ (k : ObjectKind). has_right (fresh k) caller) is
+    | kinds.CNode radix ↦ λ is. ap (λ (k : ObjectKind). has_right (fresh k) caller) is
+    | kinds.Frame ↦ λ is. ap (λ (k : ObjectKind). has_right (fresh k) caller) is
+    | kinds.PageTable ↦ λ is. ap (λ (k : ObjectKind). has_right (fresh k) caller) is
+    | kinds.RootTable ↦ λ is. ap (λ (k : ObjectKind). has_right (fresh k) caller) is
   ] refl
 
   was : (caller holder : ℕ) → has_right (e.threads holder) caller ≡ true → has_right (c.threads holder) caller ≡ true

@@ -9,12 +9,12 @@ use Rattle.queues.specs.Words.{end_at, link_at}
 use Rattle.objects.specs.Contents.{is_thread_kind}
 use Rattle.objects.specs.Frames.{has_record, slot_bytes}
 use Rattle.objects.specs.Tables.{entry_in, thread_from}
-use Rattle.objects.specs.Threads.{new_object}
+use Rattle.model.specs.Kernel.ObjectTypes.{new_object}
 use Rattle.objects.specs.Waiting.{has_waiting}
 use Rattle.objects.specs.declared.records.Entry.{Entry}
 use Rattle.objects.specs.declared.records.Entry.TheVariants as entries
-use Rattle.objects.specs.declared.records.Kind.{Kind}
-use Rattle.objects.specs.declared.records.Kind.TheVariants as kinds
+use Rattle.model.specs.declared.object_types.ObjectKind.{ObjectKind}
+use Rattle.model.specs.declared.object_types.ObjectKind.TheVariants as kinds
 use Rattle.objects.specs.thread_records.Records as thread_words
 use Rattle.objects.specs.thread_records.Records.{IsRecordByte}
 use Rattle.objects.specs.thread_records.Threads.{thread_state}
@@ -53,13 +53,13 @@ pub record SameBesideThreads (table : List Entry) (old new : List ℕ) : Type 0 
       slice_index new place ≡ slice_index old place
 
 -- where a new object of a kind may come: its record lies in memory, and in no open slot
-pub record IsRoomAt (kind : Kind) (slots : Slots) (size offset : ℕ) : Type 0 where
+pub record IsRoomAt (kind : ObjectKind) (slots : Slots) (size offset : ℕ) : Type 0 where
   pub few : size ≤ 2 ^ 24
   pub thread : kind ≡ kinds.Thread → (offset + 512 ≤ size) × OutsideSlots slots (offset + 32) 480
   pub point : has_waiting (Some (kind_of (new_object kind))) ≡ true → (offset + 16 ≤ size) × OutsideSlots slots offset 16
 
 -- A new object of a kind has begun: nobody is linked to it, a thread is new, a word is 0, and all bytes beside its record are the same.
-pub record BegunAt (kind : Kind) (offset : ℕ) (old new : List ℕ) : Type 0 where
+pub record BegunAt (kind : ObjectKind) (offset : ℕ) (old new : List ℕ) : Type 0 where
   pub size : length new ≡ length old
   pub bytes : (place : ℕ) → (offset + slot_bytes (kind_of (new_object kind)) ≤ place → place < offset + 2 ^ object_bits (kind_of (new_object kind))
       → has_record (kind_of (new_object kind)) ≡ true → ⊥) → slice_index new place ≡ slice_index old place

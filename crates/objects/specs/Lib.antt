@@ -7,6 +7,5 @@ pub mod Premises
 pub mod Rights
 pub mod Standing
 pub mod Tables
-pub mod Threads
 pub mod Waiting
 pub mod thread_records

@@ -9,8 +9,8 @@ use Rattle.model.specs.Shared.Bytes.{word_at}
 use Rattle.objects.specs.Contents.{Contents, Record, Endpoint, Notification, CNode, Frame, PageTable, RootTable, places_by, told_by}
 use Rattle.objects.specs.declared.records.Entry.{Entry}
 use Rattle.objects.specs.declared.records.Entry.TheVariants as entries
-use Rattle.objects.specs.declared.records.Kind.{Kind}
-use Rattle.objects.specs.declared.records.Kind.TheVariants as kinds
+use Rattle.model.specs.declared.object_types.ObjectKind.{ObjectKind}
+use Rattle.model.specs.declared.object_types.ObjectKind.TheVariants as kinds
 use Rattle.objects.specs.thread_records.Records as thread_words
 use Rattle.objects.specs.declared.thread_records.records.Sending.{Sending}
 use Rattle.objects.specs.declared.thread_records.records.Thread.{Thread}
@@ -54,7 +54,7 @@ abbrev pub kind_in : Tables → ℕ → Option NewObject
 kind_in o offset = kinds_by o.entries offset
 
 -- the entry of a new object
-abbrev pub entry_of : Kind → Entry
+abbrev pub entry_of : ObjectKind → Entry
 entry_of kinds.Thread = entries.Thread
 entry_of kinds.Endpoint = entries.Endpoint
 entry_of kinds.Notification = entries.Notification

@@ -5,11 +5,11 @@ ghost use Rattle.model.specs.Capabilities.Slots.{OutsideSlots};
 ghost use Rattle.queues.specs.Words.{end_at};
 ghost use Rattle.model.specs.Shared.Bytes.{word_at};
 ghost use Rattle.objects.specs.Laid.{BegunAt, IsRoomAt, SameBesidePoint};
-ghost use Rattle.objects.specs.declared.records.Kind.TheVariants.{Thread};
+ghost use Rattle.model.specs.declared.object_types.ObjectKind.TheVariants.{Thread};
 
-use crate::records::Kind;
 use crate::rights::put_replier;
 use crate::thread_records;
+use model::ObjectKind;
 use queues::{begin_head, begin_thread};
 use slots::SlotStore;
 
@@ -17,17 +17,20 @@ use slots::SlotStore;
 pub(crate) const WORD: u32 = 8;
 
 /// A new object comes at an offset, with nobody linked there.
-pub(crate) fn begin_bytes<S: SlotStore>(store: &mut S, offset: u32, kind: Kind)
+pub(crate) fn begin_bytes<S: SlotStore>(store: &mut S, offset: u32, kind: ObjectKind)
     requires { IsRoomAt kind (S.slots store.old) (length (S.memory store.old)) offset }
     ensures bytes { BegunAt kind offset (S.memory store.old) (S.memory store.new) }
     ensures slots { S.slots store.new ≡ S.slots store.old }
     ensures order { S.order store.new ≡ S.order store.old }
 {
     match kind {
-        Kind::Thread => begin_thread_bytes(store, offset),
-        Kind::Endpoint => begin_point(store, offset),
-        Kind::Notification => begin_point(store, offset),
-        Kind::CNode { .. } | Kind::Frame | Kind::PageTable | Kind::RootTable => {}
+        ObjectKind::Thread => begin_thread_bytes(store, offset),
+        ObjectKind::Endpoint => begin_point(store, offset),
+        ObjectKind::Notification => begin_point(store, offset),
+        ObjectKind::CNode { .. }
+        | ObjectKind::Frame
+        | ObjectKind::PageTable
+        | ObjectKind::RootTable => {}
     }
 }
 

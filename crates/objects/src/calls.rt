@@ -11,15 +11,14 @@ ghost use Rattle.objects.specs.Changes.{MayStand, begun};
 ghost use Rattle.objects.specs.Frames.{IsRoom, SameBesideObjects};
 ghost use Rattle.objects.specs.Standing.{Standing};
 ghost use Rattle.objects.specs.Tables.{state_of};
-ghost use Rattle.objects.specs.Threads.{new_object};
+ghost use Rattle.model.specs.Kernel.ObjectTypes.{new_object};
 ghost use Rattle.removal_laws.specs.Finishing.{woken};
 ghost use Rattle.removal_laws.specs.Steps.{object_ended};
 
 use crate::beginnings::begin_bytes;
 use crate::held::{THREAD_SIZE, entry_of};
-use crate::records::Kind;
 use crate::tables::Objects;
-use model::Slot;
+use model::{ObjectKind, Slot};
 use slots::SlotStore;
 
 impl Objects {
@@ -94,7 +93,7 @@ impl Objects {
 
     /// A new object comes at an offset where nothing is. What memory holds there are the bytes of a frame.
     #[tactic(auto, unfolding(crate::specs::Tables::state_of, crate::specs::Contents::told_by))]
-    pub fn begin<S: SlotStore>(&mut self, store: &mut S, offset: u32, kind: Kind)
+    pub fn begin<S: SlotStore>(&mut self, store: &mut S, offset: u32, kind: ObjectKind)
         requires free { (state_of self.old (S.slots store.old) (S.memory store.old)).objects offset ≡ None }
         requires fits { MayStand (state_of self.old (S.slots store.old) (S.memory store.old)).memory_bits kind offset }
         requires room { IsRoom (state_of self.old (S.slots store.old) (S.memory store.old)) (kind_of (new_object kind)) offset }

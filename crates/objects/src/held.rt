@@ -7,7 +7,8 @@ ghost use Rattle.objects.specs.Contents.{is_thread_kind, places_by};
 ghost use Rattle.objects.specs.declared.records.Entry.{Entry};
 ghost use Rattle.objects.specs.declared.records.Entry.TheVariants.{Nothing};
 
-use crate::records::{Entry, Kind};
+use crate::records::Entry;
+use model::ObjectKind;
 use queues::Layout;
 use std::alloc::{AllocError, Global};
 use std::marker::Model;
@@ -141,16 +142,16 @@ fn clear_entry(entries: &mut [Entry], offset: u32)
 }
 
 /// The entry of a new object.
-pub(crate) fn entry_of(kind: Kind) -> Entry
+pub(crate) fn entry_of(kind: ObjectKind) -> Entry
     ensures { result ≡ entry_of kind }
 {
     match kind {
-        Kind::Thread => Entry::Thread,
-        Kind::Endpoint => Entry::Endpoint,
-        Kind::Notification => Entry::Notification,
-        Kind::CNode { radix } => Entry::CNode { radix },
-        Kind::Frame => Entry::Frame,
-        Kind::PageTable => Entry::PageTable,
-        Kind::RootTable => Entry::RootTable,
+        ObjectKind::Thread => Entry::Thread,
+        ObjectKind::Endpoint => Entry::Endpoint,
+        ObjectKind::Notification => Entry::Notification,
+        ObjectKind::CNode { radix } => Entry::CNode { radix },
+        ObjectKind::Frame => Entry::Frame,
+        ObjectKind::PageTable => Entry::PageTable,
+        ObjectKind::RootTable => Entry::RootTable,
     }
 }

@@ -20,7 +20,7 @@ mod threads;
 mod waiting;
 
 pub use lives::Live;
-pub use records::{Kind, WaitingSender};
+pub use records::WaitingSender;
 pub use state_laws::{
     a_byte_is_in_memory, a_state_follows_its_frames, a_state_follows_its_slots,
     a_state_follows_other_bytes, a_state_has_its_slots, what_stands_beside_frames,

@@ -2,18 +2,6 @@
 
 use crate::thread_records::Sending;
 
-/// What an object is of, and how many slots a CNode has: 2^`radix`.
-#[derive(Clone, Copy)]
-pub enum Kind {
-    Thread,
-    Endpoint,
-    Notification,
-    CNode { radix: u8 },
-    Frame,
-    PageTable,
-    RootTable,
-}
-
 /// What starts at a place in memory, if anything does.
 #[derive(Clone, Copy)]
 pub(crate) enum Entry {

@@ -6,9 +6,9 @@ use Rattle.kernel_invariant.proofs.Laws.{alone, grown, inserted-first, is-open, 
 use Rattle.kernel_invariant.proofs.Laws.{stands-law}
 use Rattle.kernel_invariant.specs.Growing.{Growing, one_placed}
 use Rattle.kernel_invariant.specs.Rooms.{RoomMade, has_page}
-use Rattle.cnode_ops.specs.Placed.{new_type}
-use Rattle.cnode_ops.specs.declared.beginnings.NewType.{NewType}
-use Rattle.cnode_ops.specs.declared.beginnings.NewType.TheVariants.{Untyped, Object}
+use Rattle.model.specs.Kernel.ObjectTypes.{new_object, new_type}
+use Rattle.model.specs.declared.object_types.ObjectType.{ObjectType}
+use Rattle.model.specs.declared.object_types.ObjectType.TheVariants.{Untyped, Object}
 use Rattle.cnode_ops.proofs.object_lifetimes.Places.{room-of_open}
 use Rattle.cnode_ops.specs.object_lifetimes.Beginnings.{with_begun}
 use Rattle.model.specs.Capabilities.Slots.{SameOutside, Slots, empty_entry, inserted}
@@ -21,14 +21,13 @@ use Rattle.objects.specs.Changes.{begun, is_frame_kind}
 use Rattle.objects.specs.Frames.{SameBesideObjects}
 use Rattle.objects.specs.Standing.{Standing}
 use Rattle.objects.specs.Tables.{Tables, state_of}
-use Rattle.objects.specs.Threads.{new_object}
-use Rattle.objects.specs.declared.records.Kind.{Kind}
-use Rattle.objects.specs.declared.records.Kind.TheVariants as kinds
+use Rattle.model.specs.declared.object_types.ObjectKind.{ObjectKind}
+use Rattle.model.specs.declared.object_types.ObjectKind.TheVariants as kinds
 use Rattle.soundness.proofs.Laws.{first-valid}
 
 -- ---- kinds
 
-frame-paged : (k : Kind) → is_frame_kind k ≡ true → has_page (kind_of (new_object k)) ≡ true
+frame-paged : (k : ObjectKind) → is_frame_kind k ≡ true → has_page (kind_of (new_object k)) ≡ true
 frame-paged kinds.Frame is = refl
 frame-paged kinds.Thread is = is
 frame-paged kinds.Endpoint is = is
@@ -37,7 +36,7 @@ frame-paged (kinds.CNode radix) is = is
 frame-paged kinds.PageTable is = refl
 frame-paged kinds.RootTable is = refl
 
-frame-aligned : (k : Kind) (place : ℕ) → place % 2 ^ object_bits (kind_of (new_object k)) ≡ 0 → is_frame_kind k ≡ true → place % page_size ≡ 0
+frame-aligned : (k : ObjectKind) (place : ℕ) → place % 2 ^ object_bits (kind_of (new_object k)) ≡ 0 → is_frame_kind k ≡ true → place % page_size ≡ 0
 frame-aligned kinds.Frame place aligned is = aligned
 frame-aligned kinds.Thread place aligned is = absurd (let clash : false ≡ true = is in cc)
 frame-aligned kinds.Endpoint place aligned is = absurd (let clash : false ≡ true = is in cc)
@@ -49,7 +48,7 @@ frame-aligned kinds.RootTable place aligned is = absurd (let clash : false ≡ t
 -- ---- the record
 
 -- what is in the tables afterwards
-kind-put : (s : State) (k : Kind) (place : ℕ) (made : List ℕ) (offset : ℕ) (kind : NewObject) → kind_at (begun s made k place) offset ≡ Some kind
+kind-put : (s : State) (k : ObjectKind) (place : ℕ) (made : List ℕ) (offset : ℕ) (kind : NewObject) → kind_at (begun s made k place) offset ≡ Some kind
     → (kind_at s offset ≡ Some kind) ⊎ ((offset ≡ place) × (kind ≡ kind_of (new_object k)))
 kind-put s k place made offset kind is = elim (eqb_tells offset place) [
   | inl here ↦
@@ -59,14 +58,14 @@ kind-put s k place made offset kind is = elim (eqb_tells offset place) [
   | inr apart ↦ inl (sym (ap (λ (b : Bool). option_map kind_of (if b then Some (new_object k) else s.objects offset)) apart.0) ∙ is)
 ]
 
-kind-begun : (s : State) (kind : NewType) (place : ℕ) (made : List ℕ) (offset : ℕ) (k : NewObject) → kind_at (with_begun s made kind place) offset ≡ Some k
+kind-begun : (s : State) (kind : ObjectType) (place : ℕ) (made : List ℕ) (offset : ℕ) (k : NewObject) → kind_at (with_begun s made kind place) offset ≡ Some k
     → (kind_at s offset ≡ Some k) ⊎ ((offset ≡ place) × (k ≡ new_type kind))
 kind-begun s (Untyped bits) place made offset k is = inl is
 kind-begun s (Object kind) place made offset k is = kind-put s kind place made offset k is
 
 -- ---- the capability
 
-placed-begun : (s : State) (kind : NewType) (place slot parent : ℕ) (room now : Slots) (old made : List ℕ) → place % 2 ^ object_bits (new_type kind) ≡ 0
+placed-begun : (s : State) (kind : ObjectType) (place slot parent : ℕ) (room now : Slots) (old made : List ℕ) → place % 2 ^ object_bits (new_type kind) ≡ 0
     → RoomMade s.slots room old made (new_type kind) place
     → now ≡ with_first_capabilities (alone (new_type kind) place) slot parent (with_new_slots (alone (new_type kind) place) s.slots)
     → with_slots (with_begun (with_slots s room) made kind place) now ≡ one_placed s (new_type kind) place slot parent
@@ -76,7 +75,7 @@ placed-begun s (Object k) place slot parent room now old made aligned is_made sl
 
 -- ---- all three
 
-module _ (o after : Tables) (slots room begun_slots now : Slots) (old made begun_bytes new : List ℕ) (kind : NewType) (place slot parent : ℕ)
+module _ (o after : Tables) (slots room begun_slots now : Slots) (old made begun_bytes new : List ℕ) (kind : ObjectType) (place slot parent : ℕ)
     (stood : Standing o slots old) (growing : Growing (state_of o slots old) old place (place + 2 ^ object_bits (new_type kind)))
     (aligned : place % 2 ^ object_bits (new_type kind) ≡ 0) (large : is_large_enough (new_type kind) ≡ true)
     (is_made : RoomMade slots room old made (new_type kind) place) (same_slots : begun_slots ≡ room)

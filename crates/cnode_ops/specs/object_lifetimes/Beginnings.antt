@@ -1,8 +1,8 @@
 -- What begins, and how far the making of several objects has come.
 use Rattle.std.specs.Prelude.{ℕ, ◌≡◌, ◌+◌, ◌*◌, ◌%◌, ◌^◌, ◌<◌, ◌≤◌, ◌⊎◌, true, Some, None, List}
 use Rattle.kernel_invariant.specs.Growing.{Growing}
-use Rattle.cnode_ops.specs.declared.beginnings.NewType.{NewType}
-use Rattle.cnode_ops.specs.declared.beginnings.NewType.TheVariants as types
+use Rattle.model.specs.declared.object_types.ObjectType.{ObjectType}
+use Rattle.model.specs.declared.object_types.ObjectType.TheVariants as types
 use Rattle.model.specs.Capabilities.Slots.{IsDerivation, IsFull, Slots, depth_of, empty_entry}
 use Rattle.model.specs.Kernel.Retype.{NewObjects, is_large_enough, is_small_enough, place_of_new, size_of, with_new}
 use Rattle.model.specs.Kernel.State.{State}
@@ -12,7 +12,7 @@ use Rattle.objects.specs.Changes.{begun}
 use Rattle.slots.specs.Kin.{object_at}
 
 -- untyped memory is no object
-abbrev pub with_begun : State → List ℕ → NewType → ℕ → State
+abbrev pub with_begun : State → List ℕ → ObjectType → ℕ → State
 with_begun s memory (types.Untyped bits) place = s
 with_begun s memory (types.Object kind) place = begun s memory kind place
 

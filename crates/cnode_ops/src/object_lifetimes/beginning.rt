@@ -4,43 +4,27 @@ ghost use Rattle.std.specs.Prelude.{ℕ, ◌≡◌, ◌+◌, ◌*◌, ◌^◌, �
 ghost use Rattle.kernel_invariant.proofs.Laws.{of_memory-law, of_slots-law};
 ghost use Rattle.kernel_invariant.specs.Agreement.{Agrees};
 ghost use Rattle.kernel_invariant.specs.Wholeness.{Agreed};
-ghost use Rattle.cnode_ops.specs.Placed.{new_objects, new_type, used_to};
+ghost use Rattle.cnode_ops.specs.Placed.{new_objects, used_to};
+ghost use Rattle.model.specs.Kernel.ObjectTypes.{new_object, new_type};
 ghost use Rattle.cnode_ops.specs.object_lifetimes.Beginnings.{AreLaid, AreMade, MayUse};
 ghost use Rattle.model.specs.Capabilities.Slots.{SameOutside, capability_at, recapped};
 ghost use Rattle.model.specs.Kernel.Kinds.{kind_of};
 ghost use Rattle.model.specs.Kernel.Retype.{is_small_enough, object_bits, with_new};
 ghost use Rattle.objects.specs.Standing.{Standing};
 ghost use Rattle.objects.specs.Tables.{state_of};
-ghost use Rattle.objects.specs.Threads.{new_object};
 
-use crate::object_lifetimes::making::{PAGE_SIZE, make_one, node_slots};
-use crate::{Begins, NewRange, NewType, Placing};
-use model::{Cap, Slot};
-use objects::{Kind, Objects};
+use crate::object_lifetimes::making::make_one;
+use crate::{Begins, NewRange, Placing};
+use model::{Cap, ObjectType, Slot};
+use objects::Objects;
 use slots::SlotStore;
 
-/// How many bytes an object has.
-fn object_size(kind: Kind) -> u32
-    requires { is_small_enough (kind_of (new_object kind)) ≡ true }
-    ensures { result ≡ 2 ^ object_bits (kind_of (new_object kind)) }
-{
-    match kind {
-        Kind::Thread => 512,
-        Kind::Endpoint | Kind::Notification => 16,
-        Kind::CNode { radix } => node_slots(radix) * 16,
-        Kind::Frame | Kind::PageTable | Kind::RootTable => PAGE_SIZE,
-    }
-}
-
-/// The same of whatever Retype makes.
-fn new_size(kind: NewType) -> u32
+/// How many bytes an object of a type has.
+fn new_size(kind: ObjectType) -> u32
     requires { is_small_enough (new_type kind) ≡ true }
     ensures { result ≡ 2 ^ object_bits (new_type kind) }
 {
-    match kind {
-        NewType::Untyped { bits } => 1 << bits,
-        NewType::Object(kind) => object_size(kind),
-    }
+    1 << kind.bits()
 }
 
 /// Untyped memory is used up to a watermark.

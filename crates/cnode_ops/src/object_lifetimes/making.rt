@@ -3,63 +3,22 @@
 ghost use Rattle.std.specs.Prelude.{ℕ, ◌≡◌, ◌+◌, ◌*◌, ◌/◌, ◌%◌, ◌^◌, ◌<◌, ◌≤◌, Some, None, true, length};
 ghost use Rattle.kernel_invariant.specs.Growing.{Growing, one_placed};
 ghost use Rattle.kernel_invariant.specs.Rooms.{RoomMade};
-ghost use Rattle.cnode_ops.specs.Placed.{new_type};
+ghost use Rattle.model.specs.Kernel.ObjectTypes.{new_object, new_type};
 ghost use Rattle.model.specs.Capabilities.Slots.{IsFull, OutsideSlots, SameOutside, depth_of, empty_entry, opened};
 ghost use Rattle.model.specs.Kernel.Kinds.{kind_of};
-ghost use Rattle.model.specs.Kernel.Retype.{first_capability, is_large_enough, is_small_enough, object_bits};
+ghost use Rattle.model.specs.Kernel.Retype.{is_large_enough, is_small_enough, object_bits};
 ghost use Rattle.cnode_ops.specs.object_lifetimes.Beginnings.{NoneNamed, with_begun};
 ghost use Rattle.objects.specs.Frames.{IsRoom, SameBesideObjects};
 ghost use Rattle.objects.specs.Standing.{Standing};
 ghost use Rattle.objects.specs.Tables.{state_of};
-ghost use Rattle.objects.specs.Threads.{new_object};
 ghost use Rattle.slots.specs.Kin.{object_at};
 
-use crate::NewType;
-use model::{Cap, Rights, Slot};
-use objects::{Kind, Objects};
+use model::{ObjectKind, ObjectType, Slot};
+use objects::Objects;
 use slots::SlotStore;
 
 /// How many bytes a page has.
-pub(crate) const PAGE_SIZE: u32 = 4096;
-
-/// The first capability to a new object: all rights, no badge, guard or mapping.
-pub(crate) fn first_capability(kind: NewType, offset: u32) -> Cap
-    ensures { result ≡ first_capability (new_type kind) offset }
-{
-    match kind {
-        NewType::Untyped { bits } => Cap::Untyped {
-            offset,
-            bits,
-            watermark: 0,
-        },
-        NewType::Object(Kind::Thread) => Cap::Tcb { offset },
-        NewType::Object(Kind::Endpoint) => Cap::Endpoint {
-            offset,
-            rights: Rights::OF_ENDPOINT,
-            badge: 0,
-        },
-        NewType::Object(Kind::Notification) => Cap::Notification {
-            offset,
-            rights: Rights::OF_ENDPOINT,
-            badge: 0,
-        },
-        NewType::Object(Kind::CNode { radix }) => Cap::CNode {
-            offset,
-            radix,
-            guard: 0,
-        },
-        NewType::Object(Kind::Frame) => Cap::Frame {
-            offset,
-            rights: Rights::OF_FRAME,
-            mapping: None,
-        },
-        NewType::Object(Kind::PageTable) => Cap::PageTable {
-            offset,
-            mapping: None,
-        },
-        NewType::Object(Kind::RootTable) => Cap::RootTable { offset },
-    }
-}
+const PAGE_SIZE: u32 = 4096;
 
 /// Opens the slots of a new object.
 fn open_slots<S: SlotStore>(store: &mut S, place: u32, count: u32)
@@ -74,7 +33,7 @@ fn open_slots<S: SlotStore>(store: &mut S, place: u32, count: u32)
 }
 
 /// How many slots a CNode has.
-pub(crate) fn node_slots(radix: u8) -> u32
+fn node_slots(radix: u8) -> u32
     requires { radix ≤ 14 }
     ensures value { result ≡ 2 ^ radix }
     ensures most { result ≤ 2 ^ 14 }
@@ -83,7 +42,7 @@ pub(crate) fn node_slots(radix: u8) -> u32
 }
 
 /// Makes room for a new object: its slots are open and empty, or its page is zero.
-fn make_object_room<S: SlotStore>(store: &mut S, kind: Kind, place: u32)
+fn make_object_room<S: SlotStore>(store: &mut S, kind: ObjectKind, place: u32)
     requires aligned { place % 16 ≡ 0 }
     requires near { place < 2 ^ 24 }
     requires within { place + 2 ^ object_bits (kind_of (new_object kind)) ≤ length (S.memory store.old) }
@@ -92,17 +51,17 @@ fn make_object_room<S: SlotStore>(store: &mut S, kind: Kind, place: u32)
     ensures { RoomMade (S.slots store.old) (S.slots store.new) (S.memory store.old) (S.memory store.new) (kind_of (new_object kind)) place }
 {
     match kind {
-        Kind::Thread => open_slots(store, place, 2),
-        Kind::CNode { radix } => open_slots(store, place, node_slots(radix)),
-        Kind::Frame => store.zero(place, PAGE_SIZE),
-        Kind::PageTable => store.zero(place, PAGE_SIZE),
-        Kind::RootTable => store.zero(place, PAGE_SIZE),
-        Kind::Endpoint | Kind::Notification => {}
+        ObjectKind::Thread => open_slots(store, place, 2),
+        ObjectKind::CNode { radix } => open_slots(store, place, node_slots(radix)),
+        ObjectKind::Frame => store.zero(place, PAGE_SIZE),
+        ObjectKind::PageTable => store.zero(place, PAGE_SIZE),
+        ObjectKind::RootTable => store.zero(place, PAGE_SIZE),
+        ObjectKind::Endpoint | ObjectKind::Notification => {}
     }
 }
 
 /// The same of whatever Retype makes: untyped memory needs none.
-fn make_room<S: SlotStore>(store: &mut S, kind: NewType, place: u32)
+fn make_room<S: SlotStore>(store: &mut S, kind: ObjectType, place: u32)
     requires aligned { place % 16 ≡ 0 }
     requires near { place < 2 ^ 24 }
     requires within { place + 2 ^ object_bits (new_type kind) ≤ length (S.memory store.old) }
@@ -111,13 +70,13 @@ fn make_room<S: SlotStore>(store: &mut S, kind: NewType, place: u32)
     ensures { RoomMade (S.slots store.old) (S.slots store.new) (S.memory store.old) (S.memory store.new) (new_type kind) place }
 {
     match kind {
-        NewType::Untyped { .. } => {}
-        NewType::Object(kind) => make_object_room(store, kind, place),
+        ObjectType::Untyped { .. } => {}
+        ObjectType::Object(kind) => make_object_room(store, kind, place),
     }
 }
 
 /// The object begins in the tables; untyped memory is no object.
-fn begin_object<S: SlotStore>(objects: &mut Objects, store: &mut S, kind: NewType, place: u32)
+fn begin_object<S: SlotStore>(objects: &mut Objects, store: &mut S, kind: ObjectType, place: u32)
     requires free { (state_of objects.old (S.slots store.old) (S.memory store.old)).objects place ≡ None }
     requires near { place < 2 ^ (state_of objects.old (S.slots store.old) (S.memory store.old)).memory_bits }
     requires aligned { place % 2 ^ object_bits (new_type kind) ≡ 0 }
@@ -131,7 +90,7 @@ fn begin_object<S: SlotStore>(objects: &mut Objects, store: &mut S, kind: NewTyp
     ensures bytes { SameBesideObjects (state_of objects.new (S.slots store.new) (S.memory store.new)) (S.memory store.old) (S.memory store.new) }
     ensures stands { Standing objects.new (S.slots store.new) (S.memory store.new) }
 {
-    if let NewType::Object(kind) = kind {
+    if let ObjectType::Object(kind) = kind {
         objects.begin(store, place, kind);
     }
 }
@@ -141,7 +100,7 @@ fn begin_object<S: SlotStore>(objects: &mut Objects, store: &mut S, kind: NewTyp
 pub(crate) fn make_one<S: SlotStore>(
     objects: &mut Objects,
     store: &mut S,
-    kind: NewType,
+    kind: ObjectType,
     place: u32,
     slot: Slot,
     parent: Slot,
@@ -167,5 +126,5 @@ pub(crate) fn make_one<S: SlotStore>(
 {
     make_room(store, kind, place);
     begin_object(objects, store, kind, place);
-    store.insert(slot, first_capability(kind, place), Some(parent));
+    store.insert(slot, kind.first_capability(place), Some(parent));
 }

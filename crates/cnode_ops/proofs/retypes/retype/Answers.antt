@@ -3,7 +3,7 @@ use Rattle.std.proofs.Common.{◌≡◌, ◌∙◌, not, Ok, refl, sym, ap, subs
 use Rattle.std.proofs.lemmas.Result.{err_from_is_err_and}
 use Rattle.model.proofs.Ancestors.{full-open}
 use Rattle.cnode_ops.specs.Nodes.{CNodesAreOpen}
-use Rattle.cnode_ops.specs.Placed.{new_type}
+use Rattle.model.specs.Kernel.ObjectTypes.{new_type}
 use Rattle.cnode_ops.proofs.FreeWindows.{window-counted}
 use Rattle.cnode_ops.proofs.OpenNodes.{sound-nodes}
 use Rattle.cnode_ops.proofs.PlacedObjects.{asked-sized, placed}

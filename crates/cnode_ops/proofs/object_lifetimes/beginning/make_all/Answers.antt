@@ -1,7 +1,8 @@
 -- One more each time, in the room that is left.
 use Rattle.std.proofs.Common.{ℕ, ◌∙◌, ◌+◌, ◌%◌, ◌^◌, ap, sym, subst}
 use Rattle.kernel_invariant.specs.Growing.{Growing}
-use Rattle.cnode_ops.specs.Placed.{new_objects, new_type}
+use Rattle.cnode_ops.specs.Placed.{new_objects}
+use Rattle.model.specs.Kernel.ObjectTypes.{new_type}
 use Rattle.cnode_ops.proofs.object_lifetimes.OneAfterAnother.{made-at, next-place, one-aligned, one-empty, one-unnamed, room-for_one}
 use Rattle.cnode_ops.specs.object_lifetimes.Beginnings.{NoneNamed}
 use Rattle.cnode_ops.proofs.object_lifetimes.beginning.make_all.Goals as goal

@@ -1,6 +1,7 @@
 -- So many are made, and the next one comes at its place.
 use Rattle.std.proofs.Common.{◌≡◌, ◌+◌, ◌*◌, ◌^◌}
-use Rattle.cnode_ops.specs.Placed.{new_objects, new_type}
+use Rattle.cnode_ops.specs.Placed.{new_objects}
+use Rattle.model.specs.Kernel.ObjectTypes.{new_type}
 use Rattle.cnode_ops.specs.object_lifetimes.Beginnings.{AreMade}
 use Rattle.model.specs.Kernel.Retype.{object_bits}
 use Rattle.objects.specs.Standing.{Standing}

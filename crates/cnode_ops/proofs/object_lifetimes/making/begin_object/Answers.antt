@@ -1,8 +1,8 @@
 -- The place is fit for the kind.
 use Rattle.std.proofs.Common.{◌∙◌, ◌%◌, ◌^◌, ap, subst, sym}
 use Rattle.kernel_invariant.proofs.Laws.{may-stand}
-use Rattle.cnode_ops.specs.Placed.{new_type}
-use Rattle.cnode_ops.specs.declared.beginnings.NewType.{NewType}
+use Rattle.model.specs.Kernel.ObjectTypes.{new_type}
+use Rattle.model.specs.declared.object_types.ObjectType.{ObjectType}
 use Rattle.cnode_ops.proofs.object_lifetimes.making.begin_object.Goals as goal
 use Rattle.model.specs.Kernel.Retype.{is_large_enough, is_small_enough, object_bits}
 use Rattle.objects.specs.Frames.{IsRoom}
@@ -11,12 +11,12 @@ use Rattle.objects.specs.Tables.{state_of}
 pub begin-requires-clause-fits : goal.begin-requires-clause-fits
 begin-requires-clause-fits g c =
     may-stand c.in-Object.kind c.args.place _
-    (ap (λ (k : NewType). c.args.place % 2 ^ object_bits (new_type k)) (sym c.in-Object.is) ∙ c.requires.aligned) c.requires.near
-    (ap (λ (k : NewType). is_large_enough (new_type k)) (sym c.in-Object.is) ∙ c.requires.large)
-    (ap (λ (k : NewType). is_small_enough (new_type k)) (sym c.in-Object.is) ∙ c.requires.small)
+    (ap (λ (k : ObjectType). c.args.place % 2 ^ object_bits (new_type k)) (sym c.in-Object.is) ∙ c.requires.aligned) c.requires.near
+    (ap (λ (k : ObjectType). is_large_enough (new_type k)) (sym c.in-Object.is) ∙ c.requires.large)
+    (ap (λ (k : ObjectType). is_small_enough (new_type k)) (sym c.in-Object.is) ∙ c.requires.small)
 
 pub begin-requires-clause-room : goal.begin-requires-clause-room
 begin-requires-clause-room g c =
-    subst (λ (k : NewType). IsRoom (state_of c.args.objects.now (g.S.SlotMap.slots c.args.store.now) (g.S.SlotStore.memory c.args.store.now)) (new_type k)
+    subst (λ (k : ObjectType). IsRoom (state_of c.args.objects.now (g.S.SlotMap.slots c.args.store.now) (g.S.SlotStore.memory c.args.store.now)) (new_type k)
     c.args.place) c.in-Object.is
     c.requires.room

@@ -10,13 +10,13 @@ use Rattle.model.specs.Kernel.Retype.{object, object_bits}
 use Rattle.model.specs.Kernel.AddressSpaces.{page_size}
 use Rattle.model.specs.Kernel.Removal.{slot_count}
 use Rattle.model.specs.Shared.Bytes.{written}
-use Rattle.objects.specs.Threads.{new_object}
-use Rattle.objects.specs.declared.records.Kind.{Kind}
-use Rattle.objects.specs.declared.records.Kind.TheVariants.{CNode, Frame, PageTable, RootTable}
+use Rattle.model.specs.Kernel.ObjectTypes.{new_object}
+use Rattle.model.specs.declared.object_types.ObjectKind.{ObjectKind}
+use Rattle.model.specs.declared.object_types.ObjectKind.TheVariants.{CNode, Frame, PageTable, RootTable}
 
 -- a CNode has sixteen bytes for each slot
-wide : (kind : Kind) (radix : ℕ) → kind ≡ CNode radix → 2 ^ object_bits (kind_of (new_object kind)) ≡ 2 ^ radix * 16
-wide kind radix is = ap (λ (k : Kind). 2 ^ object_bits (kind_of (new_object k))) is ∙ pow-add 2 radix 4
+wide : (kind : ObjectKind) (radix : ℕ) → kind ≡ CNode radix → 2 ^ object_bits (kind_of (new_object kind)) ≡ 2 ^ radix * 16
+wide kind radix is = ap (λ (k : ObjectKind). 2 ^ object_bits (kind_of (new_object k))) is ∙ pow-add 2 radix 4
 
 pub open_slots-requires-in-CNode-clause-within : goal.open_slots-requires-in-CNode-clause-within
 open_slots-requires-in-CNode-clause-within g c =
@@ -27,14 +27,14 @@ open_slots-requires-in-CNode-clause-closed g c = λ place low high.
     let size = wide c.args.kind c.in-CNode.radix c.in-CNode.is in c.requires.closed place low (omega (arith, size, high, c.node_slots.ensures.value))
 
 -- a page, of whatever kind
-page : (kind like : Kind) (place : ℕ) (slots now : Slots) (old new : List ℕ) → kind ≡ like → slot_count (object (kind_of (new_object like))) ≡ 0
+page : (kind like : ObjectKind) (place : ℕ) (slots now : Slots) (old new : List ℕ) → kind ≡ like → slot_count (object (kind_of (new_object like))) ≡ 0
     → object_bits (kind_of (new_object like)) ≡ 12 → place + 2 ^ object_bits (kind_of (new_object kind)) ≤ length old → now ≡ slots
     → new ≡ written old place (replicate page_size 0) → RoomMade slots now old new (kind_of (new_object kind)) place
 page kind like place slots now old new is none bits within same zeroed =
-    let size : object_bits (kind_of (new_object kind)) ≡ 12 = ap (λ (k : Kind). object_bits (kind_of (new_object k))) is ∙ bits in
+    let size : object_bits (kind_of (new_object kind)) ≡ 12 = ap (λ (k : ObjectKind). object_bits (kind_of (new_object k))) is ∙ bits in
     let room : place + 2 ^ 12 ≤ length old = subst (λ (n : ℕ). place + 2 ^ n ≤ length old) size within in
     subst (λ (n : Slots). RoomMade slots n old new (kind_of (new_object kind)) place) (sym same)
-    (room-of-page (kind_of (new_object kind)) place slots old new (ap (λ (k : Kind). slot_count (object (kind_of (new_object k)))) is ∙ none) size room zeroed)
+    (room-of-page (kind_of (new_object kind)) place slots old new (ap (λ (k : ObjectKind). slot_count (object (kind_of (new_object k)))) is ∙ none) size room zeroed)
 
 pub returns-in-Frame : goal.returns-in-Frame
 returns-in-Frame g c =

@@ -1,7 +1,7 @@
 -- Room, record and capability, one after another.
 use Rattle.std.proofs.Common.{ℕ, ◌∙◌, ◌<◌, ◌^◌, IsSome, Option, Some, ap, refl, sym, subst, arith}
 use Rattle.kernel_invariant.proofs.Laws.{is-room, room-stands, room-state, sixteen}
-use Rattle.cnode_ops.specs.Placed.{new_type}
+use Rattle.model.specs.Kernel.ObjectTypes.{new_type}
 use Rattle.cnode_ops.proofs.object_lifetimes.OneMade.{growing-made, stands-made, state-made}
 use Rattle.cnode_ops.proofs.object_lifetimes.Places.{of-some, place-closed, place-free, place-near, room-depth, room-full, room-of_open}
 use Rattle.cnode_ops.proofs.object_lifetimes.Unnamed.{kin-made}
