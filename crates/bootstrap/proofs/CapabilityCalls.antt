@@ -5,14 +5,14 @@ use Rattle.std.proofs.lemmas.Option.{get_or_from_slice_get}
 use Rattle.model.specs.Acceptance.WellFormed.{is_untyped_type, source_type}
 use Rattle.model.specs.Images.BootCalls.{LoaderCall, capability_call, listed_arguments, loader_call}
 use Rattle.model.specs.Images.Image.{Image}
-use Rattle.model.specs.Images.Places.{object_at, original_slot, source_slot}
+use Rattle.model.specs.Images.Places.{object_at, original_slot, source_boot_slot}
 use Rattle.model.specs.Kernel.CallForms.{mint_label, move_label}
 use Rattle.model.specs.declared.entries.CapabilityEntry.{CapabilityEntry}
 use Rattle.model.specs.declared.entries.ObjectEntry.{ObjectEntry}
 
 module _ (image : Image) (entry : CapabilityEntry) (cnode : ObjectEntry) (slot source : ℕ) (untyped : Bool)
     (there : slice_get image.objects entry.cnode ≡ Some cnode)
-    (slot_is : slot ≡ original_slot image entry.cnode) (source_is : source ≡ source_slot image entry.source)
+    (slot_is : slot ≡ original_slot image entry.cnode) (source_is : source ≡ source_boot_slot image entry.source)
     (untyped_is : untyped ≡ is_untyped_type (source_type image entry.source)) where
   abbrev arguments : List ℕ
   arguments = entry.index ∷ cnode.size ∷ source ∷ 32 ∷ []
@@ -21,7 +21,7 @@ module _ (image : Image) (entry : CapabilityEntry) (cnode : ObjectEntry) (slot s
   listed =
       let same : object_at image entry.cnode ≡ cnode = get_or_from_slice_get image.objects entry.cnode cnode _ there in
       ap (λ (s : ℕ). entry.index ∷ cnode.size ∷ s ∷ 32 ∷ []) source_is
-      ∙ ap (λ (o : ObjectEntry). entry.index ∷ o.size ∷ source_slot image entry.source ∷ 32 ∷ []) (sym same)
+      ∙ ap (λ (o : ObjectEntry). entry.index ∷ o.size ∷ source_boot_slot image entry.source ∷ 32 ∷ []) (sym same)
 
   abbrev choice : Bool → LoaderCall
   choice b =

@@ -4,7 +4,7 @@ use Rattle.std.specs.Prelude.{option_and_then}
 use Rattle.model.specs.declared.boot_faults.BootFault.{BootFault}
 use Rattle.model.specs.declared.boot_faults.BootFault.TheVariants.{Outside}
 use Rattle.model.specs.declared.errors.KError.{KError}
-use Rattle.model.specs.Images.Boot.{booted, boots_unless, fill_all, goes_on, goes_on_inside, made, misplaced, run_from}
+use Rattle.model.specs.Images.Boot.{booted, boots_unless, fill_all, goes_on_after_call, goes_on_inside, made, misplaced, run_from}
 use Rattle.model.specs.Images.BootCalls.{LoaderCall, Operation, PutsUntyped, PutsControl, Calls, Fills, operations}
 use Rattle.model.specs.Images.Image.{Image}
 use Rattle.model.specs.Kernel.Setup.{boot_area, put_control, put_untyped}
@@ -22,7 +22,7 @@ at n s = record { calls = n; state = s }
 
 call-goes : (image : Image) (n : ℕ) (later : List Operation) (r : Result State KError)
     → ((m : ℕ) (s : State) → run_from image m s later ≡ state_after (all_performed image.header.untypeds (record { calls = m; state = s }) later))
-    → goes_on n (λ s. run_from image (suc n) s later) r ≡ state_after (counted n r >>= λ q. all_performed image.header.untypeds q later)
+    → goes_on_after_call n (λ s. run_from image (suc n) s later) r ≡ state_after (counted n r >>= λ q. all_performed image.header.untypeds q later)
 call-goes image n later (Ok s) each = ap (λ (m : ℕ). run_from image m s later) (sym (add-one n)) ∙ each (n + 1) s
 call-goes image n later (Err error) each = refl
 

@@ -2,7 +2,7 @@
 
 ghost use Rattle.std.specs.Prelude.{◌≡◌, ◌≤◌, ◌<◌, ◌+◌};
 ghost use Rattle.bootstrap.specs.Limits.{IsLimited};
-ghost use Rattle.model.specs.Images.Places.{boot_slots, control_slot, frame_copy_slot, handler_slot, notification_copy_slot, original_slot, source_slot};
+ghost use Rattle.model.specs.Images.Places.{boot_slots, control_slot, frame_copy_slot, handler_slot, notification_copy_slot, original_slot, source_boot_slot};
 
 use image_reading::ImageRef;
 
@@ -54,10 +54,10 @@ pub(crate) fn original_slot(image: &ImageRef<'_>, object: u32) -> u32
 }
 
 /// The slot of a capability's source, an object or a handler.
-pub(crate) fn source_slot(image: &ImageRef<'_>, source: u32) -> u32
+pub(crate) fn source_boot_slot(image: &ImageRef<'_>, source: u32) -> u32
     requires limits { IsLimited image.now }
     requires number { source < image.now.header.objects + image.now.header.interrupts }
-    ensures { result ≡ source_slot image.now source }
+    ensures { result ≡ source_boot_slot image.now source }
 {
     let header = image.header();
     if header.objects <= source {

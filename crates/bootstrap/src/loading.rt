@@ -10,7 +10,8 @@ ghost use Rattle.model.specs.Images.Described.{numbered};
 ghost use Rattle.model.specs.Kernel.CallForms.{resume_label};
 
 use crate::boot_slots::{
-    control_slot, frame_copy_slot, handler_slot, notification_copy_slot, original_slot, source_slot,
+    control_slot, frame_copy_slot, handler_slot, notification_copy_slot, original_slot,
+    source_boot_slot,
 };
 use crate::entry_addresses::start_of;
 use crate::object_kinds::is_untyped_source;
@@ -146,7 +147,7 @@ impl Loader {
     {
         let cnode = image.object(entry.cnode);
         let slot = original_slot(image, entry.cnode);
-        let source = source_slot(image, entry.source);
+        let source = source_boot_slot(image, entry.source);
         if is_untyped_source(image, entry.source) {
             let words = [entry.index, cnode.size, source, DEPTH];
             self.call(slot, MOVE, &words)

@@ -2,7 +2,7 @@
 
 ghost use Rattle.std.specs.Prelude.{◌≡◌, ℕ, ◌+◌, ◌&&◌, ◌||◌, ◌==◌, nat_lt, nat_le, ◌^◌, if◌then◌else◌, Some, None, true, false, IfOk, IfErr, length};
 ghost use Rattle.image.specs.Sections.{mappings_fit, sections_fit};
-ghost use Rattle.model.specs.Images.Format.{many_fit, field, number, only_if, signed};
+ghost use Rattle.model.specs.Images.Format.{many_fit, field, number, only_if, signed_number};
 ghost use Rattle.model.specs.Images.Image.{anything, between, content_format, has_buffers, has_promises, header_format, image_with, latest_version, no_buffer, promise_format, record_format, record_header_format, sections_format, slots_format, thread_format, thread_header_format, whole_image};
 
 use crate::listed::{Limits, Listed, all_fit};

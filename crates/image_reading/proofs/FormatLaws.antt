@@ -12,7 +12,7 @@ use Rattle.std.specs.Int.{cast_signed, cast_unsigned}
 use mir.Val.{bits, hbits, SFits}
 use Rattle.model.specs.declared.refusals.Refusal.{Refusal}
 use Rattle.model.specs.declared.refusals.Refusal.TheVariants.{Limit}
-use Rattle.model.specs.Images.Format.{Format, ◌>>=◌, number_at, number_or, number, fits_signed, signed, both, named, many_read, many_spelling, many_fit}
+use Rattle.model.specs.Images.Format.{Format, ◌>>=◌, number_at, number_or, number, fits_signed, signed_number, both, named, many_read, many_spelling, many_fit}
 use Rattle.model.specs.Images.Format.{only_if, ordered}
 
 abbrev pub IsBytes : List ℕ → Type 0
@@ -165,7 +165,7 @@ pub signed_wide64 : IsSignedWide w64
 signed_wide64 = signed_wide_from w64 refl
 
 signed_takes : (w : Width) (test : ℤ → Bool) → IsWide w → IsSignedWide w → (bytes : List ℕ) (at : ℕ) (x : ℤ) (after : ℕ) → IsBytes bytes → at ≤ length bytes
-    → (signed w test).reads bytes at ≡ Ok (x, after) → Taken (signed w test) bytes at x after
+    → (signed_number w test).reads bytes at ≡ Ok (x, after) → Taken (signed_number w test) bytes at x after
 signed_takes w test wide whole bytes at x after fits le e =
     let b = bind_ok ((number w (λ n. test (cast_signed w n))).reads bytes at) (λ y. Ok (cast_signed w y.0, y.1)) (x, after) e in
     let n : ℕ = b.0.0 in
@@ -174,17 +174,17 @@ signed_takes w test wide whole bytes at x after fits le e =
     let lt : n < 2 ^ bits w = ltb-true n (2 ^ bits w) parts.0 in
     let spelled_as : to_le_bytes w (cast_unsigned w (cast_signed w n)) ≡ to_le_bytes w n = ap (to_le_bytes w) (of_z-to_z w n lt) in
     let both_fit : (fits_signed w (cast_signed w n) && test (cast_signed w n)) ≡ true = and_from _ _ (whole.made n lt) parts.1 in
-    let found : Taken (signed w test) bytes at (cast_signed w n) b.0.1 = record {
+    let found : Taken (signed_number w test) bytes at (cast_signed w n) b.0.1 = record {
       fits = both_fit;
       spelled = rw spelled_as t.spelled;
       end = rw spelled_as t.end;
       within = t.within;
     } in
-    subst (λ (p : ℤ × ℕ). Taken (signed w test) bytes at p.0 p.1) (ok_is (cast_signed w n, b.0.1) (x, after) b.2) found
+    subst (λ (p : ℤ × ℕ). Taken (signed_number w test) bytes at p.0 p.1) (ok_is (cast_signed w n, b.0.1) (x, after) b.2) found
 
 signed_again : (w : Width) (test : ℤ → Bool) → IsWide w → IsSignedWide w → (bytes : List ℕ) (at : ℕ) (x : ℤ) (rest : List ℕ) → at ≤ length bytes
-    → (signed w test).fits x ≡ true → drop at bytes ≡ (signed w test).spelling x ++ rest →
-    (signed w test).reads bytes at ≡ Ok (x, at + length ((signed w test).spelling x))
+    → (signed_number w test).fits x ≡ true → drop at bytes ≡ (signed_number w test).spelling x ++ rest →
+    (signed_number w test).reads bytes at ≡ Ok (x, at + length ((signed_number w test).spelling x))
 signed_again w test wide whole bytes at x rest le fits h =
     let parts = and_parts (fits_signed w x) (test x) fits in
     let back : cast_signed w (cast_unsigned w x) ≡ x = whole.back x parts.0 in
@@ -195,7 +195,7 @@ signed_again w test wide whole bytes at x rest le fits h =
     ap (λ (y : Result (ℕ × ℕ) Refusal). y >>= λ p. Ok (cast_signed w p.0, p.1)) r
     ∙ ap (λ (z : ℤ). Ok (z, at + length (to_le_bytes w (cast_unsigned w x)))) back
 
-pub signed_law : (w : Width) (test : ℤ → Bool) → IsWide w → IsSignedWide w → IsLawful (signed w test)
+pub signed_law : (w : Width) (test : ℤ → Bool) → IsWide w → IsSignedWide w → IsLawful (signed_number w test)
 signed_law w test wide whole = record { takes = signed_takes w test wide whole; again = signed_again w test wide whole }
 
 -- ---- one after the other

@@ -3,7 +3,7 @@
 ghost use Rattle.std.specs.Prelude.{◌≡◌, IfOk, ◌≤◌, ◌+◌, ◌*◌, ◌^◌, ◌<◌, ◌==◌, ◌&&◌, ◌||◌, nat_le, nat_lt, length};
 ghost use Rattle.std.specs.Int.{w32, w64};
 ghost use Rattle.model.specs.declared.refusals.Refusal.TheVariants.{Magic, Version};
-ghost use Rattle.model.specs.Images.Format.{field, number, number_or, only_if, signed};
+ghost use Rattle.model.specs.Images.Format.{field, number, number_or, only_if, signed_number};
 ghost use Rattle.model.specs.Images.Image.{anything, below, between, has_buffers, has_promises, is_constant, latest_version, magic, no_buffer, no_parent, not_zero, pair_key};
 
 use crate::versions::{has_buffers, has_promises, is_known_version};
@@ -188,7 +188,7 @@ pub(crate) fn double_between(
 
 /// The 8 bytes at `at` as the constant of a measure, and the offset after them.
 pub(crate) fn constant(bytes: &[u8], at: usize) -> Result<(i64, usize), Refusal>
-    ensures { result ≡ (signed w64 is_constant).reads bytes.now at }
+    ensures { result ≡ (signed_number w64 is_constant).reads bytes.now at }
 {
     if bytes.len().saturating_sub(at) < 8 {
         return Err(Refusal::Truncated { offset: at as u64 });
@@ -203,7 +203,7 @@ pub(crate) fn constant(bytes: &[u8], at: usize) -> Result<(i64, usize), Refusal>
 
 /// The 4 bytes at `at` as the coefficient of a term, and the offset after them.
 pub(crate) fn coefficient(bytes: &[u8], at: usize) -> Result<(i32, usize), Refusal>
-    ensures { result ≡ (signed w32 not_zero).reads bytes.now at }
+    ensures { result ≡ (signed_number w32 not_zero).reads bytes.now at }
 {
     let (word, next) = any_word(bytes, at)?;
     let coefficient = word.cast_signed();

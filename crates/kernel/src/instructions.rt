@@ -2,7 +2,7 @@
 
 ghost use Rattle.std.specs.Prelude.{ℕ, ◌≡◌};
 ghost use Rattle.model.specs.Kernel.AddressSpaces.{vspace_of};
-ghost use Rattle.model.specs.Kernel.Steps.{executes, runs, runs_decoded};
+ghost use Rattle.model.specs.Kernel.Steps.{runs, runs_decoded, runs_instruction};
 ghost use Rattle.model.specs.Machine.Decoding.{decoded};
 ghost use Rattle.model.specs.Machine.Instructions.{IsInstr};
 ghost use Rattle.objects.specs.Lives.{state_in};
@@ -27,8 +27,8 @@ fn execute<S: WalkStore>(
     requires runs { IsRunning (state_in S.slots S.memory kernel.old) thread }
     requires instruction { IsInstr instruction }
     ensures state { state_in S.slots S.memory kernel.new
-        ≡ (executes (state_in S.slots S.memory kernel.old) thread instruction).0 }
-    ensures outcome { result ≡ (executes (state_in S.slots S.memory kernel.old) thread instruction).1 }
+        ≡ (runs_instruction (state_in S.slots S.memory kernel.old) thread instruction).0 }
+    ensures outcome { result ≡ (runs_instruction (state_in S.slots S.memory kernel.old) thread instruction).1 }
 {
     match user_memory::execute(kernel, thread, root, instruction) {
         Exec::Next => Outcome::Plain,

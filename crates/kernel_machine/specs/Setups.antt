@@ -7,7 +7,7 @@ use Rattle.kernel_machine.specs.Stores.{Store, bytes_of, slots_of}
 use Rattle.objects.specs.Lives as lives
 use Rattle.model.specs.Capabilities.Slots.{Slots, capability_at}
 use Rattle.model.specs.Kernel.Removal.{slot_count}
-use Rattle.model.specs.Kernel.Setup.{end_of}
+use Rattle.model.specs.Kernel.Setup.{memory_end}
 use Rattle.model.specs.Kernel.State.{State, ThreadState, slot_of}
 use Rattle.model.specs.declared.capabilities.Cap.{Cap}
 use Rattle.model.specs.declared.slot_entries.Entry.{Entry}
@@ -65,4 +65,4 @@ is_piece size offset bits = nat_le 4 bits && nat_le bits 24 && (offset % 2 ^ bit
 
 -- one of so many slots names memory that ends after an offset
 abbrev pub reaches_behind : Slots → ℕ → ℕ → Bool
-reaches_behind slots count offset = some_slot 0 count (λ slot. nat_lt offset (end_of (capability_at slots slot)))
+reaches_behind slots count offset = some_slot 0 count (λ slot. nat_lt offset (memory_end (capability_at slots slot)))

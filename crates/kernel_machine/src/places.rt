@@ -4,7 +4,7 @@ ghost use Rattle.std.specs.Prelude.{ℕ, ◌≡◌, ◌/◌, ◌^◌, ◌≤◌,
 ghost use Rattle.kernel_machine.specs.Setups.{is_piece, reaches_behind};
 ghost use Rattle.model.specs.Capabilities.CapabilityWords.{IsCapability};
 ghost use Rattle.model.specs.Capabilities.Slots.{is_full};
-ghost use Rattle.model.specs.Kernel.Setup.{end_of};
+ghost use Rattle.model.specs.Kernel.Setup.{memory_end};
 
 use model::{Cap, Slot};
 use slots::{SlotStore, is_taken};
@@ -22,9 +22,9 @@ fn is_piece(size: u32, offset: u32, bits: u8) -> bool
 }
 
 /// Where the memory ends that a capability names, untyped or an object's: 0, if it names none.
-fn end_of(capability: Cap) -> u32
+fn memory_end(capability: Cap) -> u32
     requires { IsCapability capability }
-    ensures { result ≡ end_of capability }
+    ensures { result ≡ memory_end capability }
 {
     match capability {
         Cap::Untyped { offset, bits, .. } => offset + (1 << bits),
@@ -48,7 +48,7 @@ fn reaches_behind<S: SlotStore>(store: &S, offset: u32) -> bool
             return false;
         };
         prove!(slot.number() < store.count());
-        if offset < end_of(store.capability(slot)) {
+        if offset < memory_end(store.capability(slot)) {
             return true;
         }
         at = Some(slot);

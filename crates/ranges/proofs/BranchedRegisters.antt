@@ -9,7 +9,7 @@ use Rattle.ranges.proofs.WrittenRegisters.{zero_kept}
 use Rattle.model.specs.declared.instructions.BranchOp.{BranchOp}
 use Rattle.model.specs.declared.instructions.Register.{Register}
 use Rattle.model.specs.declared.ranges.Range.{Range}
-use Rattle.model.specs.Acceptance.Edges.{branch_ranges, is_empty, joined, narrowed, with_sides}
+use Rattle.model.specs.Acceptance.Edges.{branch_ranges, is_empty_range, joined, narrowed, with_sides}
 use Rattle.model.specs.Machine.Effects.{is_taken}
 use Rattle.model.specs.Machine.Instructions.{IsRegister}
 use Rattle.model.specs.Acceptance.Measures.{register_numbered}
@@ -82,7 +82,7 @@ still_long ranges x out =
 
 -- ---- both sides
 
-isnt_empty : (n : ℕ) (r : Range) → LiesIn n r → is_empty r ≡ false
+isnt_empty : (n : ℕ) (r : Range) → LiesIn n r → is_empty_range r ≡ false
 isnt_empty n r inside = le-ltb r.high r.low (omega (arith, inside.0, inside.1))
 
 sides_kept : (r : RegisterFile) (ranges : List Range) (rs1 rs2 : Register) (sides : Range × Range) → length ranges ≡ 31
@@ -90,8 +90,8 @@ sides_kept : (r : RegisterFile) (ranges : List Range) (rs1 rs2 : Register) (side
     → (kept : List Range) × (with_sides ranges rs1 rs2 sides ≡ Some kept) × LieWithin r kept
 sides_kept r ranges rs1 rs2 sides long first second before inside =
     let behind : List Range = with_range (with_range ranges rs1 sides.0) rs2 sides.1 in
-    let possible : (is_empty sides.0 || is_empty sides.1) ≡ false =
-    or_from (is_empty sides.0) (is_empty sides.1) (isnt_empty (read r rs1) sides.0 inside.0) (isnt_empty (read r rs2) sides.1 inside.1) in
+    let possible : (is_empty_range sides.0 || is_empty_range sides.1) ≡ false =
+    or_from (is_empty_range sides.0) (is_empty_range sides.1) (isnt_empty (read r rs1) sides.0 inside.0) (isnt_empty (read r rs2) sides.1 inside.1) in
     let there : with_sides ranges rs1 rs2 sides ≡ Some behind = ap (λ (b : Bool). if b then None else Some behind) possible in
     let one = replaced_within r ranges rs1 sides.0 long first before inside.0 in
     (behind, there, replaced_within r (with_range ranges rs1 sides.0) rs2 sides.1 (still_long ranges rs1 sides.0 ∙ long) second one inside.1)

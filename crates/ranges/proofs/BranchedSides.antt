@@ -7,7 +7,7 @@ use Rattle.model.specs.declared.instructions.BranchOp.{BranchOp}
 use Rattle.model.specs.declared.instructions.BranchOp.TheVariants.{Beq, Bne, Blt, Bge, Bltu, Bgeu}
 use Rattle.model.specs.declared.ranges.Range.{Range}
 use Rattle.model.specs.Acceptance.Edges.{empty_range, equal_sides, have_one_sign, if_one_sign, joined, lesser_sides, narrowed, not_lesser_sides, unequal_side}
-use Rattle.model.specs.Acceptance.Edges.{unequal_sides, without}
+use Rattle.model.specs.Acceptance.Edges.{unequal_sides, without_value}
 use Rattle.model.specs.Machine.Effects.{is_taken}
 use Rattle.model.specs.Machine.Instructions.{signed}
 use Rattle.model.specs.Acceptance.RangeRules.{is_single, range}
@@ -35,13 +35,13 @@ high_kept : (a n high : ℕ) (b : Bool) → (b ≡ true → high ≡ n) → a �
 high_kept a n high true is apart most = let same = is refl in omega (arith, same, apart, most)
 high_kept a n high false is apart most = most
 
-without_kept : (a n : ℕ) (r : Range) → a ≢ n → LiesIn a r → LiesIn a (without r n)
+without_kept : (a n : ℕ) (r : Range) → a ≢ n → LiesIn a r → LiesIn a (without_value r n)
 without_kept a n r apart inside =
     (low_kept a n r.low (r.low == n) (eqb-true r.low n) apart inside.0, high_kept a n r.high (r.high == n) (eqb-true r.high n) apart inside.1)
 
 unequal_side_kept : (a b : ℕ) (r s : Range) → a ≢ b → LiesIn a r → LiesIn b s → LiesIn a (unequal_side r s)
 unequal_side_kept a b r s apart first second =
-    elim (is_single s) as (λ one. is_single s ≡ one → LiesIn a (if one then without r s.low else r)) [
+    elim (is_single s) as (λ one. is_single s ≡ one → LiesIn a (if one then without_value r s.low else r)) [
       | true ↦ λ is.
           let ends : s.low ≡ s.high = eqb-true s.low s.high is in
           let same : b ≡ s.low = omega (arith, ends, second.0, second.1) in

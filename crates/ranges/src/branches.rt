@@ -2,7 +2,7 @@
 
 ghost use Rattle.std.specs.Prelude.{◌≡◌, ◌==◌, if◌then◌else◌, IfSome, Some, None};
 ghost use Rattle.model.specs.Machine.Instructions.{IsRegister};
-ghost use Rattle.model.specs.Acceptance.Edges.{branch_ranges, equal_sides, have_one_sign, if_one_sign, intersection, is_empty, joined, lesser_sides, narrowed, not_lesser_sides, unequal_side, unequal_sides, with_sides, without};
+ghost use Rattle.model.specs.Acceptance.Edges.{branch_ranges, equal_sides, have_one_sign, if_one_sign, intersection, is_empty_range, joined, lesser_sides, narrowed, not_lesser_sides, unequal_side, unequal_sides, with_sides, without_value};
 ghost use Rattle.ranges.specs.Orders.{IsOrdered};
 
 use crate::Bounds;
@@ -39,7 +39,7 @@ impl Side {
 
     /// The range, if it is not empty.
     fn range(self) -> Option<Range>
-        ensures range { result ≡ (if is_empty self then None else Some self) }
+        ensures range { result ≡ (if is_empty_range self then None else Some self) }
         ensures ordered { IfSome result IsOrdered }
     {
         if u64::from(self.high) < self.low {
@@ -72,8 +72,8 @@ fn equal_sides(first: Side, second: Side) -> (Side, Side)
 }
 
 /// A range, with an end that equals `value` moved in by 1.
-fn without(range: Range, value: u32) -> Side
-    ensures { result ≡ without range value }
+fn without_value(range: Range, value: u32) -> Side
+    ensures { result ≡ without_value range value }
 {
     let low = if range.low == value {
         u64::from(value) + 1
@@ -93,7 +93,7 @@ fn unequal_side(range: Range, other: Range) -> Side
     ensures { result ≡ unequal_side range other }
 {
     match other.value() {
-        Some(value) => without(range, value),
+        Some(value) => without_value(range, value),
         None => Side::of(range),
     }
 }

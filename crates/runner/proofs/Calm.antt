@@ -18,7 +18,7 @@ use Rattle.model.specs.declared.entries.UntypedEntry.{UntypedEntry}
 use Rattle.model.specs.declared.refusals.Refusal.{Refusal}
 use Rattle.model.specs.declared.refusals.Refusal.TheVariants.{Limit, Magic, OutOfMemory, Trailing, Truncated, Version}
 use Rattle.model.specs.Capabilities.CapabilityFields.{unpacked}
-use Rattle.model.specs.Images.Format.{Format, ◌>>=◌, both, field, many_read, named, number, number_at, number_or, only_if, ordered, reading, signed}
+use Rattle.model.specs.Images.Format.{Format, ◌>>=◌, both, field, many_read, named, number, number_at, number_or, only_if, ordered, reading, signed_number}
 use Rattle.model.specs.Images.Image.{ImageContent, Sections, has_buffers, has_promises, header_fields, latest_version, no_buffer, promise_format}
 use Rattle.model.specs.Images.Image.{promised_word_format}
 use Rattle.model.specs.Images.Image.{anything, below, between, capability_format, content_format, frame_format, header_format, image_with}
@@ -81,7 +81,7 @@ number_or_calm refusal w test each = record {
 number_calm : (w : Width) (test : ℕ → Bool) → IsCalm (number w test)
 number_calm w test = number_or_calm Limit w test (λ at. limit_calm at)
 
-signed_calm : (w : Width) (test : ℤ → Bool) → IsCalm (signed w test)
+signed_calm : (w : Width) (test : ℤ → Bool) → IsCalm (signed_number w test)
 signed_calm w test = record {
   calm = λ bytes at. bind_calm ((number w (λ n. test (cast_signed w n))).reads bytes at) (λ x. Ok (cast_signed w x.0, x.1))
       ((number_calm w (λ n. test (cast_signed w n))).calm bytes at) (λ x. ok_calm (cast_signed w x.0, x.1));

@@ -23,7 +23,7 @@ use Rattle.model.specs.Capabilities.Slots.{is_within, parent_at}
 use Rattle.model.specs.Kernel.AddressSpaces.{page_size}
 use Rattle.model.specs.Kernel.Kinds.{AreApart, Names, Piece, kind_at, object_named, piece_of, used_of}
 use Rattle.model.specs.Kernel.Retype.{NewObject, object_bits}
-use Rattle.model.specs.Kernel.Setup.{end_of, fill, is_frame_object, is_free_boot_slot, may_be_untyped, put_control, put_in_boot_slot, put_untyped}
+use Rattle.model.specs.Kernel.Setup.{fill, is_frame_object, is_free_boot_slot, may_be_untyped, memory_end, put_control, put_in_boot_slot, put_untyped}
 use Rattle.model.specs.Kernel.Setup.{with_first_bytes}
 use Rattle.model.specs.Kernel.Soundness.{IsSound, MemoryIsSound, Lies, apart, same, within, around}
 use Rattle.model.specs.Kernel.State.{State, boot_area_end, holds_some, with_slots}
@@ -223,11 +223,11 @@ record IsUntypedPlace (s : State) (offset bits : ℕ) : Type 0 where
   aligned : offset % 2 ^ bits ≡ 0
   inside : offset + 2 ^ bits ≤ 2 ^ s.memory_bits
   behind : boot_area_end s.boot_radix ≤ offset
-  last : holds_some s (λ capability. nat_lt offset (end_of capability)) ≡ false
+  last : holds_some s (λ capability. nat_lt offset (memory_end capability)) ≡ false
 
 untyped-place : (s : State) (offset bits : ℕ) → may_be_untyped s offset bits ≡ true → IsUntypedPlace s offset bits
 untyped-place s offset bits is =
-    let others = holds_some s (λ capability. nat_lt offset (end_of capability)) in
+    let others = holds_some s (λ capability. nat_lt offset (memory_end capability)) in
     let a = nat_le 4 bits in
     let b = nat_le bits 24 in
     let c = offset % 2 ^ bits == 0 in
@@ -248,17 +248,17 @@ untyped-place s offset bits is =
     }
 
 -- no other memory reaches beyond where it begins
-ends-before : (s : State) (offset x : ℕ) (q : Piece) → IsSound s → holds_some s (λ capability. nat_lt offset (end_of capability)) ≡ false
+ends-before : (s : State) (offset x : ℕ) (q : Piece) → IsSound s → holds_some s (λ capability. nat_lt offset (memory_end capability)) ≡ false
     → piece_of (capability_at s.slots x) ≡ Some q → q.first + q.size ≤ offset
 ends-before s offset x q sound last is =
     let c = capability_at s.slots x in
-    let end : end_of c ≡ q.first + q.size = ap (λ (o : Option Piece). option_map_or (λ (p : Piece). p.first + p.size) o 0) is in
-    elim (nat_lt offset (end_of c)) as (λ b. nat_lt offset (end_of c) ≡ b → q.first + q.size ≤ offset) [
+    let end : memory_end c ≡ q.first + q.size = ap (λ (o : Option Piece). option_map_or (λ (p : Piece). p.first + p.size) o 0) is in
+    elim (nat_lt offset (memory_end c)) as (λ b. nat_lt offset (memory_end c) ≡ b → q.first + q.size ≤ offset) [
       | true ↦ λ more.
-          let there = held-at s (λ capability. nat_lt offset (end_of capability)) x (full-near s sound.shape sound.slots sound.memory x (piece-full c q is))
+          let there = held-at s (λ capability. nat_lt offset (memory_end capability)) x (full-near s sound.shape sound.slots sound.memory x (piece-full c q is))
           more in
           absurd (let clash : true ≡ false = sym there ∙ last in cc)
-      | false ↦ λ less. let below = ltb-false offset (end_of c) less in omega (arith, below, end)
+      | false ↦ λ less. let below = ltb-false offset (memory_end c) less in omega (arith, below, end)
     ] refl
 
 untyped-whole : (s t : State) (slot offset bits : ℕ) → IsSound s → may_be_untyped s offset bits ≡ true

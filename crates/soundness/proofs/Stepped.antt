@@ -25,7 +25,7 @@ use Rattle.model.specs.Kernel.State.{State, thread_at}
 use Rattle.model.specs.Kernel.Steps.{Done, after_effect, ran, registers_of, runs, runs_decoded, runs_fetched, state_after, step}
 use Rattle.model.specs.Machine.Decoding.{decoded}
 use Rattle.model.specs.Machine.Effects.{access_number, cause_number, effect}
-use Rattle.model.specs.Machine.ProgramMemory.{Content, ◌>>=◌, loaded, named, next_address, place_at, places_from, width_of}
+use Rattle.model.specs.Machine.ProgramMemory.{Content, ◌>>=◌, loaded, next_address, place_at, place_or_fault, places_from, width_of}
 use Rattle.model.specs.Kernel.Soundness.{IsSound}
 use Rattle.soundness.proofs.Instructions.{InstructionsKeep}
 use Rattle.soundness.specs.Running.{IsRunning, RegistersAreSound}
@@ -46,7 +46,7 @@ cause-less Illegal = omega arith
 cause-less Misaligned = omega arith
 
 -- the address of a fault is a word
-named-less : (o : Option ℕ) (access : Access) (address : ℕ) (failed : MemoryFault) → address < 2 ^ 32 → named o access address ≡ Err failed
+named-less : (o : Option ℕ) (access : Access) (address : ℕ) (failed : MemoryFault) → address < 2 ^ 32 → place_or_fault o access address ≡ Err failed
     → failed.address < 2 ^ 32
 named-less (Some place) access address failed less is = let e : ◌≡◌ {A = Result ℕ MemoryFault} (Ok place) (Err failed) = is in absurd cc
 named-less None access address failed less is =

@@ -15,7 +15,7 @@ use Rattle.model.specs.Capabilities.CapabilityKinds.{is_untyped}
 use Rattle.model.specs.Capabilities.Slots.{parent_at}
 use Rattle.model.specs.Images.Described.{described, listed_capability, listed_parent}
 use Rattle.model.specs.Images.Image.{Image}
-use Rattle.model.specs.Images.Places.{boot_slots, handler_slot, interrupt_of, is_handler, object_at, original_slot, source_slot}
+use Rattle.model.specs.Images.Places.{boot_slots, handler_slot, interrupt_of, is_handler, object_at, original_slot, source_boot_slot}
 use Rattle.thread_spaces.proofs.EachHolding.{OfSections, each-slot, each-two}
 use Rattle.thread_spaces.proofs.DescribedSlots.{parent-shown}
 
@@ -44,7 +44,7 @@ module _ (image : Image) (fitting : IsFitting image) (formed : AreFormed image) 
             let some = pow_pos image.header.boot_radix in
             omega (arith, zero, some)
       ] in
-      let other : source_slot image c.source < 2 ^ image.header.boot_radix = elim (cases_lt c.source image.header.objects) [
+      let other : source_boot_slot image c.source < 2 ^ image.header.boot_radix = elim (cases_lt c.source image.header.objects) [
         | inl less ↦ subst (λ b. (if b then handler_slot image (interrupt_of image c.source) else original_slot image c.source) < 2 ^ image.header.boot_radix)
             (sym (lt-leb image.header.objects c.source less)) (omega (arith, less, enough))
         | inr most ↦ elim (is_handler image c.source)
@@ -54,7 +54,7 @@ module _ (image : Image) (fitting : IsFitting image) (formed : AreFormed image) 
             ]
       ] in
       elim (is_untyped (listed_capability image c))
-      as (λ b. (if b then (object_at image c.source).untyped else source_slot image c.source) < 2 ^ image.header.boot_radix) [ true ↦ home | false ↦ other ]
+      as (λ b. (if b then (object_at image c.source).untyped else source_boot_slot image c.source) < 2 ^ image.header.boot_radix) [ true ↦ home | false ↦ other ]
 
   hang-in-boot : OfSections (HangsInBoot image) image
   hang-in-boot = record {

@@ -9,7 +9,7 @@ use Rattle.model.specs.Capabilities.Slots.{OutsideSlots, Slots, capability_at}
 use Rattle.model.specs.Kernel.AddressSpaces.{MappedFrame, allows, mapped, page_of, page_size, place_in, place_under}
 use Rattle.model.specs.Kernel.Scheduling.{head_of}
 use Rattle.model.specs.Kernel.State.{State, slots_of}
-use Rattle.model.specs.Machine.ProgramMemory.{IsNamed, named}
+use Rattle.model.specs.Machine.ProgramMemory.{IsNamed, place_or_fault}
 use Rattle.model.specs.declared.capabilities.Cap.{Cap}
 use Rattle.model.specs.declared.capabilities.Cap.TheVariants.{Empty, Untyped, Endpoint, Notification, CNode, Frame, PageTable, Tcb, RootTable, InterruptControl}
 use Rattle.model.specs.declared.capabilities.Cap.TheVariants.{InterruptHandler}
@@ -24,7 +24,7 @@ pub and-then : {A B : Type 0} (f : A → Option B) (o : Option A) (b : B) → op
 and-then f None b is = absurd (let clash : None ≡ Some b = is in cc)
 and-then f (Some a) b is = (a, refl, is)
 
-pub place-found : (o : Option ℕ) (access : Access) (address place : ℕ) → named o access address ≡ Ok place → o ≡ Some place
+pub place-found : (o : Option ℕ) (access : Access) (address place : ℕ) → place_or_fault o access address ≡ Ok place → o ≡ Some place
 place-found None access address place is = absurd (let clash : Err (record { address = address; access = access }) ≡ Ok place = is in cc)
 place-found (Some found) access address place is = let same : Ok found ≡ Ok place = is in let e : found ≡ place = cc in ap Some e
 

@@ -8,7 +8,7 @@ use Rattle.std.specs.Prelude.{slice_index}
 use Rattle.model.specs.Capabilities.Slots.{OutsideSlots, Slots}
 use Rattle.model.specs.Kernel.AddressSpaces.{place_under}
 use Rattle.model.specs.Kernel.State.{State}
-use Rattle.model.specs.Machine.ProgramMemory.{IsNamed, named, place_at}
+use Rattle.model.specs.Machine.ProgramMemory.{IsNamed, place_at, place_or_fault}
 use Rattle.model.specs.Machine.Sv32.{page_fault, walk}
 use Rattle.model.specs.declared.instructions.Access.{Access}
 use Rattle.model.specs.declared.instructions.PageFault.{PageFault}
@@ -49,7 +49,7 @@ none-err : (o : Option ℕ) (fault : PageFault) → ok_or o page_fault ≡ Err f
 none-err None fault is = refl
 none-err (Some found) fault is = absurd (let clash : Ok found ≡ Err fault = is in cc)
 
-named-at : (o : Option ℕ) (access : Access) (address place : ℕ) → o ≡ Some place → named o access address ≡ Ok place
+named-at : (o : Option ℕ) (access : Access) (address place : ℕ) → o ≡ Some place → place_or_fault o access address ≡ Ok place
 named-at o access address place is = rw is refl
 
 module _ (s : State) (memory : List ℕ) (root : Option ℕ) (table address : ℕ) (access : Access) (usable : ∥ IsUsable s memory root ∥₁) (is : root ≡ Some table)
@@ -61,12 +61,12 @@ module _ (s : State) (memory : List ℕ) (root : Option ℕ) (table address : �
   pub walk-ok : (result : Result ℕ PageFault) (place : ℕ) → result ≡ ok_or (walk memory table address access) page_fault → result ≡ Ok place
       → Ok place ≡ place_at (content_under s root) access address
   walk-ok result place walks found =
-      sym (ap (λ (o : Option ℕ). named o access address) (place-of (Some place) (some-ok _ place (sym walks ∙ found))))
+      sym (ap (λ (o : Option ℕ). place_or_fault o access address) (place-of (Some place) (some-ok _ place (sym walks ∙ found))))
 
   pub walk-err : (result : Result ℕ PageFault) (fault : PageFault) → result ≡ ok_or (walk memory table address access) page_fault → result ≡ Err fault
       → Err (record { address = address; access = access }) ≡ place_at (content_under s root) access address
   walk-err result fault walks found =
-      sym (ap (λ (o : Option ℕ). named o access address) (place-of None (none-err _ fault (sym walks ∙ found))))
+      sym (ap (λ (o : Option ℕ). place_or_fault o access address) (place-of None (none-err _ fault (sym walks ∙ found))))
 
 -- the byte at a place that is named
 pub byte-seen : (o : Tables) (slots : Slots) (memory : List ℕ) (root : Option ℕ) (place : ℕ) → ∥ IsUsable (state_of o slots memory) memory root ∥₁

@@ -5,7 +5,7 @@ use Rattle.std.specs.Int.{from_le_bytes, w32}
 use Rattle.std.specs.Prelude.{option_and_then, slice_index}
 use Rattle.model.specs.Kernel.AddressSpaces.{allows, mapped, page_size, place_in, place_under}
 use Rattle.model.specs.Kernel.State.{State}
-use Rattle.model.specs.Machine.ProgramMemory.{Content, IsNamed, loaded, named, next_address, place_at}
+use Rattle.model.specs.Machine.ProgramMemory.{Content, IsNamed, loaded, next_address, place_at, place_or_fault}
 use Rattle.model.specs.Capabilities.Slots.{Slots}
 use Rattle.model.specs.Shared.Bytes.{word_at}
 use Rattle.model.specs.declared.instructions.Access.{Access}
@@ -53,7 +53,7 @@ module _ (s : State) (memory : List ℕ) (root : Option ℕ) (usable : ∥ IsUsa
   pub behind : (k next : ℕ) → k < 4 → next ≡ address + k → place_at (content_under s root) access next ≡ Ok (place + k)
   behind k next few is =
       ap (place_at (content_under s root) access) is
-      ∙ ap (λ (p : Option ℕ). named p access (address + k))
+      ∙ ap (λ (p : Option ℕ). place_or_fault p access (address + k))
       (place-behind s root access address place k aligned few (place-found ((content_under s root).place access address) access address place found))
 
   pub named-behind : (k : ℕ) → k < 4 → IsNamed (content_under s root) (place + k)

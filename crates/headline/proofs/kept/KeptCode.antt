@@ -19,7 +19,7 @@ use Rattle.model.specs.Images.Places.{offset_of}
 use Rattle.model.specs.Kernel.AddressSpaces.{Maps, content_of, page_size, vspace_of}
 use Rattle.model.specs.Kernel.Soundness.{IsSound}
 use Rattle.model.specs.Kernel.State.{State}
-use Rattle.model.specs.Machine.ProgramMemory.{Content, ◌>>=◌, loaded, named, next_address, places_from, width_of}
+use Rattle.model.specs.Machine.ProgramMemory.{Content, ◌>>=◌, loaded, next_address, place_or_fault, places_from, width_of}
 use Rattle.headline.proofs.facts.Laws.{IsProgramPage, NamesFrame, frame-named, names-frame, one-frame, program-page}
 use Rattle.headline.proofs.kept.ThreadsGiven.{IsGiven}
 
@@ -37,7 +37,7 @@ abbrev joined : ℕ → Result (List ℕ) MemoryFault → Result (List ℕ) Memo
 joined place rest = rest >>= λ others. Ok (place ∷ others)
 
 abbrev behind_first : Option ℕ → Access → ℕ → Result (List ℕ) MemoryFault → Result (List ℕ) MemoryFault
-behind_first o access address rest = named o access address >>= λ place. rest >>= λ others. Ok (place ∷ others)
+behind_first o access address rest = place_or_fault o access address >>= λ place. rest >>= λ others. Ok (place ∷ others)
 
 same-rest : (c d : Content) (access : Access) (count address q : ℕ) (places : List ℕ) → d.place access address ≡ Some q → d.byte q ≡ c.byte q
     → ((others : List ℕ) → places_from c access (next_address address) count ≡ Ok others → AreSamePlaces c d access count (next_address address) others)

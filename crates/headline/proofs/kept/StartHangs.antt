@@ -18,7 +18,7 @@ use Rattle.model.specs.Capabilities.CapabilityKinds.{is_untyped}
 use Rattle.model.specs.Capabilities.Slots.{IsFull, Slots, capability_at, depth_of, parent_at}
 use Rattle.model.specs.Images.Described.{Numbered, described, listed_capability, listed_parent}
 use Rattle.model.specs.Images.Image.{Image, Thread, whole_image}
-use Rattle.model.specs.Images.Places.{cnode_slot, control_slot, handler_slot, interrupt_of, object_at, original_slot, source_slot, type_at}
+use Rattle.model.specs.Images.Places.{cnode_slot, control_slot, handler_slot, interrupt_of, object_at, original_slot, source_boot_slot, type_at}
 use Rattle.model.proofs.Depths.{depth-none, depth-some}
 use Rattle.headline.proofs.lookups.Laws.{HasKey, key-found}
 use Rattle.thread_spaces.specs.Given.{IsListed}
@@ -77,7 +77,7 @@ module _ (image : Image) (fits : whole_image.fits image ≡ true) (well : IsWell
           absurd (false≢true (sym none ∙ sym (listed-untyped image c) ∙ is))
     ]
 
-    other-depth : is_untyped (listed_capability image c) ≡ false → depth_of start (source_slot image c.source) ≡ 1
+    other-depth : is_untyped (listed_capability image c) ≡ false → depth_of start (source_boot_slot image c.source) ≡ 1
     other-depth is = elim (cases_lt c.source image.header.objects) [
       | inl object ↦
           subst (λ b. depth_of start (if b then handler_slot image (interrupt_of image c.source) else original_slot image c.source) ≡ 1)
@@ -93,7 +93,7 @@ module _ (image : Image) (fits : whole_image.fits image ≡ true) (well : IsWell
     listed-depth : depth_of start (listed_parent image c) ≡ (if is_untyped (listed_capability image c) then 0 else 1)
     listed-depth =
         elim (is_untyped (listed_capability image c)) as (λ b. is_untyped (listed_capability image c) ≡ b
-        → depth_of start (if b then (object_at image c.source).untyped else source_slot image c.source) ≡ (if b then 0 else 1)) [
+        → depth_of start (if b then (object_at image c.source).untyped else source_boot_slot image c.source) ≡ (if b then 0 else 1)) [
           | true ↦ pool-depth
           | false ↦ other-depth
         ] refl

@@ -18,7 +18,7 @@ use Rattle.model.specs.Images.Fills.{bytes_of}
 use Rattle.model.specs.Images.Image.{Image, whole_image}
 use Rattle.model.specs.Images.Places.{offset_of}
 use Rattle.model.specs.Kernel.AddressSpaces.{content_of, page_size}
-use Rattle.model.specs.Machine.ProgramMemory.{Content, loaded, named, next_address, place_at}
+use Rattle.model.specs.Machine.ProgramMemory.{Content, loaded, next_address, place_at, place_or_fault}
 use Rattle.model.specs.Shared.Bytes.{word_bytes}
 use Rattle.thread_spaces.specs.Given.{IsListed}
 use Rattle.headline.proofs.starts.FilledCode.{byte-there}
@@ -86,7 +86,7 @@ module _ (image : Image) (fits : whole_image.fits image ≡ true) (well : IsWell
       let there = byte-there image fits well t.thread listed page code o (omega arith) (omega (arith, back, less)) in
       record {
         place = offset_of image code.entry.frame + o;
-        at = ap (λ (found : Option ℕ). named found Fetch (base + b)) (place-of-code image fits well t listed b less);
+        at = ap (λ (found : Option ℕ). place_or_fault found Fetch (base + b)) (place-of-code image fits well t listed b less);
         holds = ap (λ (found : Option ℕ). option_map_or (λ byte. byte) found 0) there ∙ ap (λ (n : ℕ). slice_index (bytes_of t.thread.words) n) back;
       }
 

@@ -33,7 +33,7 @@ use Rattle.model.specs.Kernel.Soundness.{IsSound}
 use Rattle.model.specs.Kernel.State.{State}
 use Rattle.model.specs.Machine.Effects.{load_size, plus, store_size}
 use Rattle.model.specs.Machine.Instructions.{IsImmediate, IsInstr}
-use Rattle.model.specs.Machine.ProgramMemory.{Content, RegisterFile, ◌>>=◌, named, next_address, places_from, put_bytes, read, width_of}
+use Rattle.model.specs.Machine.ProgramMemory.{Content, RegisterFile, ◌>>=◌, next_address, place_or_fault, places_from, put_bytes, read, width_of}
 use Rattle.headline.specs.steps.Frames.{FramesAreKept}
 use Rattle.headline.specs.steps.Taken.{Reaches}
 
@@ -143,7 +143,7 @@ places-reach c access (suc count) address inside each =
     record {
       places = first.0 ∷ HasPlaces.places rest;
       are =
-          ap (λ o. named o access address >>= λ place. places_from c access (next_address address) count >>= λ others. Ok (place ∷ others)) here
+          ap (λ o. place_or_fault o access address >>= λ place. places_from c access (next_address address) count >>= λ others. Ok (place ∷ others)) here
           ∙ ap (λ r. r >>= λ others. Ok (first.0 ∷ others)) (HasPlaces.are rest);
     }
 

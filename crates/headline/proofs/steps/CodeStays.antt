@@ -19,7 +19,8 @@ use Rattle.model.specs.Acceptance.WellFormed.{are_frame_rights, executes, is_map
 use Rattle.model.specs.Capabilities.Rights.{frame_rights, mapping_rights, may_write}
 use Rattle.model.specs.Images.Image.{Image}
 use Rattle.model.specs.Machine.Effects.{branches, effect, goes_on, is_taken, jumps, load_size, loads, next_pc, plus, stays, store_size, stores}
-use Rattle.model.specs.Machine.ProgramMemory.{Content, RegisterFile, ◌>>=◌, loaded, named, next_address, places_from, put_byte, put_bytes, read, width_of}
+use Rattle.model.specs.Machine.ProgramMemory.{Content, RegisterFile, ◌>>=◌, loaded, next_address, place_or_fault, places_from, put_byte, put_bytes, read}
+use Rattle.model.specs.Machine.ProgramMemory.{width_of}
 use Rattle.model.specs.Machine.ProgramMemory.{write}
 
 -- ---- what a store changes
@@ -48,7 +49,8 @@ rest-placed c access count address place places later q other (Err failed) more 
 first-placed : (c : Content) (access : Access) (count address place : ℕ) (places : List ℕ) →
     ((others : List ℕ) → places_from c access (next_address address) count ≡ Ok others → AreApartFrom place others)
     → ((a q : ℕ) → c.place access a ≡ Some q → q ≢ place) → (o : Option ℕ) → c.place access address ≡ o
-    → (named o access address >>= λ q. places_from c access (next_address address) count >>= λ others. Ok (q ∷ others)) ≡ Ok places → AreApartFrom place places
+    → (place_or_fault o access address >>= λ q. places_from c access (next_address address) count >>= λ others. Ok (q ∷ others)) ≡ Ok places
+    → AreApartFrom place places
 first-placed c access count address place places later apart (Some q) here done =
     rest-placed c access count address place places later q (apart address q here) (places_from c access (next_address address) count) refl done
 first-placed c access count address place places later apart None here done =

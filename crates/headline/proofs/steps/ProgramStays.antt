@@ -30,7 +30,7 @@ use Rattle.model.specs.Kernel.AddressSpaces.{MappedFrame, Maps, content_of, page
 use Rattle.model.specs.Kernel.Messages.{with_registers}
 use Rattle.model.specs.Kernel.Soundness.{IsSound}
 use Rattle.model.specs.Kernel.State.{State}
-use Rattle.model.specs.Machine.ProgramMemory.{Content, RegisterFile, ◌>>=◌, loaded, named, next_address, places_from, width_of}
+use Rattle.model.specs.Machine.ProgramMemory.{Content, RegisterFile, ◌>>=◌, loaded, next_address, place_or_fault, places_from, width_of}
 use Rattle.headline.specs.steps.Frames.{FramesAreKept}
 use Rattle.headline.proofs.steps.CodeStays.{not-writes, one-mapping, same-frame}
 
@@ -41,7 +41,7 @@ same-places : (c : Content) (byte : ℕ → ℕ) (access : Access) (count addres
     places_from (record c { byte = byte }) access address count ≡ places_from c access address count
 same-places c byte access zero address = refl
 same-places c byte access (suc count) address =
-    ap (λ rest. named (c.place access address) access address >>= λ place. rest >>= λ others. Ok (place ∷ others))
+    ap (λ rest. place_or_fault (c.place access address) access address >>= λ place. rest >>= λ others. Ok (place ∷ others))
     (same-places c byte access count (next_address address))
 
 -- the bytes that are loaded are the same
@@ -60,7 +60,7 @@ first-bytes : (c : Content) (byte : ℕ → ℕ) (access : Access) (count addres
     ((q : ℕ) → c.place access address ≡ Some q → byte q ≡ c.byte q)
     → ((others : List ℕ) → places_from c access (next_address address) count ≡ Ok others → map byte others ≡ map c.byte others)
     → (o : Option ℕ) → c.place access address ≡ o →
-    (named o access address >>= λ q. places_from c access (next_address address) count >>= λ others. Ok (q ∷ others)) ≡ Ok places →
+    (place_or_fault o access address >>= λ q. places_from c access (next_address address) count >>= λ others. Ok (q ∷ others)) ≡ Ok places →
     map byte places ≡ map c.byte places
 first-bytes c byte access count address places same later (Some q) here done =
     rest-bytes c byte access count address places q (same q here) later (places_from c access (next_address address) count) refl done

@@ -14,8 +14,8 @@ use Rattle.model.specs.Acceptance.RangeRules.{range, is_single, ranges_after}
 
 -- ---- what a comparison says of its two sides; a range whose low end is above its high end is empty
 
-abbrev pub is_empty : Range → Bool
-is_empty r = nat_lt r.high r.low
+abbrev pub is_empty_range : Range → Bool
+is_empty_range r = nat_lt r.high r.low
 
 abbrev pub empty_range : Range
 empty_range = range 1 0
@@ -27,11 +27,11 @@ abbrev pub equal_sides : Range → Range → Range × Range
 equal_sides r s = (intersection r s, intersection r s)
 
 -- an end that equals the single value of the other side moves in by 1
-abbrev pub without : Range → ℕ → Range
-without r n = range (if r.low == n then n + 1 else r.low) (if r.high == n then n - 1 else r.high)
+abbrev pub without_value : Range → ℕ → Range
+without_value r n = range (if r.low == n then n + 1 else r.low) (if r.high == n then n - 1 else r.high)
 
 abbrev pub unequal_side : Range → Range → Range
-unequal_side r s = if is_single s then without r s.low else r
+unequal_side r s = if is_single s then without_value r s.low else r
 
 abbrev pub unequal_sides : Range → Range → Range × Range
 unequal_sides r s = (unequal_side r s, unequal_side s r)
@@ -73,7 +73,7 @@ joined is_one sides = if is_one then equal_sides sides.0 sides.1 else sides
 -- the ranges with those of two registers, or none where one of the two is empty
 abbrev pub with_sides : List Range → Register → Register → Range × Range → Option (List Range)
 with_sides ranges rs1 rs2 sides =
-    if is_empty sides.0 || is_empty sides.1 then None else Some (with_range (with_range ranges rs1 sides.0) rs2 sides.1)
+    if is_empty_range sides.0 || is_empty_range sides.1 then None else Some (with_range (with_range ranges rs1 sides.0) rs2 sides.1)
 
 -- the ranges that a branch leaves possible; register 0 stays 0
 abbrev pub branch_ranges : BranchOp → Bool → Register → Register → List Range → Option (List Range)

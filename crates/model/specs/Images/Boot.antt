@@ -57,9 +57,9 @@ fill_all s (f ∷ later) = option_and_then (λ filled. fill_all filled later) (f
 
 -- ---- the whole
 
-abbrev pub goes_on : ℕ → (State → Result State BootFault) → Result State KError → Result State BootFault
-goes_on number next (Ok s) = next s
-goes_on number next (Err error) = Err (Kernel number error)
+abbrev pub goes_on_after_call : ℕ → (State → Result State BootFault) → Result State KError → Result State BootFault
+goes_on_after_call number next (Ok s) = next s
+goes_on_after_call number next (Err error) = Err (Kernel number error)
 
 abbrev pub goes_on_inside : ℕ → (State → Result State BootFault) → Option State → Result State BootFault
 goes_on_inside number next (Some s) = next s
@@ -73,7 +73,7 @@ run_from image number s (PutsUntyped untyped u ∷ later) =
     goes_on_inside untyped (λ after. run_from image number after later) (put_untyped s untyped u.offset u.bits)
 run_from image number s (PutsControl slot ∷ later) =
     goes_on_inside image.header.untypeds (λ after. run_from image number after later) (put_control s slot)
-run_from image number s (Calls call ∷ later) = goes_on number (λ after. run_from image (suc number) after later) (made s call)
+run_from image number s (Calls call ∷ later) = goes_on_after_call number (λ after. run_from image (suc number) after later) (made s call)
 run_from image number s (Fills place fills ∷ later) =
     goes_on_inside place (λ after. run_from image number after later) (option_and_then (fill_all s) fills)
 

@@ -13,7 +13,7 @@ use Rattle.model.specs.Images.Fills.{Fill, content_fill, frame_at, program_fills
 use Rattle.model.specs.Images.Image.{Image, Thread, ImageContent}
 use Rattle.model.specs.Kernel.CallForms.{configure_label, copy_label, get_handler_label, map_frame_label, map_table_label, mint_label, move_label, resume_label}
 use Rattle.model.specs.Kernel.CallForms.{retype_label, set_notification_label, set_priority_label, set_register_label}
-use Rattle.model.specs.Images.Places.{control_slot, frame_copy_slot, handler_slot, notification_copy_slot, object_at, original_slot, source_slot, type_at}
+use Rattle.model.specs.Images.Places.{control_slot, frame_copy_slot, handler_slot, notification_copy_slot, object_at, original_slot, source_boot_slot, type_at}
 use Rattle.model.specs.Acceptance.WellFormed.{is_frame_type, is_root_type, is_untyped_type, source_type}
 
 -- The invoked capability by its address among the boot slots, the label and the words.
@@ -57,7 +57,7 @@ interrupt_call image i = loader_call (control_slot image) get_handler_label ((i.
 
 -- the slot that a capability is listed for: an index with as many bits as its CNode takes, and the source
 abbrev pub listed_arguments : Image → CapabilityEntry → List ℕ
-listed_arguments image c = (c.index ∷ (object_at image c.cnode).size ∷ []) ++ boot_argument (source_slot image c.source)
+listed_arguments image c = (c.index ∷ (object_at image c.cnode).size ∷ []) ++ boot_argument (source_boot_slot image c.source)
 
 -- Mint with the listed rights and badge or guard word; untyped memory is moved
 abbrev pub capability_call : Image → CapabilityEntry → LoaderCall

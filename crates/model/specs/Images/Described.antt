@@ -17,7 +17,7 @@ use Rattle.model.specs.Capabilities.CapabilityKinds.{is_untyped, with_payload, w
 use Rattle.model.specs.Images.Fills.{described_bytes}
 use Rattle.model.specs.Images.Image.{Image, Thread}
 use Rattle.model.specs.Images.Places.{control_slot, cnode_slot, frame_copy_slot, handler_slot, interrupt_of, is_handler, notification_copy_slot, object_at}
-use Rattle.model.specs.Images.Places.{offset_of, original_slot, source_slot, type_at, watermark_of}
+use Rattle.model.specs.Images.Places.{offset_of, original_slot, source_boot_slot, type_at, watermark_of}
 use Rattle.model.specs.Kernel.Removal.{slot_count}
 use Rattle.model.specs.Kernel.Retype.{first_capability, object}
 use Rattle.model.specs.Capabilities.Rights.{rights, endpoint_rights, frame_rights, mapping_rights}
@@ -125,7 +125,7 @@ listed_capability image c = limited (source_capability image c.source) c.rights 
 -- A listed capability is a child of the original; a pool, which is the original, stays a child of its untyped.
 abbrev pub listed_parent : Image → CapabilityEntry → ℕ
 listed_parent image c =
-    if is_untyped (listed_capability image c) then (object_at image c.source).untyped else source_slot image c.source
+    if is_untyped (listed_capability image c) then (object_at image c.source).untyped else source_boot_slot image c.source
 
 abbrev pub listed_holding : Image → CapabilityEntry → Holding
 listed_holding image c =

@@ -56,8 +56,8 @@ fits_signed w (pos n) = nat_lt n (2 ^ hbits w)
 fits_signed w (negsuc n) = nat_lt n (2 ^ hbits w)
 
 -- the same as two's complement
-abbrev pub signed : Width → (ℤ → Bool) → Format ℤ
-signed w test = record {
+abbrev pub signed_number : Width → (ℤ → Bool) → Format ℤ
+signed_number w test = record {
   reads = λ bytes at. (number w (λ n. test (cast_signed w n))).reads bytes at >>= λ x. Ok (cast_signed w x.0, x.1);
   spelling = λ z. to_le_bytes w (cast_unsigned w z);
   fits = λ z. fits_signed w z && test z;

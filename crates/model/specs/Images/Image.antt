@@ -19,7 +19,7 @@ use Rattle.model.specs.declared.entries.PromisedWord.{PromisedWord}
 use Rattle.model.specs.declared.entries.ThreadHeader.{ThreadHeader}
 use Rattle.model.specs.declared.entries.RecordHeader.{RecordHeader}
 use Rattle.model.specs.Capabilities.CapabilityFields.{unpacked}
-use Rattle.model.specs.Images.Format.{Format, number_or, number, field, only_if, signed, both, named, ordered, many}
+use Rattle.model.specs.Images.Format.{Format, number_or, number, field, only_if, signed_number, both, named, ordered, many}
 
 -- ---- what an image holds
 
@@ -299,7 +299,7 @@ not_zero (negsuc n) = true
 unfoldable pub term_format : ℕ → Format TermEntry
 term_format least =
     named (λ (register, coefficient). record { register = register; coefficient = coefficient }) (λ e. (e.register, e.coefficient))
-    (both (field (between least 31)) (λ _. signed w32 not_zero))
+    (both (field (between least 31)) (λ _. signed_number w32 not_zero))
 
 -- a constant of a measure, from -2^62 to 2^62
 abbrev pub is_constant : ℤ → Bool
@@ -349,7 +349,7 @@ record_header_format slots words least =
     both (field (between 0 31)) (λ _.
     both slots.count (λ _.
     both (field (between 0 4)) (λ _.
-    signed w64 is_constant)))))
+    signed_number w64 is_constant)))))
 
 unfoldable pub ranges_format : ℕ → Format (List RangeEntry)
 ranges_format count = ordered 1 range_format (λ e. e.register + 1) count

@@ -84,6 +84,6 @@ abbrev pub interrupt_of : Image → ℕ → ℕ
 interrupt_of image source = source - image.header.objects
 
 -- where the loader has the source
-abbrev pub source_slot : Image → ℕ → ℕ
-source_slot image source =
+abbrev pub source_boot_slot : Image → ℕ → ℕ
+source_boot_slot image source =
     if is_handler image source then handler_slot image (interrupt_of image source) else original_slot image source

@@ -37,15 +37,15 @@ put_in_boot_slot s slot capability =
     if is_free_boot_slot s slot then Some (with_slots s (inserted s.slots slot capability None)) else None
 
 -- where the memory ends that a capability names, untyped or an object's
-abbrev pub end_of : Cap → ℕ
-end_of capability = option_map_or (λ (p : Piece). p.first + p.size) (piece_of capability) 0
+abbrev pub memory_end : Cap → ℕ
+memory_end capability = option_map_or (λ (p : Piece). p.first + p.size) (piece_of capability) 0
 
 -- Of 2^4 to 2^24 bytes, aligned, inside memory, after the boot area and after all that is there: untyped memory, and objects,
 -- which may be left where the untyped memory around them was deleted. Each object has a capability.
 abbrev pub may_be_untyped : State → ℕ → ℕ → Bool
 may_be_untyped s offset bits =
     nat_le 4 bits && nat_le bits 24 && (offset % 2 ^ bits == 0) && nat_le (offset + 2 ^ bits) (2 ^ s.memory_bits)
-    && nat_le (boot_area_end s.boot_radix) offset && not (holds_some s (λ capability. nat_lt offset (end_of capability)))
+    && nat_le (boot_area_end s.boot_radix) offset && not (holds_some s (λ capability. nat_lt offset (memory_end capability)))
 
 -- untyped memory that nothing uses yet
 unfoldable pub put_untyped : State → ℕ → ℕ → ℕ → Option State

@@ -194,15 +194,15 @@ after_effect s thread pc r (Trap cause) ran = faults s thread (instruction_fault
 after_effect s thread pc r (Memory address access) ran =
     faults s thread (memory_fault pc (record { address = address; access = access }))
 
-abbrev pub executes : State → ℕ → Instr → Done
-executes s thread instruction =
+abbrev pub runs_instruction : State → ℕ → Instr → Done
+runs_instruction s thread instruction =
     let r = registers_of s thread in
     let e = effect r (content_of s thread) instruction in
     after_effect s thread r.pc r e.exec (with_content (with_registers s thread e.registers) e.content, Plain)
 
 abbrev pub runs_decoded : State → ℕ → Option Instr → Done
 runs_decoded s thread None = faults s thread (instruction_fault (registers_of s thread).pc Illegal)
-runs_decoded s thread (Some instruction) = executes s thread instruction
+runs_decoded s thread (Some instruction) = runs_instruction s thread instruction
 
 abbrev pub runs_fetched : State → ℕ → Result ℕ MemoryFault → Done
 runs_fetched s thread (Ok word) = runs_decoded s thread (decoded word)

@@ -36,12 +36,12 @@ abbrev pub ◌>>=◌ : {A B : Type 0} → Result A MemoryFault → (A → Result
 (Err fault) >>= f = Err fault
 
 -- the place that an address names, or the fault
-abbrev pub named : Option ℕ → Access → ℕ → Result ℕ MemoryFault
-named (Some place) access address = Ok place
-named None access address = Err (record { address = address; access = access })
+abbrev pub place_or_fault : Option ℕ → Access → ℕ → Result ℕ MemoryFault
+place_or_fault (Some place) access address = Ok place
+place_or_fault None access address = Err (record { address = address; access = access })
 
 abbrev pub place_at : Content → Access → ℕ → Result ℕ MemoryFault
-place_at content access address = named (content.place access address) access address
+place_at content access address = place_or_fault (content.place access address) access address
 
 -- some address names the place for some access
 pub record IsNamed (content : Content) (place : ℕ) : Type 0 where

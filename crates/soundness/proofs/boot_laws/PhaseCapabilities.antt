@@ -20,7 +20,7 @@ use Rattle.model.specs.Images.Boot.{made}
 use Rattle.model.specs.Images.BootCalls.{capability_call, listed_arguments, loader_call}
 use Rattle.model.specs.Images.Described.{limited, listed_capability, original}
 use Rattle.model.specs.Images.Image.{Image}
-use Rattle.model.specs.Images.Places.{cnode_slot, control_slot, handler_slot, interrupt_of, is_handler, object_at, offset_of, original_slot, source_slot}
+use Rattle.model.specs.Images.Places.{cnode_slot, control_slot, handler_slot, interrupt_of, is_handler, object_at, offset_of, original_slot, source_boot_slot}
 use Rattle.model.specs.Images.Places.{type_at}
 use Rattle.model.specs.Kernel.CallForms.{mint_label, move_label}
 use Rattle.model.specs.Kernel.Retype.{NewObject, NewUntyped, NewThread, NewEndpoint, NewNotification, NewCNode, NewFrame, NewPageTable, NewRootTable}
@@ -185,7 +185,7 @@ plain-kind NewRootTable offset u = refl
 
 pub record Source (image : Image) (p : Progress) (c : CapabilityEntry) : Type 0 where
   pub capability : Cap
-  pub from : IsSource (loaded image p) (source_slot image c.source) capability
+  pub from : IsSource (loaded image p) (source_boot_slot image c.source) capability
   pub may : MayBeMinted capability c.payload
   pub same : with_payload (copied capability c.rights) c.payload ≡ listed_capability image c
 
@@ -207,7 +207,7 @@ module _ (image : Image) (p : Progress) (c : CapabilityEntry) (known : Known ima
       let held = original-loaded image c.source kind is unmapped p in
       let still = stays image c.source kind is unmapped p (plain-kind kind (offset_of image c.source) other) in
       let source = original-source image p c.source known all less still in
-      let slot : source_slot image c.source ≡ original_slot image c.source =
+      let slot : source_boot_slot image c.source ≡ original_slot image c.source =
       ap (λ b. if b then handler_slot image (interrupt_of image c.source) else original_slot image c.source) object_one in
       record {
         capability = first_capability kind (offset_of image c.source);
@@ -231,7 +231,8 @@ module _ (image : Image) (p : Progress) (c : CapabilityEntry) (known : Known ima
       let read = known.boot.handler k i (omega (arith, few, handled)) at in
       let source_is : source_type image c.source ≡ None = ap (λ b. if b then None else type_at image c.source) handler_one in
       let nothing = and_parts (c.rights == 0) (c.payload == 0) (ap (λ o. may_have o c.rights c.payload) (sym source_is) ∙ kept.held) in
-      let slot : source_slot image c.source ≡ handler_slot image k = ap (λ b. if b then handler_slot image k else original_slot image c.source) handler_one in
+      let slot : source_boot_slot image c.source ≡ handler_slot image k =
+      ap (λ b. if b then handler_slot image k else original_slot image c.source) handler_one in
       let from : IsSource (loaded image p) (handler_slot image k) (InterruptHandler i.line) = record {
         inside = rw (same-radix image p) (omega (arith, enough, few));
         holds = capability-read image p (handler_slot image k) _ read;
@@ -265,15 +266,16 @@ capability-minted image p c known all handled at plain =
     let words = listed_arguments image c in
     ap (λ b. made (loaded image p) (if b then loader_call (original_slot image c.cnode) move_label words else
     loader_call (original_slot image c.cnode) mint_label (words ++ c.rights ∷ c.payload ∷ []))) plain
-    ∙ mint-made (loaded image p) (original_slot image c.cnode) (offset_of image c.cnode) (object_at image c.cnode).size c.index (source_slot image c.source)
+    ∙ mint-made (loaded image p) (original_slot image c.cnode) (offset_of image c.cnode) (object_at image c.cnode).size c.index
+    (source_boot_slot image c.source)
     (Source.capability source) known.shape
     (destination image p c known all fit.cnode kept.slot at) (Source.from source) c.rights c.payload (Source.may source)
     ∙ ap (λ (k : Cap). Ok
-    (with_slots (loaded image p) (inserted (loaded image p).slots (cnode_slot image c.cnode c.index) k (Some (source_slot image c.source)))))
+    (with_slots (loaded image p) (inserted (loaded image p).slots (cnode_slot image c.cnode c.index) k (Some (source_boot_slot image c.source)))))
     (Source.same source)
     ∙ ap (λ (t : State). Ok t)
     (capabilities-next image p (inserted (loaded image p).slots (cnode_slot image c.cnode c.index) (listed_capability image c)
-    (Some (source_slot image c.source))) (known.adds_room.listed c at plain))
+    (Some (source_boot_slot image c.source))) (known.adds_room.listed c at plain))
 
 -- a pool is untyped memory that was not moved before
 pool-moved : (image : Image) (p : Progress) (c : CapabilityEntry) → Known image p → p.objects ≡ image.header.objects
@@ -292,12 +294,13 @@ pool-moved image p c known all at pool =
     let still : is_moved image p c.source ≡ false = ap (λ b. is_untyped (original_so_far image p c.source) && b) unlisted
     ∙ and-false (is_untyped (original_so_far image p c.source)) in
     let source = original-source image p c.source known all less still in
-    let slot : source_slot image c.source ≡ original_slot image c.source =
+    let slot : source_boot_slot image c.source ≡ original_slot image c.source =
     ap (λ b. if b then handler_slot image (interrupt_of image c.source) else original_slot image c.source) object_one in
     let words = listed_arguments image c in
     ap (λ b. made (loaded image p) (if b then loader_call (original_slot image c.cnode) move_label words else
     loader_call (original_slot image c.cnode) mint_label (words ++ c.rights ∷ c.payload ∷ []))) pool
-    ∙ move-made (loaded image p) (original_slot image c.cnode) (offset_of image c.cnode) (object_at image c.cnode).size c.index (source_slot image c.source)
+    ∙ move-made (loaded image p) (original_slot image c.cnode) (offset_of image c.cnode) (object_at image c.cnode).size c.index
+    (source_boot_slot image c.source)
     (original_so_far image p c.source) known.shape
     (destination image p c known all fit.cnode kept.slot at)
     (subst (λ (n : ℕ). IsSource (loaded image p) n (original_so_far image p c.source)) (sym slot) source) (some-original image p c.source is_pool)

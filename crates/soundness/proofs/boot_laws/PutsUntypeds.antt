@@ -13,7 +13,7 @@ use Rattle.model.specs.Images.Described.{Holding, held_in, holding, numbered}
 use Rattle.model.specs.Images.Image.{Image}
 use Rattle.model.specs.Images.Places.{control_slot, untyped_at, used_by}
 use Rattle.model.specs.Acceptance.WellFormed.{untyped_end}
-use Rattle.model.specs.Kernel.Setup.{boot_area, end_of, may_be_untyped, put_control, put_in_boot_slot, put_untyped}
+use Rattle.model.specs.Kernel.Setup.{boot_area, may_be_untyped, memory_end, put_control, put_in_boot_slot, put_untyped}
 use Rattle.model.specs.Kernel.State.{State, boot_area_end, boot_area_slots, holds_some}
 use Rattle.model.specs.declared.capabilities.Cap.TheVariants.{InterruptControl, Untyped}
 use Rattle.model.specs.declared.entries.UntypedEntry.{UntypedEntry}
@@ -68,16 +68,16 @@ module _ (image : Image) (fitting : IsFitting image) (formed : AreFormed image) 
     stands = untyped-stands image k fitting formed inside
 
     -- none of those before ends after where it begins
-    ends-before : (j : ℕ) (h : Holding) → slice_get (puts k) j ≡ Some h → nat_lt u.offset (end_of h.1.capability) ≡ false
+    ends-before : (j : ℕ) (h : Holding) → slice_get (puts k) j ≡ Some h → nat_lt u.offset (memory_end h.1.capability) ≡ false
     ends-before j h at =
         let before = put-before k j h at in
         let apart = untypeds-apart image j k fitting formed before.1 inside in
-        ap (λ (g : Holding). nat_lt u.offset (end_of g.1.capability)) before.0 ∙ le-ltb u.offset (untyped_end (untyped_at image j)) apart
+        ap (λ (g : Holding). nat_lt u.offset (memory_end g.1.capability)) before.0 ∙ le-ltb u.offset (untyped_end (untyped_at image j)) apart
 
-    behind-all : holds_some (states k) (λ capability. nat_lt u.offset (end_of capability)) ≡ false
+    behind-all : holds_some (states k) (λ capability. nat_lt u.offset (memory_end capability)) ≡ false
     behind-all =
-        none-held (states k) (λ capability. nat_lt u.offset (end_of capability))
-        (λ slot. none-boot (λ capability. nat_lt u.offset (end_of capability)) image.header.boot_radix (puts k) slot (le-ltb u.offset 0 (omega arith))
+        none-held (states k) (λ capability. nat_lt u.offset (memory_end capability))
+        (λ slot. none-boot (λ capability. nat_lt u.offset (memory_end capability)) image.header.boot_radix (puts k) slot (le-ltb u.offset 0 (omega arith))
         ends-before)
 
     may-stand : may_be_untyped (states k) u.offset u.bits ≡ true
@@ -90,7 +90,7 @@ module _ (image : Image) (fitting : IsFitting image) (formed : AreFormed image) 
         let d = and_from (nat_le 4 u.bits && nat_le u.bits 24 && (u.offset % size == 0) && nat_le (u.offset + size) (2 ^ image.header.memory_bits))
         (nat_le (boot_area_end image.header.boot_radix) u.offset) c (le-leb (boot_area_end image.header.boot_radix) u.offset stands.behind_boot) in
         and_from (nat_le 4 u.bits && nat_le u.bits 24 && (u.offset % size == 0) && nat_le (u.offset + size) (2 ^ image.header.memory_bits)
-        && nat_le (boot_area_end image.header.boot_radix) u.offset) (not (holds_some (states k) (λ capability. nat_lt u.offset (end_of capability)))) d
+        && nat_le (boot_area_end image.header.boot_radix) u.offset) (not (holds_some (states k) (λ capability. nat_lt u.offset (memory_end capability)))) d
         (ap not behind-all)
 
     numbered-here : slice_get (numbered image.untypeds) k ≡ Some (k, u)

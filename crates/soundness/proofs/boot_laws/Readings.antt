@@ -16,7 +16,7 @@ use Rattle.model.specs.Capabilities.Slots.{Slots, empty_entry, inserted, recappe
 use Rattle.model.specs.Images.Described.{listed_capability, original, signalled}
 use Rattle.model.specs.Images.Image.{Image, Thread}
 use Rattle.model.specs.Images.Places.{cnode_slot, control_slot, frame_copy_slot, handler_slot, notification_copy_slot, object_at, offset_of, original_slot}
-use Rattle.model.specs.Images.Places.{source_slot, type_at, untyped_at}
+use Rattle.model.specs.Images.Places.{source_boot_slot, type_at, untyped_at}
 use Rattle.model.specs.Kernel.AddressSpaces.{page_size, region_pages}
 use Rattle.model.specs.Kernel.State.{cspace_slot, line_slot, vspace_slot}
 
@@ -125,7 +125,7 @@ pub record AddsRoom (image : Image) (p : Progress) : Type 0 where
   -- a capability that is minted
   pub listed : (c : CapabilityEntry) → slice_get image.capabilities p.capabilities ≡ Some c → is_untyped_type (source_type image c.source) ≡ false
       → slots_of_loaded image (one_capability p)
-      ≡ inserted (slots_of_loaded image p) (cnode_slot image c.cnode c.index) (listed_capability image c) (Some (source_slot image c.source))
+      ≡ inserted (slots_of_loaded image p) (cnode_slot image c.cnode c.index) (listed_capability image c) (Some (source_boot_slot image c.source))
   -- a pool is moved
   pub pool : (c : CapabilityEntry) → slice_get image.capabilities p.capabilities ≡ Some c → is_untyped_type (source_type image c.source) ≡ true
       → slots_of_loaded image (one_capability p) ≡ relocated (slots_of_loaded image p) (original_slot image c.source) (cnode_slot image c.cnode c.index)

@@ -30,7 +30,7 @@ use Rattle.model.specs.Capabilities.CapabilityKinds.{is_untyped, with_table_mapp
 use Rattle.model.specs.Capabilities.Slots.{Slots, empty_entry, parent_at, recapped, relocated, with_entry, with_parent}
 use Rattle.model.specs.Images.Described.{limited, listed_capability, listed_parent, original}
 use Rattle.model.specs.Images.Image.{Image, Thread}
-use Rattle.model.specs.Images.Places.{cnode_slot, interrupt_of, object_at, offset_of, original_slot, source_slot, type_at}
+use Rattle.model.specs.Images.Places.{cnode_slot, interrupt_of, object_at, offset_of, original_slot, source_boot_slot, type_at}
 use Rattle.model.specs.Kernel.AddressSpaces.{page_size, region_pages}
 use Rattle.model.specs.Kernel.Retype.{NewObject, NewUntyped, NewThread, NewEndpoint, NewNotification, NewCNode, NewFrame, NewPageTable, NewRootTable}
 use Rattle.model.specs.Kernel.State.{cspace_slot, vspace_slot}
@@ -122,7 +122,7 @@ pool-of image c is = elim (cases_lt c.source image.header.objects) [
             (slice_get image.interrupts (interrupt_of image c.source)) Empty else original image c.source) c.rights c.payload) object
             ∙ pool-same image (type_at image c.source) (offset_of image c.source) c.rights c.payload (find (λ t. t.table == c.source) image.tables)
             (find (λ t. t.table == c.source) (take p.tables image.tables)) untyped;
-        parent = ap (λ b. if b then (object_at image c.source).untyped else source_slot image c.source) (listed-untyped image c ∙ is);
+        parent = ap (λ b. if b then (object_at image c.source).untyped else source_boot_slot image c.source) (listed-untyped image c ∙ is);
       }
   | inr handler ↦ absurd
       (false≢true (sym (ap (λ b. is_untyped_type (if b then None else type_at image c.source)) (le-leb image.header.objects c.source handler)) ∙ is))
@@ -132,12 +132,13 @@ module _ (image : Image) (fitting : IsFitting image) (formed : AreFormed image) 
     (all : p.objects ≡ image.header.objects) where
   adds-listed : (c : CapabilityEntry) → slice_get image.capabilities p.capabilities ≡ Some c → is_untyped_type (source_type image c.source) ≡ false
       → slots_of_loaded image (one_capability p)
-      ≡ with_entry (slots_of_loaded image p) (cnode_slot image c.cnode c.index) (Some (entry (listed_capability image c) (Some (source_slot image c.source))))
+      ≡ with_entry (slots_of_loaded image p) (cnode_slot image c.cnode c.index)
+      (Some (entry (listed_capability image c) (Some (source_boot_slot image c.source))))
   adds-listed c at plain =
       let slot = cnode_slot image c.cnode c.index in
-      let parent : listed_parent image c ≡ source_slot image c.source =
-      ap (λ b. if b then (object_at image c.source).untyped else source_slot image c.source) (listed-untyped image c ∙ plain) in
-      one-changes image p (one_capability p) slot (entry (listed_capability image c) (Some (source_slot image c.source))) refl
+      let parent : listed_parent image c ≡ source_boot_slot image c.source =
+      ap (λ b. if b then (object_at image c.source).untyped else source_boot_slot image c.source) (listed-untyped image c ∙ plain) in
+      one-changes image p (one_capability p) slot (entry (listed_capability image c) (Some (source_boot_slot image c.source))) refl
       (reads-listed image fitting formed (one_capability p) (within-capability image p c fitting within at) all p.capabilities c (omega arith) at
       ∙ ap (λ (n : ℕ). let o : Option Entry = Some (entry (listed_capability image c) (Some n)) in o) parent)
       (λ s other. other-capability image p c s fitting at (λ pool. absurd (false≢true (sym plain ∙ pool))) other)

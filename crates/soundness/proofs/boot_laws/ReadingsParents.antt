@@ -29,7 +29,7 @@ use Rattle.model.specs.Capabilities.Slots.{adopted, with_parent}
 use Rattle.model.specs.Images.Described.{Holding, binding_holding, frame_holding, handler_holding, held_in, listed_holding, listed_parent, notification_holding}
 use Rattle.model.specs.Images.Described.{numbered, thread_holdings}
 use Rattle.model.specs.Images.Image.{Image, Thread}
-use Rattle.model.specs.Images.Places.{control_slot, handler_slot, interrupt_of, object_at, original_slot, source_slot, type_at}
+use Rattle.model.specs.Images.Places.{control_slot, handler_slot, interrupt_of, object_at, original_slot, source_boot_slot, type_at}
 use Rattle.model.specs.Kernel.Retype.{NewObject, NewUntyped, NewThread, NewEndpoint, NewNotification, NewCNode, NewFrame, NewPageTable, NewRootTable}
 
 -- ---- lists of full slots none of which is a child of one slot
@@ -140,7 +140,7 @@ module _ (image : Image) (fitting : IsFitting image) (formed : AreFormed image) 
               let untyped = listed-untyped image c ∙ ap (λ b. is_untyped_type (if b then None else type_at image c.source))
               (lt-leb image.header.objects c.source below) ∙ is in
               let parent : listed_parent image c ≡ (object_at image c.source).untyped =
-              ap (λ b. if b then (object_at image c.source).untyped else source_slot image c.source) untyped in
+              ap (λ b. if b then (object_at image c.source).untyped else source_boot_slot image c.source) untyped in
               let home = ObjectFits.untyped (fitting.object c.source (object_at image c.source) (object-at image c.source fitting below)) in
               let e = same_Some (listed_parent image c) (original_slot image source) same in
               omega (arith, parent, home, e)
@@ -148,7 +148,7 @@ module _ (image : Image) (fitting : IsFitting image) (formed : AreFormed image) 
               let plain = listed-untyped image c ∙ ap (λ b. is_untyped_type (if b then None else type_at image c.source))
               (lt-leb image.header.objects c.source below) ∙ is in
               let parent : listed_parent image c ≡ original_slot image c.source =
-              ap (λ b. if b then (object_at image c.source).untyped else source_slot image c.source) plain
+              ap (λ b. if b then (object_at image c.source).untyped else source_boot_slot image c.source) plain
               ∙ ap (λ b. if b then handler_slot image (interrupt_of image c.source) else original_slot image c.source)
               (lt-leb image.header.objects c.source below) in
               let e = same_Some (listed_parent image c) (original_slot image source) same in
@@ -159,7 +159,7 @@ module _ (image : Image) (fitting : IsFitting image) (formed : AreFormed image) 
         let plain = listed-untyped image c ∙ ap (λ b. is_untyped_type (if b then None else type_at image c.source))
         (le-leb image.header.objects c.source handler) in
         let parent : listed_parent image c ≡ handler_slot image (interrupt_of image c.source) =
-        ap (λ b. if b then (object_at image c.source).untyped else source_slot image c.source) plain
+        ap (λ b. if b then (object_at image c.source).untyped else source_boot_slot image c.source) plain
         ∙ ap (λ b. if b then handler_slot image (interrupt_of image c.source) else original_slot image c.source)
         (le-leb image.header.objects c.source handler) in
         let e = same_Some (listed_parent image c) (original_slot image source) same in

@@ -5,7 +5,7 @@ use Rattle.std.specs.Prelude.{flat_map, option_and_then, slice_get}
 use Rattle.std.proofs.lemmas.List.{append-nil}
 use Rattle.model.specs.declared.entries.UntypedEntry.{UntypedEntry}
 use Rattle.model.specs.declared.errors.KError.{KError}
-use Rattle.model.specs.Images.Boot.{booted, boots_unless, fill_all, goes_on, goes_on_inside, made, misplaced, run_from}
+use Rattle.model.specs.Images.Boot.{booted, boots_unless, fill_all, goes_on_after_call, goes_on_inside, made, misplaced, run_from}
 use Rattle.model.specs.Images.BootCalls.{LoaderCall, Operation, PutsUntyped, PutsControl, Calls, Fills, operations}
 use Rattle.model.specs.Images.Fills.{Fill}
 use Rattle.model.specs.Images.Image.{Image}
@@ -26,7 +26,7 @@ pub leads-call : (image : Image) (s t : State) (call : LoaderCall) → made s ca
 unfolding run_from
 leads-call image s t call is = record {
   behind = suc;
-  leads = λ n later. ap (λ (r : Result State KError). goes_on n (λ after. run_from image (suc n) after later) r) is;
+  leads = λ n later. ap (λ (r : Result State KError). goes_on_after_call n (λ after. run_from image (suc n) after later) r) is;
 }
 
 pub leads-fills : (image : Image) (s t : State) (place : ℕ) (fills : Option (List Fill)) → option_and_then (fill_all s) fills ≡ Some t →

@@ -3,7 +3,7 @@ use Rattle.std.proofs.Common.{ℕ, suc, ◌≡◌, ◌^◌, ◌<◌, List, [], �
 use Rattle.std.specs.Prelude.{All, ⊤, option_and_then}
 use Rattle.std.proofs.lemmas.List.Elements.{All-head, All-tail}
 use Rattle.std.proofs.lemmas.Option.{none-some}
-use Rattle.model.specs.Images.Boot.{fill_all, goes_on, goes_on_inside, made, run_from}
+use Rattle.model.specs.Images.Boot.{fill_all, goes_on_after_call, goes_on_inside, made, run_from}
 use Rattle.model.specs.Images.BootCalls.{LoaderCall, Operation, PutsUntyped, PutsControl, Calls, Fills}
 use Rattle.model.specs.Images.Fills.{Fill}
 use Rattle.model.specs.Images.Image.{Image}
@@ -58,7 +58,7 @@ run-sound image (PutsControl slot ∷ ops) n s t sound fine is =
       | Some u ↦ λ one rest. run-sound image ops n u t (control-whole s u slot sound one) (All-tail IsFine (PutsControl slot) ops fine) rest
     ] refl is
 run-sound image (Calls c ∷ ops) n s t sound fine is =
-    elim (made s c) as (λ r. made s c ≡ r → goes_on n (λ after. run_from image (suc n) after ops) r ≡ Ok t → IsSound t) [
+    elim (made s c) as (λ r. made s c ≡ r → goes_on_after_call n (λ after. run_from image (suc n) after ops) r ≡ Ok t → IsSound t) [
       | Err error ↦ λ _ clash. absurd (no-fault (Kernel n error) t clash)
       | Ok u ↦ λ one rest. run-sound image ops (suc n) u t (made-whole s u c sound (All-head IsFine (Calls c) ops fine) one)
           (All-tail IsFine (Calls c) ops fine) rest

@@ -16,7 +16,7 @@ use Rattle.model.specs.Images.BootCalls.{object_call, signal_calls, table_call, 
 use Rattle.model.specs.Images.Described.{start_of}
 use Rattle.model.specs.Images.Fills.{Fill, bytes_of, frame_at, page_bytes, page_fill, program_fills, program_pages}
 use Rattle.model.specs.Images.Image.{Image, Thread, size_fits}
-use Rattle.model.specs.Images.Places.{frame_copy_slot, handler_slot, is_handler, notification_copy_slot, object_at, offset_of, original_slot, source_slot}
+use Rattle.model.specs.Images.Places.{frame_copy_slot, handler_slot, is_handler, notification_copy_slot, object_at, offset_of, original_slot, source_boot_slot}
 use Rattle.model.specs.Kernel.AddressSpaces.{page_size}
 use Rattle.model.specs.Kernel.CallForms.{configure_label, copy_label, map_frame_label, mint_label, move_label, resume_label, set_notification_label}
 use Rattle.model.specs.Kernel.CallForms.{set_priority_label, set_register_label}
@@ -102,7 +102,7 @@ module _ (image : Image) (fitting : IsFitting image) where
       small-all (interrupt_call image (k, i)).words
       (omega (arith, fits.line), (omega (arith, less, fitting.header.untypeds, fitting.header.objects, fitting.header.interrupts), (omega arith, tt)))
 
-  source-small : (source : ℕ) → source < image.header.objects + image.header.interrupts → source_slot image source < 2 ^ 32
+  source-small : (source : ℕ) → source < image.header.objects + image.header.interrupts → source_boot_slot image source < 2 ^ 32
   source-small source less =
       elim (is_handler image source) as
       (λ b. (if b then image.header.untypeds + image.header.objects + 1 + (source - image.header.objects) else image.header.untypeds + source) < 2 ^ 32) [

@@ -2,7 +2,7 @@
 use Rattle.std.proofs.Common.{ℕ, ◌≡◌, ◌∙◌, ◌+◌, ◌%◌, ◌^◌, ◌<◌, ◌≤◌, Option, List, Ok, length, refl, sym, ap, arith, subst}
 use Rattle.cnode_ops.proofs.Laws.{whole-of}
 use Rattle.model.specs.Kernel.AddressSpaces.{vspace_of}
-use Rattle.model.specs.Machine.ProgramMemory.{named, place_at}
+use Rattle.model.specs.Machine.ProgramMemory.{place_at, place_or_fault}
 use Rattle.model.specs.Shared.Bytes.{word_at}
 use Rattle.model.specs.declared.instructions.Access.TheVariants.{Fetch}
 use Rattle.objects.specs.Lives.{state_in}
@@ -24,7 +24,7 @@ read32-requires g c =
     let usable = usable-kernel slots memory c.args.thread root of_kernel whole (root-inside slots memory c.args.thread root of_kernel refl) in
     let small : c.args.address < 2 ^ 32 = omega (arith, c.ranges.address.fits) in
     let found : place_at (content_under s root) Fetch c.args.address ≡ Ok place =
-    ap (λ (o : Option ℕ). named o Fetch c.args.address) (c.requires.page.places c.args.address small c.if-address-code.false) in
+    ap (λ (o : Option ℕ). place_or_fault o Fetch c.args.address) (c.requires.page.places c.args.address small c.if-address-code.false) in
     let bytes = c.mem.ensures ∙ ap (λ k. memory k.store) of_kernel in
     subst (λ (m : List ℕ). place + 4 ≤ length m) (sym bytes)
     (word-inside s (memory kernel.store) root usable Fetch c.args.address place c.if-address-ne0.false small found)
@@ -42,7 +42,7 @@ returns g c = λ word gives.
     let usable = usable-kernel slots memory c.args.thread root of_kernel whole (root-inside slots memory c.args.thread root of_kernel refl) in
     let small : c.args.address < 2 ^ 32 = omega (arith, c.ranges.address.fits) in
     let found : place_at (content_under s root) Fetch c.args.address ≡ Ok place =
-    ap (λ (o : Option ℕ). named o Fetch c.args.address) (c.requires.page.places c.args.address small c.if-address-code.false) in
+    ap (λ (o : Option ℕ). place_or_fault o Fetch c.args.address) (c.requires.page.places c.args.address small c.if-address-code.false) in
     let bytes = c.mem.ensures ∙ ap (λ k. memory k.store) of_kernel in
     let same : c.read32.result ≡ word = cc in
     ap Ok (sym same ∙ c.read32.ensures ∙ ap (λ (m : List ℕ). word_at m place) bytes)
