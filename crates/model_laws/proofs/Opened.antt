@@ -54,10 +54,10 @@ use Rattle.model.specs.Images.Listing.{listing_lines as listing_listing_lines, l
 use Rattle.model.specs.Kernel.Steps.{system_call as steps_system_call, runs as steps_runs, step as steps_step, trace as steps_trace, state_after as steps_after}
 use Rattle.std.specs.Fmt.{digits}
 use Rattle.model_laws.specs.Solo.{booted_or, bytes_of, solo, solo_events, solo_image, two_threads, yielding}
-use Rattle.model_laws.specs.Worker.{loop_image, loop_with, reading_with}
+use Rattle.model_laws.specs.Worker.{loop_image, loop_with, reading_with, two_pools}
 use Rattle.model_laws.specs.Variants.{with_radix, with_untyped, with_capability, with_interrupt, with_table, with_frames, with_content, with_thread}
-use Rattle.model_laws.specs.Variants.{with_other_root}
-use Rattle.model_laws.specs.Programs.{program}
+use Rattle.model_laws.specs.Variants.{with_other_root, with_tables}
+use Rattle.model_laws.specs.Programs.{entered_at, program}
 
 unfoldable pub opened : Unit {0}
 unfolding digits format_many_read format_many_spelling format_many_fit image_header_format image_untyped_format image_object_format image_capability_format
@@ -78,5 +78,5 @@ unfolding digits format_many_read format_many_spelling format_many_fit image_hea
     invocations_configure_with_guard setup_boot_area setup_put_untyped setup_put_control setup_fill callforms_decode boot_made boot_run_from boot_booted
     bootcalls_operations listing_listing_lines listing_listing steps_system_call steps_runs steps_step steps_trace steps_after bytes_of solo solo_image
     loop_image loop_with booted_or solo_events two_threads yielding with_radix with_untyped with_capability with_interrupt with_table with_frames with_content
-    with_thread with_other_root program reading_with
+    with_thread with_other_root with_tables program entered_at reading_with two_pools
 opened = tt

@@ -27,6 +27,13 @@ with_interrupt notification = record solo_image { interrupts = record { line = 3
 unfoldable pub with_table : ℕ → ℕ → ℕ → Image
 with_table root address table = record solo_image { tables = record { root = root; address = address; table = table } ∷ [] }
 
+-- one page table in two regions
+unfoldable pub with_tables : Image
+with_tables = record solo_image {
+  header = record solo_image.header { tables = 2 };
+  tables = record { root = 1; address = 0; table = 2 } ∷ record { root = 1; address = 0x400000; table = 2 } ∷ [];
+}
+
 abbrev pub frame : ℕ → ℕ → ℕ → ℕ → FrameEntry
 frame root address object rights = record { root = root; address = address; frame = object; rights = rights }
 

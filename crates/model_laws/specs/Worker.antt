@@ -99,12 +99,24 @@ abbrev pub refused_as : Result AfterCall Refusal → Option Refusal
 refused_as (Ok a) = None
 refused_as (Err refusal) = Some refusal
 
+-- the numbers of the registers that a call writes
+abbrev pub written_by : Result AfterCall Refusal → Option (List ℕ)
+written_by (Ok a) = Some (map (λ x. x.0) a.written)
+written_by (Err refusal) = None
+
 abbrev pub worker_slots : List NotedSlot
 worker_slots = image_slots worker_image worker_thread
 
 -- what a call of the worker leaves
 abbrev pub behind_call : List (ℕ × ℕ) → List NotedSlot → Result AfterCall Refusal
 behind_call known slots = after_call worker_image worker_thread (at_point 0 0) (state_with known slots)
+
+-- the worker's image with a second capability to its pool
+unfoldable pub two_pools : Image
+two_pools = record worker_image {
+  header = record worker_image.header { capabilities = 5 };
+  capabilities = worker_image.capabilities ++ record { cnode = 4; index = 6; source = 5; rights = 0; payload = 0 } ∷ [];
+}
 
 -- ---- the worker's loop
 

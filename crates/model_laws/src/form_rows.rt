@@ -3,7 +3,8 @@
 ghost use Rattle.std.specs.Prelude.{◌≡◌, None, Some};
 ghost use Rattle.model.specs.Acceptance.Accepted.{first_in, phases};
 ghost use Rattle.model.specs.declared.refusals.Refusal.TheVariants.{BadCap, BadMapping, BadObject, BadThread, NoRoom, SharedVSpace, UntypedOverlap, WritableCode};
-ghost use Rattle.model_laws.specs.Variants.{capability, frame, with_capability, with_content, with_frames, with_interrupt, with_other_root, with_radix, with_table, with_thread, with_untyped};
+ghost use Rattle.model_laws.specs.Variants.{capability, frame, with_capability, with_content, with_frames, with_interrupt, with_other_root, with_radix, with_table, with_tables, with_thread, with_untyped};
+ghost use Rattle.model_laws.specs.Worker.{two_pools};
 
 /// Untyped memory that is misaligned or passes the end of memory, an object without room, too few boot slots.
 #[tactic(auto, unfolding(crate::proofs::Opened::opened))]
@@ -61,4 +62,11 @@ pub fn threads_fit()
     ensures page { first_in (phases (with_thread (λ h. record h { base = 0x2000 }))) ≡ Some (BadThread 0) }
     ensures entry { first_in (phases (with_thread (λ h. record h { entry = 7 }))) ≡ Some (BadThread 0) }
     ensures other_root { first_in (phases with_other_root) ≡ Some (SharedVSpace 0) }
+{}
+
+/// Untyped memory is given once, and a page table stands in one region: the later entry is the one that is refused.
+#[tactic(auto, unfolding(crate::proofs::Opened::opened))]
+pub fn memory_and_tables_are_given_once()
+    ensures pool { first_in (phases two_pools) ≡ Some (BadCap 4) }
+    ensures table { first_in (phases with_tables) ≡ Some (BadMapping 1) }
 {}

@@ -6,7 +6,7 @@ ghost use Rattle.model.specs.Acceptance.RangeRules.{range};
 ghost use Rattle.model.specs.Acceptance.Measures.{register_numbered};
 ghost use Rattle.model.specs.declared.instructions.BranchOp.TheVariants.{Beq, Bne, Blt, Bge, Bltu, Bgeu};
 ghost use Rattle.model.specs.declared.instructions.ImmediateOp.TheVariants.{Addi, Andi, Ori, Sltiu, Xori};
-ghost use Rattle.model.specs.declared.instructions.Instr.TheVariants.{Jal, Load, Upper};
+ghost use Rattle.model.specs.declared.instructions.Instr.TheVariants.{Jal, Load, Registers, Upper};
 ghost use Rattle.model.specs.declared.instructions.LoadOp.TheVariants.{Lbu, Lhu, Lw};
 ghost use Rattle.model.specs.declared.instructions.RegisterOp.TheVariants.{Add, And, Or, Sll, Slt, Sltu, Sra, Srl, Sub, Xor};
 ghost use Rattle.model.specs.declared.instructions.ShiftOp.TheVariants.{Slli, Srai, Srli};
@@ -22,6 +22,8 @@ pub fn sums_lie_in()
     ensures wrapping_difference { by_registers Sub (range 3 10) (range 3 10) ≡ full }
     ensures lowered { by_immediate Addi (range 1 10) (negsuc 0) ≡ range 0 9 }
     ensures wrapping { by_immediate Addi (range 0 10) (negsuc 0) ≡ full }
+    ensures wrapping_sum { by_registers Add (single (2 ^ 32 - 1)) (single 2) ≡ single 1 }
+    ensures zero { result_of (Registers Add (register_numbered 7) (register_numbered 0) (register_numbered 0)) full full ≡ single 0 }
     ensures wrapping_value { by_immediate Addi (single 0) (negsuc 0) ≡ single (2 ^ 32 - 1) }
 {}
 
