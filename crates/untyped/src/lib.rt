@@ -4,4 +4,4 @@
 
 mod placing;
 
-pub use placing::{NotEnoughMemory, place};
+pub use placing::{NotEnoughMemory, next_place, place, power};

@@ -8,22 +8,29 @@ ghost use Rattle.model.specs.Capabilities.Placement.{align, place_of_object, pla
 #[derive(Clone, Copy, Debug, PartialEq, Eq)]
 pub struct NotEnoughMemory;
 
-/// The least multiple of `size` that is not below `place`, both in bytes.
-fn align_up(place: u64, size: u64) -> u64
-    requires positive { 0 < size }
-    requires fits { place + size < 2 ^ 64 }
-    ensures { result ≡ align place size }
-{
-    (place + (size - 1)) / size * size
-}
-
-/// 2^`bits`, in bytes.
-fn size_of_bits(bits: u8) -> u64
-    requires { bits ≤ 24 }
+/// 2 to the power of `bits`: so many bytes an object or an untyped has.
+pub fn power(bits: u32) -> u64
+    requires { bits ≤ 31 }
     ensures value { result ≡ 2 ^ bits }
-    ensures range { result ≤ 2 ^ 24 }
+    ensures least { 1 ≤ result }
+    ensures most { result ≤ 2 ^ 31 }
 {
     1u64 << bits
+}
+
+/// Where an object of 2^`object_bits` bytes begins after the bytes of an untyped that are used, at a multiple of its size, and
+/// where it ends, both in bytes from the begin of the untyped, which may be too small for it.
+pub fn next_place(used: u64, object_bits: u32) -> (u64, u64)
+    requires used { used ≤ 2 ^ 50 }
+    requires object_size { object_bits ≤ 31 }
+    ensures first { result.0 ≡ align used (2 ^ object_bits) }
+    ensures end { result.1 ≡ place_of_object used object_bits 1 }
+    ensures order { result.0 ≤ result.1 }
+    ensures near { result.1 ≤ used + 2 ^ 32 }
+{
+    let size = power(object_bits);
+    let first = (used + (size - 1)) / size * size;
+    (first, first + size)
 }
 
 /// Where `count` objects of 2^`object_bits` bytes lie after the watermark of an untyped of 2^`bits` bytes: the place of the
@@ -52,10 +59,9 @@ pub fn place(
     ensures apart { IfOk result (λ placed. (i j : ℕ) → i < j
         → placed.0 + i * 2 ^ object_bits + 2 ^ object_bits ≤ placed.0 + j * 2 ^ object_bits) }
 {
-    let object_size = size_of_bits(object_bits);
-    let first = align_up(u64::from(watermark), object_size);
-    let end = first + u64::from(count) * object_size;
-    if end <= size_of_bits(bits) {
+    let (first, _) = next_place(u64::from(watermark), u32::from(object_bits));
+    let end = first + u64::from(count) * power(u32::from(object_bits));
+    if end <= power(u32::from(bits)) {
         Ok((first as u32, end as u32))
     } else {
         Err(NotEnoughMemory)
