@@ -1,14 +1,18 @@
 //! What an event changes stays within authority: ticks, interrupts, and steps that change registers and bytes or make a call. Each law
 //! is the contract of a function that does nothing; what authority rules out is in `model_laws`.
 
+mod call_laws;
 mod ready_laws;
 mod step_laws;
 
+pub use call_laws::{
+    acknowledgements_stay_within_authority, calls_on_nothing_stay_within_authority,
+    handlers_stay_within_authority, mappings_stay_within_authority, receives_stay_within_authority,
+    replies_stay_within_authority, sends_stay_within_authority, signals_stay_within_authority,
+    waits_stay_within_authority,
+};
 pub use ready_laws::the_ready_list_holds_no_thread_twice;
 pub use step_laws::{
-    a_delivered_send_stays_within_authority, a_new_endpoint_stays_within_authority,
-    a_new_handler_stays_within_authority, a_new_mapping_stays_within_authority,
-    a_plain_step_stays_within_authority, a_received_call_stays_within_authority,
-    a_reply_stays_within_authority, a_tick_stays_within_authority,
-    a_waking_signal_stays_within_authority, an_interrupt_stays_within_authority,
+    a_new_endpoint_stays_within_authority, a_plain_step_stays_within_authority,
+    a_tick_stays_within_authority, an_interrupt_stays_within_authority,
 };

@@ -1,5 +1,5 @@
 -- New objects use more of the untyped memory that they are made in.
-use Rattle.std.proofs.Common.{ℕ, ◌≡◌, ◌+◌, ◌-◌, ◌*◌, ◌/◌, ◌%◌, ◌^◌, ◌<◌, ◌≤◌, true, false, Option, Some, None, if◌then◌else◌, nat_le, pow_pos, ap, subst}
+use Rattle.std.proofs.Common.{ℕ, ◌≡◌, ◌*◌, ◌^◌, ◌<◌, ◌≤◌, true, false, Option, Some, None, if◌then◌else◌, nat_le, pow_pos, ap, subst}
 use Rattle.std.proofs.Common.{arith}
 use Rattle.std.proofs.Math.Nat.{mul-pos}
 use Rattle.model.specs.Capabilities.Placement.{align, place_of_object, placement}

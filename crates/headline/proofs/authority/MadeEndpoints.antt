@@ -42,7 +42,7 @@ use Rattle.model.specs.Machine.Effects.{advanced}
 use Rattle.model.specs.Machine.ProgramMemory.{read}
 use Rattle.model.specs.Shared.Lists.{without}
 use Rattle.headline.proofs.authority.PlainSteps.{append-none, between, one-used}
-use Rattle.headline.proofs.authority.HandingCalls.{sends-by}
+use Rattle.headline.proofs.authority.Awaited.{sends-by}
 use Rattle.headline.proofs.authority.FurtherUsed.{used-further}
 use Rattle.headline.proofs.authority.Stored.{capability_of, got, parent_of, passed}
 use Rattle.headline.specs.authority.Scenarios.{CallsOn, MakesEndpoint, with_endpoint_made}

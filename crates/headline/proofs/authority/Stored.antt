@@ -1,5 +1,5 @@
--- A step that changes slots of the thread's own alone, and passes, stays within authority.
-use Rattle.std.proofs.Common.{ℕ, ◌≡◌, ◌≢◌, ◌==◌, ◌⊎◌, Bool, true, false, is_some, if◌then◌else◌, Option, Some, Result, Ok, Err, option_map, [], refl, sym, ◌∙◌}
+-- A change of slots of the thread's own alone stays within authority.
+use Rattle.std.proofs.Common.{ℕ, ◌≡◌, ◌≢◌, ◌==◌, ◌⊎◌, Bool, true, false, if◌then◌else◌, Option, Some, Result, Ok, Err, [], refl, sym, ◌∙◌}
 use Rattle.std.proofs.Common.{None, ap, subst, inl, inr, arith}
 use Rattle.std.specs.Option.{option_map_or}
 use Rattle.std.proofs.lemmas.Bool.{eq-eqb, ne_eqb}
@@ -7,6 +7,7 @@ use Rattle.std.proofs.lemmas.Bool.Decides.{eqb_tells}
 use Rattle.model.specs.declared.capabilities.Cap.{Cap}
 use Rattle.model.specs.declared.capabilities.Cap.TheVariants.{Empty, Untyped}
 use Rattle.model.specs.declared.capabilities.FrameMapping.{FrameMapping}
+use Rattle.model.specs.declared.capabilities.TableMapping.{TableMapping}
 use Rattle.model.specs.declared.errors.KError.{KError}
 use Rattle.model.specs.declared.slot_entries.Entry.{Entry}
 use Rattle.model.specs.Acceptance.Authority.{Granted, IsOwnSlot, MappingGranted, NewParent, RightChange, kept, SliceChange, same_slice, UsedChange}
@@ -17,16 +18,9 @@ use Rattle.model.specs.Capabilities.Slots.{Slots, capability_at, parent_at}
 use Rattle.model.specs.Images.Image.{Image, Thread}
 use Rattle.model.specs.Images.Places.{offset_of}
 use Rattle.model.specs.Kernel.Arguments.{◌>>=◌, check}
-use Rattle.model.specs.Kernel.Kinds.{kind_at, kind_of}
-use Rattle.model.specs.Kernel.Messages.{passes}
-use Rattle.model.specs.Kernel.Scheduling.{is_runnable}
-use Rattle.model.specs.Kernel.State.{State, Object, ThreadObject, EndpointObject, NotificationObject, ThreadState, as_thread, new_thread, thread_at, with_slots}
-use Rattle.model.specs.Kernel.Steps.{after_invocation, invokes}
-use Rattle.model.specs.declared.system_calls.SendCall.TheVariants.{Sending}
-use Rattle.model.specs.Machine.Effects.{advanced}
+use Rattle.model.specs.Kernel.State.{State, ThreadObject, EndpointObject, NotificationObject, ThreadState, with_slots}
 use Rattle.model.specs.Shared.Lists.{without}
 use Rattle.headline.proofs.authority.PlainSteps.{append-none, between}
-use Rattle.headline.specs.authority.Scenarios.{invoked}
 
 -- ---- checks that passed
 
@@ -42,7 +36,7 @@ got (Err error) f x is = let e : Err error ≡ Ok x = is in absurd cc
 pub known : {A B : Type 0} (r : Result A KError) (f : A → Result B KError) (a : A) (x : Result B KError) → r ≡ Ok a → (r >>= f) ≡ x → f a ≡ x
 known r f a x is goes = sym (ap (λ q. q >>= f) is) ∙ goes
 
--- ---- the step
+-- ---- the change
 
 -- what is asked of the slots after it
 pub record MayStore (image : Image) (t : Thread) (s after : State) (slots : Slots) : Type 0 where
@@ -50,7 +44,9 @@ pub record MayStore (image : Image) (t : Thread) (s after : State) (slots : Slot
   pub frames : (slot : ℕ) (mapping : FrameMapping) → frame_mapping (capability_at s.slots slot) ≢ frame_mapping (capability_at slots slot)
       → (frame_mapping (capability_at s.slots slot) ≡ Some mapping) ⊎ (frame_mapping (capability_at slots slot) ≡ Some mapping)
       → mapping.root ≡ offset_of image t.header.root
-  pub tables : (slot : ℕ) → table_mapping (capability_at s.slots slot) ≡ table_mapping (capability_at slots slot)
+  pub tables : (slot : ℕ) (mapping : TableMapping) → table_mapping (capability_at s.slots slot) ≢ table_mapping (capability_at slots slot)
+      → (table_mapping (capability_at s.slots slot) ≡ Some mapping) ⊎ (table_mapping (capability_at slots slot) ≡ Some mapping)
+      → mapping.root ≡ offset_of image t.header.root
   pub mapped : (slot : ℕ) (mapping : FrameMapping) → frame_mapping (capability_at s.slots slot) ≢ Some mapping
       → frame_mapping (capability_at slots slot) ≡ Some mapping → MappingGranted image t s (capability_at slots slot) mapping
   pub granted : (slot : ℕ) → without_use (capability_at s.slots slot) ≢ without_use (capability_at slots slot)
@@ -59,85 +55,38 @@ pub record MayStore (image : Image) (t : Thread) (s after : State) (slots : Slot
   pub used : (slot offset bits old new : ℕ) → capability_at s.slots slot ≡ Untyped offset bits old → capability_at slots slot ≡ Untyped offset bits new
       → old ≢ new → UsedChange image t s after slot old new
 
-module _ (image : Image) (t : Thread) (s : State) (own : ThreadState) (is : s.objects (self_of image t) ≡ Some (ThreadObject own))
-    (another : own.caller ≢ Some (self_of image t)) (slots : Slots)
-    (may : MayStore image t s (passes (with_slots s slots) (self_of image t)) slots) where
+module _ (image : Image) (t : Thread) (s : State) (own : ThreadState) (is : s.objects (self_of image t) ≡ Some (ThreadObject own)) (slots : Slots)
+    (may : MayStore image t s (with_slots s slots) slots) where
   abbrev self : ℕ
   self = self_of image t
 
-  last : ThreadState
-  last = record (thread_at s self) { registers = advanced (thread_at s self).registers }
-
-  at-self : (passes (with_slots s slots) self).objects self ≡ Some (ThreadObject last)
-  unfolding last
-  at-self = ap (λ (b : Bool). if b then Some (ThreadObject last) else s.objects self) (eq-eqb self self refl)
-
-  elsewhere : (offset : ℕ) → offset ≢ self → (passes (with_slots s slots) self).objects offset ≡ s.objects offset
-  unfolding last
-  elsewhere offset differs = ap (λ (b : Bool). if b then Some (ThreadObject last) else s.objects offset) (ne_eqb offset self differs)
-
-  kind-same : (offset : ℕ) → kind_at s offset ≡ kind_at (passes (with_slots s slots) self) offset
-  kind-same offset = elim (eqb_tells offset self) [
-    | inl here ↦
-        ap (kind_at s) here.1 ∙ ap (option_map kind_of) is
-        ∙ sym (ap (kind_at (passes (with_slots s slots) self)) here.1 ∙ ap (option_map kind_of) at-self)
-    | inr apart ↦ ap (option_map kind_of) (sym (elsewhere offset apart.1))
-  ]
-
-  never-self : (offset : ℕ) (o : Object) → s.objects offset ≡ Some o → (o ≡ ThreadObject own → ⊥) → offset ≢ self
-  never-self offset o there apart same =
-      let e : Some o ≡ Some (ThreadObject own) = sym there ∙ ap s.objects same ∙ is in
-      let f : o ≡ ThreadObject own = cc in apart f
-
-  -- apart from its registers the thread stays
-  stays : (A : Type 0) (part : ThreadState → A) → part (thread_at s self) ≡ part own
-  stays A part = ap (λ (o : Option Object). part (option_map_or (λ (u : ThreadState). u) (as_thread o) new_thread)) is
-
-  own-right : RightChange image t s (passes (with_slots s slots) self) own.caller last.caller
-  unfolding last
-  own-right =
-      kept (stays (Option ℕ) (λ u. u.caller)) (λ caller right. elsewhere caller (λ same. another (right ∙ ap (λ (n : ℕ). Some n) same)))
-
-  own-priority : last.priority ≡ own.priority
-  unfolding last
-  own-priority = stays ℕ (λ u. u.priority)
-
-  own-slice : SliceChange s (passes (with_slots s slots) self) self own last
-  unfolding last
-  own-slice = same_slice (stays ℕ (λ u. u.slice))
-
-  own-fault_address : last.fault_address ≡ own.fault_address
-  unfolding last
-  own-fault_address = stays ℕ (λ u. u.fault_address)
-
-  pub stored-within : WithinAuthority image t s (passes (with_slots s slots) (self_of image t))
+  pub stored-within : WithinAuthority image t s (with_slots s slots)
   stored-within = record {
     memory_bits = refl;
     boot_radix = refl;
     bytes = λ place differs. absurd (differs refl);
-    objects = λ offset differs. absurd (differs (kind-same offset));
+    objects = λ offset differs. absurd (differs refl);
     slots = may.own;
     frame_mappings = may.frames;
-    table_mappings = λ slot mapping differs either. absurd (differs (may.tables slot));
+    table_mappings = may.tables;
     mapped = may.mapped;
     capabilities = may.granted;
     endpoints = λ offset old new before behind differs.
-        let apart = never-self offset (EndpointObject old) before (λ e. cc) in
-        let e : Some (EndpointObject new) ≡ Some (EndpointObject old) = sym behind ∙ elsewhere offset apart ∙ before in
+        let e : Some (EndpointObject new) ≡ Some (EndpointObject old) = sym behind ∙ before in
         let f : old ≡ new = cc in absurd (differs f);
     notifications = λ offset old new before behind differs.
-        let apart = never-self offset (NotificationObject old) before (λ e. cc) in
-        let e : Some (NotificationObject new) ≡ Some (NotificationObject old) = sym behind ∙ elsewhere offset apart ∙ before in
+        let e : Some (NotificationObject new) ≡ Some (NotificationObject old) = sym behind ∙ before in
         let f : old ≡ new = cc in absurd (differs f);
     parents = may.parents;
     used = may.used;
-    priority = between (λ old new. new.priority ≡ old.priority) (s.objects self) _ own last is at-self own-priority;
-    slice = between (SliceChange s (passes (with_slots s slots) self) self) (s.objects self) _ own last is at-self own-slice;
-    fault_address = between (λ old new. new.fault_address ≡ old.fault_address) (s.objects self) _ own last is at-self own-fault_address;
+    priority = between (λ (old new : ThreadState). new.priority ≡ old.priority) (s.objects self) (s.objects self) own own is is refl;
+    slice = between (SliceChange s (with_slots s slots) self) (s.objects self) (s.objects self) own own is is (same_slice refl);
+    fault_address = between (λ (old new : ThreadState). new.fault_address ≡ old.fault_address) (s.objects self) (s.objects self) own own is is refl;
     right =
-        between (λ old new. RightChange image t s (passes (with_slots s slots) self) old.caller new.caller) (s.objects self) _ own last is at-self own-right;
+        between (λ (old new : ThreadState). RightChange image t s (with_slots s slots) old.caller new.caller) (s.objects self) (s.objects self) own own is is
+        (kept refl (λ caller right. refl));
     threads = λ other old new apart before behind differs.
-        let e : Some (ThreadObject new) ≡ Some (ThreadObject old) = sym behind ∙ elsewhere other apart ∙ before in
+        let e : Some (ThreadObject new) ≡ Some (ThreadObject old) = sym behind ∙ before in
         let f : old ≡ new = cc in absurd (differs f);
     lines = λ number either. elim either [ inl differs ↦ absurd (differs refl) | inr differs ↦ absurd (differs refl) ];
     ready = λ priority. record {
@@ -148,22 +97,6 @@ module _ (image : Image) (t : Thread) (s : State) (own : ThreadState) (is : s.ob
       own = omega arith;
     };
   }
-
-  -- the call, as an invocation that leaves these slots
-  thread-there : is_some (as_thread ((with_slots s slots).objects self)) ≡ true
-  thread-there = ap (λ (o : Option Object). is_some (as_thread o)) is
-
-  either-way : (b : Bool) → (if b then passes (with_slots s slots) self else passes (with_slots s slots) self) ≡ passes (with_slots s slots) self
-  either-way true = refl
-  either-way false = refl
-
-  pub invoked-passes : (slot : ℕ) → invoked s self slot ≡ Ok (with_slots s slots) →
-      (invokes s self Sending slot (capability_at s.slots slot)).0 ≡ passes (with_slots s slots) self
-  invoked-passes slot made =
-      ap (λ (r : Result State KError). (after_invocation s self Sending r).0) made
-      ∙ ap (λ (b : Bool). if b then (if is_runnable (thread_at s self).status then passes (with_slots s slots) self else passes (with_slots s slots) self) else
-      with_slots s slots) thread-there
-      ∙ either-way (is_runnable (thread_at s self).status)
 
 -- ---- one slot
 

@@ -6,8 +6,9 @@ pub use Rattle.headline.proofs.moves.MessageSteps.{call-goes-well}
 pub use Rattle.headline.proofs.moves.NamedSlots.{held-there, named-here}
 pub use Rattle.headline.proofs.moves.NotificationCalls.{HasSignalled, signal-leaves-so}
 pub use Rattle.headline.proofs.moves.Passing.{next-address}
-pub use Rattle.headline.proofs.moves.Places.{passed, passed-there, went-here, went-there}
-pub use Rattle.headline.proofs.moves.Puts.{decided, other-label, own-label}
+pub use Rattle.headline.proofs.moves.Places.{at-endpoint, blocked, blocked-there, caller-here, caller-there, delivered-here, delivered-there, endpoint-here}
+pub use Rattle.headline.proofs.moves.Places.{endpoint-there, passed, passed-there, went-here, went-there, with-here, with-there, woke, woke-there}
+pub use Rattle.headline.proofs.moves.Puts.{decided, other-label, own-label, put-here, put-there}
 pub use Rattle.headline.proofs.moves.ReceiveCalls.{IsFine}
 pub use Rattle.headline.proofs.moves.Runs.{run-goes-by, step-goes-by}
 pub use Rattle.headline.proofs.moves.SimpleCalls.{calls-on, passes-stand, result-stands}

@@ -1,5 +1,5 @@
 -- What the laws on authority start from.
-use Rattle.std.specs.Prelude.{ℕ, ◌≡◌, ◌≢◌, ◌+◌, ◌^◌, ◌≤◌, ◌⊎◌, IsSome, Result, Ok, Option, Some, None}
+use Rattle.std.specs.Prelude.{ℕ, ◌≡◌, ◌≢◌, ◌+◌, ◌^◌, ◌≤◌, IsSome, Result, Ok, Option, Some, None}
 use Rattle.model.specs.declared.capabilities.Cap.{Cap}
 use Rattle.model.specs.declared.capabilities.Cap.TheVariants.{Empty, Untyped}
 use Rattle.model.specs.declared.errors.KError.{KError}
@@ -20,7 +20,7 @@ use Rattle.model.specs.Kernel.Invocations.{invoke}
 use Rattle.model.specs.Kernel.MappingCalls.{root_named}
 use Rattle.model.specs.Kernel.Messages.{a1, a7, extra_capabilities_of, message_of}
 use Rattle.model.specs.Kernel.Retype.{NewObjects, NewEndpoint, with_new}
-use Rattle.model.specs.Kernel.State.{State, Runnable, AwaitsReply, ThreadObject, ThreadState, thread_at, with_slots}
+use Rattle.model.specs.Kernel.State.{State, Runnable, ThreadObject, ThreadState, thread_at, with_slots}
 use Rattle.model.specs.Kernel.Steps.{cspace_of, named_slot, registers_of}
 use Rattle.model.specs.Machine.ProgramMemory.{read}
 
@@ -40,16 +40,12 @@ pub record CallsOn (image : Image) (t : Thread) (s : State) (number : ℕ) (capa
   pub among : IsOwnSlot image t slot
   pub holds : capability_at s.slots slot ≡ capability
 
--- the thread runs, is at Reply, and has the right to reply to another, which waits for that
-pub record RepliesTo (image : Image) (t : Thread) (s : State) (caller : ℕ) : Type 0 where
+-- the thread runs, and is at the system call of this number
+pub record RunsAt (image : Image) (t : Thread) (s : State) (number : ℕ) : Type 0 where
   pub own : ThreadState
   pub is : s.objects (self_of image t) ≡ Some (ThreadObject own)
   pub runs : own.status ≡ Runnable
-  pub calls : read own.registers a7 ≡ 6
-  pub right : own.caller ≡ Some caller
-  pub waiter : ThreadState
-  pub there : s.objects caller ≡ Some (ThreadObject waiter)
-  pub waits : waiter.status ≡ AwaitsReply
+  pub calls : read own.registers a7 ≡ number
 
 -- One endpoint made at `first` by Retype of the untyped memory in `slot`, which is used up to a new watermark; its first capability
 -- is in `window`.

@@ -1,0 +1,116 @@
+-- A thread acknowledges an interrupt of a line: the line is open again, and what was pending is delivered. What that changes stays within
+-- authority.
+use Rattle.std.proofs.Common.{ℕ, ◌≡◌, ◌≢◌, ◌⊎◌, Bool, true, false, if◌then◌else◌, Option, Some, None, List, [], ◌∷◌, refl, sym, ◌∙◌, ap, subst, inl, inr}
+use Rattle.std.specs.Option.{option_map_or}
+use Rattle.std.proofs.lemmas.Bool.Decides.{eqb_tells}
+use Rattle.model.specs.declared.capabilities.Cap.TheVariants.{InterruptHandler}
+use Rattle.model.specs.Acceptance.Authority.{CallNames, LineChange, opens, delivers, kept, same_slice, self_of}
+use Rattle.model.specs.Images.Image.{Image, Thread}
+use Rattle.model.specs.Kernel.Deliveries.{Signals, by_line}
+use Rattle.model.specs.Kernel.Interrupts.{Signal, acknowledge, binding, interrupt, with_pending}
+use Rattle.model.specs.Kernel.Messages.{signals}
+use Rattle.model.specs.Kernel.Soundness.{IsSound}
+use Rattle.model.specs.Kernel.State.{State, Runnable, NotificationObject, NotificationState, ThreadObject, ThreadState, notification_at, put}
+use Rattle.headline.proofs.moves.Laws.{put-here, put-there}
+use Rattle.headline.proofs.authority.Changes.{ChangesObjects, stays}
+use Rattle.headline.proofs.authority.Gains.{gains-none, nothing-ready}
+use Rattle.headline.proofs.authority.Interrupted.{bound-notification}
+use Rattle.headline.proofs.authority.Signalling.{at-notification, badge-joins, waiter-wakes}
+
+module _ (image : Image) (t : Thread) (s : State) (sound : IsSound s) (own : ThreadState) (is : s.objects (self_of image t) ≡ Some (ThreadObject own))
+    (runs : own.status ≡ Runnable) (number : ℕ) (names : CallNames image t s (λ capability. capability ≡ InterruptHandler number)) where
+  abbrev self : ℕ
+  self = self_of image t
+
+  abbrev unmasked : ℕ → Bool
+  unmasked = put s.masked number false
+
+  abbrev open_again : State
+  open_again = record s { masked = unmasked }
+
+  -- the line alone differs
+  this-line : (masked pending : ℕ → Bool) → ((other : ℕ) → other ≢ number → masked other ≡ s.masked other)
+      → ((other : ℕ) → other ≢ number → pending other ≡ s.pending other) → (after : State) → LineChange s after number → (line : ℕ)
+      → (s.masked line ≢ masked line) ⊎ (s.pending line ≢ pending line)
+      → CallNames image t s (λ capability. capability ≡ InterruptHandler line) × LineChange s after line
+  this-line masked pending same_masked same_pending after change line either = elim (eqb_tells line number) [
+    | inl here ↦ (
+      subst (λ (n : ℕ). CallNames image t s (λ capability. capability ≡ InterruptHandler n)) (sym here.1) names,
+      subst (λ (n : ℕ). LineChange s after n) (sym here.1) change,
+    )
+    | inr apart ↦ absurd (elim either [
+      | inl differs ↦ differs (sym (same_masked line apart.1))
+      | inr differs ↦ differs (sym (same_pending line apart.1))
+    ])
+  ]
+
+  opens-alone : ChangesObjects image t s open_again
+  opens-alone = record {
+    store = record { memory_bits = refl; boot_radix = refl; slots = λ slot. refl; bytes = λ place. refl };
+    own = own;
+    now = own;
+    was = is;
+    is = is;
+    itself = record { priority = refl; fault_address = refl; slice = same_slice refl; right = kept refl (λ caller right. refl) };
+    others = λ y not_self. stays refl;
+    lines = this-line unmasked s.pending (λ other. put-there s.masked number false other) (λ other _. refl) open_again
+        (opens (put-here s.masked number false number refl) refl);
+    ready = λ priority. nothing-ready s open_again self priority (gains-none self (s.ready priority));
+  }
+
+  -- what was pending is delivered
+
+  abbrev masked_again : ℕ → Bool
+  masked_again = put unmasked number true
+
+  abbrev none_pending : ℕ → Bool
+  none_pending = put s.pending number false
+
+  masked-elsewhere : (other : ℕ) → other ≢ number → masked_again other ≡ s.masked other
+  masked-elsewhere other apart = put-there unmasked number true other apart ∙ put-there s.masked number false other apart
+
+  delivered-line : (after : State) → s.pending number ≡ true → after.pending number ≡ false → after.masked number ≡ true → LineChange s after number
+  delivered-line after was none closed = delivers was none closed
+
+  module _ (pending : s.pending number ≡ true) (bound : Signal) (is_bound : binding s number ≡ Some bound) where
+    abbrev n : ℕ
+    n = bound.notification
+
+    word : (x : NotificationState) × (s.objects n ≡ Some (NotificationObject x))
+    word = bound-notification s sound number n bound.badge is_bound
+
+    word-is : notification_at s n ≡ word.0
+    word-is = at-notification s n word.0 word.1
+
+    signals-by : CallNames image t s (Signals s n bound.badge)
+    signals-by = record { slot = names.slot; own = names.own; named = names.named; such = by_line number names.such is_bound pending }
+
+    delivers-pending : ChangesObjects image t s (interrupt (with_pending (record s { masked = put s.masked number false }) number false) number bound)
+    delivers-pending =
+        elim (notification_at s n).waiters as (λ (l : List ℕ). (notification_at s n).waiters ≡ l
+        → ChangesObjects image t s (record (signals (with_pending open_again number false) n bound.badge (notification_at s n) l) { masked = masked_again })) [
+          | [] ↦ λ none.
+              badge-joins image t s sound own is runs n word.0 word.1 bound.badge signals-by masked_again none_pending
+              (sym (ap (λ (q : NotificationState). q.waiters) word-is) ∙ none)
+              (this-line masked_again none_pending masked-elsewhere (λ other. put-there s.pending number false other) _
+              (delivered-line _ pending (put-here s.pending number false number refl) (put-here unmasked number true number refl)))
+          | w ∷ others ↦ λ first.
+              waiter-wakes image t s sound own is runs n word.0 word.1 bound.badge signals-by masked_again none_pending w others
+              (sym (ap (λ (q : NotificationState). q.waiters) word-is) ∙ first)
+              (this-line masked_again none_pending masked-elsewhere (λ other. put-there s.pending number false other) _
+              (delivered-line _ pending (put-here s.pending number false number refl) (put-here unmasked number true number refl)))
+        ] refl
+
+  pub acknowledge-changes : ChangesObjects image t s (acknowledge s number)
+  acknowledge-changes =
+      elim (s.pending number) as (λ (b : Bool). s.pending number ≡ b
+      → ChangesObjects image t s (if b then option_map_or (interrupt (with_pending open_again number false) number) (binding s number) open_again else
+      open_again)) [
+        | true ↦ λ pending.
+            elim (binding s number) as (λ (o : Option Signal). binding s number ≡ o
+            → ChangesObjects image t s (option_map_or (interrupt (with_pending open_again number false) number) o open_again)) [
+              | None ↦ λ _. opens-alone
+              | Some bound ↦ λ is_bound. delivers-pending pending bound is_bound
+            ] refl
+        | false ↦ λ _. opens-alone
+      ] refl

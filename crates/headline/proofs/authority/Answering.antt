@@ -1,0 +1,378 @@
+-- A thread answers the one that called it, which runs again; and what it does in the same step after that. What both change stays within
+-- authority.
+use Rattle.std.proofs.Common.{ℕ, suc, ◌≡◌, ◌≢◌, ◌==◌, ◌+◌, ◌≤◌, ◌++◌, Bool, true, false, if◌then◌else◌, Option, Some, None, List, [], ◌∷◌, refl, sym}
+use Rattle.std.proofs.Common.{◌∙◌, ap, subst, inl, inr, arith}
+use Rattle.std.specs.Prelude.{Contains}
+use Rattle.std.specs.Option.{option_map_or}
+use Rattle.std.proofs.lemmas.Bool.Decides.{eqb_tells}
+use Rattle.std.proofs.lemmas.List.Elements.{Contains-append_cases}
+use Rattle.model.specs.declared.capabilities.Cap.{Cap}
+use Rattle.model.specs.Acceptance.Authority.{AsksAs, CallNames, EndpointChange, waits_to_send, waits_to_receive, takes_sender, takes_receiver, IsWoken, LineChange}
+use Rattle.model.specs.Acceptance.Authority.{opens, delivers, NotificationChange, joins, passes_on, taken, waits, RightChange, kept, dropped, of_sender, same_slice}
+use Rattle.model.specs.Acceptance.Authority.{ReadyChange, self_of}
+use Rattle.model.specs.Capabilities.Lookup.{called_slot}
+use Rattle.model.specs.Images.Image.{Image, Thread}
+use Rattle.model.specs.Kernel.Deliveries.{MayReply, as_before, to_sender, Reason, receiver, sender, waiter, caller as answered, faulted, set_back, Signals}
+use Rattle.model.specs.Kernel.Deliveries.{by_right, by_line, woken}
+use Rattle.model.specs.Kernel.Messages.{Message, a0, deliver, delivered, message_of, with_caller}
+use Rattle.model.specs.Kernel.Scheduling.{is_runnable, wake}
+use Rattle.model.specs.Kernel.Soundness.{IsSound}
+use Rattle.model.specs.Kernel.State.{State, Runnable, Blocked, AwaitsReply, Object, ThreadObject, EndpointObject, NotificationObject, EndpointState}
+use Rattle.model.specs.Kernel.State.{NotificationState, Sender, ThreadState, as_endpoint, as_notification, endpoint_at, new_endpoint, new_notification}
+use Rattle.model.specs.Kernel.State.{notification_at, thread_at}
+use Rattle.model.specs.Kernel.Steps.{cspace_of, named_slot}
+use Rattle.model.specs.Machine.Effects.{advanced}
+use Rattle.model.specs.Machine.ProgramMemory.{RegisterFile, read}
+use Rattle.model.specs.Shared.Lists.{times_in}
+use Rattle.headline.proofs.facts.Laws.{at-place}
+use Rattle.headline.proofs.moves.Laws.{caller-here, caller-there, delivered-here, delivered-there, woke, woke-there}
+use Rattle.headline.proofs.authority.Changes.{ChangesObjects, OtherChange, stays, of_thread, of_endpoint, of_notification}
+use Rattle.headline.proofs.authority.Gains.{Gains, gains-both, one-ready, only-one, wake-gains, woken_at}
+use Rattle.headline.proofs.authority.Awaited.{resting-absent, resting-apart}
+
+-- who is counted in a list is in it
+counted-there : (l : List ℕ) (x : ℕ) → 1 ≤ times_in l x → Contains l x
+counted-there [] x some = absurd (omega (arith, some))
+counted-there (y ∷ l) x some = elim (eqb_tells y x) [
+  | inl here ↦ (0, omega arith, here.1)
+  | inr apart ↦
+      let rest : times_in (y ∷ l) x ≡ times_in l x = ap (λ (b : Bool). if b then times_in l x + 1 else times_in l x) apart.0 in
+      let found = counted-there l x (omega (arith, some, rest)) in
+      (suc found.0, let less = found.1 in omega (arith, less), found.2)
+]
+
+times-both : (a b : List ℕ) (x : ℕ) → times_in (a ++ b) x ≡ times_in a x + times_in b x
+times-both [] b x = omega arith
+times-both (y ∷ a) b x = elim (y == x) as (λ (c : Bool). (if c then times_in (a ++ b) x + 1 else times_in (a ++ b) x)
+    ≡ (if c then times_in a x + 1 else times_in a x) + times_in b x) [
+      | true ↦ let rest = times-both a b x in omega (arith, rest)
+      | false ↦ times-both a b x
+    ]
+
+module _ (image : Image) (t : Thread) (s : State) (sound : IsSound s) (own : ThreadState) (is : s.objects (self_of image t) ≡ Some (ThreadObject own))
+    (runs : own.status ≡ Runnable) (caller : ℕ) (right : own.caller ≡ Some caller) (u : ThreadState) (there : s.objects caller ≡ Some (ThreadObject u))
+    (awaits : u.status ≡ AwaitsReply) where
+  abbrev self : ℕ
+  self = self_of image t
+
+  abbrev cleared : ThreadState
+  cleared = record own { caller = None }
+
+  abbrev message : Message
+  message = message_of (thread_at s self)
+
+  abbrev one : State
+  one = with_caller s self None
+
+  abbrev two : State
+  two = deliver one caller 0 message
+
+  abbrev after : State
+  after = wake two caller
+
+  abbrev written : RegisterFile
+  written = delivered u.registers 0 message
+
+  abbrev changed : ThreadState
+  changed = woken u (advanced written)
+
+  rests : is_runnable u.status ≡ false
+  rests = ap is_runnable awaits
+
+  apart : caller ≢ self
+  apart = resting-apart s caller self u own there is rests runs
+
+  two-caller : two.objects caller ≡ Some (ThreadObject (record u { registers = advanced written }))
+  two-caller = delivered-here one caller 0 message u (caller-there s self None caller apart ∙ there)
+
+  after-caller : after.objects caller ≡ Some (ThreadObject changed)
+  after-caller = woke two caller (record u { registers = advanced written }) two-caller
+
+  pub after-self : (wake (deliver (with_caller s (self_of image t) None) caller 0 (message_of (thread_at s (self_of image t)))) caller).objects (self_of image t)
+      ≡ Some (ThreadObject (record own { caller = None }))
+  after-self =
+      woke-there two caller self (λ same. apart (sym same)) ∙ delivered-there one caller 0 message self (λ same. apart (sym same))
+      ∙ caller-here s self None own is
+
+  after-there : (y : ℕ) → y ≢ self → y ≢ caller → after.objects y ≡ s.objects y
+  after-there y not_self not_caller =
+      woke-there two caller y not_caller ∙ delivered-there one caller 0 message y not_caller ∙ caller-there s self None y not_self
+
+  right-is : (thread_at s self).caller ≡ Some caller
+  right-is = ap (λ (v : ThreadState). v.caller) (at-place s self own is) ∙ right
+
+  after-ready : (priority : ℕ) → Gains self (s.ready priority) (after.ready priority) (woken_at caller u.priority priority)
+  after-ready = wake-gains two self caller (record u { registers = advanced written }) two-caller apart (resting-absent s sound caller u there rests)
+
+  woken-there : (later : State) → later.objects caller ≡ Some (ThreadObject changed) → (priority : ℕ) → priority ≡ u.priority
+      → IsWoken s later priority caller
+  woken-there later now priority here = record { before = u; changed = changed; was = there; rested = rests; is = now; runs = refl; at = sym here }
+
+  pub answer-changes : ChangesObjects image t s
+      (wake (deliver (with_caller s (self_of image t) None) caller 0 (message_of (thread_at s (self_of image t)))) caller)
+  answer-changes = record {
+    store = record { memory_bits = refl; boot_radix = refl; slots = λ slot. refl; bytes = λ place. refl };
+    own = own;
+    now = cleared;
+    was = is;
+    is = after-self;
+    itself = record { priority = refl; fault_address = refl; slice = same_slice refl; right = dropped refl };
+    others = λ y not_self. elim (eqb_tells y caller) [
+      | inl here ↦
+          of_thread u changed (ap s.objects here.1 ∙ there) (ap after.objects here.1 ∙ after-caller)
+          (answered (right-is ∙ ap (λ (n : ℕ). Some n) (sym here.1)) awaits refl)
+      | inr other ↦ stays (after-there y not_self other.1)
+    ];
+    lines = λ number either. elim either [ inl differs ↦ absurd (differs refl) | inr differs ↦ absurd (differs refl) ];
+    ready = λ priority. one-ready s after self priority caller u.priority (after-ready priority) (woken-there after after-caller priority);
+  }
+
+  -- ---- what the thread does in the same step after that
+
+  registers-same : (thread_at after self).registers ≡ (thread_at s self).registers
+  registers-same =
+      ap (λ (v : ThreadState). v.registers) (at-place after self cleared after-self)
+      ∙ sym (ap (λ (v : ThreadState). v.registers) (at-place s self own is))
+
+  message-same : message_of (thread_at after self) ≡ message_of (thread_at s self)
+  message-same = ap message_of (at-place after self cleared after-self) ∙ sym (ap message_of (at-place s self own is))
+
+  pub named-same : named_slot (wake (deliver (with_caller s (self_of image t) None) caller 0 (message_of (thread_at s (self_of image t)))) caller) (self_of image t)
+      ≡ named_slot s (self_of image t)
+  named-same = ap (λ (r : RegisterFile). called_slot s.slots (cspace_of s self) (read r a0)) registers-same
+
+  names-back : {Such : Cap → Type 0} → CallNames image t after Such → CallNames image t s Such
+  names-back names = record { slot = names.slot; own = names.own; named = sym named-same ∙ names.named; such = names.such }
+
+  -- a part of an object that is the same of each thread
+  same-part : {A : Type 0} (part : Option Object → A) → ((v w : ThreadState) → part (Some (ThreadObject v)) ≡ part (Some (ThreadObject w))) → (y : ℕ)
+      → part (after.objects y) ≡ part (s.objects y)
+  same-part part same y = elim (eqb_tells y self) [
+    | inl here ↦
+        ap (λ (x : ℕ). part (after.objects x)) here.1 ∙ ap part after-self ∙ same cleared own ∙ sym (ap part is)
+        ∙ sym (ap (λ (x : ℕ). part (s.objects x)) here.1)
+    | inr not_self ↦ elim (eqb_tells y caller) [
+      | inl here ↦
+          ap (λ (x : ℕ). part (after.objects x)) here.1 ∙ ap part after-caller ∙ same changed u ∙ sym (ap part there)
+          ∙ sym (ap (λ (x : ℕ). part (s.objects x)) here.1)
+      | inr other ↦ ap part (after-there y not_self.1 other.1)
+    ]
+  ]
+
+  endpoints-same : (y : ℕ) → endpoint_at after y ≡ endpoint_at s y
+  endpoints-same = same-part (λ (o : Option Object). option_map_or (λ (e : EndpointState). e) (as_endpoint o) new_endpoint) (λ v w. refl)
+
+  notifications-same : (y : ℕ) → notification_at after y ≡ notification_at s y
+  notifications-same = same-part (λ (o : Option Object). option_map_or (λ (n : NotificationState). n) (as_notification o) new_notification) (λ v w. refl)
+
+  gone-back : (y : ℕ) → s.objects y ≡ None → after.objects y ≡ None
+  gone-back y none =
+      after-there y (λ same. let e : None ≡ Some (ThreadObject own) = sym none ∙ ap s.objects same ∙ is in cc)
+      (λ same. let e : None ≡ Some (ThreadObject u) = sym none ∙ ap s.objects same ∙ there in cc) ∙ none
+
+  signals-back : (notification badge : ℕ) → CallNames image t after (Signals after notification badge) → CallNames image t s (Signals s notification badge)
+  signals-back notification badge names =
+      record { slot = names.slot; own = names.own; named = sym named-same ∙ names.named; such = such-back names.such }
+    where
+      such-back : {c : Cap} → Signals after notification badge c → Signals s notification badge c
+      such-back (by_right allowed is_one writes) = by_right allowed is_one writes
+      such-back (by_line number is_one bound pending) = by_line number is_one bound pending
+
+  module _ (later : State) (second : ChangesObjects image t (wake (deliver (with_caller s (self_of image t) None) caller 0
+      (message_of (thread_at s (self_of image t)))) caller) later) where
+    replies-back : (endpoint badge : ℕ) (before now : Option ℕ) → MayReply later self (CallNames image t after) endpoint badge before now
+        → MayReply later self (CallNames image t s) endpoint badge before now
+    replies-back endpoint badge before now (as_before same) = as_before same
+    replies-back endpoint badge before now (to_sender names is_it waits_so) = to_sender (names-back names) is_it waits_so
+
+    no-right : (y : ℕ) → (thread_at after self).caller ≡ Some y → ⊥
+    no-right y has = let clash : None ≡ Some y = sym (ap (λ (v : ThreadState). v.caller) (at-place after self cleared after-self)) ∙ has in absurd cc
+
+    reason-back : (y : ℕ) (old new : ThreadState) → Reason after later self (CallNames image t after) y old new
+        → Reason s later self (CallNames image t s) y old new
+    reason-back y old new (receiver endpoint badge now list blocked names replies is_it) =
+        receiver endpoint badge now (ap (λ (e : EndpointState). e.receivers) (sym (endpoints-same endpoint)) ∙ list) blocked (names-back names)
+        (replies-back endpoint badge old.caller now replies)
+        (is_it ∙ ap (λ (m : Message). record (woken old (advanced (delivered old.registers badge m))) { caller = now }) message-same)
+    reason-back y old new (sender endpoint first list same blocked names is_it) =
+        sender endpoint first (ap (λ (e : EndpointState). e.senders) (sym (endpoints-same endpoint)) ∙ list) same blocked (names-back names) is_it
+    reason-back y old new (waiter notification badge list blocked names is_it) =
+        waiter notification badge (ap (λ (n : NotificationState). n.waiters) (sym (notifications-same notification)) ∙ list) blocked
+        (signals-back notification badge names) is_it
+    reason-back y old new (answered has waits_so is_it) = absurd (no-right y has)
+    reason-back y old new (faulted has waits_so is_it) = absurd (no-right y has)
+    reason-back y old new (set_back queue blocked some none is_it) = set_back queue blocked (λ gone. some (gone-back queue gone)) none is_it
+
+    asks-back : (endpoint : ℕ) (x : Sender) → AsksAs image t after endpoint x → AsksAs image t s endpoint x
+    asks-back endpoint x asks = record {
+      allowed = asks.allowed;
+      named = names-back asks.named;
+      writes = asks.writes;
+      thread = asks.thread;
+      replies = asks.replies;
+      sends = asks.sends;
+    }
+
+    endpoint-back : (y : ℕ) (old new : EndpointState) → EndpointChange image t after later y old new → EndpointChange image t s later y old new
+    endpoint-back y old new (waits_to_send x asks is_it) = waits_to_send x (asks-back y x asks) is_it
+    endpoint-back y old new (waits_to_receive names is_it) = waits_to_receive (names-back names) is_it
+    endpoint-back y old new (takes_sender first names list same goes) = takes_sender first (names-back names) list same goes
+    endpoint-back y old new (takes_receiver badge first names list same goes) = takes_receiver badge first (names-back names) list same goes
+
+    notification-back : (y : ℕ) (old new : NotificationState) → NotificationChange image t after later y old new
+        → NotificationChange image t s later y old new
+    notification-back y old new (joins badge names none is_it) = joins badge (signals-back y badge names) none is_it
+    notification-back y old new (passes_on badge first names list same goes) = passes_on badge first (signals-back y badge names) list same goes
+    notification-back y old new (taken names is_it) = taken (names-back names) is_it
+    notification-back y old new (waits names is_it) = waits (names-back names) is_it
+
+    -- the caller runs, so nothing more becomes of it
+    runs-on : (old new : ThreadState) → old.status ≡ Runnable → Reason after later self (CallNames image t after) caller old new → ⊥
+    runs-on old new now (receiver endpoint badge c list blocked names replies is_it) =
+        let clash : Runnable ≡ Blocked endpoint = sym now ∙ blocked in absurd cc
+    runs-on old new now (sender endpoint first list same blocked names is_it) = let clash : Runnable ≡ Blocked endpoint = sym now ∙ blocked in absurd cc
+    runs-on old new now (waiter notification badge list blocked names is_it) =
+        let clash : Runnable ≡ Blocked notification = sym now ∙ blocked in absurd cc
+    runs-on old new now (answered has waits_so is_it) = no-right caller has
+    runs-on old new now (faulted has waits_so is_it) = no-right caller has
+    runs-on old new now (set_back queue blocked some none is_it) = let clash : Runnable ≡ Blocked queue = sym now ∙ blocked in absurd cc
+
+    later-caller : OtherChange image t after later caller → later.objects caller ≡ Some (ThreadObject changed)
+    later-caller (stays same) = same ∙ after-caller
+    later-caller (of_thread old new was is_now reason) =
+        let e : Some (ThreadObject changed) ≡ Some (ThreadObject old) = sym after-caller ∙ was in
+        let f : changed ≡ old = cc in
+        absurd (runs-on old new (ap (λ (v : ThreadState). v.status) (sym f)) reason)
+    later-caller (of_endpoint old new was is_now change) =
+        let clash : Some (ThreadObject changed) ≡ Some (EndpointObject old) = sym after-caller ∙ was in absurd cc
+    later-caller (of_notification old new was is_now change) =
+        let clash : Some (ThreadObject changed) ≡ Some (NotificationObject old) = sym after-caller ∙ was in absurd cc
+
+    caller-later : later.objects caller ≡ Some (ThreadObject changed)
+    caller-later = later-caller (second.others caller apart)
+
+    other-back : (y : ℕ) → y ≢ self → y ≢ caller → OtherChange image t after later y → OtherChange image t s later y
+    other-back y not_self not_caller (stays same) = stays (same ∙ after-there y not_self not_caller)
+    other-back y not_self not_caller (of_thread old new was is_now reason) =
+        of_thread old new (sym (after-there y not_self not_caller) ∙ was) is_now (reason-back y old new reason)
+    other-back y not_self not_caller (of_endpoint old new was is_now change) =
+        of_endpoint old new (sym (after-there y not_self not_caller) ∙ was) is_now (endpoint-back y old new change)
+    other-back y not_self not_caller (of_notification old new was is_now change) =
+        of_notification old new (sym (after-there y not_self not_caller) ∙ was) is_now (notification-back y old new change)
+
+    first-own : second.own ≡ cleared
+    first-own =
+        let e : Some (ThreadObject second.own) ≡ Some (ThreadObject cleared) = sym second.was ∙ after-self in
+        let f : ThreadObject second.own ≡ ThreadObject cleared = cc in cc
+
+    right-back : (before now : Option ℕ) → before ≡ None → RightChange image t after later before now → RightChange image t s later own.caller now
+    right-back before now none (kept same rest) = dropped (same ∙ none)
+    right-back before now none (dropped gone) = dropped gone
+    right-back before now none (of_sender endpoint first names list gives is_it) =
+        of_sender endpoint first (names-back names) (ap (λ (e : EndpointState). e.senders) (sym (endpoints-same endpoint)) ∙ list) gives is_it
+
+    line-back : (number : ℕ) → LineChange after later number → LineChange s later number
+    line-back number (opens unmasked same) = opens unmasked same
+    line-back number (delivers was none masked) = delivers was none masked
+
+    woken-back : (priority thread : ℕ) → IsWoken after later priority thread → IsWoken s later priority thread
+    woken-back priority thread w = record {
+      before = w.before;
+      changed = w.changed;
+      was = sym (after-there thread (not-one self cleared after-self runs) (not-one caller changed after-caller refl)) ∙ w.was;
+      rested = w.rested;
+      is = w.is;
+      runs = w.runs;
+      at = w.at;
+    }
+      where
+        not-one : (x : ℕ) (v : ThreadState) → after.objects x ≡ Some (ThreadObject v) → v.status ≡ Runnable → thread ≢ x
+        not-one x v at now same =
+            let e : Some (ThreadObject w.before) ≡ Some (ThreadObject v) = sym w.was ∙ ap after.objects same ∙ at in
+            let f : w.before ≡ v = cc in
+            let clash : false ≡ true = sym w.rested ∙ ap (λ (x : ThreadState). is_runnable x.status) f ∙ ap is_runnable now in absurd cc
+
+    -- the caller rests no more, so it is not woken again
+    not-again : (priority : ℕ) → IsWoken after later priority caller → ⊥
+    not-again priority w =
+        let e : Some (ThreadObject w.before) ≡ Some (ThreadObject changed) = sym w.was ∙ after-caller in
+        let f : w.before ≡ changed = cc in
+        let clash : false ≡ true = sym w.rested ∙ ap (λ (x : ThreadState). is_runnable x.status) f in absurd cc
+
+    added-woken : (priority thread : ℕ) → Contains (woken_at caller u.priority priority) thread → IsWoken s later priority thread
+    added-woken priority thread among = elim (eqb_tells priority u.priority) [
+      | inl here ↦
+          let listed : Contains (caller ∷ []) thread =
+          subst (λ (b : Bool). Contains (if b then caller ∷ [] else []) thread) here.0 among in
+          subst (λ (x : ℕ). IsWoken s later priority x) (only-one caller thread listed.0 listed.1 listed.2) (woken-there later caller-later priority here.1)
+      | inr other ↦
+          let listed : Contains [] thread = subst (λ (b : Bool). Contains (if b then caller ∷ [] else []) thread) other.0 among in
+          absurd (omega (arith, listed.1))
+    ]
+
+    added-once : (priority thread : ℕ) → times_in (woken_at caller u.priority priority) thread ≤ (if caller == thread then 1 else 0)
+    added-once priority thread = elim (priority == u.priority)
+        as (λ (b : Bool). times_in (if b then caller ∷ [] else []) thread ≤ (if caller == thread then 1 else 0)) [
+          | true ↦ elim (caller == thread) as (λ (b : Bool). (if b then 0 + 1 else 0) ≤ (if b then 1 else 0)) [ true ↦ omega arith | false ↦ omega arith ]
+          | false ↦ omega arith
+        ]
+
+    ready-back : (priority : ℕ) → ReadyChange after later self priority → ReadyChange s later self priority
+    ready-back priority change =
+        let both = gains-both self (s.ready priority) (after.ready priority) (later.ready priority) (woken_at caller u.priority priority) change.added
+        (after-ready priority) (record { list = change.list; own = change.own }) in
+        record {
+          added = woken_at caller u.priority priority ++ change.added;
+          list = both.list;
+          woken = λ thread among. elim (Contains-append_cases (woken_at caller u.priority priority) change.added thread among) [
+            | inl front ↦ added-woken priority thread front
+            | inr back ↦ woken-back priority thread (change.woken thread back)
+          ];
+          once = λ thread.
+              let count = times-both (woken_at caller u.priority priority) change.added thread in
+              let few = added-once priority thread in
+              let most = change.once thread in
+              elim (eqb_tells caller thread) [
+                | inl here ↦
+                    let one : ◌≡◌ {A = ℕ} (if caller == thread then 1 else 0) 1 = ap (λ (b : Bool). if b then 1 else 0) here.0 in
+                    elim (eqb_tells (times_in change.added thread) 0) [
+                      | inl none ↦ let zero_times = none.1 in omega (arith, count, few, one, zero_times)
+                      | inr some ↦
+                          absurd (not-again priority (subst (λ (x : ℕ). IsWoken after later priority x) (sym here.1)
+                          (change.woken thread (counted-there change.added thread (let more = some.1 in grind arith)))))
+                    ]
+                | inr other ↦
+                    let none : ◌≡◌ {A = ℕ} (if caller == thread then 1 else 0) 0 = ap (λ (b : Bool). if b then 1 else 0) other.0 in
+                    omega (arith, count, few, none, most)
+              ];
+          own = both.own;
+        }
+
+    -- both changes are one: the second keeps the thread's slice
+    pub answered-then : second.now.slice ≡ second.own.slice → ChangesObjects image t s later
+    answered-then slice = record {
+      store = record {
+        memory_bits = second.store.memory_bits;
+        boot_radix = second.store.boot_radix;
+        slots = second.store.slots;
+        bytes = second.store.bytes;
+      };
+      own = own;
+      now = second.now;
+      was = is;
+      is = second.is;
+      itself = record {
+        priority = second.itself.priority ∙ ap (λ (v : ThreadState). v.priority) first-own;
+        fault_address = second.itself.fault_address ∙ ap (λ (v : ThreadState). v.fault_address) first-own;
+        slice = same_slice (slice ∙ ap (λ (v : ThreadState). v.slice) first-own);
+        right = right-back second.own.caller second.now.caller (ap (λ (v : ThreadState). v.caller) first-own) second.itself.right;
+      };
+      others = λ y not_self. elim (eqb_tells y caller) [
+        | inl here ↦
+            of_thread u changed (ap s.objects here.1 ∙ there) (ap later.objects here.1 ∙ caller-later)
+            (answered (right-is ∙ ap (λ (n : ℕ). Some n) (sym here.1)) awaits refl)
+        | inr other ↦ other-back y not_self other.1 (second.others y not_self)
+      ];
+      lines = λ number either. let line = second.lines number either in (names-back line.0, line-back number line.1);
+      ready = λ priority. ready-back priority (second.ready priority);
+    }

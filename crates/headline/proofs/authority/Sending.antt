@@ -1,0 +1,346 @@
+-- A thread sends to an endpoint: the first receiver gets the message, or the thread waits. What that changes stays within authority.
+use Rattle.std.proofs.Common.{ℕ, ◌≡◌, ◌≢◌, ◌++◌, Bool, Option, Some, List, [], ◌∷◌, refl, sym, ◌∙◌, ap, subst, inl, inr}
+use Rattle.std.specs.Prelude.{map}
+use Rattle.std.specs.Option.{option_map_or}
+use Rattle.std.proofs.lemmas.Bool.Decides.{eqb_tells}
+use Rattle.model.specs.Acceptance.Authority.{AsksAs, CallNames, waits_to_send, takes_receiver, IsWoken, kept, same_slice}
+use Rattle.model.specs.Acceptance.Authority.{self_of}
+use Rattle.model.specs.Images.Image.{Image, Thread}
+use Rattle.model.specs.Kernel.Deliveries.{as_before, CallsTo, receiver, SendsTo, to_sender, woken}
+use Rattle.model.specs.Kernel.Messages.{Message, deliver, delivered, message_of, message_sent, waits_to_send as waits_in_queue, with_caller}
+use Rattle.model.specs.Kernel.Scheduling.{block, wake}
+use Rattle.model.specs.Kernel.Soundness.{IsSound, awaits_answer, waiting_at}
+use Rattle.model.specs.Kernel.State.{State, Status, Runnable, Blocked, AwaitsReply, Object, ThreadObject, EndpointObject, EndpointState, Sender, Sent}
+use Rattle.model.specs.Kernel.State.{ThreadState, as_endpoint, as_thread, endpoint_at, new_endpoint, new_thread, thread_at, with_endpoint}
+use Rattle.model.specs.Kernel.Steps.{sender}
+use Rattle.model.specs.Machine.Effects.{advanced}
+use Rattle.model.specs.Machine.ProgramMemory.{RegisterFile}
+use Rattle.headline.proofs.facts.Laws.{at-place}
+use Rattle.headline.proofs.moves.Laws.{at-endpoint, blocked, blocked-there, caller-here, caller-there, delivered-here, delivered-there, endpoint-here}
+use Rattle.headline.proofs.moves.Laws.{endpoint-there, woke, woke-there}
+use Rattle.headline.proofs.authority.Changes.{ChangesObjects, stays, of_thread, of_endpoint}
+use Rattle.headline.proofs.authority.Gains.{Gains, block-gains, gains-both, nothing-ready, one-ready, wake-gains, woken_at}
+use Rattle.headline.proofs.authority.Awaited.{awaited-apart, blocked-awaits, first-waits, resting-absent, resting-apart, runs-awaits}
+use Rattle.headline.proofs.authority.Interrupted.{Waits}
+use Rattle.headline.proofs.authority.PlainSteps.{append-none}
+
+module _ (image : Image) (t : Thread) (s : State) (sound : IsSound s) (own : ThreadState) (is : s.objects (self_of image t) ≡ Some (ThreadObject own))
+    (runs : own.status ≡ Runnable) (e : ℕ) (old : EndpointState) (was : s.objects e ≡ Some (EndpointObject old)) (badge : ℕ) where
+  abbrev self : ℕ
+  self = self_of image t
+
+  not-queue : (thread : ℕ) (u : ThreadState) → s.objects thread ≡ Some (ThreadObject u) → thread ≢ e
+  not-queue thread u there same = let clash : Some (ThreadObject u) ≡ Some (EndpointObject old) = sym there ∙ ap s.objects same ∙ was in absurd cc
+
+  queue-is : endpoint_at s e ≡ old
+  queue-is = at-endpoint s e old was
+
+  -- whom the thread may answer is none of those that the step changes
+  not-caller : (caller : ℕ) → own.caller ≡ Some caller → (caller ≢ self) × (caller ≢ e)
+  not-caller caller right = (
+    awaited-apart s sound self caller own is right self (runs-awaits s self own is runs),
+    awaited-apart s sound self caller own is right e
+        (ap (λ (o : Option Object). awaits_answer (option_map_or (λ (v : ThreadState). v) (as_thread o) new_thread).status) was),
+  )
+
+  -- ---- the thread waits
+
+  module _ (sent : Sent) (grants : Bool) (asks : AsksAs image t s e (sender (self_of image t) sent badge grants)) where
+    abbrev x : Sender
+    x = sender self sent badge grants
+
+    abbrev longer : EndpointState
+    longer = record (endpoint_at s e) { senders = (endpoint_at s e).senders ++ x ∷ [] }
+
+    abbrev queued : State
+    queued = waits_in_queue s e x
+
+    abbrev waiting : ThreadState
+    waiting = record own { status = Blocked e }
+
+    queued-self : queued.objects self ≡ Some (ThreadObject waiting)
+    queued-self = blocked (with_endpoint s e longer) self (Blocked e) own (endpoint-there s e longer self (not-queue self own is) ∙ is)
+
+    queued-there : (y : ℕ) → y ≢ self → y ≢ e → queued.objects y ≡ s.objects y
+    queued-there y not_self not_queue = blocked-there (with_endpoint s e longer) self (Blocked e) y not_self ∙ endpoint-there s e longer y not_queue
+
+    queued-queue : queued.objects e ≡ Some (EndpointObject longer)
+    queued-queue = blocked-there (with_endpoint s e longer) self (Blocked e) e (λ same. not-queue self own is (sym same)) ∙ endpoint-here s e longer
+
+    pub waits-changes : ChangesObjects image t s (waits_in_queue s e (sender (self_of image t) sent badge grants))
+    waits-changes = record {
+      store = record { memory_bits = refl; boot_radix = refl; slots = λ slot. refl; bytes = λ place. refl };
+      own = own;
+      now = waiting;
+      was = is;
+      is = queued-self;
+      itself = record {
+        priority = refl;
+        fault_address = refl;
+        slice = same_slice refl;
+        right = kept refl (λ caller right. let away = not-caller caller right in queued-there caller away.0 away.1);
+      };
+      others = λ y not_self. elim (eqb_tells y e) [
+        | inl here ↦
+            of_endpoint old longer (ap s.objects here.1 ∙ was) (ap queued.objects here.1 ∙ queued-queue)
+            (waits_to_send x (subst (λ (q : ℕ). AsksAs image t s q x) (sym here.1) asks)
+            (ap (λ (q : EndpointState). record q { senders = q.senders ++ x ∷ [] }) queue-is))
+        | inr apart ↦ stays (queued-there y not_self apart.1)
+      ];
+      lines = λ number either. elim either [ inl differs ↦ absurd (differs refl) | inr differs ↦ absurd (differs refl) ];
+      ready = λ priority. nothing-ready s queued self priority (block-gains (with_endpoint s e longer) self (Blocked e) priority);
+    }
+
+  -- ---- the first receiver gets the message
+
+  module _ (r : ℕ) (others : List ℕ) (first : old.receivers ≡ r ∷ others) (names : CallNames image t s (SendsTo e badge)) (sent : Sent) (grants : Bool)
+      (own-message : message_sent (with_endpoint s e (record (endpoint_at s e) { receivers = others })) (sender (self_of image t) sent badge grants) sent
+      ≡ message_of (thread_at s (self_of image t))) where
+    abbrev y : Sender
+    y = sender self sent badge grants
+
+    abbrev fewer : EndpointState
+    fewer = record (endpoint_at s e) { receivers = others }
+
+    abbrev taken : State
+    taken = with_endpoint s e fewer
+
+    nobody : old.senders ≡ []
+    nobody = elim (sound.threads.one_sided e old was) [
+      | inl none ↦ none
+      | inr none ↦ absurd (let clash : r ∷ others ≡ [] = sym first ∙ none in cc)
+    ]
+
+    waits : Waits s r e
+    waits = first-waits s sound e r others
+        (ap waiting_at was ∙ ap (λ (l : List Sender). map (λ (z : Sender). z.thread) l ++ old.receivers) nobody ∙ first)
+
+    r-self : r ≢ self
+    r-self = resting-apart s r self waits.own own waits.is is waits.rests runs
+
+    r-queue : r ≢ e
+    r-queue = not-queue r waits.own waits.is
+
+    abbrev message : Message
+    message = message_sent taken y sent
+
+    abbrev written : RegisterFile
+    written = delivered waits.own.registers badge message
+
+    abbrev two : State
+    two = deliver taken r badge message
+
+    abbrev three : State
+    three = wake two r
+
+    abbrev changed : ThreadState
+    changed = woken waits.own (advanced written)
+
+    two-r : two.objects r ≡ Some (ThreadObject (record waits.own { registers = advanced written }))
+    two-r = delivered-here taken r badge message waits.own (endpoint-there s e fewer r r-queue ∙ waits.is)
+
+    three-r : three.objects r ≡ Some (ThreadObject changed)
+    three-r = woke two r (record waits.own { registers = advanced written }) two-r
+
+    three-there : (z : ℕ) → z ≢ r → z ≢ e → three.objects z ≡ s.objects z
+    three-there z not_r not_queue = woke-there two r z not_r ∙ delivered-there taken r badge message z not_r ∙ endpoint-there s e fewer z not_queue
+
+    three-queue : three.objects e ≡ Some (EndpointObject fewer)
+    three-queue =
+        woke-there two r e (λ same. r-queue (sym same)) ∙ delivered-there taken r badge message e (λ same. r-queue (sym same)) ∙ endpoint-here s e fewer
+
+    three-self : three.objects self ≡ Some (ThreadObject own)
+    three-self = three-there self (λ same. r-self (sym same)) (not-queue self own is) ∙ is
+
+    three-ready : (priority : ℕ) → Gains self (s.ready priority) (three.ready priority) (woken_at r waits.own.priority priority)
+    three-ready = wake-gains two self r (record waits.own { registers = advanced written }) two-r r-self
+        (resting-absent s sound r waits.own waits.is waits.rests)
+
+    not-r : (caller : ℕ) → own.caller ≡ Some caller → caller ≢ r
+    not-r caller right = awaited-apart s sound self caller own is right r (blocked-awaits s r waits.own e waits.is waits.blocked)
+
+    -- the queue is that of before without the receiver, in each state that has this queue
+    shorter : (after : State) → after.objects e ≡ Some (EndpointObject fewer) → (endpoint_at s e).receivers ≡ r ∷ (endpoint_at after e).receivers
+    shorter after queue =
+        ap (λ (q : EndpointState). q.receivers) queue-is ∙ first
+        ∙ ap (λ (o : Option Object). r ∷ (option_map_or (λ (q : EndpointState). q) (as_endpoint o) new_endpoint).receivers) (sym queue)
+
+    registers-are : changed ≡ woken waits.own (advanced (delivered waits.own.registers badge (message_of (thread_at s self))))
+    registers-are = ap (λ (m : Message). woken waits.own (advanced (delivered waits.own.registers badge m))) own-message
+
+    -- who runs in a state afterwards waits no more
+    runs-there : (after : State) (u : ThreadState) → after.objects r ≡ Some (ThreadObject u) → u.status ≡ Runnable →
+        (thread_at after r).status ≢ Blocked e
+    runs-there after u there now still =
+        let clash : Runnable ≡ Blocked e = sym now ∙ sym (ap (λ (v : ThreadState). v.status) (at-place after r u there)) ∙ still in absurd cc
+
+    woken-there : (after : State) (u : ThreadState) → after.objects r ≡ Some (ThreadObject u) → u.status ≡ Runnable → u.priority ≡ waits.own.priority
+        → (priority : ℕ) → priority ≡ waits.own.priority → IsWoken s after priority r
+    woken-there after u there now same priority here = record {
+      before = waits.own;
+      changed = u;
+      was = waits.is;
+      rested = waits.rests;
+      is = there;
+      runs = now;
+      at = same ∙ sym here;
+    }
+
+    -- the thread goes on, before its own registers change
+    pub given-changes : ChangesObjects image t s
+        (wake (deliver (with_endpoint s e (record (endpoint_at s e) { receivers = others })) r badge
+        (message_sent (with_endpoint s e (record (endpoint_at s e) { receivers = others })) (sender (self_of image t) sent badge grants) sent)) r)
+    given-changes = record {
+      store = record { memory_bits = refl; boot_radix = refl; slots = λ slot. refl; bytes = λ place. refl };
+      own = own;
+      now = own;
+      was = is;
+      is = three-self;
+      itself = record {
+        priority = refl;
+        fault_address = refl;
+        slice = same_slice refl;
+        right = kept refl (λ caller right. three-there caller (not-r caller right) (not-caller caller right).1);
+      };
+      others = λ z not_self. elim (eqb_tells z r) [
+        | inl here ↦
+            of_thread waits.own changed (ap s.objects here.1 ∙ waits.is) (ap three.objects here.1 ∙ three-r)
+            (receiver e badge waits.own.caller (shorter three three-queue ∙ ap (λ (q : ℕ). q ∷ (endpoint_at three e).receivers) (sym here.1))
+            waits.blocked names (as_before refl) registers-are)
+        | inr apart ↦ elim (eqb_tells z e) [
+          | inl here ↦
+              of_endpoint old fewer (ap s.objects here.1 ∙ was) (ap three.objects here.1 ∙ three-queue)
+              (takes_receiver badge r (subst (λ (q : ℕ). CallNames image t s (SendsTo q badge)) (sym here.1) names) first
+              (ap (λ (q : EndpointState). q.senders) queue-is)
+              (λ still. runs-there three changed three-r refl (still ∙ ap Blocked here.1)))
+          | inr away ↦ stays (three-there z apart.1 away.1)
+        ]
+      ];
+      lines = λ number either. elim either [ inl differs ↦ absurd (differs refl) | inr differs ↦ absurd (differs refl) ];
+      ready = λ priority. one-ready s three self priority r waits.own.priority (three-ready priority) (woken-there three changed three-r refl refl priority);
+    }
+
+    -- the thread stops, and nobody may reply to it
+    module _ (status : Status) where
+      abbrev halted : State
+      halted = block three self status
+
+      halted-there : (z : ℕ) → z ≢ self → halted.objects z ≡ three.objects z
+      halted-there z not_self = blocked-there three self status z not_self
+
+      halted-r : halted.objects r ≡ Some (ThreadObject changed)
+      halted-r = halted-there r r-self ∙ three-r
+
+      halted-queue : halted.objects e ≡ Some (EndpointObject fewer)
+      halted-queue = halted-there e (λ same. not-queue self own is (sym same)) ∙ three-queue
+
+      halted-ready : (priority : ℕ) → Gains self (s.ready priority) (halted.ready priority) (woken_at r waits.own.priority priority)
+      halted-ready priority =
+          subst (Gains self (s.ready priority) (halted.ready priority)) (sym (append-none (woken_at r waits.own.priority priority)))
+          (gains-both self (s.ready priority) (three.ready priority) (halted.ready priority) (woken_at r waits.own.priority priority) []
+          (three-ready priority) (block-gains three self status priority))
+
+      pub halted-changes : ChangesObjects image t s
+          (block (wake (deliver (with_endpoint s e (record (endpoint_at s e) { receivers = others })) r badge
+          (message_sent (with_endpoint s e (record (endpoint_at s e) { receivers = others })) (sender (self_of image t) sent badge grants) sent)) r)
+          (self_of image t) status)
+      halted-changes = record {
+        store = record { memory_bits = refl; boot_radix = refl; slots = λ slot. refl; bytes = λ place. refl };
+        own = own;
+        now = record own { status = status };
+        was = is;
+        is = blocked three self status own three-self;
+        itself = record {
+          priority = refl;
+          fault_address = refl;
+          slice = same_slice refl;
+          right = kept refl (λ caller right.
+              halted-there caller (not-caller caller right).0 ∙ three-there caller (not-r caller right) (not-caller caller right).1);
+        };
+        others = λ z not_self. elim (eqb_tells z r) [
+          | inl here ↦
+              of_thread waits.own changed (ap s.objects here.1 ∙ waits.is) (ap halted.objects here.1 ∙ halted-r)
+              (receiver e badge waits.own.caller (shorter halted halted-queue ∙ ap (λ (q : ℕ). q ∷ (endpoint_at halted e).receivers) (sym here.1))
+              waits.blocked names (as_before refl) registers-are)
+          | inr apart ↦ elim (eqb_tells z e) [
+            | inl here ↦
+                of_endpoint old fewer (ap s.objects here.1 ∙ was) (ap halted.objects here.1 ∙ halted-queue)
+                (takes_receiver badge r (subst (λ (q : ℕ). CallNames image t s (SendsTo q badge)) (sym here.1) names) first
+                (ap (λ (q : EndpointState). q.senders) queue-is)
+                (λ still. runs-there halted changed halted-r refl (still ∙ ap Blocked here.1)))
+            | inr away ↦ stays (halted-there z not_self ∙ three-there z apart.1 away.1)
+          ]
+        ];
+        lines = λ number either. elim either [ inl differs ↦ absurd (differs refl) | inr differs ↦ absurd (differs refl) ];
+        ready = λ priority. one-ready s halted self priority r waits.own.priority (halted-ready priority)
+            (woken-there halted changed halted-r refl refl priority);
+      }
+
+    -- the thread waits for the answer, and the receiver may reply to it
+    module _ (calls : CallNames image t s (CallsTo e badge)) where
+      abbrev stopped : State
+      stopped = block three self AwaitsReply
+
+      abbrev last : State
+      last = with_caller stopped r (Some self)
+
+      abbrev replying : ThreadState
+      replying = record changed { caller = Some self }
+
+      abbrev waiting-so : ThreadState
+      waiting-so = record own { status = AwaitsReply }
+
+      last-self : last.objects self ≡ Some (ThreadObject waiting-so)
+      last-self = caller-there stopped r (Some self) self (λ same. r-self (sym same)) ∙ blocked three self AwaitsReply own three-self
+
+      last-r : last.objects r ≡ Some (ThreadObject replying)
+      last-r = caller-here stopped r (Some self) changed (blocked-there three self AwaitsReply r r-self ∙ three-r)
+
+      last-there : (z : ℕ) → z ≢ self → z ≢ r → last.objects z ≡ three.objects z
+      last-there z not_self not_r = caller-there stopped r (Some self) z not_r ∙ blocked-there three self AwaitsReply z not_self
+
+      last-queue : last.objects e ≡ Some (EndpointObject fewer)
+      last-queue = last-there e (λ same. not-queue self own is (sym same)) (λ same. r-queue (sym same)) ∙ three-queue
+
+      last-ready : (priority : ℕ) → Gains self (s.ready priority) (last.ready priority) (woken_at r waits.own.priority priority)
+      last-ready priority =
+          subst (Gains self (s.ready priority) (last.ready priority)) (sym (append-none (woken_at r waits.own.priority priority)))
+          (gains-both self (s.ready priority) (three.ready priority) (last.ready priority) (woken_at r waits.own.priority priority) []
+          (three-ready priority) (block-gains three self AwaitsReply priority))
+
+      pub called-changes : ChangesObjects image t s
+          (with_caller (block (wake (deliver (with_endpoint s e (record (endpoint_at s e) { receivers = others })) r badge
+          (message_sent (with_endpoint s e (record (endpoint_at s e) { receivers = others })) (sender (self_of image t) sent badge grants) sent)) r)
+          (self_of image t) AwaitsReply) r (Some (self_of image t)))
+      called-changes = record {
+        store = record { memory_bits = refl; boot_radix = refl; slots = λ slot. refl; bytes = λ place. refl };
+        own = own;
+        now = waiting-so;
+        was = is;
+        is = last-self;
+        itself = record {
+          priority = refl;
+          fault_address = refl;
+          slice = same_slice refl;
+          right = kept refl (λ caller right.
+              last-there caller (not-caller caller right).0 (not-r caller right) ∙ three-there caller (not-r caller right) (not-caller caller right).1);
+        };
+        others = λ z not_self. elim (eqb_tells z r) [
+          | inl here ↦
+              of_thread waits.own replying (ap s.objects here.1 ∙ waits.is) (ap last.objects here.1 ∙ last-r)
+              (receiver e badge (Some self) (shorter last last-queue ∙ ap (λ (q : ℕ). q ∷ (endpoint_at last e).receivers) (sym here.1))
+              waits.blocked names (to_sender calls refl (ap (λ (u : ThreadState). u.status) (at-place last self waiting-so last-self)))
+              (ap (λ (u : ThreadState). record u { caller = Some self }) registers-are))
+          | inr apart ↦ elim (eqb_tells z e) [
+            | inl here ↦
+                of_endpoint old fewer (ap s.objects here.1 ∙ was) (ap last.objects here.1 ∙ last-queue)
+                (takes_receiver badge r (subst (λ (q : ℕ). CallNames image t s (SendsTo q badge)) (sym here.1) names) first
+                (ap (λ (q : EndpointState). q.senders) queue-is)
+                (λ still. runs-there last replying last-r refl (still ∙ ap Blocked here.1)))
+            | inr away ↦ stays (last-there z not_self apart.1 ∙ three-there z apart.1 away.1)
+          ]
+        ];
+        lines = λ number either. elim either [ inl differs ↦ absurd (differs refl) | inr differs ↦ absurd (differs refl) ];
+        ready = λ priority. one-ready s last self priority r waits.own.priority (last-ready priority)
+            (woken-there last replying last-r refl refl priority);
+      }
