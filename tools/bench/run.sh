@@ -18,8 +18,8 @@ cat >>"$copy/crates.txt" <<'LIST'
 exec_bench: model rv32_isa rv32_exec
 store_bench: model slots
 lookup_bench: model slots cspace
-revoke_bench: model kernel
-kernel_bench: model kernel
+revoke_bench: model kernel kernel_machine
+kernel_bench: model kernel kernel_machine
 crowd_bench: model kernel
 LIST
 for name in exec_bench store_bench lookup_bench revoke_bench kernel_bench crowd_bench; do

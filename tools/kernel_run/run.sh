@@ -15,7 +15,7 @@ mkdir -p "$copy/crates/kernel_run/src"
 for file in "$here"/*.rt.in; do
     cp "$file" "$copy/crates/kernel_run/src/$(basename "$file" .in)"
 done
-echo "kernel_run: model kernel trace capwords arrayvec" >>"$copy/crates.txt"
+echo "kernel_run: model kernel kernel_machine trace capwords arrayvec" >>"$copy/crates.txt"
 (cd "$copy/crates/kernel_run" && rt run -- 0 0 >"$copy/kernel_run.log" 2>&1) || {
     cat "$copy/kernel_run.log"
     exit 1
