@@ -1,9 +1,7 @@
 -- Lists of entries: whether they fit, as a loop tests it, and how they are spelled.
-use Rattle.std.proofs.Common.{◌≡◌, ℕ, suc, ◌-◌, ◌+◌, ◌^◌, ◌<◌, ◌≤◌, Bool, true, false, cond, ◌&&◌, ltb, List, [], ◌∷◌, ◌++◌, length, get_or, drop, take, Option}
-use Rattle.std.proofs.Common.{Some, None, refl, sym, ap, ◌∙◌, arith, drop-cons, take_all, append_assoc, Result, Ok, Err, IfOk}
+use Rattle.std.proofs.Common.{◌≡◌, ℕ, suc, ◌-◌, ◌+◌, ◌^◌, ◌<◌, ◌≤◌, Bool, true, false, cond, ◌&&◌, ltb, List, [], ◌∷◌, ◌++◌, length, get_or, drop, Option}
+use Rattle.std.proofs.Common.{Some, None, refl, sym, ap, ◌∙◌, arith, drop-cons, append_assoc, Result, Ok, Err, IfOk}
 use Rattle.std.proofs.Math.ListN.{drop_of_length-le}
-use Rattle.std.proofs.Math.Seq.{take-suc}
-use Rattle.std.proofs.lemmas.List.{flat_map_more}
 use Rattle.std.specs.List.{flat_map}
 use Rattle.model.specs.Images.Format.{Format, field, many_fit, many_spelling}
 use Rattle.model.specs.Images.Image.{anything}
@@ -69,19 +67,6 @@ spelled-each format next spelling same least [] = refl
 spelled-each format next spelling same least (x ∷ xs) =
     ap (λ (s : List ℕ). s ++ many_spelling format next (next x) xs) (same least x)
     ∙ ap (λ (s : List ℕ). spelling x ++ s) (spelled-each format next spelling same (next x) xs)
-
--- what follows the first entries, and after one more
-pub spelled-more : {A : Type 0} (spelling : A → List ℕ) (old bytes new : List ℕ) (xs : List A) (i : ℕ) (x : A) → i < length xs → x ≡ get_or xs i x
-    → bytes ≡ old ++ flat_map spelling (take i xs) → new ≡ bytes ++ spelling x → new ≡ old ++ flat_map spelling (take (i + 1) xs)
-spelled-more {A} spelling old bytes new xs i x less here before last =
-    let one : i + 1 ≡ suc i = omega arith in
-    let front : take (i + 1) xs ≡ take i xs ++ x ∷ [] = ap (λ (k : ℕ). take k xs) one ∙ take-suc xs i x less ∙ ap (λ (y : A). take i xs ++ y ∷ []) (sym here) in
-    last ∙ ap (λ (l : List ℕ). l ++ spelling x) before ∙ flat_map_more spelling old (take i xs) x ∙ ap (λ (l : List A). old ++ flat_map spelling l) (sym front)
-
--- with no entry left all of them are there
-pub spelled-all : {A : Type 0} (spelling : A → List ℕ) (old bytes : List ℕ) (xs : List A) (i : ℕ) → length xs ≤ i
-    → bytes ≡ old ++ flat_map spelling (take i xs) → bytes ≡ old ++ flat_map spelling xs
-spelled-all {A} spelling old bytes xs i none before = before ∙ ap (λ (l : List A). old ++ flat_map spelling l) (take_all i xs none)
 
 -- words fit, whatever they are
 pub words-fit : (words : List ℕ) → ((i : ℕ) → get_or words i 0 < 2 ^ 32) → many_fit (λ _. field anything) (λ _. 0) 0 (length words) words ≡ true

@@ -5,9 +5,11 @@ ghost use Rattle.image.specs.Sections.{mappings_fit, sections_fit};
 ghost use Rattle.model.specs.Images.Format.{many_fit, field, number, only_if, signed_number};
 ghost use Rattle.model.specs.Images.Image.{anything, between, content_format, has_buffers, has_promises, header_format, image_with, latest_version, no_buffer, promise_format, record_format, record_header_format, sections_format, slots_format, thread_format, thread_header_format, whole_image};
 
-use crate::listed::{Limits, Listed, all_fit};
+use crate::fitting::all_fit;
 use crate::parts::{Content, Parts, Promise, RecordParts, ThreadParts};
-use image_reading::{has_buffers, has_promises, is_known_version, radix_limit};
+use image_reading::{
+    Counts, Keyed, Listed, has_buffers, has_promises, is_known_version, radix_limit,
+};
 use std::marker::Model;
 
 /// An image: parts whose fields are all in the ranges and orders of the format.
@@ -58,34 +60,34 @@ impl Image {
 fn parts_fit(parts: &Parts) -> bool
     ensures { result ≡ whole_image.fits parts.now }
 {
-    let Some(limits) = limits_of(parts) else {
+    let Some(counts) = counts_of(parts) else {
         return false;
     };
-    if !sections_fit(parts, limits) {
+    if !sections_fit(parts, counts) {
         return false;
     }
-    all_fit(&parts.threads, limits, 0)
+    threads_fit(&parts.threads, parts.version, counts)
 }
 
 /// Whether the entries of the sections before the threads are in their ranges and orders.
-fn sections_fit(parts: &Parts, limits: Limits) -> bool
-    ensures { result ≡ sections_fit limits parts.now }
+fn sections_fit(parts: &Parts, counts: Counts) -> bool
+    ensures { result ≡ sections_fit counts parts.now }
 {
-    all_fit(&parts.untypeds, limits, 0)
-        && all_fit(&parts.objects, limits, 0)
-        && all_fit(&parts.capabilities, limits, 0)
-        && all_fit(&parts.interrupts, limits, 0)
-        && mappings_fit(parts, limits)
+    all_fit(&parts.untypeds, counts, 0)
+        && all_fit(&parts.objects, counts, 0)
+        && all_fit(&parts.capabilities, counts, 0)
+        && all_fit(&parts.interrupts, counts, 0)
+        && mappings_fit(parts, counts)
 }
 
 /// Whether what the parts map, what their frames begin with, and what they promise, is in its ranges and orders.
-fn mappings_fit(parts: &Parts, limits: Limits) -> bool
-    ensures { result ≡ mappings_fit limits parts.now }
+fn mappings_fit(parts: &Parts, counts: Counts) -> bool
+    ensures { result ≡ mappings_fit counts parts.now }
 {
-    all_fit(&parts.tables, limits, 0)
-        && all_fit(&parts.frames, limits, 0)
-        && all_fit(&parts.contents, limits, 0)
-        && all_fit(&parts.promises, limits, 0)
+    all_fit(&parts.tables, counts, 0)
+        && all_fit(&parts.frames, counts, 0)
+        && all_fit(&parts.contents, counts, 0)
+        && all_fit(&parts.promises, counts, 0)
 }
 
 /// Whether a number is one from `low` to `high`.
@@ -146,17 +148,16 @@ fn head_fits(parts: &Parts) -> bool
         && last_counts_fit(parts)
 }
 
-/// What the numbers of the entries lie below, if the numbers of the image's head are in their ranges.
+/// The counts that the numbers of the entries lie below, if the numbers of the image's head are in their ranges.
 #[tactic(auto, unfolding(model::specs::Images::Image::header_format))]
-fn limits_of(parts: &Parts) -> Option<Limits>
+fn counts_of(parts: &Parts) -> Option<Counts>
     ensures { let h = parts.now.header in result ≡ (if header_format.fits h
-        then Some (record { version = h.version; untypeds = h.untypeds; objects = h.objects; interrupts = h.interrupts; words = 0 }) else None) }
+        then Some (record { untypeds = h.untypeds; objects = h.objects; interrupts = h.interrupts; words = 0 }) else None) }
 {
     if !head_fits(parts) {
         return None;
     }
-    Some(Limits {
-        version: parts.version,
+    Some(Counts {
         untypeds: parts.untypeds.len() as u32,
         objects: parts.objects.len() as u32,
         interrupts: parts.interrupts.len() as u32,
@@ -178,15 +179,23 @@ fn words_fit(words: &[u32]) -> bool
     true
 }
 
+impl Keyed for Content {
+    ghost key = { λ c. c.header.frame };
+
+    fn key(&self) -> u64 {
+        u64::from(self.frame)
+    }
+}
+
 #[tactic(auto, unfolding(model::specs::Images::Image::content_format))]
 impl Listed for Content {
-    ghost format = { λ limits. content_format limits.objects };
+    ghost format = { λ counts. content_format counts.objects };
 
     ghost next = { λ c. c.header.frame + 1 };
 
-    fn next_key(&self, limits: Limits, least: u64) -> Option<u64> {
+    fn fits(&self, counts: Counts, least: u64) -> Option<u64> {
         let key = u64::from(self.frame);
-        if key < least || limits.objects <= self.frame {
+        if key < least || counts.objects <= self.frame {
             return None;
         }
         if is_within(self.words.len(), 1, 1024) && words_fit(&self.words) {
@@ -198,27 +207,35 @@ impl Listed for Content {
 }
 
 /// Whether the numbers of a promise's fixed part are in their ranges.
-fn promise_header_fits(promise: &Promise, limits: Limits, least: u64) -> bool
-    ensures { let h = promise.now.header in result ≡ ((field (λ endpoint. nat_le least endpoint && nat_lt endpoint limits.objects)).fits h.endpoint
+fn promise_header_fits(promise: &Promise, counts: Counts, least: u64) -> bool
+    ensures { let h = promise.now.header in result ≡ ((field (λ endpoint. nat_le least endpoint && nat_lt endpoint counts.objects)).fits h.endpoint
         && ((field anything).fits h.badge_low && ((field (λ high. nat_le h.badge_low high && nat_lt high (2 ^ 28))).fits h.badge_high
         && (field (between 0 8)).fits h.words))) }
 {
     least <= u64::from(promise.endpoint)
-        && promise.endpoint < limits.objects
+        && promise.endpoint < counts.objects
         && is_word(promise.badge_low)
         && promise.badge_low <= promise.badge_high
         && promise.badge_high < 1 << 28
         && is_within(promise.words.len(), 0, 8)
 }
 
+impl Keyed for Promise {
+    ghost key = { λ p. p.header.endpoint };
+
+    fn key(&self) -> u64 {
+        u64::from(self.endpoint)
+    }
+}
+
 #[tactic(auto, unfolding(model::specs::Images::Image::promise_format))]
 impl Listed for Promise {
-    ghost format = { λ limits. promise_format limits.objects };
+    ghost format = { λ counts. promise_format counts.objects };
 
     ghost next = { λ p. p.header.endpoint + 1 };
 
-    fn next_key(&self, limits: Limits, least: u64) -> Option<u64> {
-        if promise_header_fits(self, limits, least) && all_fit(&self.words, limits, 0) {
+    fn fits(&self, counts: Counts, least: u64) -> Option<u64> {
+        if promise_header_fits(self, counts, least) && all_fit(&self.words, counts, 0) {
             Some(u64::from(self.endpoint) + 1)
         } else {
             None
@@ -228,11 +245,11 @@ impl Listed for Promise {
 
 /// Whether the numbers of a record's head are in their ranges, in a program of so many words.
 #[tactic(auto, unfolding(model::specs::Images::Image::record_header_format))]
-fn record_header_fits(part: &RecordParts, limits: Limits, least: u64) -> bool
-    ensures { result ≡ (record_header_format (slots_format limits.objects) limits.words least).fits part.now.header }
+fn record_header_fits(part: &RecordParts, counts: Counts, least: u64) -> bool
+    ensures { result ≡ (record_header_format (slots_format counts.objects) counts.words least).fits part.now.header }
 {
     least <= u64::from(part.point)
-        && part.point < limits.words
+        && part.point < counts.words
         && part.ranges.len() <= 31
         && part.slots.len() <= 256
         && part.terms.len() <= 4
@@ -240,17 +257,25 @@ fn record_header_fits(part: &RecordParts, limits: Limits, least: u64) -> bool
         && part.constant <= 1 << 62
 }
 
+impl Keyed for RecordParts {
+    ghost key = { λ r. r.header.point };
+
+    fn key(&self) -> u64 {
+        u64::from(self.point)
+    }
+}
+
 #[tactic(auto, unfolding(model::specs::Images::Image::record_format, model::specs::Images::Image::ranges_format, model::specs::Images::Image::terms_format))]
 impl Listed for RecordParts {
-    ghost format = { λ limits. record_format (slots_format limits.objects) limits.words };
+    ghost format = { λ counts. record_format (slots_format counts.objects) counts.words };
 
     ghost next = { λ r. r.header.point + 1 };
 
-    fn next_key(&self, limits: Limits, least: u64) -> Option<u64> {
-        if record_header_fits(self, limits, least)
-            && all_fit(&self.ranges, limits, 1)
-            && all_fit(&self.slots, limits, 0)
-            && all_fit(&self.terms, limits, 1)
+    fn fits(&self, counts: Counts, least: u64) -> Option<u64> {
+        if record_header_fits(self, counts, least)
+            && all_fit(&self.ranges, counts, 1)
+            && all_fit(&self.slots, counts, 0)
+            && all_fit(&self.terms, counts, 1)
         {
             Some(u64::from(self.point) + 1)
         } else {
@@ -302,22 +327,28 @@ fn program_length(thread: &ThreadParts, version: u32, objects: u32) -> Option<u3
     }
 }
 
+/// Whether a thread of an image of this version is in its ranges and orders.
 #[tactic(auto, unfolding(model::specs::Images::Image::thread_format, model::specs::Images::Image::registers_format, model::specs::Images::Image::words_format, model::specs::Images::Image::records_format))]
-impl Listed for ThreadParts {
-    ghost format = { λ limits least. thread_format (slots_format limits.objects) limits.version limits.objects };
+fn thread_fits(thread: &ThreadParts, version: u32, counts: Counts) -> bool
+    ensures { result ≡ (thread_format (slots_format counts.objects) version counts.objects).fits thread.now }
+{
+    let Some(words) = program_length(thread, version, counts.objects) else {
+        return false;
+    };
+    let counts = counts.with_words(words);
+    all_fit(&thread.registers, counts, 1)
+        && words_fit(&thread.words)
+        && all_fit(&thread.records, counts, 0)
+}
 
-    ghost next = { λ t. 0 };
-
-    fn next_key(&self, limits: Limits, _least: u64) -> Option<u64> {
-        let words = program_length(self, limits.version, limits.objects)?;
-        let limits = Limits { words, ..limits };
-        if all_fit(&self.registers, limits, 1)
-            && words_fit(&self.words)
-            && all_fit(&self.records, limits, 0)
-        {
-            Some(0)
-        } else {
-            None
+/// Whether the threads of an image of this version are in their ranges and orders.
+fn threads_fit(threads: &[ThreadParts], version: u32, counts: Counts) -> bool
+    ensures { result ≡ many_fit (λ _. thread_format (slots_format counts.objects) version counts.objects) (λ _. 0) 0 (length threads.now) threads.now }
+{
+    for thread in threads {
+        if !thread_fits(thread, version, counts) {
+            return false;
         }
     }
+    true
 }

@@ -2,14 +2,13 @@
 #![tactic(auto)]
 
 mod checking;
-mod listed;
+mod fitting;
 mod parts;
-mod spelled;
 mod writing;
 
 pub use checking::Image;
 pub use image_reading::{
-    ContentRef, Contents, Entries, ImageRef, PromiseRef, Promises, RecordRef, Records, Refusal,
+    ContentRef, Contents, ImageRef, PromiseRef, Promises, RecordRef, Records, Refusal, Section,
     Slots, ThreadRef, Threads, read,
 };
 pub use parts::{Content, Parts, Promise, RecordParts, ThreadParts};

@@ -8,8 +8,7 @@ ghost use Rattle.image.specs.Spellings.{content_bytes, image_bytes, mapping_byte
 
 use crate::checking::Image;
 use crate::parts::{Content, Parts, Promise, RecordParts, ThreadParts};
-use crate::spelled::{Spelled, append_all};
-use image_reading::{has_buffers, has_promises};
+use image_reading::{Spelled, append_all, has_buffers, has_promises};
 use std::alloc::{AllocError, Global};
 
 /// The bytes "MSYS", with which an image begins, as a number.

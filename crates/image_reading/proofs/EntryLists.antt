@@ -150,6 +150,11 @@ module _ {A : Type 0} (format : ℕ → Format A) (next : A → ℕ) (size : ℕ
         within = subst (λ (k : ℕ). k + size ≤ length bytes) there g.within;
       }
 
+-- what is read has an end
+pub ends : {A : Type 0} (r : Result (List A × ℕ) Refusal) → is_ok r ≡ true → is_ok (end_of r) ≡ true
+ends (Ok x) h = refl
+ends (Err e) h = absurd cc
+
 -- what is read to its end
 pub all_read : {A : Type 0} (r : Result (List A × ℕ) Refusal) → is_ok (end_of r) ≡ true → (e : ℕ) × (r ≡ Ok (values_of r, e))
 all_read (Ok x) h = (x.1, refl)

@@ -3,6 +3,7 @@ mod EntryLists
 mod FormatLaws
 mod RangeEntries
 mod SectionSizes
+mod SpelledLists
 mod ThreadLaws
 mod WholeImage
 mod WholeReading

@@ -1,11 +1,13 @@
 -- Entries of the sections that have one size.
-use Rattle.std.proofs.Common.{◌≡◌, ℕ, ◌+◌, ◌-◌, ◌≤◌, ◌^◌, Bool, true, ltb, leb, ◌&&◌, length, Ok, refl, sym, ap, ◌∙◌, arith}
-use Rattle.std.specs.Int.{w32}
+use Rattle.std.proofs.Common.{◌≡◌, ℕ, ℤ, ◌+◌, ◌-◌, ◌≤◌, ◌^◌, Bool, true, ltb, leb, ◌&&◌, ◌||◌, eqb, length, Ok, refl, sym, ap, ◌∙◌, arith}
+use Rattle.std.specs.Int.{w32, cast_signed}
 use Rattle.std.proofs.lemmas.Bool.{and_parts, le-leb, ltb-false}
 use Rattle.model.specs.declared.refusals.Refusal.TheVariants.{Limit}
-use Rattle.model.specs.Images.Format.{Format, ◌>>=◌, number_at, field, both, named}
-use Rattle.model.specs.Images.Image.{anything, below, between, capability_format, frame_format, interrupt_format, object_format, pair_key, size_fits}
-use Rattle.model.specs.Images.Image.{table_format, untyped_format}
+use Rattle.model.specs.Images.Format.{Format, ◌>>=◌, number_at, field, both, named, signed}
+use Rattle.model.specs.Images.Image.{anything, below, between, capability_format, frame_format, interrupt_format, object_format, names_parent, no_parent, not_zero, pair_key, size_fits}
+use Rattle.model.specs.Images.Image.{promised_word_format, range_format, register_format, slot_format, table_format, term_format, untyped_format}
+use Rattle.model.specs.Capabilities.CapabilityFields.{unpacked}
+use Rattle.std.specs.Prelude.{is_some}
 use Rattle.image_reading.specs.Sizes.{HasSize}
 use Rattle.image_reading.proofs.FormatLaws.{bind_ok, guard_ok, test_ok, ok_is}
 
@@ -101,3 +103,48 @@ frame_size objects least = named_size 16 _ _ _ _
     (λ address h. from-0 (pair_key root address))) (λ (a : ℕ).
     both_size 4 4 _ _ _ _ (same_field (below objects)) (λ (b : ℕ).
     same_field (between 0 7)))))
+
+signed_size : (test : ℤ → Bool) → HasSize 4 (signed w32 test) (signed w32 test)
+signed_size test = record {
+  reads = λ bytes at y after e.
+      let p = bind_ok ((field (λ n. test (cast_signed w32 n))).reads bytes at) (λ x. Ok (cast_signed w32 x.0, x.1)) (y, after) e in
+      let h = (same_field (λ n. test (cast_signed w32 n))).reads bytes at p.0.0 p.0.1 p.1 in
+      let is = ok_is (cast_signed w32 p.0.0, p.0.1) (y, after) p.2 in
+      let end : p.0.1 ≡ after = ap (λ (z : ℤ × ℕ). z.1) is in
+      (omega (arith, h.0, end), omega (arith, h.1, end), e);
+}
+
+-- a register from a least one on
+register_field : (least : ℕ) → HasSize 4 (field (between least 31)) (field (between 0 31))
+register_field least = field_size (between least 31) (between 0 31) (λ n h. and-from-0 (leb least n) (leb n 31) n h)
+
+pub promised_word_size : HasSize 8 promised_word_format promised_word_format
+unfolding promised_word_format
+promised_word_size = named_size 8 _ _ _ _ (both_size 4 4 _ _ _ _ (same_field anything) (λ (low : ℕ). same_field (leb low)))
+
+pub slot_size : (objects least : ℕ) → HasSize 24 (slot_format objects least) (slot_format objects 0)
+unfolding slot_format
+slot_size objects least = named_size 24 _ _ _ _
+    (both_size 4 20 _ _ _ _ (same_field (below objects)) (λ (cnode : ℕ).
+    both_size 4 16 _ _ _ _ (field_size (λ index. leb least (pair_key cnode index) && ltb index (2 ^ 14)) (λ index. leb 0 (pair_key cnode index) && ltb index (2 ^ 14))
+    (λ index h. and-from-0 (leb least (pair_key cnode index)) (ltb index (2 ^ 14)) (pair_key cnode index) h)) (λ (a : ℕ).
+    both_size 4 12 _ _ _ _ (same_field anything) (λ (word0 : ℕ).
+    both_size 4 8 _ _ _ _ (same_field (λ word1. is_some (unpacked word0 word1))) (λ (word1 : ℕ).
+    both_size 4 4 _ _ _ _ (same_field (λ parent. ltb parent objects || eqb parent no_parent)) (λ (parent : ℕ).
+    same_field (names_parent (eqb word0 0 && eqb word1 0) parent)))))))
+
+pub register_size : (least : ℕ) → HasSize 8 (register_format least) (register_format 0)
+unfolding register_format
+register_size least = named_size 8 _ _ _ _ (both_size 4 4 _ _ _ _ (register_field least) (λ (a : ℕ). same_field (ltb 0)))
+
+pub range_size : (least : ℕ) → HasSize 12 (range_format least) (range_format 0)
+unfolding range_format
+range_size least = named_size 12 _ _ _ _
+    (both_size 4 8 _ _ _ _ (register_field least) (λ (a : ℕ).
+    both_size 4 4 _ _ _ _ (same_field anything) (λ (low : ℕ).
+    same_field (λ high. leb low high && (ltb 0 low || ltb high (2 ^ 32 - 1))))))
+
+pub term_size : (least : ℕ) → HasSize 8 (term_format least) (term_format 0)
+unfolding term_format
+term_size least = named_size 8 (λ (register, coefficient). record { register = register; coefficient = coefficient }) (λ e. (e.register, e.coefficient)) _ _
+    (both_size 4 4 _ _ _ _ (register_field least) (λ (a : ℕ). signed_size not_zero))

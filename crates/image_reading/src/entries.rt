@@ -1,50 +1,73 @@
-//! Sections: entries of one kind, one after the other, whose keys rise.
+//! Sections: entries of one size, one after the other, whose keys rise.
 
-ghost use Rattle.std.specs.Prelude.{◌≡◌, ◌≤◌, ◌+◌, ◌<◌, ◌^◌, ℕ, IfOk, Some, true, is_ok, slice_get};
+ghost use Rattle.std.specs.Prelude.{◌≡◌, ◌+◌, ◌<◌, ◌^◌, ℕ, IfOk, Some, None, if◌then◌else◌, is_ok, length, map, slice_get, true};
 ghost use Rattle.std.specs.Iterator.{YieldsFirst, item_count};
 ghost use Rattle.model.specs.Images.Format.{Format, end_of, ordered, values_of};
 ghost use Rattle.image_reading.specs.Sizes.{HasSize};
+ghost use Rattle.image_reading.specs.image_entries.Keys.{DoRise, IsPlaceOf};
 ghost use Rattle.image_reading.specs.declared.entries.Counts.{Counts};
 
 use crate::fields::item_offset;
+use crate::spelled::Spelled;
 use model::Refusal;
 use std::marker::{Model, PhantomData};
 
 /// What the ranges of an entry's fields depend on. Four words, which are passed in registers.
 #[derive(Clone, Copy, Drop)]
 pub struct Counts {
-    pub(crate) untypeds: u32,
-    pub(crate) objects: u32,
-    pub(crate) interrupts: u32,
+    pub untypeds: u32,
+    pub objects: u32,
+    pub interrupts: u32,
     /// How many words the program of the thread at hand has.
-    pub(crate) words: u32,
+    pub words: u32,
 }
 
 impl Counts {
     /// The same counts, for a thread whose program has so many words.
-    pub(crate) fn with_words(self, words: u32) -> Counts
+    pub fn with_words(self, words: u32) -> Counts
         ensures { result ≡ record self { words = words } }
     {
         Counts { words, ..self }
     }
 }
 
-/// An entry of a section, all of whose fields are numbers.
-pub trait Entry: Sized + Drop {
-    /// The format of an entry whose key is not below a number.
+/// Something that has a key, by which those of its kind are in order.
+pub trait Keyed {
+    /// The key. It is 0 where there is no order.
+    ghost key: { Self → ℕ };
+
+    fn key(&self) -> u64
+        ensures { result ≡ key self.now };
+}
+
+/// Something that a section lists: an entry, or one with lists of its own.
+pub trait Listed: Keyed + Spelled {
+    /// The format of one whose key is not below a number.
     ghost format: { Counts → ℕ → Format Self };
 
-    /// The least key of the entry after it.
+    /// The least key of the one after it.
     ghost next: { Self → ℕ };
+
+    /// The least key of the one after this one, if the key of this one is not below `least` and all its
+    /// fields are in their ranges.
+    fn fits(&self, counts: Counts, least: u64) -> Option<u64>
+        ensures { result ≡ (if (format counts least).fits self.now then Some (next self.now) else None) };
+}
+
+/// An entry of a section, all of whose fields are numbers.
+pub trait Entry: Listed + Sized + Drop {
+    /// How many bytes each of its kind has.
+    fn size() -> usize
+        ensures { (counts : Counts) (least : ℕ) → HasSize result (Self.format counts least) (Self.format counts 0) };
 
     /// The entry at `at` and the offset after it. Its key is not below `least`.
     fn read(bytes: &[u8], at: usize, counts: Counts, least: u64) -> Result<(Self, usize), Refusal>
-        ensures reads { result ≡ (format counts least).reads bytes.now at }
-        ensures bounded { IfOk result (λ x. next x.0 < 2 ^ 64) };
+        ensures reads { result ≡ (Self.format counts least).reads bytes.now at }
+        ensures bounded { IfOk result (λ x. Self.next x.0 < 2 ^ 64) };
 
-    fn least_behind(&self) -> u64
-        requires { next self.now < 2 ^ 64 }
-        ensures { result ≡ next self.now };
+    fn least_after(&self) -> u64
+        requires { Self.next self.now < 2 ^ 64 }
+        ensures { result ≡ Self.next self.now };
 }
 
 /// The offset after `count` entries from `start`, the first of which has a key not below `first`.
@@ -61,36 +84,15 @@ pub(crate) fn entries_end<E: Entry>(
     let mut least = first;
     for _ in 0..count {
         let (entry, next) = E::read(bytes, at, counts, least)?;
-        least = entry.least_behind();
+        least = entry.least_after();
         at = next;
     }
     Ok(at)
 }
 
-/// Entry `number` of the `count` entries from `start`, each of which has `size` bytes.
-pub(crate) fn entry_of<E: Entry>(
-    bytes: &[u8],
-    start: usize,
-    counts: Counts,
-    size: usize,
-    count: u32,
-    number: u32,
-) -> E
-    requires inside { number < count }
-    requires sized { (least : ℕ) → HasSize size (E.format counts least) (E.format counts 0) }
-    requires readable { is_ok (end_of ((ordered 0 (E.format counts) E.next count).reads bytes.now start)) ≡ true }
-    ensures { slice_get (values_of ((ordered 0 (E.format counts) E.next count).reads bytes.now start)) number ≡ Some result }
-{
-    let at = item_offset(bytes.len(), start, size, number);
-    match E::read(bytes, at, counts, 0) {
-        Ok((entry, _)) => entry,
-        Err(_) => unreachable!(),
-    }
-}
-
-/// Entries of a section, in rising order of their keys.
+/// A section: its entries in rising order of their keys, lent from the file.
 #[derive(Drop)]
-pub struct Entries<'a, E: Entry> {
+pub struct Section<'a, E: Entry> {
     pub(crate) bytes: &'a [u8],
     pub(crate) at: usize,
     pub(crate) counts: Counts,
@@ -99,7 +101,7 @@ pub struct Entries<'a, E: Entry> {
     pub(crate) kind: PhantomData<E>,
 }
 
-impl<'a, E: Entry> Model for Entries<'a, E> {
+impl<'a, E: Entry> Model for Section<'a, E> {
     ghost use Rattle.std.specs.Prelude.{◌≡◌, List, true, is_ok};
     ghost use Rattle.model.specs.Images.Format.{many_read, values_of};
 
@@ -110,7 +112,75 @@ impl<'a, E: Entry> Model for Entries<'a, E> {
     ghost invariant = { λ r. is_ok (many_read (E.format r.counts) E.next r.least r.left r.bytes.now r.at) ≡ true };
 }
 
-impl<'a, E: Entry> Iterator for Entries<'a, E> {
+impl<'a, E: Entry> Section<'a, E> {
+    /// The `count` entries from `at`, the first of which has a key not below `first`.
+    pub(crate) fn new(
+        bytes: &'a [u8],
+        at: usize,
+        counts: Counts,
+        first: u64,
+        count: u32,
+    ) -> Section<'a, E>
+        requires { is_ok (end_of ((ordered first (E.format counts) E.next count).reads bytes.now at)) ≡ true }
+        ensures { result ≡ values_of ((ordered first (E.format counts) E.next count).reads bytes.now at) }
+    {
+        Section {
+            bytes,
+            at,
+            counts,
+            least: first,
+            left: count,
+            kind: PhantomData,
+        }
+    }
+
+    /// Entry `number` of those that are left.
+    pub fn entry(&self, number: u32) -> E
+        requires { number < length self.now }
+        ensures { slice_get self.now number ≡ Some result }
+    {
+        let at = item_offset(self.bytes.len(), self.at, E::size(), number);
+        match E::read(self.bytes, at, self.counts, 0) {
+            Ok((entry, _)) => entry,
+            Err(_) => unreachable!(),
+        }
+    }
+
+    /// How many keys are left.
+    fn key_count(&self) -> u32
+        ensures { result ≡ length (map E.key self.now) }
+    {
+        self.left
+    }
+
+    /// Key `number` of those that are left.
+    fn key_at(&self, number: u32) -> u64
+        requires { number < length (map E.key self.now) }
+        ensures { slice_get (map E.key self.now) number ≡ Some result }
+    {
+        self.entry(number).key()
+    }
+
+    /// How many of the keys are below a number. It halves those that are left.
+    pub(crate) fn place_of(&self, number: u64) -> u32
+        requires { DoRise (map E.key self.now) }
+        ensures { IsPlaceOf number (map E.key self.now) result }
+    {
+        let mut low = 0;
+        let mut high = self.key_count();
+        while low < high {
+            let middle = low + (high - low) / 2;
+            if self.key_at(middle) < number {
+                low = middle + 1;
+            } else {
+                high = middle;
+            }
+        }
+        low
+    }
+}
+
+impl<'a, E: Entry> Iterator for Section<'a, E> {
     type Item = E;
 
     ghost next_gives = { YieldsFirst (λ s. s) };
@@ -123,7 +193,7 @@ impl<'a, E: Entry> Iterator for Entries<'a, E> {
         }
         match E::read(self.bytes, self.at, self.counts, self.least) {
             Ok((entry, next)) => {
-                self.least = entry.least_behind();
+                self.least = entry.least_after();
                 self.at = next;
                 self.left -= 1;
                 Some(entry)

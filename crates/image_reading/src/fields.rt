@@ -142,7 +142,7 @@ pub(crate) fn rising_word(
 }
 
 /// A key of two parts, in the order of the first and then of the second.
-pub(crate) fn pair_key(first: u32, second: u32) -> u64
+pub fn pair_key(first: u32, second: u32) -> u64
     ensures { result ≡ pair_key first second }
 {
     u64::from(first) * 0x1_0000_0000 + u64::from(second)

@@ -21,7 +21,7 @@ pub fn radix_limit(memory_bits: u32) -> u32
 
 /// How many entries each section has.
 #[derive(Drop)]
-struct Counts {
+struct SectionCounts {
     untypeds: u32,
     objects: u32,
     capabilities: u32,
@@ -33,7 +33,7 @@ struct Counts {
     threads: u32,
 }
 
-impl Model for Counts {
+impl Model for SectionCounts {
     ghost use Rattle.image_reading.specs.Headers.{CountFields};
 
     ghost Value = { CountFields };
@@ -42,7 +42,7 @@ impl Model for Counts {
 }
 
 /// The counts at `at` of an image of this version, and the offset after them.
-fn section_counts(bytes: &[u8], at: usize, version: u32) -> Result<(Counts, usize), Refusal>
+fn section_counts(bytes: &[u8], at: usize, version: u32) -> Result<(SectionCounts, usize), Refusal>
     ensures { result ≡ (counts_format version).reads bytes.now at }
 {
     let (untypeds, at) = word_between(bytes, at, 1, 64)?;
@@ -54,7 +54,7 @@ fn section_counts(bytes: &[u8], at: usize, version: u32) -> Result<(Counts, usiz
     let (contents, at) = word_between(bytes, at, 0, 4096)?;
     let (promises, at) = promise_count(bytes, at, version)?;
     let (threads, at) = word_between(bytes, at, 1, 64)?;
-    let counts = Counts {
+    let counts = SectionCounts {
         untypeds,
         objects,
         capabilities,

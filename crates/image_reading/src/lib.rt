@@ -12,12 +12,14 @@ mod records;
 mod registers;
 mod sections;
 mod slot_words;
+mod spelled;
 mod threads;
 mod versions;
 mod word_lists;
 
 pub use contents::{ContentRef, Contents};
-pub use entries::Entries;
+pub use entries::{Counts, Entry, Keyed, Listed, Section};
+pub use fields::pair_key;
 pub use headers::radix_limit;
 pub use image_entries::{
     CapabilityRange, capability_of, frame_at, header_of, listed_in, lists_page, lists_region,
@@ -28,5 +30,6 @@ pub use promises::{PromiseRef, Promises};
 pub use reading::{ImageRef, read};
 pub use records::{RecordRef, Records, Slots};
 pub use slot_words::{names_parent, unpacks};
+pub use spelled::{Spelled, append_all};
 pub use threads::{ThreadRef, Threads};
 pub use versions::{has_buffers, has_promises, is_known_version};

@@ -5,10 +5,10 @@ ghost use Rattle.std.specs.Iterator.{YieldsFirst, item_count};
 ghost use Rattle.model.specs.Images.Format.{end_of, field, ordered};
 ghost use Rattle.model.specs.Images.Image.{promise_format};
 
-use crate::entries::{Counts, Entries, entries_end};
+use crate::entries::{Counts, Section, entries_end};
 use crate::fields::{any_word, rising_word, word_between};
 use model::{PromiseHeader, PromisedWord, Refusal};
-use std::marker::{Model, PhantomData};
+use std::marker::Model;
 
 /// What every message to an endpoint keeps, lent from the file.
 #[derive(Drop)]
@@ -84,17 +84,10 @@ impl<'a> PromiseRef<'a> {
     }
 
     /// The ranges of the promised words, from the first word on.
-    pub fn words(&self) -> Entries<'a, PromisedWord>
+    pub fn words(&self) -> Section<'a, PromisedWord>
         ensures { result ≡ self.now.words }
     {
-        Entries {
-            bytes: self.bytes,
-            at: self.words_at,
-            counts: self.counts,
-            least: 0,
-            left: self.header.words,
-            kind: PhantomData,
-        }
+        Section::new(self.bytes, self.words_at, self.counts, 0, self.header.words)
     }
 }
 

@@ -6,7 +6,7 @@ ghost use Rattle.model.specs.Images.Image.{whole_image};
 ghost use Rattle.image_reading.specs.Sections.{HasCounts};
 
 use crate::contents::{ContentRef, Contents, contents_end};
-use crate::entries::{Counts, Entries, entries_end, entry_of};
+use crate::entries::{Counts, Section, entries_end};
 use crate::headers::image_header;
 use crate::promises::{Promises, promises_end};
 use crate::threads::{ThreadRef, Threads, threads_end};
@@ -14,7 +14,7 @@ use model::{
     CapabilityEntry, FrameEntry, ImageHeader, InterruptEntry, ObjectEntry, Refusal, TableEntry,
     UntypedEntry,
 };
-use std::marker::{Model, PhantomData};
+use std::marker::Model;
 
 /// An image, lent from the bytes of its file.
 #[derive(Drop)]
@@ -67,201 +67,147 @@ impl<'a> ImageRef<'a> {
     }
 
     /// An untyped memory, by its number from 0.
-    #[tactic(auto, unfolding(crate::specs::Sections::untypeds_format))]
     pub fn untyped(&self, number: u32) -> UntypedEntry
         requires { number < self.now.header.untypeds }
         ensures { slice_get self.now.untypeds number ≡ Some result }
     {
-        let header = &self.header;
-        let counts = counts_of(header);
-        entry_of(
-            self.bytes,
-            self.untypeds_at,
-            counts,
-            8,
-            header.untypeds,
-            number,
-        )
+        let _ = self.header();
+        self.untypeds().entry(number)
     }
 
     /// An object, by its number from 0.
-    #[tactic(auto, unfolding(crate::specs::Sections::objects_format))]
     pub fn object(&self, number: u32) -> ObjectEntry
         requires { number < self.now.header.objects }
         ensures { slice_get self.now.objects number ≡ Some result }
     {
-        let header = &self.header;
-        let counts = counts_of(header);
-        entry_of(
-            self.bytes,
-            self.objects_at,
-            counts,
-            12,
-            header.objects,
-            number,
-        )
+        let _ = self.header();
+        self.objects().entry(number)
     }
 
     /// A capability, by its number from 0.
-    #[tactic(auto, unfolding(crate::specs::Sections::capabilities_format))]
     pub fn capability(&self, number: u32) -> CapabilityEntry
         requires { number < self.now.header.capabilities }
         ensures { slice_get self.now.capabilities number ≡ Some result }
     {
-        let header = &self.header;
-        let counts = counts_of(header);
-        entry_of(
-            self.bytes,
-            self.capabilities_at,
-            counts,
-            20,
-            header.capabilities,
-            number,
-        )
+        let _ = self.header();
+        self.capabilities().entry(number)
     }
 
     /// An interrupt, by its number from 0.
-    #[tactic(auto, unfolding(crate::specs::Sections::interrupts_format))]
     pub fn interrupt(&self, number: u32) -> InterruptEntry
         requires { number < self.now.header.interrupts }
         ensures { slice_get self.now.interrupts number ≡ Some result }
     {
-        let header = &self.header;
-        let counts = counts_of(header);
-        entry_of(
-            self.bytes,
-            self.interrupts_at,
-            counts,
-            12,
-            header.interrupts,
-            number,
-        )
+        let _ = self.header();
+        self.interrupts().entry(number)
     }
 
     /// A page table that is mapped, by its number from 0.
-    #[tactic(auto, unfolding(crate::specs::Sections::tables_format))]
     pub fn table(&self, number: u32) -> TableEntry
         requires { number < self.now.header.tables }
         ensures { slice_get self.now.tables number ≡ Some result }
     {
-        let header = &self.header;
-        let counts = counts_of(header);
-        entry_of(
-            self.bytes,
-            self.tables_at,
-            counts,
-            12,
-            header.tables,
-            number,
-        )
+        let _ = self.header();
+        self.tables().entry(number)
     }
 
     /// A frame that is mapped, by its number from 0.
-    #[tactic(auto, unfolding(crate::specs::Sections::frames_format))]
     pub fn frame(&self, number: u32) -> FrameEntry
         requires { number < self.now.header.frames }
         ensures { slice_get self.now.frames number ≡ Some result }
     {
-        let header = &self.header;
-        let counts = counts_of(header);
-        entry_of(
-            self.bytes,
-            self.frames_at,
-            counts,
-            16,
-            header.frames,
-            number,
-        )
+        let _ = self.header();
+        self.frames().entry(number)
     }
 
     /// The untyped memories.
     #[tactic(auto, unfolding(crate::specs::Sections::untypeds_format))]
-    pub fn untypeds(&self) -> Entries<'a, UntypedEntry>
+    pub fn untypeds(&self) -> Section<'a, UntypedEntry>
         ensures { result ≡ self.now.untypeds }
     {
-        Entries {
-            bytes: self.bytes,
-            at: self.untypeds_at,
-            counts: counts_of(&self.header),
-            least: 0,
-            left: self.header.untypeds,
-            kind: PhantomData,
-        }
+        let header = &self.header;
+        Section::new(
+            self.bytes,
+            self.untypeds_at,
+            counts_of(header),
+            0,
+            header.untypeds,
+        )
     }
 
     /// The objects, in the order of the untyped memories that they are made in.
     #[tactic(auto, unfolding(crate::specs::Sections::objects_format))]
-    pub fn objects(&self) -> Entries<'a, ObjectEntry>
+    pub fn objects(&self) -> Section<'a, ObjectEntry>
         ensures { result ≡ self.now.objects }
     {
-        Entries {
-            bytes: self.bytes,
-            at: self.objects_at,
-            counts: counts_of(&self.header),
-            least: 0,
-            left: self.header.objects,
-            kind: PhantomData,
-        }
+        let header = &self.header;
+        Section::new(
+            self.bytes,
+            self.objects_at,
+            counts_of(header),
+            0,
+            header.objects,
+        )
     }
 
     /// The capabilities, in rising order of CNode and index.
     #[tactic(auto, unfolding(crate::specs::Sections::capabilities_format))]
-    pub fn capabilities(&self) -> Entries<'a, CapabilityEntry>
+    pub fn capabilities(&self) -> Section<'a, CapabilityEntry>
         ensures { result ≡ self.now.capabilities }
     {
-        Entries {
-            bytes: self.bytes,
-            at: self.capabilities_at,
-            counts: counts_of(&self.header),
-            least: 0,
-            left: self.header.capabilities,
-            kind: PhantomData,
-        }
+        let header = &self.header;
+        Section::new(
+            self.bytes,
+            self.capabilities_at,
+            counts_of(header),
+            0,
+            header.capabilities,
+        )
     }
 
     /// The interrupts, in rising order of their lines.
     #[tactic(auto, unfolding(crate::specs::Sections::interrupts_format))]
-    pub fn interrupts(&self) -> Entries<'a, InterruptEntry>
+    pub fn interrupts(&self) -> Section<'a, InterruptEntry>
         ensures { result ≡ self.now.interrupts }
     {
-        Entries {
-            bytes: self.bytes,
-            at: self.interrupts_at,
-            counts: counts_of(&self.header),
-            least: 0,
-            left: self.header.interrupts,
-            kind: PhantomData,
-        }
+        let header = &self.header;
+        Section::new(
+            self.bytes,
+            self.interrupts_at,
+            counts_of(header),
+            0,
+            header.interrupts,
+        )
     }
 
     /// The page tables that are mapped, in rising order of root table and address.
     #[tactic(auto, unfolding(crate::specs::Sections::tables_format))]
-    pub fn tables(&self) -> Entries<'a, TableEntry>
+    pub fn tables(&self) -> Section<'a, TableEntry>
         ensures { result ≡ self.now.tables }
     {
-        Entries {
-            bytes: self.bytes,
-            at: self.tables_at,
-            counts: counts_of(&self.header),
-            least: 0,
-            left: self.header.tables,
-            kind: PhantomData,
-        }
+        let header = &self.header;
+        Section::new(
+            self.bytes,
+            self.tables_at,
+            counts_of(header),
+            0,
+            header.tables,
+        )
     }
 
     /// The frames that are mapped, in rising order of root table and address.
     #[tactic(auto, unfolding(crate::specs::Sections::frames_format))]
-    pub fn frames(&self) -> Entries<'a, FrameEntry>
+    pub fn frames(&self) -> Section<'a, FrameEntry>
         ensures { result ≡ self.now.frames }
     {
-        Entries {
-            bytes: self.bytes,
-            at: self.frames_at,
-            counts: counts_of(&self.header),
-            least: 0,
-            left: self.header.frames,
-            kind: PhantomData,
-        }
+        let header = &self.header;
+        Section::new(
+            self.bytes,
+            self.frames_at,
+            counts_of(header),
+            0,
+            header.frames,
+        )
     }
 
     /// What frames begin with, in rising order of the frames.

@@ -5,13 +5,13 @@ ghost use Rattle.std.specs.Iterator.{YieldsFirst, item_count};
 ghost use Rattle.model.specs.Images.Format.{end_of};
 ghost use Rattle.model.specs.Images.Image.{record_format, records_format, slots_format};
 
-use crate::entries::{Counts, Entries, entries_end};
+use crate::entries::{Counts, Section, entries_end};
 use crate::headers::record_header;
 use model::{RangeEntry, RecordHeader, Refusal, SlotEntry, TermEntry};
-use std::marker::{Model, PhantomData};
+use std::marker::Model;
 
 /// The slots that a record notes, in rising order of CNode and index.
-pub type Slots<'a> = Entries<'a, SlotEntry>;
+pub type Slots<'a> = Section<'a, SlotEntry>;
 
 /// One record of a certificate, lent from the file.
 #[derive(Drop)]
@@ -79,48 +79,33 @@ impl<'a> RecordRef<'a> {
 
     /// The ranges that the record lists, in rising order of their registers.
     #[tactic(auto, unfolding(model::specs::Images::Image::ranges_format))]
-    pub fn ranges(&self) -> Entries<'a, RangeEntry>
+    pub fn ranges(&self) -> Section<'a, RangeEntry>
         ensures value { result ≡ self.now.ranges }
         // Each has a value.
         ensures ordered { All (λ e. e.low ≤ e.high) result }
     {
-        Entries {
-            bytes: self.bytes,
-            at: self.ranges_at,
-            counts: self.counts,
-            least: 1,
-            left: self.header.ranges,
-            kind: PhantomData,
-        }
+        Section::new(
+            self.bytes,
+            self.ranges_at,
+            self.counts,
+            1,
+            self.header.ranges,
+        )
     }
 
     /// The slots that the record notes, in rising order of CNode and index.
     pub fn slots(&self) -> Slots<'a>
         ensures { result ≡ self.now.slots }
     {
-        Entries {
-            bytes: self.bytes,
-            at: self.slots_at,
-            counts: self.counts,
-            least: 0,
-            left: self.header.slots,
-            kind: PhantomData,
-        }
+        Section::new(self.bytes, self.slots_at, self.counts, 0, self.header.slots)
     }
 
     /// The terms of the measure, in rising order of their registers.
     #[tactic(auto, unfolding(model::specs::Images::Image::terms_format))]
-    pub fn terms(&self) -> Entries<'a, TermEntry>
+    pub fn terms(&self) -> Section<'a, TermEntry>
         ensures { result ≡ self.now.terms }
     {
-        Entries {
-            bytes: self.bytes,
-            at: self.terms_at,
-            counts: self.counts,
-            least: 1,
-            left: self.header.terms,
-            kind: PhantomData,
-        }
+        Section::new(self.bytes, self.terms_at, self.counts, 1, self.header.terms)
     }
 
     /// How many slots the record notes.

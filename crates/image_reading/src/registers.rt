@@ -1,18 +1,54 @@
 //! Entries whose key is a register, 1 to 31.
 
-ghost use Rattle.std.specs.Prelude.{◌≡◌, ◌+◌, ◌-◌, ◌^◌, ◌&&◌, ◌||◌, nat_le, nat_lt};
+ghost use Rattle.std.specs.Prelude.{◌≡◌, ◌+◌, ◌-◌, ◌^◌, ◌&&◌, ◌||◌, nat_le, nat_lt, if◌then◌else◌, Some, None};
 ghost use Rattle.model.specs.Images.Format.{field};
 ghost use Rattle.model.specs.Images.Image.{register_format, range_format, term_format};
 
-use crate::entries::{Counts, Entry};
+use crate::entries::{Counts, Entry, Keyed, Listed};
 use crate::fields::{any_word, coefficient, word_between};
+use crate::spelled::{Spelled, append_all};
 use model::{RangeEntry, Refusal, RegisterEntry, TermEntry};
+use std::alloc::AllocError;
+
+impl Keyed for RegisterEntry {
+    ghost key = { λ e. e.register };
+
+    fn key(&self) -> u64 {
+        u64::from(self.register)
+    }
+}
 
 #[tactic(auto, unfolding(model::specs::Images::Image::register_format))]
-impl Entry for RegisterEntry {
+impl Spelled for RegisterEntry {
+    ghost spelling = { (register_format 0).spelling };
+
+    fn append(&self, bytes: &mut Vec<u8>) -> Result<(), AllocError> {
+        append_all(bytes, &[self.register, self.value])
+    }
+}
+
+#[tactic(auto, unfolding(model::specs::Images::Image::register_format))]
+impl Listed for RegisterEntry {
     ghost format = { λ _. register_format };
 
     ghost next = { λ e. e.register + 1 };
+
+    fn fits(&self, _counts: Counts, least: u64) -> Option<u64> {
+        let RegisterEntry { register, value } = *self;
+        let key = u64::from(register);
+        if least <= key && register <= 31 && value != 0 {
+            Some(key + 1)
+        } else {
+            None
+        }
+    }
+}
+
+#[tactic(auto, unfolding(model::specs::Images::Image::register_format))]
+impl Entry for RegisterEntry {
+    fn size() -> usize {
+        8
+    }
 
     fn read(
         bytes: &[u8],
@@ -28,7 +64,7 @@ impl Entry for RegisterEntry {
         Ok((RegisterEntry { register, value }, next))
     }
 
-    fn least_behind(&self) -> u64 {
+    fn least_after(&self) -> u64 {
         u64::from(self.register) + 1
     }
 }
@@ -52,11 +88,50 @@ fn range_end(bytes: &[u8], at: usize, low: u32) -> Result<(u32, usize), Refusal>
     }
 }
 
+impl Keyed for RangeEntry {
+    ghost key = { λ e. e.register };
+
+    fn key(&self) -> u64 {
+        u64::from(self.register)
+    }
+}
+
 #[tactic(auto, unfolding(model::specs::Images::Image::range_format))]
-impl Entry for RangeEntry {
+impl Spelled for RangeEntry {
+    ghost spelling = { (range_format 0).spelling };
+
+    fn append(&self, bytes: &mut Vec<u8>) -> Result<(), AllocError> {
+        append_all(bytes, &[self.register, self.low, self.high])
+    }
+}
+
+#[tactic(auto, unfolding(model::specs::Images::Image::range_format))]
+impl Listed for RangeEntry {
     ghost format = { λ _. range_format };
 
     ghost next = { λ e. e.register + 1 };
+
+    fn fits(&self, _counts: Counts, least: u64) -> Option<u64> {
+        let RangeEntry {
+            register,
+            low,
+            high,
+        } = *self;
+        let key = u64::from(register);
+        let is_full = low == 0 && high == u32::MAX;
+        if least <= key && register <= 31 && low <= high && !is_full {
+            Some(key + 1)
+        } else {
+            None
+        }
+    }
+}
+
+#[tactic(auto, unfolding(model::specs::Images::Image::range_format))]
+impl Entry for RangeEntry {
+    fn size() -> usize {
+        12
+    }
 
     fn read(
         bytes: &[u8],
@@ -77,16 +152,53 @@ impl Entry for RangeEntry {
         ))
     }
 
-    fn least_behind(&self) -> u64 {
+    fn least_after(&self) -> u64 {
         u64::from(self.register) + 1
+    }
+}
+
+impl Keyed for TermEntry {
+    ghost key = { λ e. e.register };
+
+    fn key(&self) -> u64 {
+        u64::from(self.register)
+    }
+}
+
+#[tactic(auto, unfolding(model::specs::Images::Image::term_format))]
+impl Spelled for TermEntry {
+    ghost spelling = { (term_format 0).spelling };
+
+    fn append(&self, bytes: &mut Vec<u8>) -> Result<(), AllocError> {
+        append_all(bytes, &[self.register, self.coefficient.cast_unsigned()])
+    }
+}
+
+#[tactic(auto, unfolding(model::specs::Images::Image::term_format))]
+impl Listed for TermEntry {
+    ghost format = { λ _. term_format };
+
+    ghost next = { λ e. e.register + 1 };
+
+    fn fits(&self, _counts: Counts, least: u64) -> Option<u64> {
+        let TermEntry {
+            register,
+            coefficient,
+        } = *self;
+        let key = u64::from(register);
+        if least <= key && register <= 31 && coefficient != 0 {
+            Some(key + 1)
+        } else {
+            None
+        }
     }
 }
 
 #[tactic(auto, unfolding(model::specs::Images::Image::term_format))]
 impl Entry for TermEntry {
-    ghost format = { λ _. term_format };
-
-    ghost next = { λ e. e.register + 1 };
+    fn size() -> usize {
+        8
+    }
 
     fn read(
         bytes: &[u8],
@@ -105,7 +217,7 @@ impl Entry for TermEntry {
         ))
     }
 
-    fn least_behind(&self) -> u64 {
+    fn least_after(&self) -> u64 {
         u64::from(self.register) + 1
     }
 }

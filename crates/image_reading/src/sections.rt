@@ -1,25 +1,64 @@
-//! Entries of the sections of an image before the contents, of the words of a promise, and of the slots that a record notes.
+//! Entries of the sections of an image before the contents, of the words of a promise, and of the slots that a record notes: each is
+//! read, tested and spelled here.
 
-ghost use Rattle.std.specs.Prelude.{◌≡◌, ◌==◌, ◌&&◌, ◌||◌, ◌+◌, ◌^◌, nat_lt, nat_le, is_some};
+ghost use Rattle.std.specs.Prelude.{◌≡◌, ◌==◌, ◌&&◌, ◌||◌, ◌+◌, ◌^◌, nat_lt, nat_le, is_some, if◌then◌else◌, Some, None};
 ghost use Rattle.model.specs.Capabilities.CapabilityFields.{unpacked};
 ghost use Rattle.model.specs.Images.Format.{field};
 ghost use Rattle.model.specs.Images.Image.{below, capability_format, frame_format, interrupt_format, names_parent, object_format, pair_key, promised_word_format, size_fits, slot_format, table_format, untyped_format};
 
-use crate::entries::{Counts, Entry};
+use crate::entries::{Counts, Entry, Keyed, Listed};
 use crate::fields::{
     any_word, object_or_none, pair_key, rising_word, second_part, word_below, word_between,
 };
 use crate::slot_words::{is_empty, names_parent, unpacks};
+use crate::spelled::{Spelled, append_all};
 use model::{
     CapabilityEntry, FrameEntry, InterruptEntry, ObjectEntry, PromisedWord, Refusal, SlotEntry,
     TableEntry, UntypedEntry,
 };
+use std::alloc::AllocError;
+
+impl Keyed for UntypedEntry {
+    ghost key = { λ _. 0 };
+
+    fn key(&self) -> u64 {
+        0
+    }
+}
 
 #[tactic(auto, unfolding(model::specs::Images::Image::untyped_format))]
-impl Entry for UntypedEntry {
+impl Spelled for UntypedEntry {
+    ghost spelling = { untyped_format.spelling };
+
+    fn append(&self, bytes: &mut Vec<u8>) -> Result<(), AllocError> {
+        append_all(bytes, &[self.offset, self.bits])
+    }
+}
+
+#[tactic(auto, unfolding(model::specs::Images::Image::untyped_format))]
+impl Listed for UntypedEntry {
     ghost format = { λ _ _. untyped_format };
 
     ghost next = { λ _. 0 };
+
+    fn fits(&self, _counts: Counts, _least: u64) -> Option<u64> {
+        let UntypedEntry {
+            offset: _offset,
+            bits,
+        } = *self;
+        if 4 <= bits && bits <= 24 {
+            Some(0)
+        } else {
+            None
+        }
+    }
+}
+
+#[tactic(auto, unfolding(model::specs::Images::Image::untyped_format))]
+impl Entry for UntypedEntry {
+    fn size() -> usize {
+        8
+    }
 
     fn read(
         bytes: &[u8],
@@ -32,7 +71,7 @@ impl Entry for UntypedEntry {
         Ok((UntypedEntry { offset, bits }, at))
     }
 
-    fn least_behind(&self) -> u64 {
+    fn least_after(&self) -> u64 {
         0
     }
 }
@@ -61,11 +100,54 @@ fn object_size(bytes: &[u8], at: usize, kind: u32) -> Result<(u32, usize), Refus
     }
 }
 
+impl Keyed for ObjectEntry {
+    ghost key = { λ e. e.untyped };
+
+    fn key(&self) -> u64 {
+        u64::from(self.untyped)
+    }
+}
+
 #[tactic(auto, unfolding(model::specs::Images::Image::object_format))]
-impl Entry for ObjectEntry {
+impl Spelled for ObjectEntry {
+    ghost spelling = { (object_format 0 0).spelling };
+
+    fn append(&self, bytes: &mut Vec<u8>) -> Result<(), AllocError> {
+        append_all(bytes, &[self.untyped, self.kind, self.size])
+    }
+}
+
+#[tactic(auto, unfolding(model::specs::Images::Image::object_format))]
+impl Listed for ObjectEntry {
     ghost format = { λ c. object_format c.untypeds };
 
     ghost next = { λ e. e.untyped };
+
+    fn fits(&self, counts: Counts, least: u64) -> Option<u64> {
+        let ObjectEntry {
+            untyped,
+            kind,
+            size,
+        } = *self;
+        let key = u64::from(untyped);
+        if least <= key
+            && untyped < counts.untypeds
+            && 1 <= kind
+            && kind <= 8
+            && size_fits(kind, size)
+        {
+            Some(key)
+        } else {
+            None
+        }
+    }
+}
+
+#[tactic(auto, unfolding(model::specs::Images::Image::object_format))]
+impl Entry for ObjectEntry {
+    fn size() -> usize {
+        12
+    }
 
     fn read(
         bytes: &[u8],
@@ -86,16 +168,66 @@ impl Entry for ObjectEntry {
         ))
     }
 
-    fn least_behind(&self) -> u64 {
+    fn least_after(&self) -> u64 {
         u64::from(self.untyped)
+    }
+}
+
+impl Keyed for CapabilityEntry {
+    ghost key = { λ e. pair_key e.cnode e.index };
+
+    fn key(&self) -> u64 {
+        pair_key(self.cnode, self.index)
+    }
+}
+
+#[tactic(auto, unfolding(model::specs::Images::Image::capability_format))]
+impl Spelled for CapabilityEntry {
+    ghost spelling = { (capability_format 0 0 0).spelling };
+
+    fn append(&self, bytes: &mut Vec<u8>) -> Result<(), AllocError> {
+        append_all(
+            bytes,
+            &[
+                self.cnode,
+                self.index,
+                self.source,
+                self.rights,
+                self.payload,
+            ],
+        )
+    }
+}
+
+#[tactic(auto, unfolding(model::specs::Images::Image::capability_format))]
+impl Listed for CapabilityEntry {
+    ghost format = { λ c. capability_format c.objects c.interrupts };
+
+    ghost next = { λ e. pair_key e.cnode e.index + 1 };
+
+    fn fits(&self, counts: Counts, least: u64) -> Option<u64> {
+        let CapabilityEntry {
+            cnode,
+            index,
+            source,
+            rights: _,
+            payload: _,
+        } = *self;
+        let key = pair_key(cnode, index);
+        let sources = u64::from(counts.objects) + u64::from(counts.interrupts);
+        if cnode < counts.objects && least <= key && u64::from(source) < sources {
+            Some(key + 1)
+        } else {
+            None
+        }
     }
 }
 
 #[tactic(auto, unfolding(model::specs::Images::Image::capability_format))]
 impl Entry for CapabilityEntry {
-    ghost format = { λ c. capability_format c.objects c.interrupts };
-
-    ghost next = { λ e. pair_key e.cnode e.index + 1 };
+    fn size() -> usize {
+        20
+    }
 
     fn read(
         bytes: &[u8],
@@ -120,7 +252,7 @@ impl Entry for CapabilityEntry {
         ))
     }
 
-    fn least_behind(&self) -> u64 {
+    fn least_after(&self) -> u64 {
         pair_key(self.cnode, self.index) + 1
     }
 }
@@ -137,11 +269,49 @@ fn source(bytes: &[u8], at: usize, counts: Counts) -> Result<(u32, usize), Refus
     }
 }
 
+impl Keyed for InterruptEntry {
+    ghost key = { λ e. e.line };
+
+    fn key(&self) -> u64 {
+        u64::from(self.line)
+    }
+}
+
 #[tactic(auto, unfolding(model::specs::Images::Image::interrupt_format))]
-impl Entry for InterruptEntry {
+impl Spelled for InterruptEntry {
+    ghost spelling = { (interrupt_format 0 0).spelling };
+
+    fn append(&self, bytes: &mut Vec<u8>) -> Result<(), AllocError> {
+        append_all(bytes, &[self.line, self.notification, self.badge])
+    }
+}
+
+#[tactic(auto, unfolding(model::specs::Images::Image::interrupt_format))]
+impl Listed for InterruptEntry {
     ghost format = { λ c. interrupt_format c.objects };
 
     ghost next = { λ e. e.line + 1 };
+
+    fn fits(&self, counts: Counts, least: u64) -> Option<u64> {
+        let InterruptEntry {
+            line,
+            notification,
+            badge,
+        } = *self;
+        let key = u64::from(line);
+        if least <= key && line <= 63 && notification < counts.objects && badge < 1 << 28 {
+            Some(key + 1)
+        } else {
+            None
+        }
+    }
+}
+
+#[tactic(auto, unfolding(model::specs::Images::Image::interrupt_format))]
+impl Entry for InterruptEntry {
+    fn size() -> usize {
+        12
+    }
 
     fn read(
         bytes: &[u8],
@@ -162,16 +332,54 @@ impl Entry for InterruptEntry {
         ))
     }
 
-    fn least_behind(&self) -> u64 {
+    fn least_after(&self) -> u64 {
         u64::from(self.line) + 1
+    }
+}
+
+impl Keyed for TableEntry {
+    ghost key = { λ e. pair_key e.root e.address };
+
+    fn key(&self) -> u64 {
+        pair_key(self.root, self.address)
+    }
+}
+
+#[tactic(auto, unfolding(model::specs::Images::Image::table_format))]
+impl Spelled for TableEntry {
+    ghost spelling = { (table_format 0 0).spelling };
+
+    fn append(&self, bytes: &mut Vec<u8>) -> Result<(), AllocError> {
+        append_all(bytes, &[self.root, self.address, self.table])
+    }
+}
+
+#[tactic(auto, unfolding(model::specs::Images::Image::table_format))]
+impl Listed for TableEntry {
+    ghost format = { λ c. table_format c.objects };
+
+    ghost next = { λ e. pair_key e.root e.address + 1 };
+
+    fn fits(&self, counts: Counts, least: u64) -> Option<u64> {
+        let TableEntry {
+            root,
+            address,
+            table,
+        } = *self;
+        let key = pair_key(root, address);
+        if root < counts.objects && least <= key && table < counts.objects {
+            Some(key + 1)
+        } else {
+            None
+        }
     }
 }
 
 #[tactic(auto, unfolding(model::specs::Images::Image::table_format))]
 impl Entry for TableEntry {
-    ghost format = { λ c. table_format c.objects };
-
-    ghost next = { λ e. pair_key e.root e.address + 1 };
+    fn size() -> usize {
+        12
+    }
 
     fn read(
         bytes: &[u8],
@@ -192,16 +400,55 @@ impl Entry for TableEntry {
         ))
     }
 
-    fn least_behind(&self) -> u64 {
+    fn least_after(&self) -> u64 {
         pair_key(self.root, self.address) + 1
+    }
+}
+
+impl Keyed for FrameEntry {
+    ghost key = { λ e. pair_key e.root e.address };
+
+    fn key(&self) -> u64 {
+        pair_key(self.root, self.address)
+    }
+}
+
+#[tactic(auto, unfolding(model::specs::Images::Image::frame_format))]
+impl Spelled for FrameEntry {
+    ghost spelling = { (frame_format 0 0).spelling };
+
+    fn append(&self, bytes: &mut Vec<u8>) -> Result<(), AllocError> {
+        append_all(bytes, &[self.root, self.address, self.frame, self.rights])
+    }
+}
+
+#[tactic(auto, unfolding(model::specs::Images::Image::frame_format))]
+impl Listed for FrameEntry {
+    ghost format = { λ c. frame_format c.objects };
+
+    ghost next = { λ e. pair_key e.root e.address + 1 };
+
+    fn fits(&self, counts: Counts, least: u64) -> Option<u64> {
+        let FrameEntry {
+            root,
+            address,
+            frame,
+            rights,
+        } = *self;
+        let key = pair_key(root, address);
+        if root < counts.objects && least <= key && frame < counts.objects && rights <= 7 {
+            Some(key + 1)
+        } else {
+            None
+        }
     }
 }
 
 #[tactic(auto, unfolding(model::specs::Images::Image::frame_format))]
 impl Entry for FrameEntry {
-    ghost format = { λ c. frame_format c.objects };
-
-    ghost next = { λ e. pair_key e.root e.address + 1 };
+    fn size() -> usize {
+        16
+    }
 
     fn read(
         bytes: &[u8],
@@ -224,7 +471,7 @@ impl Entry for FrameEntry {
         ))
     }
 
-    fn least_behind(&self) -> u64 {
+    fn least_after(&self) -> u64 {
         pair_key(self.root, self.address) + 1
     }
 }
@@ -241,11 +488,40 @@ fn high_word(bytes: &[u8], at: usize, low: u32) -> Result<(u32, usize), Refusal>
     }
 }
 
+impl Keyed for PromisedWord {
+    ghost key = { λ _. 0 };
+
+    fn key(&self) -> u64 {
+        0
+    }
+}
+
 #[tactic(auto, unfolding(model::specs::Images::Image::promised_word_format))]
-impl Entry for PromisedWord {
+impl Spelled for PromisedWord {
+    ghost spelling = { promised_word_format.spelling };
+
+    fn append(&self, bytes: &mut Vec<u8>) -> Result<(), AllocError> {
+        append_all(bytes, &[self.low, self.high])
+    }
+}
+
+#[tactic(auto, unfolding(model::specs::Images::Image::promised_word_format))]
+impl Listed for PromisedWord {
     ghost format = { λ _ _. promised_word_format };
 
     ghost next = { λ _. 0 };
+
+    fn fits(&self, _counts: Counts, _least: u64) -> Option<u64> {
+        let PromisedWord { low, high } = *self;
+        if low <= high { Some(0) } else { None }
+    }
+}
+
+#[tactic(auto, unfolding(model::specs::Images::Image::promised_word_format))]
+impl Entry for PromisedWord {
+    fn size() -> usize {
+        8
+    }
 
     fn read(
         bytes: &[u8],
@@ -258,7 +534,7 @@ impl Entry for PromisedWord {
         Ok((PromisedWord { low, high }, at))
     }
 
-    fn least_behind(&self) -> u64 {
+    fn least_after(&self) -> u64 {
         0
     }
 }
@@ -304,11 +580,69 @@ fn slot_index(bytes: &[u8], at: usize, cnode: u32, least: u64) -> Result<(u32, u
     }
 }
 
+impl Keyed for SlotEntry {
+    ghost key = { λ e. pair_key e.cnode e.index };
+
+    fn key(&self) -> u64 {
+        pair_key(self.cnode, self.index)
+    }
+}
+
 #[tactic(auto, unfolding(model::specs::Images::Image::slot_format))]
-impl Entry for SlotEntry {
+impl Spelled for SlotEntry {
+    ghost spelling = { (slot_format 0 0).spelling };
+
+    fn append(&self, bytes: &mut Vec<u8>) -> Result<(), AllocError> {
+        append_all(
+            bytes,
+            &[
+                self.cnode,
+                self.index,
+                self.word0,
+                self.word1,
+                self.parent_cnode,
+                self.parent_index,
+            ],
+        )
+    }
+}
+
+#[tactic(auto, unfolding(model::specs::Images::Image::slot_format))]
+impl Listed for SlotEntry {
     ghost format = { λ c. slot_format c.objects };
 
     ghost next = { λ e. pair_key e.cnode e.index + 1 };
+
+    fn fits(&self, counts: Counts, least: u64) -> Option<u64> {
+        let SlotEntry {
+            cnode,
+            index,
+            word0,
+            word1,
+            parent_cnode,
+            parent_index,
+        } = *self;
+        let key = pair_key(cnode, index);
+        let is_empty = word0 == 0 && word1 == 0;
+        if cnode < counts.objects
+            && least <= key
+            && index < 1 << 14
+            && unpacks(word0, word1)
+            && (parent_cnode < counts.objects || parent_cnode == u32::MAX)
+            && names_parent(is_empty, parent_cnode, parent_index)
+        {
+            Some(key + 1)
+        } else {
+            None
+        }
+    }
+}
+
+#[tactic(auto, unfolding(model::specs::Images::Image::slot_format))]
+impl Entry for SlotEntry {
+    fn size() -> usize {
+        24
+    }
 
     fn read(
         bytes: &[u8],
@@ -335,7 +669,7 @@ impl Entry for SlotEntry {
         ))
     }
 
-    fn least_behind(&self) -> u64 {
+    fn least_after(&self) -> u64 {
         pair_key(self.cnode, self.index) + 1
     }
 }

@@ -6,12 +6,12 @@ ghost use Rattle.model.specs.Images.Fills.{bytes_of};
 ghost use Rattle.model.specs.Images.Format.{end_of, many};
 ghost use Rattle.model.specs.Images.Image.{slots_format, thread_format};
 
-use crate::entries::{Counts, Entries, entries_end};
+use crate::entries::{Counts, Section, entries_end};
 use crate::headers::thread_header;
 use crate::records::{Records, records_end};
 use crate::word_lists::{bytes_of_words, word_of, words_end};
 use model::{Refusal, RegisterEntry, ThreadHeader};
-use std::marker::{Model, PhantomData};
+use std::marker::Model;
 
 /// One thread of an image, lent from the file.
 #[derive(Drop)]
@@ -80,17 +80,16 @@ impl<'a> ThreadRef<'a> {
 
     /// The registers that the thread starts with, in rising order.
     #[tactic(auto, unfolding(model::specs::Images::Image::registers_format))]
-    pub fn registers(&self) -> Entries<'a, RegisterEntry>
+    pub fn registers(&self) -> Section<'a, RegisterEntry>
         ensures { result ≡ self.now.registers }
     {
-        Entries {
-            bytes: self.bytes,
-            at: self.registers_at,
-            counts: self.counts,
-            least: 1,
-            left: self.header.registers,
-            kind: PhantomData,
-        }
+        Section::new(
+            self.bytes,
+            self.registers_at,
+            self.counts,
+            1,
+            self.header.registers,
+        )
     }
 
     /// How many words the program has.

@@ -1,2 +1,2 @@
 -- What the crates above use of these proofs.
-pub use Rattle.image_reading.proofs.image_entries.Places.{any-here, any-no, key-at}
+pub use Rattle.image_reading.proofs.image_entries.Places.{AreHalved, any-here, any-no, key-at}

@@ -6,8 +6,9 @@ use Rattle.image.proofs.checking.parts_fit.Goals as goal
 
 pub returns : goal.returns
 returns c =
-    let l = c.in-Some.limits in
-    let threads = c.all_fit.ensures
-    ∙ ap (λ (ts : List Thread). many_fit (λ _. thread_format (slots_format l.objects) l.version l.objects) (λ _. 0) 0 (length ts) ts) c.deref.ensures.value
+    let l = c.in-Some.counts in
+    let version = c.parts.inside.version in
+    let threads = c.threads_fit.ensures
+    ∙ ap (λ (ts : List Thread). many_fit (λ _. thread_format (slots_format l.objects) version l.objects) (λ _. 0) 0 (length ts) ts) c.deref.ensures.value
     ∙ ap (threads_fit l) c.parts.view_is in
-    whole-fits c.args.parts.now l c.sections_fit.result c.all_fit.result c.in-Some.ensures c.if-not-sections_fit.false c.sections_fit.ensures threads
+    whole-fits c.args.parts.now l c.sections_fit.result c.threads_fit.result c.in-Some.ensures c.if-not-sections_fit.false c.sections_fit.ensures threads

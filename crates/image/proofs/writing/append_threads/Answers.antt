@@ -1,6 +1,6 @@
 use Rattle.std.proofs.Common.{sym, append-nil}
 use Rattle.image.specs.Spellings.{thread_bytes}
-use Rattle.image.proofs.Lists.{spelled-all, spelled-more}
+use Rattle.image_reading.proofs.Laws.{spelled-all, spelled-more}
 use Rattle.image.proofs.writing.append_threads.Goals as goal
 
 pub loop-thread-init : goal.loop-thread-init

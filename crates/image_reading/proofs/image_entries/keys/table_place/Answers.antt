@@ -1,7 +1,12 @@
 -- Their keys rise.
+use Rattle.std.proofs.Common.{List, map, subst, sym}
+use Rattle.model.specs.declared.entries.TableEntry.{TableEntry}
 use Rattle.model.specs.Images.Image.{pair_key}
+use Rattle.image_reading.specs.image_entries.Keys.{DoRise}
 use Rattle.image_reading.proofs.image_entries.Places.{keys-rise}
 use Rattle.image_reading.proofs.image_entries.keys.table_place.Goals as goal
 
 pub place_of-requires : goal.place_of-requires
-place_of-requires c = keys-rise (λ x. pair_key x.root x.address) c.args.image.now.tables c.header_of.ensures.fitting.regions_rise
+place_of-requires c =
+    subst (λ (xs : List TableEntry). DoRise (map (λ x. pair_key x.root x.address) xs)) (sym c.tables.ensures)
+    (keys-rise (λ x. pair_key x.root x.address) c.args.image.now.tables c.header_of.ensures.fitting.regions_rise)
