@@ -6,15 +6,14 @@ use Rattle.format_laws.proofs.Laws.{is-fitting}
 use Rattle.soundness.proofs.Laws.{are-formed}
 use Rattle.model.specs.declared.capabilities.Cap.{Cap}
 use Rattle.model.specs.declared.capabilities.Cap.TheVariants.{CNode}
-use Rattle.model.specs.declared.entries.ObjectEntry.{ObjectEntry}
 use Rattle.model.specs.declared.entries.ThreadHeader.{ThreadHeader}
 use Rattle.model.specs.Acceptance.Accepted.{IsWellFormed}
 use Rattle.model.specs.Acceptance.NotedKernel.{noted_root}
 use Rattle.model.specs.Acceptance.WellFormed.{radix_of}
 use Rattle.model.specs.Capabilities.CapabilityWords.{IsCapability}
 use Rattle.model.specs.Images.Image.{Image, Thread, whole_image}
-use Rattle.model.specs.Images.Places.{object_at, offset_of, type_at}
-use Rattle.model.specs.Kernel.Retype.{type_of}
+use Rattle.model.specs.Images.Places.{offset_of, type_at}
+use Rattle.model.specs.Kernel.Retype.{NewObject}
 use Rattle.typestate.specs.Spaces.{is_inside}
 use Rattle.thread_spaces.specs.Given.{AreOffsets, IsCNode, IsListed}
 use Rattle.thread_spaces.proofs.DescribedSlots.{root-valid}
@@ -40,10 +39,9 @@ module _ (image : Image) (t : Thread) (fits : whole_image.fits image ≡ true) (
   pub root-cnode : IsCNode image t.header.cnode
   root-cnode = radixed-cnode image t.header.cnode (is-fitting image fits) (root-radixed image t (are-formed image formed) listed)
 
-  pub root-radix : (h : ThreadHeader) (o : ObjectEntry) (found : Option ℕ) → h ≡ t.header → o ≡ object_at image h.cnode →
-      found ≡ radix_of (type_of o.kind o.size) → found ≡ Some root-cnode.radix
-  root-radix h o found here entry is =
-      is ∙ ap (λ (x : ObjectEntry). radix_of (type_of x.kind x.size)) (entry ∙ ap (λ (g : ThreadHeader). object_at image g.cnode) here) ∙ root-cnode.is
+  pub root-radix : (h : ThreadHeader) (kind : Option NewObject) (found : Option ℕ) → h ≡ t.header → kind ≡ type_at image h.cnode →
+      found ≡ radix_of kind → found ≡ Some root-cnode.radix
+  root-radix h kind found here entry is = is ∙ ap radix_of (entry ∙ ap (λ (g : ThreadHeader). type_at image g.cnode) here) ∙ root-cnode.is
 
   pub root-fits : (h : ThreadHeader) (radix offset : ℕ) → h ≡ t.header → Some radix ≡ Some root-cnode.radix → offset ≡ offset_of image h.cnode →
       IsCapability (CNode offset radix h.guard)

@@ -1,76 +1,63 @@
 //! The capabilities that a well-formed image lists.
 
-ghost use Rattle.std.specs.Prelude.{◌≡◌, ◌≤◌};
+ghost use Rattle.std.specs.Prelude.{◌≡◌, ◌≤◌, true};
 ghost use Rattle.std.specs.Option.{option_map_or};
 ghost use Rattle.model.specs.Acceptance.Accepted.{IsWellFormed};
 ghost use Rattle.model.specs.Acceptance.NotedStates.{listed_slot};
 ghost use Rattle.model.specs.Capabilities.CapabilityWords.{IsCapability};
 ghost use Rattle.model.specs.Images.Described.{limited, listed_capability};
+ghost use Rattle.model.specs.Images.Image.{size_fits};
 ghost use Rattle.model.specs.Kernel.Retype.{first_capability, type_of};
 ghost use Rattle.model.specs.declared.capabilities.Cap.TheVariants.{Empty};
 ghost use Rattle.thread_spaces.specs.Given.{AreOffsets, IsEntry};
 
 use image_reading::{ImageRef, header_of, object_of};
-use model::{Cap, CapabilityEntry, ObjectEntry, Rights};
+use model::{Cap, CapabilityEntry, ObjectEntry, ObjectType, Rights};
 use typestate::{NotedSlot, SlotKey};
 
-/// The types of objects by their numbers.
-const UNTYPED: u32 = 1;
-
-const TCB: u32 = 2;
-
-const ENDPOINT: u32 = 3;
-
-const NOTIFICATION: u32 = 4;
-
-const CNODE: u32 = 5;
-
-const FRAME: u32 = 6;
-
-const PAGE_TABLE: u32 = 7;
-
-const ROOT_TABLE: u32 = 8;
-
-/// A capability to an object: the first one, with these rights, and with this badge or guard word.
-fn object_capability(object: ObjectEntry, offset: u32, bits: u32, payload: u32) -> Cap
-    requires size { object.size ≤ 24 }
-    requires few { bits ≤ 255 }
-    ensures { result ≡ limited (option_map_or (λ kind. first_capability kind offset) (type_of object.kind object.size) Empty) bits payload }
+/// A capability with these rights, and with this badge or guard word, as far as its kind has them.
+fn limited(capability: Cap, bits: u32, payload: u32) -> Cap
+    requires { bits ≤ 255 }
+    ensures { result ≡ limited capability bits payload }
 {
     let rights = Rights(bits as u8);
-    match object.kind {
-        UNTYPED => Cap::Untyped {
-            offset,
-            bits: object.size as u8,
-            watermark: 0,
-        },
-        TCB => Cap::Tcb { offset },
-        ENDPOINT => Cap::Endpoint {
+    match capability {
+        Cap::Endpoint { offset, .. } => Cap::Endpoint {
             offset,
             rights,
             badge: payload,
         },
-        NOTIFICATION => Cap::Notification {
+        Cap::Notification { offset, .. } => Cap::Notification {
             offset,
             rights,
             badge: payload,
         },
-        CNODE => Cap::CNode {
+        Cap::CNode { offset, radix, .. } => Cap::CNode {
             offset,
-            radix: object.size as u8,
+            radix,
             guard: payload,
         },
-        FRAME => Cap::Frame {
+        Cap::Frame {
+            offset,
+            mapping,
+            ..
+        } => Cap::Frame {
             offset,
             rights,
-            mapping: None,
+            mapping,
         },
-        PAGE_TABLE => Cap::PageTable {
-            offset,
-            mapping: None,
-        },
-        ROOT_TABLE => Cap::RootTable { offset },
-        _ => Cap::Empty,
+        _ => capability,
+    }
+}
+
+/// The first capability to an object at an offset.
+fn first_capability(object: ObjectEntry, offset: u32) -> Cap
+    requires { size_fits object.kind object.size ≡ true }
+    ensures { result ≡ option_map_or (λ kind. first_capability kind offset) (type_of object.kind object.size) Empty }
+{
+    match ObjectType::of(object.kind, object.size) {
+        Some(kind) => kind.first_capability(offset),
+        None => Cap::Empty,
     }
 }
 
@@ -103,7 +90,8 @@ pub(crate) fn listed_capability(
     }
     let object = object_of(image, entry.source);
     let offset = offsets[entry.source as usize];
-    object_capability(object, offset, entry.rights, entry.payload)
+    let capability = first_capability(object, offset);
+    limited(capability, entry.rights, entry.payload)
 }
 
 /// The slot that an entry fills.

@@ -13,7 +13,7 @@ use crate::space_laws::{mappings_are_listed, threads_stand_apart};
 use image_reading::{ImageRef, ThreadRef};
 use model::Cap;
 use typestate::{Space, Windows};
-use wellformed::{object_at, radix_of};
+use wellformed::{radix_of, type_at};
 
 /// The root of a thread's capability space: its CNode, with its guard word.
 fn root_of(image: &ImageRef<'_>, thread: &ThreadRef<'_>, offsets: &[u32]) -> Cap
@@ -25,12 +25,12 @@ fn root_of(image: &ImageRef<'_>, thread: &ThreadRef<'_>, offsets: &[u32]) -> Cap
 {
     let _ = image.header();
     let header = thread.header();
-    let Some(radix) = radix_of(object_at(image, header.cnode)) else {
+    let Some(radix) = radix_of(type_at(image, header.cnode)) else {
         unreachable!()
     };
     Cap::CNode {
         offset: offsets[header.cnode as usize],
-        radix: radix as u8,
+        radix,
         guard: header.guard,
     }
 }

@@ -10,7 +10,7 @@ use crate::space_laws::threads_stand_apart;
 use image_reading::{ImageRef, ThreadRef};
 use std::alloc::{AllocError, Global};
 use typestate::{Window, Windows};
-use wellformed::{NumberSet, object_at, radix_of};
+use wellformed::{NumberSet, radix_of, type_at};
 
 /// Where a CNode lies.
 fn window_of(image: &ImageRef<'_>, offsets: &[u32], cnode: u32) -> Window
@@ -18,13 +18,13 @@ fn window_of(image: &ImageRef<'_>, offsets: &[u32], cnode: u32) -> Window
     requires cnode { IsCNode image.now cnode }
     ensures { IsWindow image.now cnode result }
 {
-    let Some(radix) = radix_of(object_at(image, cnode)) else {
+    let Some(radix) = radix_of(type_at(image, cnode)) else {
         unreachable!()
     };
     Window {
         cnode,
         offset: offsets[cnode as usize],
-        radix: radix as u8,
+        radix,
     }
 }
 

@@ -3,6 +3,7 @@ mod Covered
 mod Listed
 mod Named
 mod Phases
+mod Placing
 mod Reached
 mod RulesLeft
 mod Stands

@@ -10,7 +10,7 @@ ghost use Rattle.wellformed.specs.Answering.{Answers, AreNamed};
 
 use crate::number_sets::NumberSet;
 use crate::object_types::{
-    has_slot, is_notification, is_page_table, is_thread, is_untyped, may_have, object_at, source_at,
+    has_slot, is_notification, is_page_table, is_thread, is_untyped, may_have, source_type, type_at,
 };
 use image_reading::{ImageRef, header_of};
 use model::{CapabilityEntry, InterruptEntry, Refusal};
@@ -26,7 +26,7 @@ fn does_not_fit(
     requires { is_member entry.source sources.now ≡ is_listed_before image.now item entry.source }
     ensures { result ≡ does_not_fit image.now (item, entry) }
 {
-    let source = source_at(image, entry.source);
+    let source = source_type(image, entry.source);
     !has_slot(image, entry.cnode, entry.index)
         || is_thread(source)
         || is_page_table(source)
@@ -54,7 +54,7 @@ fn check_listed(image: &ImageRef<'_>, sources: &mut NumberSet) -> Result<(), Ref
 fn signals_nothing(image: &ImageRef<'_>, entry: InterruptEntry) -> bool
     ensures { result ≡ signals_nothing image.now entry }
 {
-    !is_notification(object_at(image, entry.notification))
+    !is_notification(type_at(image, entry.notification))
 }
 
 /// The interrupts, in their order, numbered on after the capabilities.

@@ -4,6 +4,7 @@
 mod capabilities;
 mod mappings;
 mod number_sets;
+mod object_places;
 mod object_types;
 mod objects;
 mod reach;
@@ -12,5 +13,9 @@ mod whole;
 
 pub use model::Refusal;
 pub use number_sets::NumberSet;
-pub use object_types::{bits_of, is_cnode_source, object_at, power, radix_of};
+pub use object_places::{Place, UsedMemory};
+pub use object_types::{
+    is_cnode_source, is_frame, is_page_table, is_root_table, is_thread, is_untyped, radix_of,
+    source_type, type_at,
+};
 pub use whole::well_formed;

@@ -10,7 +10,7 @@ ghost use Rattle.model.specs.Images.Described.{numbered};
 ghost use Rattle.wellformed.specs.Answering.{Answers, AreNamed, AreTwice, with_number};
 
 use crate::number_sets::NumberSet;
-use crate::object_types::{is_frame, is_page_table, is_root_table, object_at};
+use crate::object_types::{is_frame, is_page_table, is_root_table, type_at};
 use image_reading::{ContentRef, ImageRef, header_of, lists_region};
 use model::{FrameEntry, Refusal, TableEntry};
 use std::alloc::Global;
@@ -38,8 +38,8 @@ fn misplaces_table(image: &ImageRef<'_>, item: u32, entry: TableEntry, mapped: &
     requires { is_member entry.table mapped.now ≡ is_mapped_before image.now item entry.table }
     ensures { result ≡ misplaces_table image.now (item, entry) }
 {
-    !is_root_table(object_at(image, entry.root))
-        || !is_page_table(object_at(image, entry.table))
+    !is_root_table(type_at(image, entry.root))
+        || !is_page_table(type_at(image, entry.table))
         || !is_address(entry.address, REGION)
         || mapped.contains(entry.table)
 }
@@ -79,8 +79,8 @@ fn is_covered(image: &ImageRef<'_>, entry: FrameEntry) -> bool
 fn misplaces_frame(image: &ImageRef<'_>, entry: FrameEntry) -> bool
     ensures { result ≡ misplaces_frame image.now entry }
 {
-    !is_root_table(object_at(image, entry.root))
-        || !is_frame(object_at(image, entry.frame))
+    !is_root_table(type_at(image, entry.root))
+        || !is_frame(type_at(image, entry.frame))
         || !is_address(entry.address, PAGE)
         || !is_covered(image, entry)
         || entry.rights == 0
@@ -227,7 +227,7 @@ fn check_frames(alloc: Global, image: &ImageRef<'_>, sources: &NumberSet) -> Res
 fn fills_nothing(image: &ImageRef<'_>, content: &ContentRef<'_>) -> bool
     ensures { result ≡ fills_nothing image.now content.now }
 {
-    !is_frame(object_at(image, content.header().frame))
+    !is_frame(type_at(image, content.header().frame))
 }
 
 /// The contents, in their order, numbered on after the tables and frames.

@@ -1,113 +1,90 @@
 //! What the objects of an image are.
 
-ghost use Rattle.std.specs.Prelude.{◌≡◌, ◌^◌, ◌≤◌, nat_lt, true};
+ghost use Rattle.std.specs.Prelude.{◌≡◌, ◌^◌, ◌≤◌, nat_lt, option_map, true};
 ghost use Rattle.model.specs.Acceptance.WellFormed.{has_slot, is_frame_type, is_notification_type, is_root_type, is_table_type, is_thread_type, is_untyped_type, may_have, radix_of, source_type};
 ghost use Rattle.model.specs.Acceptance.ThreadRules.{is_cnode_source};
 ghost use Rattle.model.specs.Capabilities.CapabilityKinds.{is_guard_word};
 ghost use Rattle.model.specs.Images.Image.{size_fits};
-ghost use Rattle.model.specs.Images.Places.{bits_of, object_at};
-ghost use Rattle.model.specs.Kernel.Retype.{type_of};
+ghost use Rattle.model.specs.Images.Places.{bits_of, type_at};
+ghost use Rattle.model.specs.Kernel.ObjectTypes.{new_type};
 
 use capwords::is_guard_word;
-use image_reading::ImageRef;
-use model::ObjectEntry;
+use image_reading::{ImageRef, object_of};
+use model::{ObjectEntry, ObjectKind, ObjectType};
+use untyped::power;
 
-/// The types of objects by their numbers.
-const UNTYPED: u32 = 1;
-
-const TCB: u32 = 2;
-
-const ENDPOINT: u32 = 3;
-
-const NOTIFICATION: u32 = 4;
-
-const CNODE: u32 = 5;
-
-const FRAME: u32 = 6;
-
-const PAGE_TABLE: u32 = 7;
-
-const ROOT_TABLE: u32 = 8;
-
-/// What takes the place of an object that the image does not have: it has no type.
-const NO_OBJECT: ObjectEntry = ObjectEntry {
-    untyped: 0,
-    kind: 0,
-    size: 0,
-};
-
-/// An object, by its number, or one of no type where the image has none of this number.
-pub fn object_at(image: &ImageRef<'_>, number: u32) -> ObjectEntry
-    ensures { result ≡ object_at image.now number }
+/// What an object is, by its number, if the image has one of this number.
+pub fn type_at(image: &ImageRef<'_>, number: u32) -> Option<ObjectType>
+    ensures { option_map new_type result ≡ type_at image.now number }
 {
     if number < image.header().objects {
-        image.object(number)
+        let object = object_of(image, number);
+        ObjectType::of(object.kind, object.size)
     } else {
-        NO_OBJECT
+        None
     }
 }
 
-/// The source of a capability; a handler has no type.
-pub(crate) fn source_at(image: &ImageRef<'_>, source: u32) -> ObjectEntry
-    ensures { type_of result.kind result.size ≡ source_type image.now source }
+/// What the source of a capability is; a handler has no type.
+pub fn source_type(image: &ImageRef<'_>, source: u32) -> Option<ObjectType>
+    ensures { option_map new_type result ≡ source_type image.now source }
 {
     if source < image.header().objects {
-        object_at(image, source)
+        type_at(image, source)
     } else {
-        NO_OBJECT
+        None
     }
 }
 
 /// Whether this is untyped memory.
-pub(crate) fn is_untyped(object: ObjectEntry) -> bool
-    ensures { result ≡ is_untyped_type (type_of object.kind object.size) }
+pub fn is_untyped(object: Option<ObjectType>) -> bool
+    ensures { result ≡ is_untyped_type (option_map new_type object) }
 {
-    object.kind == UNTYPED
+    matches!(&object, Some(ObjectType::Untyped { .. }))
 }
 
 /// Whether this is a thread.
-pub(crate) fn is_thread(object: ObjectEntry) -> bool
-    ensures { result ≡ is_thread_type (type_of object.kind object.size) }
+pub fn is_thread(object: Option<ObjectType>) -> bool
+    ensures { result ≡ is_thread_type (option_map new_type object) }
 {
-    object.kind == TCB
+    matches!(&object, Some(ObjectType::Object(ObjectKind::Thread)))
 }
 
 /// Whether this is a notification.
-pub(crate) fn is_notification(object: ObjectEntry) -> bool
-    ensures { result ≡ is_notification_type (type_of object.kind object.size) }
+pub(crate) fn is_notification(object: Option<ObjectType>) -> bool
+    ensures { result ≡ is_notification_type (option_map new_type object) }
 {
-    object.kind == NOTIFICATION
+    matches!(&object, Some(ObjectType::Object(ObjectKind::Notification)))
 }
 
 /// Whether this is a frame.
-pub(crate) fn is_frame(object: ObjectEntry) -> bool
-    ensures { result ≡ is_frame_type (type_of object.kind object.size) }
+pub fn is_frame(object: Option<ObjectType>) -> bool
+    ensures { result ≡ is_frame_type (option_map new_type object) }
 {
-    object.kind == FRAME
+    matches!(&object, Some(ObjectType::Object(ObjectKind::Frame)))
 }
 
 /// Whether this is a page table.
-pub(crate) fn is_page_table(object: ObjectEntry) -> bool
-    ensures { result ≡ is_table_type (type_of object.kind object.size) }
+pub fn is_page_table(object: Option<ObjectType>) -> bool
+    ensures { result ≡ is_table_type (option_map new_type object) }
 {
-    object.kind == PAGE_TABLE
+    matches!(&object, Some(ObjectType::Object(ObjectKind::PageTable)))
 }
 
 /// Whether this is a root table.
-pub(crate) fn is_root_table(object: ObjectEntry) -> bool
-    ensures { result ≡ is_root_type (type_of object.kind object.size) }
+pub fn is_root_table(object: Option<ObjectType>) -> bool
+    ensures { result ≡ is_root_type (option_map new_type object) }
 {
-    object.kind == ROOT_TABLE
+    matches!(&object, Some(ObjectType::Object(ObjectKind::RootTable)))
 }
 
 /// The radix of a CNode.
-pub fn radix_of(object: ObjectEntry) -> Option<u32>
-    ensures { result ≡ radix_of (type_of object.kind object.size) }
+pub fn radix_of(object: Option<ObjectType>) -> Option<u8>
+    ensures { result ≡ radix_of (option_map new_type object) }
 {
-    if object.kind == CNODE {
-        Some(object.size)
-    } else {
-        None
+    match object {
+        Some(ObjectType::Object(ObjectKind::CNode { radix })) => Some(radix),
+        _ => None,
     }
 }
 
@@ -115,40 +92,19 @@ pub fn radix_of(object: ObjectEntry) -> Option<u32>
 pub fn is_cnode_source(image: &ImageRef<'_>, source: u32) -> bool
     ensures { result ≡ is_cnode_source image.now source }
 {
-    radix_of(source_at(image, source)).is_some()
+    radix_of(source_type(image, source)).is_some()
 }
 
 /// An object has 2 to the power of so many bytes.
-pub fn bits_of(object: ObjectEntry) -> u32
+pub(crate) fn bits_of(object: ObjectEntry) -> u32
     requires { size_fits object.kind object.size ≡ true }
     ensures value { result ≡ bits_of object }
     ensures most { result ≤ 24 }
 {
-    match object.kind {
-        UNTYPED => object.size,
-        TCB => 9,
-        ENDPOINT | NOTIFICATION => 4,
-        CNODE => object.size + 4,
-        FRAME | PAGE_TABLE | ROOT_TABLE => 12,
-        _ => 0,
+    match ObjectType::of(object.kind, object.size) {
+        Some(kind) => kind.bits(),
+        None => 0,
     }
-}
-
-/// So many bytes have 2 to the power of `bits`.
-pub fn power(bits: u32) -> u64
-    requires { bits ≤ 32 }
-    ensures value { result ≡ 2 ^ bits }
-    ensures most { result ≤ 2 ^ 32 }
-{
-    shifted(bits)
-}
-
-/// 1 shifted to the left.
-fn shifted(bits: u32) -> u64
-    requires { bits ≤ 32 }
-    ensures { result ≡ 2 ^ bits }
-{
-    1 << bits
 }
 
 /// Whether a number is below 2 to the power of `bits`.
@@ -162,27 +118,31 @@ fn is_below_power(number: u32, bits: u32) -> bool
 pub(crate) fn has_slot(image: &ImageRef<'_>, cnode: u32, index: u32) -> bool
     ensures { result ≡ has_slot image.now cnode index }
 {
-    match radix_of(object_at(image, cnode)) {
-        Some(radix) => is_below_power(index, radix),
+    match radix_of(type_at(image, cnode)) {
+        Some(radix) => is_below_power(index, u32::from(radix)),
         None => false,
     }
 }
 
 /// Whether a CNode of this radix may have this guard word.
-pub(crate) fn is_guard(radix: u32, word: u32) -> bool
+pub(crate) fn is_guard(radix: u8, word: u32) -> bool
     ensures { result ≡ is_guard_word radix word }
 {
-    radix <= 32 && is_guard_word(radix as u8, word)
+    is_guard_word(radix, word)
 }
 
 /// Whether a capability to such an object may have these rights, and this badge or guard word.
-pub(crate) fn may_have(object: ObjectEntry, rights: u32, payload: u32) -> bool
-    ensures { result ≡ may_have (type_of object.kind object.size) rights payload }
+pub(crate) fn may_have(object: Option<ObjectType>, rights: u32, payload: u32) -> bool
+    ensures { result ≡ may_have (option_map new_type object) rights payload }
 {
-    match object.kind {
-        ENDPOINT | NOTIFICATION => rights & 11 == rights && payload < 0x1000_0000,
-        FRAME => rights & 3 == rights && payload == 0,
-        CNODE => rights == 0 && is_guard(object.size, payload),
+    match object {
+        Some(ObjectType::Object(ObjectKind::Endpoint | ObjectKind::Notification)) => {
+            rights & 11 == rights && payload < 0x1000_0000
+        }
+        Some(ObjectType::Object(ObjectKind::Frame)) => rights & 3 == rights && payload == 0,
+        Some(ObjectType::Object(ObjectKind::CNode { radix })) => {
+            rights == 0 && is_guard(radix, payload)
+        }
         _ => rights == 0 && payload == 0,
     }
 }

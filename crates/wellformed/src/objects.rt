@@ -1,24 +1,19 @@
 //! Untypeds and objects: where they lie in memory.
 
-ghost use Rattle.std.specs.Prelude.{◌≡◌, ◌==◌, ◌%◌, ◌<◌, ◌≤◌, ◌^◌, ◌||◌, [], ◌∷◌, IfSome, is_none, map, nat_lt, not, replicate};
+ghost use Rattle.std.specs.Prelude.{◌≡◌, ◌==◌, ◌%◌, ◌<◌, ◌≤◌, ◌^◌, ◌||◌, [], ◌∷◌, map, nat_lt, not};
 ghost use Rattle.std.specs.List.{range_with_len};
 ghost use Rattle.model.specs.declared.refusals.Refusal.TheVariants.{BadObject, NoRoom, UntypedOverlap};
 ghost use Rattle.model.specs.Acceptance.Rules.{first_broken, refuse_if};
 ghost use Rattle.model.specs.Acceptance.WellFormed.{end_before, has_no_room, object_rules, overlaps, too_few_boot_slots, untyped_end};
 ghost use Rattle.model.specs.Images.Described.{numbered};
-ghost use Rattle.model.specs.Capabilities.Placement.{place_of_object, placement};
-ghost use Rattle.model.specs.Images.Places.{bits_of, untyped_at};
 ghost use Rattle.model.specs.Kernel.State.{boot_area_end};
-ghost use Rattle.format_laws.specs.Fitting.{HeaderFits, ObjectFits, UntypedFits};
+ghost use Rattle.format_laws.specs.Fitting.{HeaderFits, UntypedFits};
 ghost use Rattle.wellformed.specs.Answering.{Answers};
 
-use crate::object_types::{bits_of, power};
-use image_reading::{ImageRef, header_of, object_of, untyped_of};
-use model::{ImageHeader, ObjectEntry, Refusal, UntypedEntry};
-use untyped::place;
-
-/// How many untypeds an image has at most.
-const UNTYPEDS: usize = 64;
+use crate::object_places::UsedMemory;
+use image_reading::{ImageRef, header_of, untyped_of};
+use model::{ImageHeader, Refusal, UntypedEntry};
+use untyped::power;
 
 /// Where the boot area ends.
 fn boot_area_end(header: &ImageHeader) -> u64
@@ -66,39 +61,14 @@ pub(crate) fn check_untypeds(image: &ImageRef<'_>) -> Result<(), Refusal>
     Ok(())
 }
 
-/// Where an object ends that lies after the bytes of its untyped that are used, if it fits there.
-fn end_behind(image: &ImageRef<'_>, object: ObjectEntry, used: u32) -> Option<u32>
-    requires fits { ObjectFits image.now object }
-    requires used { used ≤ 2 ^ (untyped_at image.now object.untyped).bits }
-    ensures room { is_none result ≡ is_none (placement (untyped_at image.now object.untyped).bits used (bits_of object) 1) }
-    ensures end { IfSome result (λ end. end ≡ place_of_object used (bits_of object) 1) }
-    ensures within { IfSome result (λ end. end ≤ 2 ^ (untyped_at image.now object.untyped).bits) }
-{
-    let memory = untyped_of(image, object.untyped);
-    match place(memory.bits as u8, used, bits_of(object) as u8, 1) {
-        Ok((_, end)) => Some(end),
-        Err(_) => None,
-    }
-}
-
-/// How much of each untyped is used before any object is placed.
-fn nothing_used() -> [u32; UNTYPEDS]
-    ensures { result ≡ replicate 64 0 }
-{
-    [0; UNTYPEDS]
-}
-
 /// The objects, each after the ones before it in its untyped.
 pub(crate) fn check_room(image: &ImageRef<'_>) -> Result<(), Refusal>
     ensures { Answers (first_broken (map (λ number. refuse_if (has_no_room image.now number) (NoRoom number)) (range_with_len 0 image.now.header.objects))) result }
 {
-    let mut used = nothing_used();
+    let mut used = UsedMemory::none();
     for number in 0..header_of(image).objects {
-        let object = object_of(image, number);
-        let untyped = object.untyped as usize;
-        match end_behind(image, object, used[untyped]) {
-            Some(end) => used[untyped] = end,
-            None => return Err(Refusal::NoRoom { object: number }),
+        if !used.place(image, number).fits {
+            return Err(Refusal::NoRoom { object: number });
         }
     }
     Ok(())

@@ -13,7 +13,7 @@ ghost use Rattle.wellformed.specs.Answering.{AreEarlier, Answers, with_number};
 
 use crate::mappings::{ADDRESS_LIMIT, PAGE, executes};
 use crate::number_sets::NumberSet;
-use crate::object_types::{is_guard, is_root_table, is_thread, object_at, radix_of, source_at};
+use crate::object_types::{is_guard, is_root_table, is_thread, radix_of, source_type, type_at};
 use crate::reach::reached;
 use image_reading::{ImageRef, ThreadRef, capability_of, frame_at, header_of, listed_in};
 use model::{CapabilityEntry, Refusal, ThreadHeader};
@@ -34,7 +34,7 @@ pub(crate) struct Earlier {
 fn has_guard(image: &ImageRef<'_>, thread: &ThreadRef<'_>) -> bool
     ensures { result ≡ has_guard image.now thread.now }
 {
-    match radix_of(object_at(image, thread.header().cnode)) {
+    match radix_of(type_at(image, thread.header().cnode)) {
         Some(radix) => is_guard(radix, thread.header().guard),
         None => false,
     }
@@ -78,8 +78,8 @@ fn is_bad(image: &ImageRef<'_>, number: u32, thread: &ThreadRef<'_>, tcbs: &Numb
     ensures { result ≡ is_bad image.now (record { number = number; thread = thread.now }) }
 {
     let header = thread.header();
-    !is_thread(object_at(image, header.tcb))
-        || !is_root_table(object_at(image, header.root))
+    !is_thread(type_at(image, header.tcb))
+        || !is_root_table(type_at(image, header.root))
         || tcbs.contains(header.tcb)
         || !has_guard(image, thread)
         || header.base % PAGE != 0
@@ -104,7 +104,7 @@ fn share_some(numbers: &NumberSet, others: &NumberSet) -> bool
 fn is_other_root(image: &ImageRef<'_>, entry: CapabilityEntry, root: u32) -> bool
     ensures { result ≡ (is_root_type (source_type image.now entry.source) && not (entry.source == root)) }
 {
-    is_root_table(source_at(image, entry.source)) && entry.source != root
+    is_root_table(source_type(image, entry.source)) && entry.source != root
 }
 
 /// Whether a CNode holds another root table than this one.

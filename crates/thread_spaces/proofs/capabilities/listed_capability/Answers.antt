@@ -3,7 +3,7 @@ use Rattle.std.proofs.Common.{◌≡◌, ◌∙◌, ◌<◌, sym, ap, subst, ari
 use Rattle.model.specs.declared.capabilities.Cap.{Cap}
 use Rattle.model.specs.declared.entries.ImageHeader.{ImageHeader}
 use Rattle.model.specs.Capabilities.CapabilityWords.{IsCapability}
-use Rattle.model.specs.Images.Described.{listed_capability}
+use Rattle.model.specs.Images.Described.{limited, listed_capability}
 use Rattle.thread_spaces.proofs.DescribedSlots.{listed-valid}
 use Rattle.thread_spaces.proofs.ListedCapabilities.{listed-object, rights-few}
 use Rattle.thread_spaces.proofs.capabilities.listed_capability.Goals as goal
@@ -13,14 +13,15 @@ returns-then-header-entry-clause-valid c =
     subst (λ (held : Cap). IsCapability held) (sym c.handler.ensures)
     (listed-valid c.args.image.now c.header.ensures.fits c.requires.formed c.args.entry c.requires.listed)
 
-pub object_capability-requires-clause-few : goal.object_capability-requires-clause-few
-object_capability-requires-clause-few c = rights-few c.args.image.now c.args.entry c.header.ensures.fits c.requires.formed c.requires.listed
+pub limited-requires : goal.limited-requires
+limited-requires c = rights-few c.args.image.now c.args.entry c.header.ensures.fits c.requires.formed c.requires.listed
 
 pub returns-clause-value : goal.returns-clause-value
 returns-clause-value c =
     let objects = ap (λ (h : ImageHeader). h.objects) c.header.ensures.value in
     let less : c.args.entry.source < c.args.image.now.header.objects = (let behind = c.if-header-entry.false in omega (arith, behind, objects)) in
-    c.object_capability.ensures
+    c.limited.ensures
+    ∙ ap (λ (held : Cap). limited held c.args.entry.rights c.args.entry.payload) c.first_capability-capability.ensures
     ∙ listed-object c.args.image.now c.args.entry c.header.ensures.fits c.requires.formed c.requires.listed c.object_of-object.result _ less
     c.object_of-object.ensures.there (c.requires.offsets.place c.args.entry.source less)
 
@@ -28,8 +29,9 @@ pub returns-clause-valid : goal.returns-clause-valid
 returns-clause-valid c =
     let objects = ap (λ (h : ImageHeader). h.objects) c.header.ensures.value in
     let less : c.args.entry.source < c.args.image.now.header.objects = (let behind = c.if-header-entry.false in omega (arith, behind, objects)) in
-    let value : c.object_capability.result ≡ listed_capability c.args.image.now c.args.entry =
-    c.object_capability.ensures
+    let value : c.limited.result ≡ listed_capability c.args.image.now c.args.entry =
+    c.limited.ensures
+    ∙ ap (λ (held : Cap). limited held c.args.entry.rights c.args.entry.payload) c.first_capability-capability.ensures
     ∙ listed-object c.args.image.now c.args.entry c.header.ensures.fits c.requires.formed c.requires.listed c.object_of-object.result _ less
     c.object_of-object.ensures.there (c.requires.offsets.place c.args.entry.source less) in
     subst (λ (held : Cap). IsCapability held) (sym value) (listed-valid c.args.image.now c.header.ensures.fits c.requires.formed c.args.entry c.requires.listed)

@@ -1,31 +1,21 @@
 -- By what the thread's header names.
-use Rattle.std.proofs.Common.{◌≡◌, ◌∙◌, sym, arith}
-use Rattle.std.proofs.lemmas.Option.{none-some, same_Some}
-use Rattle.thread_spaces.proofs.RootRadix.{cnode-place, root-cnode, root-fits, root-radix}
+use Rattle.std.proofs.Common.{◌∙◌, sym}
+use Rattle.std.proofs.lemmas.Option.{none-some}
+use Rattle.thread_spaces.proofs.RootRadix.{cnode-place, root-fits, root-radix}
 use Rattle.thread_spaces.proofs.spaces.root_of.Goals as goal
 
 pub unreachable-requires : goal.unreachable-requires
 unreachable-requires c =
     none-some _ (sym c.in_default.is
-    ∙ root-radix c.args.image.now c.args.thread.now c.header.ensures.fits c.requires.formed c.requires.listed c.header-header.result c.object_at.result
-    c.radix_of.result c.header-header.ensures c.object_at.ensures c.radix_of.ensures)
-
-pub overflow_cast-result-2 : goal.overflow_cast-result-2
-overflow_cast-result-2 c =
-    let root = root-cnode c.args.image.now c.args.thread.now c.header.ensures.fits c.requires.formed c.requires.listed in
-    let same : c.in-Some.radix ≡ root.radix =
-    same_Some _ _ (sym c.in-Some.is
-    ∙ root-radix c.args.image.now c.args.thread.now c.header.ensures.fits c.requires.formed c.requires.listed c.header-header.result c.object_at.result
-    c.radix_of.result c.header-header.ensures c.object_at.ensures c.radix_of.ensures) in
-    let small = root.small in
-    omega (arith, same, small)
+    ∙ root-radix c.args.image.now c.args.thread.now c.header.ensures.fits c.requires.formed c.requires.listed c.header-header.result _
+    c.radix_of.result c.header-header.ensures c.type_at.ensures c.radix_of.ensures)
 
 pub returns-clause-valid : goal.returns-clause-valid
 returns-clause-valid c =
     root-fits c.args.image.now c.args.thread.now c.header.ensures.fits c.requires.formed c.requires.listed c.header-header.result c.in-Some.radix _
     c.header-header.ensures
     (sym c.in-Some.is
-    ∙ root-radix c.args.image.now c.args.thread.now c.header.ensures.fits c.requires.formed c.requires.listed c.header-header.result c.object_at.result
-    c.radix_of.result c.header-header.ensures c.object_at.ensures c.radix_of.ensures)
+    ∙ root-radix c.args.image.now c.args.thread.now c.header.ensures.fits c.requires.formed c.requires.listed c.header-header.result _
+    c.radix_of.result c.header-header.ensures c.type_at.ensures c.radix_of.ensures)
     (cnode-place c.args.image.now c.args.thread.now c.header.ensures.fits c.requires.listed c.header-header.result c.header-header.ensures c.args.offsets.now
     c.requires.offsets)
