@@ -171,6 +171,21 @@ impl<'a> Model for Records<'a> {
     ghost invariant = { λ r. is_ok (many_read (record_format (slots_format r.counts.objects) r.counts.words) (λ x. x.header.point + 1) r.least r.left r.bytes.now r.at) ≡ true };
 }
 
+impl<'a> Records<'a> {
+    /// The records that are left, to be gone through once more.
+    pub fn again(&self) -> Self
+        ensures { result ≡ self.now }
+    {
+        Records {
+            bytes: self.bytes,
+            at: self.at,
+            counts: self.counts,
+            least: self.least,
+            left: self.left,
+        }
+    }
+}
+
 impl<'a> Iterator for Records<'a> {
     type Item = RecordRef<'a>;
 
