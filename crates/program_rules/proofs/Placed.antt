@@ -166,22 +166,24 @@ record-has : (image : Image) (t : Thread) (r : StateRecord) → ((record_state i
 unfolding record_state
 record-has image t r = (refl, refl)
 
-pub record-at : (image : Image) (t : Numbered) (slots : List NotedSlot) (log : List LogEntry) (rs new : List RecordedPoint) (r : RecordedPoint) (k : State)
-    (point at : ℕ)
-    → new ≡ rs ++ r ∷ [] → at ≡ length rs → record_of t.thread point ≡ Some r.noted → wide r.part ≡ k.part → IsKeptAt image t slots log point (kept.Known k)
+pub record-at : (image : Image) (t : Numbered) (slots : List NotedSlot) (log : List LogEntry) (rs new : List RecordedPoint) (r : RecordedPoint)
+    (e : StateRecord)
+    (k : State) (point at : ℕ)
+    → new ≡ rs ++ r ∷ [] → at ≡ length rs → record_of t.thread point ≡ Some e → slice_get r.from 0 ≡ Some e → wide r.part ≡ k.part →
+    IsKeptAt image t slots log point (kept.Known k)
     → IsInRecord image t slots log new point at k.is_clean
-record-at image t slots log rs new r k point at grown last has part is =
-    let same : Known (state_by slots log k) ≡ Known (record_state image t.thread r.noted) = is.same ∙ recorded-state image t point r.noted has in
-    let own = record-has image t.thread r.noted in
-    let bounds : k.bounds ≡ record_ranges r.noted = same-ranges (state_by slots log k) (record_state image t.thread r.noted) same ∙ own.0 in
-    let measure : measure_of k.measure ≡ record_measure r.noted = same-measure (state_by slots log k) (record_state image t.thread r.noted) same ∙ own.1 in
+record-at image t slots log rs new r e k point at grown last has first part is =
+    let same : Known (state_by slots log k) ≡ Known (record_state image t.thread e) = is.same ∙ recorded-state image t point e has in
+    let own = record-has image t.thread e in
+    let bounds : k.bounds ≡ record_ranges e = same-ranges (state_by slots log k) (record_state image t.thread e) same ∙ own.0 in
+    let measure : measure_of k.measure ≡ record_measure e = same-measure (state_by slots log k) (record_state image t.thread e) same ∙ own.1 in
     subst (λ (all : List RecordedPoint). IsInRecord image t slots log all point at k.is_clean) (sym grown) (record {
       inside = last-inside rs r at last;
       known = sym (ap has_state is.same);
       kept = λ other got state in_record.
           let so : IsRecorded r k.is_clean state = subst (λ (o : RecordedPoint). IsRecorded o k.is_clean state) (last-got rs r at other last got) in_record in
           one-kept image t slots log point state k
-          (record { bounds = so.bounds ∙ sym bounds; measure = so.measure ∙ sym measure; part = so.part ∙ part; clean = so.clean }) is;
+          (record { bounds = so.bounds e first ∙ sym bounds; measure = so.measure e first ∙ sym measure; part = so.part ∙ part; clean = so.clean }) is;
     })
 
 pub call-at : (image : Image) (t : Numbered) (slots : List NotedSlot) (log : List LogEntry) (cs new : List CalledPoint) (c : CalledPoint) (last k : State)

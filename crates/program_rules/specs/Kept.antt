@@ -3,14 +3,14 @@ use Rattle.std.specs.Prelude.{ℕ, zero, suc, ◌≡◌, ◌+◌, ◌≢◌, ◌
 use Rattle.std.specs.Prelude.{Err, List, [], length, slice_get}
 use Rattle.measure.specs.Measures.{measure_of}
 use Rattle.model.specs.Acceptance.NotedStates.{NotedSlot, PointState, record_measure, record_of, record_ranges}
-use Rattle.model.specs.Acceptance.CallRules.{with_answer, with_message}
+use Rattle.model.specs.Acceptance.CallRules.{AfterCall, with_answer, with_message}
 use Rattle.model.specs.Acceptance.Measures.{Measure, lowered}
 use Rattle.model.specs.Acceptance.Ranges.{with_range}
 use Rattle.model.specs.Kernel.Messages.{a0}
 use Rattle.model.specs.declared.ranges.Range.{Range}
 use Rattle.model.specs.Acceptance.PointStates.{Noted, Known, Missing, Unmeasured, follows, instruction_at, noted}
 use Rattle.model.specs.Images.Described.{Numbered}
-use Rattle.model.specs.Images.Image.{Image, Thread}
+use Rattle.model.specs.Images.Image.{Image, StateRecord, Thread}
 use Rattle.model.specs.declared.instructions.Instr.TheVariants.{Ecall}
 use Rattle.model.specs.declared.refusals.Refusal.{Refusal}
 use Rattle.program_rules.specs.declared.point_rules.following.Left.TheVariants as left
@@ -18,15 +18,19 @@ use Rattle.program_rules.specs.declared.point_rules.following.Left.{Left}
 use Rattle.program_rules.specs.declared.kept.Kept.TheVariants as kept
 use Rattle.program_rules.specs.declared.kept.Kept.{Kept}
 use Rattle.program_rules.specs.declared.kept.Known.{Known as State}
+use Rattle.program_rules.specs.declared.passing.Passed.TheVariants as passed
+use Rattle.program_rules.specs.declared.passing.Passed.{Passed}
 use Rattle.program_rules.specs.declared.places.CalledPoint.{CalledPoint}
 use Rattle.program_rules.specs.declared.kept_points.KeptPoints.{KeptPoints}
 use Rattle.program_rules.specs.declared.places.Place.TheVariants as place
 use Rattle.program_rules.specs.declared.places.Place.{Place}
 use Rattle.program_rules.specs.declared.places.RecordedPoint.{RecordedPoint}
+use Rattle.program_rules.specs.declared.space_rules.Called.TheVariants as called
+use Rattle.program_rules.specs.declared.space_rules.Called.{Called}
 use Rattle.program_rules.specs.declared.places.ShortPart.{ShortPart}
+use Rattle.typestate.specs.Calls.{behind_with}
 use Rattle.typestate.specs.Logs.{Holds, Shows, part_of}
 use Rattle.typestate.specs.Strays.{NoneStray}
-use Rattle.typestate.specs.declared.behind.Behind.{Behind}
 use Rattle.typestate.specs.declared.behind.Written.TheVariants as written
 use Rattle.typestate.specs.declared.behind.Written.{Written}
 use Rattle.typestate.specs.declared.logs.Part.{Part}
@@ -56,6 +60,12 @@ kept_as (left.Known bounds measure) part clean = kept.Known (record { bounds = b
 kept_as left.Missing part clean = kept.Missing
 kept_as left.Unmeasured part clean = kept.Unmeasured
 
+-- what is kept of what became of a state
+abbrev pub passed_as : State → Passed → Kept
+passed_as k passed.Known = kept.Known k
+passed_as k passed.Missing = kept.Missing
+passed_as k passed.Unmeasured = kept.Unmeasured
+
 -- its changes are in the log
 abbrev pub HasPart : List LogEntry → Kept → Type 0
 HasPart log (kept.Known k) = Holds log k.part
@@ -80,11 +90,17 @@ IsCleanIn image t slots log (kept.Known k) = k.is_clean ≡ true → NoneStray i
 IsCleanIn image t slots log kept.Missing = Unit {0}
 IsCleanIn image t slots log kept.Unmeasured = Unit {0}
 
--- the same of what a call leaves that is looked at
-abbrev pub IsCleanBehind : Image → Thread → List NotedSlot → List LogEntry → Option (Result Behind Refusal) → Type 0
-IsCleanBehind image t slots made (Some (Ok b)) = b.is_tidy ≡ true → NoneStray image t (replayed slots made)
-IsCleanBehind image t slots made (Some (Err refusal)) = Unit {0}
-IsCleanBehind image t slots made None = Unit {0}
+-- what a call leaves, with the changes that it makes of these slots, where it is looked at
+abbrev pub call_of : List NotedSlot → Called → Option (Result AfterCall Refusal)
+call_of slots called.Stray = None
+call_of slots (called.Refused refusal) = Some (Err refusal)
+call_of slots (called.Leaves b made) = Some (Ok (behind_with (replayed slots made.items) b))
+
+-- where it is known to leave no slot that the thread may not have, it leaves none
+abbrev pub IsCleanBehind : Image → Thread → List NotedSlot → Called → Type 0
+IsCleanBehind image t slots called.Stray = Unit {0}
+IsCleanBehind image t slots (called.Refused refusal) = Unit {0}
+IsCleanBehind image t slots (called.Leaves b made) = b.is_tidy ≡ true → NoneStray image t (replayed slots made.items)
 
 -- what is kept of one point is what the certificate notes of it
 pub record IsKeptAt (image : Image) (t : Numbered) (slots : List NotedSlot) (log : List LogEntry) (point : ℕ) (k : Kept) : Type 0 where
@@ -104,8 +120,8 @@ wide part = record { first = part.first; end = part.end }
 
 -- the state of a record, with the part that its slots have
 pub record IsRecorded (r : RecordedPoint) (is_clean : Bool) (k : State) : Type 0 where
-  pub bounds : k.bounds ≡ record_ranges r.noted
-  pub measure : measure_of k.measure ≡ record_measure r.noted
+  pub bounds : (e : StateRecord) → slice_get r.from 0 ≡ Some e → k.bounds ≡ record_ranges e
+  pub measure : (e : StateRecord) → slice_get r.from 0 ≡ Some e → measure_of k.measure ≡ record_measure e
   pub part : k.part ≡ wide r.part
   pub clean : k.is_clean ≡ is_clean
 

@@ -19,7 +19,8 @@ use crate::kept::Known;
 use crate::point_rules::{Way, registers_of};
 use crate::points::Points;
 use crate::same_parts::SameParts;
-use crate::visits::{Seen, Visit};
+use crate::space_rules::Called;
+use crate::visits::{Seen, Visit, VisitedSlots};
 use measure::AfterCall;
 use model::Refusal;
 use typestate::{Behind, LogEntry, ShownPart};
@@ -102,19 +103,16 @@ impl<'a> Visit<'_, '_, 'a, '_> {
             return Ok(());
         }
         let program = self.program;
-        let mut made = Vec::new(program.alloc);
         let slots = shown.slots(program.slots);
-        match program.called(
-            self.point,
-            self.noted,
-            &known.bounds,
-            &slots,
-            known.is_clean,
-            &mut made,
-        )? {
-            None => Ok(()),
-            Some(Err(refusal)) => Err(refusal),
-            Some(Ok(behind)) => self.behind_rules(points, shown, known, &behind, &made),
+        let here = VisitedSlots {
+            visit: *self,
+            slots,
+            is_clean: known.is_clean,
+        };
+        match here.called(&known.bounds)? {
+            Called::Stray => Ok(()),
+            Called::Refused(refusal) => Err(refusal),
+            Called::Leaves(behind, made) => self.behind_rules(points, shown, known, &behind, &made),
         }
     }
 }

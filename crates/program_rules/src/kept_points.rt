@@ -17,9 +17,9 @@ ghost use Rattle.program_rules.specs.declared.places.Place.{Place};
 ghost use Rattle.typestate.specs.declared.log_entries.LogEntry.{LogEntry};
 
 use crate::kept::{Kept, Known};
+use crate::notes::PlacedRecord;
 use crate::places::{CalledPoint, Place, RecordedPoint, ShortPart, narrowed};
 use crate::programs::Program;
-use image_reading::RecordRef;
 use model::Instr;
 use rv32_isa::decode;
 use std::alloc::{AllocError, Global};
@@ -83,29 +83,30 @@ impl<'a> KeptPoints<'a> {
     }
 
     /// Keeps a state whole. Memory may be refused.
-    fn keep_whole(&mut self, known: Known) -> Result<Place, AllocError>
+    fn keep_whole(&mut self, known: &Known) -> Result<Place, AllocError>
         ensures same { IfOk result (λ _. self.new.places ≡ self.old.places) }
         ensures others { IfOk result (λ _. KeepsAll self.old self.new) }
-        ensures at { IfOk result (λ place. (image : Image) (t : Numbered) (slots : List NotedSlot) (log : List LogEntry) (point : ℕ) → IsKeptAt image t slots log point (kept.Known known) → IsAt image t slots log self.new point place) }
+        ensures at { IfOk result (λ place. (image : Image) (t : Numbered) (slots : List NotedSlot) (log : List LogEntry) (point : ℕ) → IsKeptAt image t slots log point (kept.Known known.now) → IsAt image t slots log self.new point place) }
     {
         let at = narrowed(self.whole.len())?;
-        self.whole.push(known)?;
+        self.whole.push(*known)?;
         Ok(Place::Whole(at))
     }
 
     /// Keeps where the record of a state is. Memory may be refused.
-    fn keep_record(&mut self, noted: RecordRef<'a>, known: Known) -> Result<Place, AllocError>
-        requires { length noted.terms ≤ 4 }
+    fn keep_record(&mut self, noted: &PlacedRecord<'a>, known: &Known) -> Result<Place, AllocError>
+        requires { length noted.now.terms ≤ 4 }
         ensures same { IfOk result (λ _. self.new.places ≡ self.old.places) }
         ensures others { IfOk result (λ _. KeepsAll self.old self.new) }
-        ensures at { IfOk result (λ place. (image : Image) (t : Numbered) (slots : List NotedSlot) (log : List LogEntry) (point : ℕ) → record_of t.thread point ≡ Some noted.entry
-            → IsKeptAt image t slots log point (kept.Known known) → IsAt image t slots log self.new point place) }
+        ensures at { IfOk result (λ place. (image : Image) (t : Numbered) (slots : List NotedSlot) (log : List LogEntry) (point : ℕ) → record_of t.thread point ≡ Some noted.now
+            → IsKeptAt image t slots log point (kept.Known known.now) → IsAt image t slots log self.new point place) }
     {
         let Some(part) = ShortPart::of(known.part) else {
             return self.keep_whole(known);
         };
         let at = narrowed(self.recorded.len())?;
-        self.recorded.push(RecordedPoint { noted, part })?;
+        let from = noted.from_here();
+        self.recorded.push(RecordedPoint { from, part })?;
         if known.is_clean {
             Ok(Place::Clean(at))
         } else {
@@ -118,16 +119,16 @@ impl<'a> KeptPoints<'a> {
         &mut self,
         program: &Program<'_, '_>,
         before: &Kept,
-        known: Known,
+        known: &Known,
     ) -> Result<Place, AllocError>
         ensures same { IfOk result (λ _. self.new.places ≡ self.old.places) }
         ensures others { IfOk result (λ _. KeepsAll self.old self.new) }
-        ensures at { IfOk result (λ place. (point : ℕ) → 1 ≤ point → IsNextAt program.now.space.thread.now self.new before.now point (kept.Known known) place) }
+        ensures at { IfOk result (λ place. (point : ℕ) → 1 ≤ point → IsNextAt program.now.space.thread.now self.new before.now point (kept.Known known.now) place) }
     {
         let Kept::Known(before) = before else {
             return self.keep_whole(known);
         };
-        let Some(called) = CalledPoint::between(program, before, &known) else {
+        let Some(called) = CalledPoint::between(program, before, known) else {
             return self.keep_whole(known);
         };
         let at = narrowed(self.called.len())?;
@@ -141,12 +142,12 @@ impl<'a> KeptPoints<'a> {
         program: &Program<'_, '_>,
         point: u32,
         before: &Kept,
-        known: Known,
+        known: &Known,
     ) -> Result<Place, AllocError>
         requires { point < program.now.space.thread.now.header.words }
         ensures same { IfOk result (λ _. self.new.places ≡ self.old.places) }
         ensures others { IfOk result (λ _. KeepsAll self.old self.new) }
-        ensures at { IfOk result (λ place. record_of program.now.space.thread.now point ≡ None → IsNextAt program.now.space.thread.now self.new before.now point (kept.Known known) place) }
+        ensures at { IfOk result (λ place. record_of program.now.space.thread.now point ≡ None → IsNextAt program.now.space.thread.now self.new before.now point (kept.Known known.now) place) }
     {
         if point == 0 {
             return self.keep_whole(known);
@@ -165,15 +166,15 @@ impl<'a> KeptPoints<'a> {
         &mut self,
         program: &Program<'_, '_>,
         point: u32,
-        noted: Option<RecordRef<'a>>,
+        noted: &Option<PlacedRecord<'a>>,
         before: &Kept,
-        kept: Kept,
+        kept: &Kept,
     ) -> Result<Place, AllocError>
         requires within { point < program.now.space.thread.now.header.words }
-        requires noted { noted ≡ record_of program.now.space.thread.now point }
+        requires noted { noted.now ≡ record_of program.now.space.thread.now point }
         ensures same { IfOk result (λ _. self.new.places ≡ self.old.places) }
         ensures others { IfOk result (λ _. KeepsAll self.old self.new) }
-        ensures at { IfOk result (IsNextAt program.now.space.thread.now self.new before.now point kept) }
+        ensures at { IfOk result (IsNextAt program.now.space.thread.now self.new before.now point kept.now) }
     {
         match kept {
             Kept::Missing => Ok(Place::Missing),
@@ -190,15 +191,15 @@ impl<'a> KeptPoints<'a> {
         &mut self,
         program: &Program<'_, '_>,
         point: u32,
-        noted: Option<RecordRef<'a>>,
+        noted: &Option<PlacedRecord<'a>>,
         before: &Kept,
-        kept: Kept,
+        kept: &Kept,
     ) -> Result<(), AllocError>
         requires within { point < program.now.space.thread.now.header.words }
-        requires noted { noted ≡ record_of program.now.space.thread.now point }
+        requires noted { noted.now ≡ record_of program.now.space.thread.now point }
         ensures count { IfOk result (λ _. length self.new.places.items ≡ length self.old.places.items + 1) }
         ensures kept { IfOk result (λ _. (image : Image) (t : Numbered) (slots : List NotedSlot) (log : List LogEntry) → t.thread ≡ program.now.space.thread.now → length self.old.places.items ≡ point
-            → ((last : ℕ) → last + 1 ≡ point → IsKeptAt image t slots log last before.now) → IsKeptAt image t slots log point kept → AreKept image t slots log self.old → AreKept image t slots log self.new) }
+            → ((last : ℕ) → last + 1 ≡ point → IsKeptAt image t slots log last before.now) → IsKeptAt image t slots log point kept.now → AreKept image t slots log self.old → AreKept image t slots log self.new) }
     {
         let place = self.keep(program, point, noted, before, kept)?;
         self.places.push(place)?;
@@ -296,27 +297,21 @@ impl<'a> KeptPoints<'a> {
         }
     }
 
-    /// What is kept of the point after one of which this is kept, if the program has one.
-    pub(crate) fn after(
-        &self,
-        program: &Program<'_, '_>,
-        log: &SlotLog,
-        point: u32,
-        kept: &Kept,
-    ) -> Kept
+    /// Makes of what is kept of a point what is kept of the one after it, if the program has one.
+    pub(crate) fn pass(&self, program: &Program<'_, '_>, log: &SlotLog, point: u32, kept: &mut Kept)
         requires count { length self.now.places.items ≡ program.now.space.thread.now.header.words }
         requires all { AreKept program.now.space.image.now (thread_of program.now) program.now.slots.now log.now self.now }
-        requires kept { IsKeptAt program.now.space.image.now (thread_of program.now) program.now.slots.now log.now point kept.now }
-        ensures { point + 1 < program.now.space.thread.now.header.words → IsKeptAt program.now.space.image.now (thread_of program.now) program.now.slots.now log.now (point + 1) result }
+        requires kept { IsKeptAt program.now.space.image.now (thread_of program.now) program.now.slots.now log.now point kept.old }
+        ensures { point + 1 < program.now.space.thread.now.header.words → IsKeptAt program.now.space.image.now (thread_of program.now) program.now.slots.now log.now (point + 1) kept.new }
     {
         if self.places.len() <= point as usize + 1 {
-            return Kept::Missing;
+            return;
         }
         let place = self.places[point as usize + 1];
         match place {
-            Place::Plain => program.behind_plain(point, kept, log),
-            Place::Called(at) => self.after_call(program, at, kept),
-            _ => self.at_place(place),
+            Place::Plain => program.pass_plain(point, kept, log),
+            Place::Called(at) => *kept = self.after_call(program, at, kept),
+            _ => *kept = self.at_place(place),
         }
     }
 
@@ -330,7 +325,7 @@ impl<'a> KeptPoints<'a> {
         let first = self.first_of(point);
         let mut kept = self.first(first);
         'steps: for before in first..point {
-            kept = self.after(program, log, before, &kept);
+            self.pass(program, log, before, &mut kept);
         }
         kept
     }

@@ -10,6 +10,7 @@ mod kept;
 mod kept_points;
 mod notes;
 mod own_checks;
+mod passing;
 mod places;
 mod point_rules;
 mod points;

@@ -1,10 +1,9 @@
 //! The rules at a point with a state, up to its system call and its ways on.
 
-ghost use Rattle.std.specs.Prelude.{◌≡◌, ◌<◌, IfSome, Option, Some, option_map, true};
+ghost use Rattle.std.specs.Prelude.{◌≡◌, IfSome};
 ghost use Rattle.std.specs.Result.{result_err};
 ghost use Rattle.measure.specs.Measures.{measure_of};
 ghost use Rattle.model.specs.Acceptance.Measures.{Measure as NotedMeasure};
-ghost use Rattle.model.specs.Acceptance.NotedStates.{record_of};
 ghost use Rattle.model.specs.Acceptance.PointRules.{is_computed_jump, is_illegal, is_unmapped};
 ghost use Rattle.model.specs.Acceptance.PointStates.{point_of};
 ghost use Rattle.model.specs.Acceptance.Rules.{first_broken};
@@ -14,16 +13,14 @@ ghost use Rattle.program_rules.specs.PointChecks.{own_rules};
 ghost use Rattle.program_rules.specs.Programs.{thread_of};
 ghost use Rattle.typestate.specs.Calls.{known_with};
 ghost use Rattle.typestate.specs.Differences.{slots_of};
-ghost use Rattle.typestate.specs.Strays.{NoneStray};
 
 use crate::kept::Known;
 use crate::point_rules::{FoundPages, Pages};
 use crate::programs::Program;
-use image_reading::RecordRef;
+use crate::visits::VisitedSlots;
 use measure::least;
 use model::{Instr, Point, Refusal};
 use ranges::Bounds;
-use typestate::NotedSlots;
 
 /// Whether a word is no instruction that a program may have.
 fn is_illegal(instr: Option<Instr>) -> bool
@@ -52,29 +49,26 @@ impl Program<'_, '_> {
             point,
         }
     }
+}
 
-    /// Whether a load or store at a point may reach what the thread may not.
+impl VisitedSlots<'_, '_, '_, '_, '_> {
+    /// Whether a load or store at the point may reach what the thread may not.
     #[tactic(auto, unfolding(model::specs::Acceptance::PointRules::is_unmapped))]
-    fn is_unmapped(
-        &self,
-        instr: Option<Instr>,
-        bounds: &Bounds,
-        slots: &NotedSlots<'_>,
-        found: &mut FoundPages,
-    ) -> bool
+    fn is_unmapped(&self, instr: Option<Instr>, bounds: &Bounds, found: &mut FoundPages) -> bool
         requires instr { IfSome instr IsInstr }
-        requires found { AreMapped self.now.space.image.now self.now.space.thread.now (slots_of slots.now) found.old }
-        ensures is { (measure : NotedMeasure) → result ≡ is_unmapped self.now.space.image.now self.now.space.thread.now (known_with bounds.now (slots_of slots.now) measure) instr }
-        ensures found { AreMapped self.now.space.image.now self.now.space.thread.now (slots_of slots.now) found.new }
+        requires found { AreMapped self.now.visit.program.now.space.image.now self.now.visit.program.now.space.thread.now (slots_of self.now.slots) found.old }
+        ensures is { (measure : NotedMeasure) → result ≡ is_unmapped self.now.visit.program.now.space.image.now self.now.visit.program.now.space.thread.now (known_with bounds.now (slots_of self.now.slots) measure) instr }
+        ensures found { AreMapped self.now.visit.program.now.space.image.now self.now.visit.program.now.space.thread.now (slots_of self.now.slots) found.new }
         ensures part { found.new.part ≡ found.old.part }
     {
+        let program = self.visit.program;
         let pages = Pages {
-            image: self.space.image,
-            thread: self.space.thread,
-            root: self.space.table,
-            slots: *slots,
-            loads: self.loads,
-            stores: self.stores,
+            image: program.space.image,
+            thread: program.space.thread,
+            root: program.space.table,
+            slots: self.slots,
+            loads: program.loads,
+            stores: program.stores,
         };
         match instr {
             Some(instr) => pages.is_unmapped(instr, bounds, found),
@@ -82,42 +76,36 @@ impl Program<'_, '_> {
         }
     }
 
-    /// Whether a point with this state and these slots keeps its rules by itself. An `Err` names the first that it breaks: its word
+    /// Whether the point with this state and these slots keeps its rules by itself. An `Err` names the first that it breaks: its word
     /// is an instruction (`IllegalInstruction`), and no jump to an address in a register (`ComputedJump`); no slot is one that the
     /// thread may not have (`CapNotThere`); the measure is at least 1 (`MeasureNotFalling`); and it loads and stores only where it
     /// may (`NotMapped`). Pages that are found mapped are noted.
     pub(crate) fn own_rules(
         &self,
-        point: u32,
         instr: Option<Instr>,
-        noted: Option<&RecordRef<'_>>,
         known: &Known,
-        slots: &NotedSlots<'_>,
         found: &mut FoundPages,
     ) -> Result<(), Refusal>
         requires instr { IfSome instr IsInstr }
-        requires noted { option_map (λ r. r.now) noted ≡ record_of self.now.space.thread.now point }
-        requires image { slots.now.image.now ≡ self.now.slots.now }
-        requires clean { known.now.is_clean ≡ true → NoneStray self.now.space.image.now self.now.space.thread.now (slots_of slots.now) }
-        requires found { AreMapped self.now.space.image.now self.now.space.thread.now (slots_of slots.now) found.old }
-        ensures found { AreMapped self.now.space.image.now self.now.space.thread.now (slots_of slots.now) found.new }
+        requires found { AreMapped self.now.visit.program.now.space.image.now self.now.visit.program.now.space.thread.now (slots_of self.now.slots) found.old }
+        ensures found { AreMapped self.now.visit.program.now.space.image.now self.now.visit.program.now.space.thread.now (slots_of self.now.slots) found.new }
         ensures part { found.new.part ≡ found.old.part }
-        ensures broken { result_err result ≡ first_broken (own_rules self.now.space.image.now (thread_of self.now) point (known_with known.now.bounds (slots_of slots.now) (measure_of known.now.measure)) instr) }
+        ensures broken { result_err result ≡ first_broken (own_rules self.now.visit.program.now.space.image.now (thread_of self.now.visit.program.now) self.now.visit.point (known_with known.now.bounds (slots_of self.now.slots) (measure_of known.now.measure)) instr) }
     {
-        let at = self.at(point);
+        let at = self.visit.program.at(self.visit.point);
         if is_illegal(instr) {
             return Err(Refusal::IllegalInstruction(at));
         }
         if is_computed_jump(instr) {
             return Err(Refusal::ComputedJump(at));
         }
-        if self.has_stray_slots(point, noted, slots, known.is_clean) {
+        if self.has_stray_slots() {
             return Err(Refusal::CapNotThere(at));
         }
         if least(&known.measure, &known.bounds) < 1 {
             return Err(Refusal::MeasureNotFalling(at));
         }
-        if self.is_unmapped(instr, &known.bounds, slots, found) {
+        if self.is_unmapped(instr, &known.bounds, found) {
             return Err(Refusal::NotMapped(at));
         }
         Ok(())

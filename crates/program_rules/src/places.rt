@@ -1,11 +1,12 @@
 //! Where the state of a point is kept.
 
-ghost use Rattle.std.specs.Prelude.{◌≡◌, ◌≤◌, IfOk, IfSome, length};
+ghost use Rattle.std.specs.Prelude.{◌≡◌, ◌≤◌, IfOk, IfSome, Some, is_some, length, slice_get, true};
+ghost use Rattle.model.specs.Images.Image.{StateRecord};
 ghost use Rattle.ranges.specs.Orders.{IsOrdered};
 
 use crate::kept::Known;
 use crate::records::{bounds_of, measure_of};
-use image_reading::RecordRef;
+use image_reading::Records;
 use model::Range;
 use std::alloc::AllocError;
 use typestate::{Part, Written};
@@ -41,12 +42,14 @@ impl ShortPart {
     }
 }
 
-/// A point that has a record: the ranges and the measure of its state are read from the file when they are asked for.
+/// A point that has a record, which is the first of these: the ranges and the measure of its state are read from the file when they
+/// are asked for.
 #[derive(Drop)]
 pub(crate) struct RecordedPoint<'a> {
-    pub(crate) noted: RecordRef<'a>,
+    pub(crate) from: Records<'a>,
     pub(crate) part: ShortPart,
-    ghost few: { length noted.terms ≤ 4 },
+    ghost some: { is_some (slice_get from 0) ≡ true },
+    ghost few: { (r : StateRecord) → slice_get from 0 ≡ Some r → length r.terms ≤ 4 },
 }
 
 impl RecordedPoint<'_> {
@@ -56,11 +59,15 @@ impl RecordedPoint<'_> {
     pub(crate) fn known(&self, is_clean: bool) -> Known
         ensures { IsRecorded self.now is_clean result }
     {
-        Known {
-            bounds: bounds_of(&self.noted),
-            measure: measure_of(&self.noted),
-            part: self.part.part(),
-            is_clean,
+        let mut records = self.from.again();
+        match records.next() {
+            Some(noted) => Known {
+                bounds: bounds_of(&noted),
+                measure: measure_of(&noted),
+                part: self.part.part(),
+                is_clean,
+            },
+            None => unreachable!(),
         }
     }
 }

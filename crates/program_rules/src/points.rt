@@ -11,9 +11,10 @@ ghost use Rattle.typestate.specs.Orders.{Rise};
 
 use crate::kept::{Kept, Known};
 use crate::kept_points::KeptPoints;
-use crate::notes::RecordsLeft;
+use crate::notes::{PlacedRecord, RecordsLeft, record_in};
 use crate::programs::Program;
 use crate::records::{bounds_of, measure_of};
+use crate::visits::Visit;
 use image_reading::RecordRef;
 use std::alloc::AllocError;
 use typestate::{ShownPart, SlotLog};
@@ -44,54 +45,53 @@ fn recorded(log: &mut SlotLog, noted: &RecordRef<'_>) -> Result<Kept, AllocError
     }))
 }
 
-/// What is kept of a point: the state of its record, or what the point before leaves.
-fn noted_or(
+/// What is kept of a point: the state of its record, or what the point before leaves, which was kept in this place.
+fn note_own(
     log: &mut SlotLog,
     noted: Option<&RecordRef<'_>>,
-    derived: Kept,
-) -> Result<Kept, AllocError>
+    derived: &mut Kept,
+) -> Result<(), AllocError>
     requires { IfSome noted (λ r. (length r.now.terms ≤ 4) × (negsuc (2 ^ 62) ≤ℤ r.now.header.constant)) }
-    ensures same { IfOk result (λ k. (image : Image) (t : Thread) → Rise (image_slots image t) → noted_by (image_slots image t) log.new k
-        ≡ states.noted_or image t (option_map (λ r. r.now) noted.entry) (noted_by (image_slots image t) log.old derived)) }
-    ensures sound { IfOk result (λ k. (point : ℕ) → IsSound log.old point derived → IsSound log.new point k) }
-    ensures clean { IfOk result (λ k. (image : Image) (t : Thread) (slots : List NotedSlot) → IsCleanIn image t slots log.old derived → IsCleanIn image t slots log.new k) }
+    ensures same { IfOk result (λ _. (image : Image) (t : Thread) → Rise (image_slots image t) → noted_by (image_slots image t) log.new derived.new
+        ≡ states.noted_or image t (option_map (λ r. r.now) noted.entry) (noted_by (image_slots image t) log.old derived.old)) }
+    ensures sound { IfOk result (λ _. (point : ℕ) → IsSound log.old point derived.old → IsSound log.new point derived.new) }
+    ensures clean { IfOk result (λ _. (image : Image) (t : Thread) (slots : List NotedSlot) → IsCleanIn image t slots log.old derived.old → IsCleanIn image t slots log.new derived.new) }
     ensures others { IfOk result (λ _. KeepsParts log.old log.new) }
 {
     match noted {
-        Some(record) => recorded(log, record),
-        None => Ok(derived),
+        Some(record) => {
+            *derived = recorded(log, record)?;
+            Ok(())
+        }
+        None => Ok(()),
     }
 }
 
 impl<'a> Points<'a> {
-    /// Notes the next point, and that it is the last one: by its record, or by what the point before leaves. An `Ok` is what it leaves in turn, if no record notes
-    /// the point after it. Memory may be refused.
+    /// Notes the next point by its record, or by what the point before leaves, which is kept in place of that one then; and what it
+    /// leaves in turn, if no record notes the point after it. Memory may be refused.
     fn note(
         &mut self,
-        program: &Program<'_, '_>,
-        point: u32,
-        noted: Option<RecordRef<'a>>,
-        is_next_noted: bool,
+        visit: &Visit<'_, '_, '_, '_>,
+        noted: &Option<PlacedRecord<'a>>,
         last: &mut Kept,
-        derived: Kept,
+        derived: &mut Kept,
         shown: &mut ShownPart,
-    ) -> Result<Kept, AllocError>
-        requires within { point < program.now.space.thread.now.header.words }
-        requires noted { noted ≡ record_of program.now.space.thread.now point }
-        requires next { is_next_noted ≡ is_some (record_of program.now.space.thread.now (point + 1)) }
-        requires read { IsReadTo program.now.space.image.now (thread_of program.now) program.now.slots.now point self.old.log self.old.kept last.old derived }
+    ) -> Result<(), AllocError>
+        requires noted { noted.now ≡ record_of visit.now.program.now.space.thread.now visit.now.point }
+        requires read { IsReadTo visit.now.program.now.space.image.now (thread_of visit.now.program.now) visit.now.program.now.slots.now visit.now.point self.old.log self.old.kept last.old derived.old }
         requires shown { ShowsSome self.old.log shown.old }
-        ensures read { IfOk result (IsReadTo program.now.space.image.now (thread_of program.now) program.now.slots.now (point + 1) self.new.log self.new.kept last.new) }
+        ensures read { IfOk result (λ _. IsReadTo visit.now.program.now.space.image.now (thread_of visit.now.program.now) visit.now.program.now.slots.now (visit.now.point + 1) self.new.log self.new.kept last.new derived.new) }
         ensures shown { IfOk result (λ _. ShowsSome self.new.log shown.new) }
     {
-        let own = noted.as_ref();
-        let found = noted_or(&mut self.log, own, derived)?;
-        found.show(&self.log, shown)?;
-        let state = program.looked_at(point, own, &found, &self.log, shown);
-        let left = program.following(point, own, is_next_noted, &state, &mut self.log, shown)?;
-        self.kept.push(program, point, noted, last, state)?;
-        *last = state;
-        Ok(left)
+        note_own(&mut self.log, visit.noted, derived)?;
+        derived.show(&self.log, shown)?;
+        visit.look(derived, &self.log, shown);
+        self.kept
+            .push(visit.program, visit.point, noted, last, derived)?;
+        *last = *derived;
+        visit.pass(derived, &mut self.log, shown)?;
+        Ok(())
     }
 
     /// The points of a program: each has the state of its record, or what the point before leaves. Memory may be refused.
@@ -109,15 +109,13 @@ impl<'a> Points<'a> {
         'notes: for point in 0..program.space.thread.word_count() {
             let noted = records.take(point);
             let is_next_noted = records.is_next(point + 1);
-            derived = points.note(
+            let visit = Visit {
                 program,
                 point,
-                noted,
+                noted: record_in(&noted),
                 is_next_noted,
-                &mut last,
-                derived,
-                &mut shown,
-            )?;
+            };
+            points.note(&visit, &noted, &mut last, &mut derived, &mut shown)?;
         }
         Ok(points)
     }

@@ -16,12 +16,12 @@ ghost use Rattle.typestate.specs.Replays.{replayed};
 ghost use Rattle.wellformed.specs.Answering.{Answers};
 
 use crate::kept::{Kept, Known};
-use crate::notes::RecordsLeft;
+use crate::notes::{RecordsLeft, record_in};
 use crate::point_rules::{FoundPages, entered};
 use crate::points::Points;
 use crate::programs::Program;
 use crate::same_parts::SameParts;
-use crate::visits::{PlainPoint, Visit};
+use crate::visits::{PlainPoint, Visit, VisitedSlots};
 use model::{Instr, Refusal};
 use rv32_isa::decode;
 use std::alloc::AllocError;
@@ -54,7 +54,12 @@ impl<'a> Visit<'_, '_, 'a, '_> {
         let program = self.program;
         let instr = decode(program.space.thread.word(self.point));
         let slots = shown.slots(program.slots);
-        program.own_rules(self.point, instr, self.noted, known, &slots, found)?;
+        let here = VisitedSlots {
+            visit: *self,
+            slots,
+            is_clean: known.is_clean,
+        };
+        here.own_rules(instr, known, found)?;
         match instr {
             Some(Instr::Ecall) => self.call_rules(points, shown, known),
             Some(instr) => {
@@ -121,11 +126,11 @@ impl<'a> Program<'a, '_> {
             let visit = Visit {
                 program: self,
                 point,
-                noted: noted.as_ref(),
+                noted: record_in(&noted),
                 is_next_noted,
             };
             visit.point_rules(points, &mut shown, &kept, &mut same, &mut found)?;
-            kept = points.kept.after(self, &points.log, point, &kept);
+            points.kept.pass(self, &points.log, point, &mut kept);
         }
         Ok(())
     }

@@ -1,71 +1,72 @@
 //! The rules on slots and system calls, over the CNodes that a well-formed image gives a thread.
 
-ghost use Rattle.std.specs.Prelude.{◌≡◌, [], IfOk, List, false, option_map, true};
-ghost use Rattle.model.specs.Acceptance.CallRules.{after_call};
+ghost use Rattle.std.specs.Prelude.{◌≡◌, IfOk, List};
 ghost use Rattle.model.specs.Acceptance.Measures.{Measure};
-ghost use Rattle.model.specs.Acceptance.NotedStates.{has_stray_slots, record_of};
-ghost use Rattle.model.specs.Acceptance.PointStates.{point_of};
+ghost use Rattle.model.specs.Acceptance.NotedStates.{has_stray_slots};
+ghost use Rattle.model.specs.Acceptance.PointStates.{call_at};
 ghost use Rattle.model.specs.declared.ranges.Range.{Range};
+ghost use Rattle.program_rules.specs.Kept.{IsCleanBehind, call_of};
 ghost use Rattle.program_rules.specs.Programs.{thread_of};
-ghost use Rattle.typestate.specs.Calls.{known_with, left_with};
+ghost use Rattle.typestate.specs.Calls.{known_with};
 ghost use Rattle.typestate.specs.Differences.{slots_of};
-ghost use Rattle.typestate.specs.Strays.{IsTidyBehind, NoneStray};
 
-use crate::programs::Program;
-use image_reading::RecordRef;
+use crate::visits::VisitedSlots;
 use model::Refusal;
 use ranges::Bounds;
 use std::alloc::AllocError;
 use thread_spaces::slots_are_own;
 use typestate::{
-    Behind, LogEntry, NotedSlots, ThreadSlots, ToldSlots, no_stray_slot_leads_outside,
+    Behind, LogEntry, ThreadSlots, ToldSlots, no_stray_slot_leads_outside,
+    points_without_stray_slots_have_none,
 };
 
-impl Program<'_, '_> {
-    /// Whether some slot at a point is one that the thread may not have, or the point's record notes one outside of the
-    /// thread's CNodes. Where it is known that no slot is, only the record is looked at.
-    pub(crate) fn has_stray_slots(
-        &self,
-        point: u32,
-        noted: Option<&RecordRef<'_>>,
-        slots: &NotedSlots<'_>,
-        is_clean: bool,
-    ) -> bool
-        requires image { slots.now.image.now ≡ self.now.slots.now }
-        requires noted { option_map (λ r. r.now) noted ≡ record_of self.now.space.thread.now point }
-        requires clean { is_clean ≡ true → NoneStray self.now.space.image.now self.now.space.thread.now (slots_of slots.now) }
-        ensures { (ranges : List Range) (measure : Measure) → result ≡ has_stray_slots self.now.space.image.now self.now.space.thread.now point (known_with ranges (slots_of slots.now) measure) }
+/// What the system call at a point leaves.
+#[derive(Drop)]
+pub(crate) enum Called {
+    /// It is not looked at: some slot is one that the thread may not have.
+    Stray,
+    Refused(Refusal),
+    /// What is known after it, and the changes of slots that it makes.
+    Leaves(Behind, Vec<LogEntry>),
+}
+
+impl VisitedSlots<'_, '_, '_, '_, '_> {
+    /// Whether some slot is one that the thread may not have, or the point's record notes one outside of the thread's CNodes. Where
+    /// it is known that no slot is, only the record is looked at.
+    pub(crate) fn has_stray_slots(&self) -> bool
+        ensures { (ranges : List Range) (measure : Measure) → result ≡ has_stray_slots self.now.visit.program.now.space.image.now self.now.visit.program.now.space.thread.now self.now.visit.point (known_with ranges (slots_of self.now.slots) measure) }
     {
+        let program = self.visit.program;
         let told = ToldSlots {
-            space: self.space,
-            slots: *slots,
-            lists_stray: self.lists_stray,
-            is_clean,
+            space: program.space,
+            slots: self.slots,
+            lists_stray: program.lists_stray,
+            is_clean: self.is_clean,
         };
-        told.has_stray_slots(noted)
+        told.has_stray_slots(self.visit.noted)
     }
 
-    /// What the system call at a point leaves, or why it is refused, and whether it is known to leave no slot that the thread
-    /// may not have. The slots that it changes are put into the list, which is empty. Memory may be refused.
-    pub(crate) fn after_call(
-        &self,
-        point: u32,
-        bounds: &Bounds,
-        slots: &NotedSlots<'_>,
-        made: &mut Vec<LogEntry>,
-    ) -> Result<Result<Behind, Refusal>, AllocError>
-        requires image { slots.now.image.now ≡ self.now.slots.now }
-        requires own { (measure : Measure) → has_stray_slots self.now.space.image.now self.now.space.thread.now point (known_with bounds.now (slots_of slots.now) measure) ≡ false }
-        requires none { made.old.items ≡ [] }
-        ensures tidy { IfOk result (IsTidyBehind self.now.space.image.now self.now.space.thread.now (slots_of slots.now) made.new.items) }
-        ensures left { IfOk result (λ called. (measure : Measure) → after_call self.now.space.image.now self.now.space.thread.now (point_of (thread_of self.now) point) (known_with bounds.now (slots_of slots.now) measure) ≡ left_with (slots_of slots.now) made.new.items called) }
+    /// What the system call at the point leaves. Memory may be refused.
+    pub(crate) fn called(&self, bounds: &Bounds) -> Result<Called, AllocError>
+        ensures clean { IfOk result (IsCleanBehind self.now.visit.program.now.space.image.now self.now.visit.program.now.space.thread.now (slots_of self.now.slots)) }
+        ensures left { IfOk result (λ called. (measure : Measure) → call_at self.now.visit.program.now.space.image.now (thread_of self.now.visit.program.now) self.now.visit.point (known_with bounds.now (slots_of self.now.slots) measure)
+            ≡ call_of (slots_of self.now.slots) called) }
     {
+        points_without_stray_slots_have_none();
         no_stray_slot_leads_outside();
-        slots_are_own(self.space.image, self.space.thread, slots);
+        if self.has_stray_slots() {
+            return Ok(Called::Stray);
+        }
+        let program = self.visit.program;
+        slots_are_own(program.space.image, program.space.thread, &self.slots);
         let own = ThreadSlots {
-            space: self.space,
-            slots: *slots,
+            space: program.space,
+            slots: self.slots,
         };
-        own.after_call(self.at(point), bounds, made)
+        let mut made = Vec::new(program.alloc);
+        match own.after_call(program.at(self.visit.point), bounds, &mut made)? {
+            Ok(behind) => Ok(Called::Leaves(behind, made)),
+            Err(refusal) => Ok(Called::Refused(refusal)),
+        }
     }
 }

@@ -1,7 +1,7 @@
 //! A point of a program, and what is known there.
 
 ghost use Rattle.std.proofs.Props.{props};
-ghost use Rattle.std.specs.Prelude.{◌≡◌, ◌≢◌, ◌+◌, ◌<◌, Some, is_some, option_map};
+ghost use Rattle.std.specs.Prelude.{◌≡◌, ◌≢◌, ◌+◌, ◌<◌, Some, is_some, option_map, true};
 ghost use Rattle.model.specs.Acceptance.NotedStates.{record_of};
 ghost use Rattle.model.specs.Acceptance.PointStates.{instruction_at, noted};
 ghost use Rattle.model.specs.Acceptance.PointStates as states;
@@ -10,14 +10,16 @@ ghost use Rattle.model.specs.declared.instructions.Instr.TheVariants.{Ecall};
 ghost use Rattle.program_rules.specs.Propositions.{IsAt-prop, IsInstr-prop};
 ghost use Rattle.program_rules.specs.Kept.{IsRead, state_by};
 ghost use Rattle.program_rules.specs.Programs.{thread_of};
+ghost use Rattle.typestate.specs.Differences.{slots_of};
 ghost use Rattle.typestate.specs.Logs.{Shows};
+ghost use Rattle.typestate.specs.Strays.{NoneStray};
 
 use crate::kept::Known;
 use crate::points::Points;
 use crate::programs::Program;
 use image_reading::RecordRef;
 use model::Instr;
-use typestate::{Part, ShownPart};
+use typestate::{NotedSlots, Part, ShownPart};
 
 /// A point of a program, with what the certificate lists there.
 #[derive(Clone, Copy)]
@@ -31,6 +33,17 @@ pub(crate) struct Visit<'p, 'n, 'a, 's> {
     ghost within: { point < program.now.space.thread.now.header.words },
     ghost listed: { option_map (λ r. r.now) noted ≡ record_of program.now.space.thread.now point },
     ghost next: { is_next_noted ≡ is_some (record_of program.now.space.thread.now (point + 1)) },
+}
+
+/// The slots at a point.
+#[derive(Clone, Copy)]
+pub(crate) struct VisitedSlots<'p, 'n, 'h, 'a, 's> {
+    pub(crate) visit: Visit<'p, 'n, 'a, 's>,
+    pub(crate) slots: NotedSlots<'h>,
+    /// Whether it is known that none is one that the thread may not have.
+    pub(crate) is_clean: bool,
+    ghost image: { slots.image.now ≡ visit.program.now.slots.now },
+    ghost clean: { is_clean ≡ true → NoneStray visit.program.now.space.image.now visit.program.now.space.thread.now (slots_of slots) },
 }
 
 /// The slots of a part of the log, shown, in a program of which each point is read.

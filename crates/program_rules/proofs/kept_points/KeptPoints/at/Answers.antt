@@ -15,14 +15,14 @@ steps-init c =
       near,
     )
 
-pub after-kept-requires-clause-kept : goal.after-kept-requires-clause-kept
-after-kept-requires-clause-kept c = c.steps.invariant.0
+pub pass-requires-clause-kept : goal.pass-requires-clause-kept
+pass-requires-clause-kept c = c.steps.invariant.0
 
 pub steps-preserved : goal.steps-preserved
 steps-preserved c =
     let within = c.requires.within in
     let near = c.steps-test.true in (
-      c.after-kept.ensures (omega (arith, within, near)),
+      c.pass.ensures (omega (arith, within, near)),
       omega (arith, near),
     )
 

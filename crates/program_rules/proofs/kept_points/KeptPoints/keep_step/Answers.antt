@@ -9,5 +9,5 @@ pub returns-clause-at : goal.returns-clause-at
 returns-clause-at c = λ bare.
     let some = c.if-point-eq0.false in
     let own = c.args.program.now.space.thread.now in
-    next-plain own c.args.self.now c.args.before.now c.args.point c.args.known (omega (arith, some)) bare
+    next-plain own c.args.self.now c.args.before.now c.args.point c.args.known.now (omega (arith, some)) bare
     (subst (λ (w : ℕ). decoded w ≢ Some Ecall) c.word.ensures (c.is_call.ensures c.if-is_call.false))

@@ -12,73 +12,71 @@ use Rattle.program_rules.specs.Kept.{IsKeptAt, before as states_before, noted_by
 use Rattle.program_rules.specs.Programs.{thread_of}
 use Rattle.typestate.specs.Orders.{Rise}
 
-pub noted_or-requires : goal.noted_or-requires
-noted_or-requires c =
-    let own = c.args.program.now.space.thread.now in
-    elim c.as_ref-own.result as (λ o. option_map (λ r. r.now) o ≡ record_of own c.args.point
+pub note_own-requires : goal.note_own-requires
+note_own-requires c =
+    let program = c.args.visit.now.program.now in
+    let own = program.space.thread.now in
+    let point = c.args.visit.now.point in
+    elim c.args.visit.now.noted as (λ o. option_map (λ r. r.now) o ≡ record_of own point
     → IfSome o (λ r. (length r.now.terms ≤ 4) × (negsuc (2 ^ 62) ≤ℤ r.now.header.constant))) [
       | None ↦ λ is. tt
-      | Some r ↦ λ is. let fits = record-fits own c.args.point r.now c.args.program.now.fits (sym is) in (fits.terms, fits.constant)
-    ] (c.as_ref-own.ensures.value ∙ c.requires.noted)
+      | Some r ↦ λ is. let fits = record-fits own point r.now program.fits (sym is) in (fits.terms, fits.constant)
+    ] c.args.visit.now.listed
 
-pub looked_at-state-requires-clause-sound : goal.looked_at-state-requires-clause-sound
-looked_at-state-requires-clause-sound c = c.in_ok-found.ensures.sound c.args.point c.requires.read.sound
+pub look-requires-clause-sound : goal.look-requires-clause-sound
+look-requires-clause-sound c = c.in_ok-note_own.ensures.sound c.args.visit.now.point c.requires.read.sound
 
-pub looked_at-state-requires-clause-clean : goal.looked_at-state-requires-clause-clean
-looked_at-state-requires-clause-clean c =
-    c.in_ok-found.ensures.clean c.args.program.now.space.image.now c.args.program.now.space.thread.now c.args.program.now.slots.now c.requires.read.clean
+pub look-requires-clause-clean : goal.look-requires-clause-clean
+look-requires-clause-clean c =
+    c.in_ok-note_own.ensures.clean c.args.visit.now.program.now.space.image.now c.args.visit.now.program.now.space.thread.now
+    c.args.visit.now.program.now.slots.now c.requires.read.clean
 
 pub show-requires-clause-held : goal.show-requires-clause-held
-show-requires-clause-held c = has-part c.noted_or.new.log c.args.point c.in_ok-found.found (c.in_ok-found.ensures.sound c.args.point c.requires.read.sound)
+show-requires-clause-held c = has-part c.note_own.new.log c.args.visit.now.point c.note_own.new.derived
+    (c.in_ok-note_own.ensures.sound c.args.visit.now.point c.requires.read.sound)
 
 pub show-requires-clause-old : goal.show-requires-clause-old
-show-requires-clause-old c = some-grown c.args.self.now.log c.noted_or.new.log c.args.shown.now c.in_ok-found.ensures.others c.requires.shown
+show-requires-clause-old c = some-grown c.args.self.now.log c.note_own.new.log c.args.shown.now c.in_ok-note_own.ensures.others c.requires.shown
 
 pub returns-clause-read : goal.returns-clause-read
 returns-clause-read c =
-    let image = c.args.program.now.space.image.now in
-    let t = thread_of c.args.program.now in
-    let own = c.args.program.now.space.thread.now in
-    let slots = c.args.program.now.slots.now in
-    let point = c.args.point in
+    let image = c.args.visit.now.program.now.space.image.now in
+    let t = thread_of c.args.visit.now.program.now in
+    let own = c.args.visit.now.program.now.space.thread.now in
+    let slots = c.args.visit.now.program.now.slots.now in
+    let point = c.args.visit.now.point in
     let before = c.requires.read in
     let old = c.args.self.now.log in
-    let log = c.noted_or.new.log in
+    let log = c.note_own.new.log in
     let kept = c.args.self.now.kept in
-    let found = c.in_ok-found.found in
-    let state = c.looked_at-state.result in
+    let found = c.note_own.new.derived in
+    let state = c.look.new.kept in
     let same : noted_by slots log state ≡ noted image t point =
-    c.looked_at-state.ensures.same
-    ∙ ap (λ (all : List NotedSlot). noted_by all log found) c.args.program.now.listed
-    ∙ c.in_ok-found.ensures.same image own (subst Rise c.args.program.now.listed c.args.program.now.rising)
-    ∙ ap (λ (r : Option StateRecord). noted_or image own r (noted_by (image_slots image own) old c.args.derived))
-    (c.as_ref-own.ensures.value ∙ c.requires.noted)
-    ∙ ap (λ (all : List NotedSlot). noted_or image own (record_of own point) (noted_by all old c.args.derived)) (sym c.args.program.now.listed)
-    ∙ noted-or-same image own (record_of own point) (noted_by slots old c.args.derived) (states_before image t point) before.same
+    c.look.ensures.same
+    ∙ ap (λ (all : List NotedSlot). noted_by all log found) c.args.visit.now.program.now.listed
+    ∙ c.in_ok-note_own.ensures.same image own (subst Rise c.args.visit.now.program.now.listed c.args.visit.now.program.now.rising)
+    ∙ ap (λ (r : Option StateRecord). noted_or image own r (noted_by (image_slots image own) old c.args.derived.now))
+    c.args.visit.now.listed
+    ∙ ap (λ (all : List NotedSlot). noted_or image own (record_of own point) (noted_by all old c.args.derived.now)) (sym c.args.visit.now.program.now.listed)
+    ∙ noted-or-same image own (record_of own point) (noted_by slots old c.args.derived.now) (states_before image t point) before.same
     ∙ sym (noted-is image t point) in
     let is : IsKeptAt image t slots log point state =
-    record { same = same; sound = c.looked_at-state.ensures.sound; clean = c.looked_at-state.ensures.clean } in
+    record { same = same; sound = c.look.ensures.sound; clean = c.look.ensures.clean } in
     let lasts : (last : ℕ) → last + 1 ≡ point → IsKeptAt image t slots log last c.args.last.now =
-    λ last follows. grown-at image t slots old log last c.args.last.now c.in_ok-found.ensures.others (before.last last follows) in
+    λ last follows. grown-at image t slots old log last c.args.last.now c.in_ok-note_own.ensures.others (before.last last follows) in
     let more = c.in_ok-push.ensures.kept image t slots log refl before.count lasts is
-    (grown image t slots old log kept c.in_ok-found.ensures.others before.noted) in
+    (grown image t slots old log kept c.in_ok-note_own.ensures.others before.noted) in
     record {
       count = c.in_ok-push.ensures.count ∙ ap (λ (n : ℕ). n + 1) before.count;
-      noted = grown image t slots log c.following.new.log c.push.new.self c.in_ok-left.ensures.others more;
+      noted = grown image t slots log c.pass.new.log c.push.new.self c.in_ok-pass.ensures.others more;
       last = λ last follows.
           let one : point ≡ last = omega (arith, follows) in
-          subst (λ (n : ℕ). IsKeptAt image t slots c.following.new.log n state) one
-          (grown-at image t slots log c.following.new.log point state c.in_ok-left.ensures.others is);
-      same = λ none. c.in_ok-left.ensures.same (c.requires.next ∙ ap is_some none) ∙ ap (follows image t point) same ∙ next-before image t point;
-      sound = c.in_ok-left.ensures.sound;
-      clean = c.in_ok-left.ensures.clean;
+          subst (λ (n : ℕ). IsKeptAt image t slots c.pass.new.log n state) one
+          (grown-at image t slots log c.pass.new.log point state c.in_ok-pass.ensures.others is);
+      same = λ none. c.in_ok-pass.ensures.same (c.args.visit.now.next ∙ ap is_some none) ∙ ap (follows image t point) same ∙ next-before image t point;
+      sound = c.in_ok-pass.ensures.sound;
+      clean = c.in_ok-pass.ensures.clean;
     }
 
-pub looked_at-state-requires-clause-noted : goal.looked_at-state-requires-clause-noted
-looked_at-state-requires-clause-noted c = c.as_ref-own.ensures.value ∙ c.requires.noted
-
-pub following-requires-clause-noted : goal.following-requires-clause-noted
-following-requires-clause-noted c = c.as_ref-own.ensures.value ∙ c.requires.noted
-
 pub returns-clause-shown : goal.returns-clause-shown
-returns-clause-shown c = some-grown c.noted_or.new.log c.following.new.log c.show.new.shown c.in_ok-left.ensures.others c.in_ok-show.ensures.some
+returns-clause-shown c = some-grown c.note_own.new.log c.pass.new.log c.show.new.shown c.in_ok-pass.ensures.others c.in_ok-show.ensures.some

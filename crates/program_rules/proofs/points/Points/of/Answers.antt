@@ -28,17 +28,24 @@ note-requires-clause-noted c =
     c.take-noted.ensures.record
     ∙ sym (next-record c.args.program.now.space.thread.now c.notes.point c.notes.records c.notes.invariant.1).0
 
-pub note-requires-clause-next : goal.note-requires-clause-next
-note-requires-clause-next c =
-    is-next c.args.program.now.space.thread.now c.notes.point c.notes.records c.take-noted.new.self c.is_next-is_next_noted.result c.notes.invariant.1
-    c.take-noted.ensures.left
-    c.is_next-is_next_noted.ensures
+pub invariant_of-visit : goal.invariant_of-visit
+invariant_of-visit c =
+    let own = c.args.program.now.space.thread.now in
+    let least = c.notes-test.true in
+    let count = c.word_count-point-end.ensures.value in
+    record {
+      within = omega (arith, least, count);
+      listed = c.record_in.ensures ∙ c.take-noted.ensures.record ∙ sym (next-record own c.notes.point c.notes.records c.notes.invariant.1).0;
+      next = is-next own c.notes.point c.notes.records c.take-noted.new.self c.is_next-is_next_noted.result c.notes.invariant.1
+          c.take-noted.ensures.left
+          c.is_next-is_next_noted.ensures;
+    }
 
 pub notes-preserved : goal.notes-preserved
 notes-preserved c =
     let own = c.args.program.now.space.thread.now in (
-      c.in_ok-derived.ensures.read,
+      c.in_ok-note.ensures.read,
       subst (λ (rs : List StateRecord). AreLeft own (c.notes.point + 1) rs) (sym c.take-noted.ensures.left)
           (next-record own c.notes.point c.notes.records c.notes.invariant.1).1,
-      c.in_ok-derived.ensures.shown,
+      c.in_ok-note.ensures.shown,
     )

@@ -23,12 +23,15 @@ use Rattle.typestate.specs.Differences.{slots_of}
 use Rattle.typestate.specs.Strays.{NoneStray}
 use Rattle.wellformed.specs.Answering.{Answers}
 
-pub own_rules-requires-clause-clean : goal.own_rules-requires-clause-clean
-own_rules-requires-clause-clean c = λ is.
-    subst (λ (all : List NotedSlot). NoneStray c.args.self.now.program.now.space.image.now c.args.self.now.program.now.space.thread.now all)
-    (sym (c.slots-slots.ensures.slots ∙ c.requires.part.same c.args.self.now.program.now.slots.now c.args.self.now.program.now.rising
-    c.args.self.now.program.now.unlinked))
-    (c.requires.kept.clean is)
+pub invariant_of-here : goal.invariant_of-here
+invariant_of-here c = record {
+  image = c.slots-slots.ensures.image;
+  clean = λ is.
+      subst (λ (all : List NotedSlot). NoneStray c.args.self.now.program.now.space.image.now c.args.self.now.program.now.space.thread.now all)
+      (sym (c.slots-slots.ensures.slots ∙ c.requires.part.same c.args.self.now.program.now.slots.now c.args.self.now.program.now.rising
+      c.args.self.now.program.now.unlinked))
+      (c.requires.kept.clean is);
+}
 
 pub returns-in_err-own_rules-clause-broken : goal.returns-in_err-own_rules-clause-broken
 returns-in_err-own_rules-clause-broken c =

@@ -1,7 +1,7 @@
 -- By what the rules say of the slots.
 use Rattle.std.proofs.Common.{◌≡◌, ◌∙◌, Bool, true, false, not, [], pos, refl, sym, subst}
 use Rattle.model.specs.Acceptance.Measures.{Measure}
-use Rattle.program_rules.proofs.programs.Program.has_no_stray_slot.Goals as goal
+use Rattle.program_rules.proofs.visits.Visit.has_no_stray_slot.Goals as goal
 use Rattle.program_rules.specs.Programs.{thread_of}
 use Rattle.typestate.specs.Calls.{known_with}
 use Rattle.typestate.specs.Differences.{slots_of}
@@ -13,11 +13,17 @@ is-false false is = refl
 
 pub returns : goal.returns
 returns c = λ is.
-    let image = c.args.self.now.space.image.now in
-    let t = thread_of c.args.self.now in
+    let image = c.args.self.now.program.now.space.image.now in
+    let t = thread_of c.args.self.now.program.now in
     let bounds = c.args.known.now.bounds in
     let nothing : Measure = record { constant = pos 0; terms = [] } in
     subst (NoneStray image t.thread) (c.slots-slots.ensures.slots
-    ∙ c.requires.shown.same c.args.self.now.slots.now c.args.self.now.rising c.args.self.now.unlinked)
-    (c.points_without_stray_slots_have_none.ensures image t.thread c.args.point (known_with bounds (slots_of c.slots-slots.result) nothing)
+    ∙ c.requires.shown.same c.args.self.now.program.now.slots.now c.args.self.now.program.now.rising c.args.self.now.program.now.unlinked)
+    (c.points_without_stray_slots_have_none.ensures image t.thread c.args.self.now.point (known_with bounds (slots_of c.slots-slots.result) nothing)
     (sym (c.has_stray_slots.ensures bounds nothing) ∙ is-false c.has_stray_slots.result is))
+
+pub invariant_of-here : goal.invariant_of-here
+invariant_of-here c = record {
+  image = c.slots-slots.ensures.image;
+  clean = λ is. absurd (let clash : false ≡ true = is in cc);
+}

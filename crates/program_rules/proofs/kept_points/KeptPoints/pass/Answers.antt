@@ -2,7 +2,7 @@
 use Rattle.std.proofs.Common.{◌∙◌, ◌+◌, ◌^◌, ◌<◌, ◌≤◌, Some, length, refl, sym, ap, subst, arith}
 use Rattle.program_rules.proofs.EachPoint.{next-point}
 use Rattle.program_rules.proofs.Placed.{not-step, some-place}
-use Rattle.program_rules.proofs.kept_points.KeptPoints.after.Goals as goal
+use Rattle.program_rules.proofs.kept_points.KeptPoints.pass.Goals as goal
 use Rattle.program_rules.specs.Kept.{IsAt, IsBehindPlain}
 use Rattle.program_rules.specs.Programs.{thread_of}
 use Rattle.program_rules.specs.declared.places.Place.{Place}
@@ -14,8 +14,8 @@ returns-then-len-point c = λ less.
     let count = c.requires.count in
     absurd (omega (arith, less, short, long, count))
 
-pub behind_plain-requires-clause-plain : goal.behind_plain-requires-clause-plain
-behind_plain-requires-clause-plain c =
+pub pass_plain-requires-clause-plain : goal.pass_plain-requires-clause-plain
+pass_plain-requires-clause-plain c =
     let image = c.args.program.now.space.image.now in
     let t = thread_of c.args.program.now in
     let slots = c.args.program.now.slots.now in
@@ -39,8 +39,8 @@ returns-in-Plain c = λ less.
     let p = c.index-place.result.now in
     let got = some-place c.args.self.now.places.items next p inside ∙ ap (λ (q : Place). Some q) (sym c.index-place.ensures) in
     let step : IsBehindPlain image t next = subst (IsAt image t slots c.args.log.now c.args.self.now next) c.in-Plain.is (c.requires.all.each next p got) in
-    next-point image t slots c.args.log.now c.args.point c.args.kept.now c.behind_plain.result (step.plain c.args.point refl)
-    c.requires.kept c.behind_plain.ensures.same c.behind_plain.ensures.sound c.behind_plain.ensures.clean
+    next-point image t slots c.args.log.now c.args.point c.args.kept.now c.pass_plain.new.kept (step.plain c.args.point refl)
+    c.requires.kept c.pass_plain.ensures.same c.pass_plain.ensures.sound c.pass_plain.ensures.clean
 
 pub returns-in-Called : goal.returns-in-Called
 returns-in-Called c = λ less.
