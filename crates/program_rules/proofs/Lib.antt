@@ -12,4 +12,5 @@ mod LeftNext
 mod ShownParts
 mod MappedSoFar
 mod Outcomes
+mod OwnKept
 mod ThreadsLeft

@@ -1,23 +1,29 @@
 //! The rules at a point with a state, up to its system call and its ways on.
 
-ghost use Rattle.std.specs.Prelude.{◌≡◌, IfSome};
+ghost use Rattle.std.specs.Prelude.{ℕ, ◌≡◌, IfSome, List, None, Option, Some, false, true};
 ghost use Rattle.std.specs.Result.{result_err};
 ghost use Rattle.measure.specs.Measures.{measure_of};
+ghost use Rattle.model.specs.Acceptance.Edges.{after};
 ghost use Rattle.model.specs.Acceptance.Measures.{Measure as NotedMeasure};
+ghost use Rattle.model.specs.Acceptance.NotedStates.{NotedSlot, PointState};
 ghost use Rattle.model.specs.Acceptance.PointRules.{is_computed_jump, is_illegal, is_unmapped};
 ghost use Rattle.model.specs.Acceptance.PointStates.{point_of};
 ghost use Rattle.model.specs.Acceptance.Rules.{first_broken};
+ghost use Rattle.model.specs.Images.Image.{Image, Thread};
 ghost use Rattle.model.specs.Machine.Instructions.{IsInstr};
+ghost use Rattle.model.specs.declared.instructions.Instr.{Instr as RuleInstr};
+ghost use Rattle.model.specs.declared.ranges.Range.{Range};
 ghost use Rattle.program_rules.specs.FoundPages.{AreMapped};
 ghost use Rattle.program_rules.specs.PointChecks.{own_rules};
 ghost use Rattle.program_rules.specs.Programs.{thread_of};
 ghost use Rattle.typestate.specs.Calls.{known_with};
 ghost use Rattle.typestate.specs.Differences.{slots_of};
+ghost use Rattle.typestate.specs.Strays.{NoneStray};
 
 use crate::kept::Known;
 use crate::point_rules::{FoundPages, Pages};
 use crate::programs::Program;
-use crate::visits::VisitedSlots;
+use crate::visits::{Visit, VisitedSlots};
 use measure::least;
 use model::{Instr, Point, Refusal};
 use ranges::Bounds;
@@ -37,6 +43,28 @@ fn is_computed_jump(instr: Option<Instr>) -> bool
     ensures { result ≡ is_computed_jump instr }
 {
     matches!(instr, Some(Instr::Jalr { .. }))
+}
+
+/// Whether it is an instruction that goes on to the one after it alone, and neither loads nor stores: no rule on it asks for slots, but
+/// for those on a system call.
+#[tactic(auto, unfolding(model::specs::Acceptance::PointRules::is_unmapped, model::specs::Acceptance::Edges::after))]
+fn goes_on_plainly(instr: Option<Instr>) -> bool
+    ensures legal { result ≡ true → is_illegal instr ≡ false }
+    ensures direct { result ≡ true → is_computed_jump instr ≡ false }
+    ensures mapped { result ≡ true → (image : Image) (t : Thread) (state : PointState) → is_unmapped image t state instr ≡ false }
+    ensures ways { result ≡ true → (pc : ℕ) (ranges : List Range) (i : RuleInstr) → instr ≡ Some i → (after pc i ranges).taken ≡ None }
+{
+    matches!(
+        instr,
+        Some(
+            Instr::Upper { .. }
+                | Instr::Immediate { .. }
+                | Instr::Shift { .. }
+                | Instr::Registers { .. }
+                | Instr::Fence
+                | Instr::Ecall
+        )
+    )
 }
 
 impl Program<'_, '_> {
@@ -109,5 +137,29 @@ impl VisitedSlots<'_, '_, '_, '_, '_> {
             return Err(Refusal::NotMapped(at));
         }
         Ok(())
+    }
+}
+
+impl Visit<'_, '_, '_, '_> {
+    /// Whether the point keeps its own rules with this state whatever slots it has, and has no way on but to the next point: no record
+    /// notes it, it is known that no slot is one that the thread may not have, and the instruction asks for none.
+    pub(crate) fn keeps_own_unseen(&self, instr: Option<Instr>, known: &Known) -> bool
+        ensures own { (slots : List NotedSlot) → result ≡ true → (known.now.is_clean ≡ true → NoneStray self.now.program.now.space.image.now self.now.program.now.space.thread.now slots)
+            → first_broken (own_rules self.now.program.now.space.image.now (thread_of self.now.program.now) self.now.point (known_with known.now.bounds slots (measure_of known.now.measure)) instr) ≡ None }
+        ensures ways { (pc : ℕ) (ranges : List Range) (i : RuleInstr) → result ≡ true → instr ≡ Some i → (after pc i ranges).taken ≡ None }
+    {
+        if self.noted.is_some() {
+            return false;
+        }
+        if !known.is_clean {
+            return false;
+        }
+        if !goes_on_plainly(instr) {
+            return false;
+        }
+        if least(&known.measure, &known.bounds) < 1 {
+            return false;
+        }
+        true
     }
 }

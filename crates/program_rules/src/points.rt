@@ -94,9 +94,11 @@ impl<'a> Points<'a> {
         Ok(())
     }
 
-    /// The points of a program: each has the state of its record, or what the point before leaves. Memory may be refused.
-    pub(crate) fn of(program: &Program<'a, '_>) -> Result<Self, AllocError>
-        ensures { IfOk result (λ points. IsRead program.now.space.image.now (thread_of program.now) program.now.slots.now points.log points.kept) }
+    /// The points of a program, with the part that was shown last: each has the state of its record, or what the point before leaves.
+    /// Memory may be refused.
+    pub(crate) fn of(program: &Program<'a, '_>) -> Result<(Self, ShownPart), AllocError>
+        ensures read { IfOk result (λ all. IsRead program.now.space.image.now (thread_of program.now) program.now.slots.now all.0.log all.0.kept) }
+        ensures shown { IfOk result (λ all. ShowsSome all.0.log all.1) }
     {
         let mut records = RecordsLeft::of(program.space.thread);
         let mut points = Points {
@@ -117,6 +119,6 @@ impl<'a> Points<'a> {
             };
             points.note(&visit, &noted, &mut last, &mut derived, &mut shown)?;
         }
-        Ok(points)
+        Ok((points, shown))
     }
 }

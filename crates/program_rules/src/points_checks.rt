@@ -76,7 +76,8 @@ impl<'a> Visit<'_, '_, 'a, '_> {
         }
     }
 
-    /// The rules on the point: one without a state breaks none. Its part is shown for that, in place of another one.
+    /// The rules on the point: one without a state breaks none. Its part is shown for that, in place of another one, unless no rule asks
+    /// for its slots.
     #[tactic(auto, unfolding(model::specs::Acceptance::PointRules::point_rules))]
     fn point_rules(
         &self,
@@ -100,6 +101,13 @@ impl<'a> Visit<'_, '_, 'a, '_> {
     {
         match kept {
             Kept::Known(known) => {
+                let program = self.program;
+                let instr = decode(program.space.thread.word(self.point));
+                if self.keeps_own_unseen(instr, known) {
+                    if self.leaves_next(points) {
+                        return Ok(());
+                    }
+                }
                 points.log.show(shown, known.part)?;
                 found.go_on(known.part);
                 self.state_rules(points, shown, known, same, found)
@@ -110,13 +118,13 @@ impl<'a> Visit<'_, '_, 'a, '_> {
 }
 
 impl<'a> Program<'a, '_> {
-    /// The rules on all points, in their order.
-    fn points_rules(&self, points: &mut Points<'a>) -> Result<(), Refusal>
+    /// The rules on all points, in their order. What is shown at first may be any part.
+    fn points_rules(&self, points: &mut Points<'a>, shown: &mut ShownPart) -> Result<(), Refusal>
         requires read { IsRead self.now.space.image.now (thread_of self.now) self.now.slots.now points.old.log points.old.kept }
+        requires shown { ShowsSome points.old.log shown.old }
         ensures { Answers (first_broken (flat_map (point_rules self.now.space.image.now (thread_of self.now)) (range_with_len 0 self.now.space.thread.now.header.words))) result }
     {
         let mut records = RecordsLeft::of(self.space.thread);
-        let mut shown = ShownPart::new(self.alloc);
         let mut same = SameParts::new(self.alloc);
         let mut found = FoundPages::new(self.alloc);
         let mut kept = points.kept.at(self, &points.log, 0);
@@ -129,7 +137,7 @@ impl<'a> Program<'a, '_> {
                 noted: record_in(&noted),
                 is_next_noted,
             };
-            visit.point_rules(points, &mut shown, &kept, &mut same, &mut found)?;
+            visit.point_rules(points, shown, &kept, &mut same, &mut found)?;
             points.kept.pass(self, &points.log, point, &mut kept);
         }
         Ok(())
@@ -168,8 +176,8 @@ impl<'a> Program<'a, '_> {
     pub(crate) fn check(&self) -> Result<(), Refusal>
         ensures { Answers (first_broken (rules_of_program self.now.space.image.now (thread_of self.now))) result }
     {
-        let mut points = Points::of(self)?;
+        let (mut points, mut shown) = Points::of(self)?;
         self.entry_rules(&points)?;
-        self.points_rules(&mut points)
+        self.points_rules(&mut points, &mut shown)
     }
 }

@@ -15,7 +15,7 @@ rules-init c =
       c.requires.read,
       subst (λ (rs : List StateRecord). AreLeft own 0 rs) (sym c.of-records.ensures) (all-left own c.args.self.now.fits),
       refl,
-      c.new-shown.ensures.shown c.args.points.now.log,
+      c.requires.shown,
       c.new-same.ensures c.args.self.now.slots.now c.args.points.now.log,
       c.new-found.ensures c.args.self.now.space.image.now own c.args.self.now.slots.now c.args.points.now.log,
       λ less. c.at-kept.ensures,

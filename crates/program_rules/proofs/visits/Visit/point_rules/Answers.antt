@@ -1,12 +1,16 @@
 -- By what is kept of the point.
 use Rattle.std.proofs.Common.{◌≡◌, ◌∙◌, inl, inr, Option, refl, sym, ap, subst}
-use Rattle.model.specs.Acceptance.PointStates.{Known, Missing, Unmeasured, noted}
+use Rattle.model.specs.Acceptance.PointStates.{Known, Missing, Unmeasured, address_of, instruction_at, noted}
+use Rattle.model.specs.Machine.Decoding.{decoded}
 use Rattle.model.specs.declared.refusals.Refusal.{Refusal}
+use Rattle.program_rules.proofs.OwnKept.{unseen-kept}
 use Rattle.program_rules.proofs.PointLists.{noted-rules}
 use Rattle.program_rules.proofs.visits.Visit.point_rules.Goals as goal
-use Rattle.program_rules.specs.Kept.{IsKeptAt, IsSound, noted_by, state_by}
+use Rattle.program_rules.specs.Kept.{IsCleanIn, IsKeptAt, IsSound, noted_by, state_by}
 use Rattle.program_rules.specs.Programs.{thread_of}
 use Rattle.program_rules.specs.declared.kept.Kept.{Kept}
+use Rattle.typestate.specs.Logs.{part_of}
+use Rattle.typestate.specs.Replays.{replayed}
 use Rattle.wellformed.specs.Answering.{Answers}
 
 pub state_rules-requires-clause-kept : goal.state_rules-requires-clause-kept
@@ -56,3 +60,22 @@ state_rules-requires-clause-found c =
     c.go_on.ensures.found c.args.self.now.program.now.space.image.now c.args.self.now.program.now.space.thread.now c.args.self.now.program.now.slots.now
     c.args.points.now.log
     (subst (λ (k : Kept). IsSound c.args.points.now.log c.args.self.now.point k) c.in-Known.is is.sound).0 c.requires.found
+
+pub returns-then-leaves_next-clause-broken : goal.returns-then-leaves_next-clause-broken
+returns-then-leaves_next-clause-broken c =
+    let v = c.args.self.now in
+    let image = v.program.now.space.image.now in
+    let t = thread_of v.program.now in
+    let slots = v.program.now.slots.now in
+    let is = c.requires.kept in
+    let log = c.args.points.now.log in
+    let known = c.in-Known.known in
+    let s = state_by slots log known in
+    let same : Known s ≡ noted image t v.point = ap (noted_by slots log) (sym c.in-Known.is) ∙ is.same in
+    let read : instruction_at t.thread v.point ≡ c.decode-instr.result = ap decoded (sym c.word.ensures) ∙ sym c.decode-instr.ensures.value in
+    let clean = subst (λ (k : Kept). IsCleanIn image t.thread slots log k) c.in-Known.is is.clean in
+    sym (noted-rules image t v.point (Known s) same)
+    ∙ unseen-kept image t v.point s (λ i at plain. c.leaves_next.ensures.plain s i c.if-leaves_next.true same at plain)
+    (λ at. c.leaves_next.ensures.call s c.if-leaves_next.true same at) c.decode-instr.result read
+    (c.keeps_own_unseen.ensures.own (replayed slots (part_of log known.part)) c.if-keeps_own_unseen.true clean)
+    (λ i at. c.keeps_own_unseen.ensures.ways (address_of t.thread v.point) known.bounds i c.if-keeps_own_unseen.true at)
