@@ -21,6 +21,7 @@ mod Receiving
 mod ReplyCalls
 mod Sending
 mod Signalling
+mod SlotCalls
 mod SlotChanges
 mod Stored
 mod Ticks

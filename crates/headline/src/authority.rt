@@ -3,6 +3,7 @@
 
 mod call_laws;
 mod ready_laws;
+mod slot_laws;
 mod step_laws;
 
 pub use call_laws::{
@@ -12,6 +13,10 @@ pub use call_laws::{
     waits_stay_within_authority,
 };
 pub use ready_laws::the_ready_list_holds_no_thread_twice;
+pub use slot_laws::{
+    completed_invocations_stay_within_authority, copies_stay_within_authority,
+    mints_stay_within_authority, moves_stay_within_authority, unmaps_stay_within_authority,
+};
 pub use step_laws::{
     a_new_endpoint_stays_within_authority, a_plain_step_stays_within_authority,
     a_tick_stays_within_authority, an_interrupt_stays_within_authority,

@@ -1,5 +1,5 @@
 -- The first of new objects lies at a multiple of their size.
-use Rattle.std.proofs.Common.{ℕ, ◌≡◌, ◌+◌, ◌-◌, ◌*◌, ◌/◌, ◌%◌, ◌^◌, ◌<◌, ◌≤◌, true, false, Option, Some, None, if◌then◌else◌, nat_le, pow_pos, sym, ap, subst}
+use Rattle.std.proofs.Common.{ℕ, ◌≡◌, ◌+◌, ◌-◌, ◌*◌, ◌/◌, ◌%◌, ◌^◌, ◌<◌, ◌≤◌, true, false, Option, Some, None, if◌then◌else◌, nat_le, pow_pos, sym, ap}
 use Rattle.std.proofs.Common.{arith}
 use Rattle.model.specs.Capabilities.Placement.{align, place_of_object, placement}
 use Rattle.headline.proofs.Laws.{behind}

@@ -7,7 +7,8 @@ use Rattle.model.specs.declared.capabilities.Cap.TheVariants.{Endpoint, Notifica
 use Rattle.model.specs.declared.lookup_failures.LookupFailure.TheVariants.{MissingCapability}
 use Rattle.model.specs.declared.rights.Rights.{Rights}
 use Rattle.model.specs.declared.system_calls.ReceiveCall.TheVariants.{Receiving}
-use Rattle.model.specs.declared.system_calls.SystemCall.TheVariants.{RepliesAndReceives}
+use Rattle.model.specs.declared.system_calls.SystemCall.{SystemCall}
+use Rattle.model.specs.declared.system_calls.SystemCall.TheVariants.{RepliesAndReceives, Replies}
 use Rattle.model.specs.Acceptance.Authority.{WithinAuthority, self_of}
 use Rattle.model.specs.Capabilities.Rights.{may_read}
 use Rattle.model.specs.Images.Image.{Image, Thread}
@@ -33,14 +34,14 @@ use Rattle.headline.proofs.authority.Yielding.{nothing-changes}
 use Rattle.headline.specs.authority.Scenarios.{CallsOn}
 use Rattle.soundness.proofs.Laws.{reply-whole}
 
--- a thread that awaits a reply is one
-awaiting-thread : (s : State) (x : ℕ) → (thread_at s x).status ≡ AwaitsReply
-    → (u : ThreadState) × (s.objects x ≡ Some (ThreadObject u)) × (u.status ≡ AwaitsReply)
-awaiting-thread s x is =
+-- a thread that is not stopped is there
+pub thread-with : (s : State) (x : ℕ) (status : Status) → status ≢ Inactive → (thread_at s x).status ≡ status
+    → (u : ThreadState) × (s.objects x ≡ Some (ThreadObject u)) × (u.status ≡ status)
+thread-with s x status stopped is =
     elim (as_thread (s.objects x)) as (λ (o : Option ThreadState). as_thread (s.objects x) ≡ o
-    → (option_map_or (λ (u : ThreadState). u) o new_thread).status ≡ AwaitsReply
-    → (u : ThreadState) × (s.objects x ≡ Some (ThreadObject u)) × (u.status ≡ AwaitsReply)) [
-      | None ↦ λ _ is. absurd (let clash : Inactive ≡ AwaitsReply = is in cc)
+    → (option_map_or (λ (u : ThreadState). u) o new_thread).status ≡ status
+    → (u : ThreadState) × (s.objects x ≡ Some (ThreadObject u)) × (u.status ≡ status)) [
+      | None ↦ λ _ is. absurd (stopped (sym is))
       | Some u ↦ λ here is. (u, thread-object (s.objects x) u here, is)
     ] refl is
 
@@ -60,7 +61,7 @@ module _ (image : Image) (t : Thread) (s : State) (sound : IsSound s) (own : Thr
     by-status : (caller : ℕ) → own.caller ≡ Some caller → (status : Status) → (thread_at s caller).status ≡ status → IsTrue (awaits_answer status)
         → P (to_caller caller status)
     by-status caller right AwaitsReply now awaits =
-        let there = awaiting-thread s caller now in some caller right there.0 there.1 there.2
+        let there = thread-with s caller AwaitsReply (λ same. absurd cc) now in some caller right there.0 there.1 there.2
     by-status caller right AwaitsHandler now awaits = absurd (unhandled caller right now)
     by-status caller right Inactive now awaits = absurd (let clash : false ≡ true = awaits in cc)
     by-status caller right Runnable now awaits = absurd (let clash : false ≡ true = awaits in cc)
@@ -90,8 +91,8 @@ module _ (image : Image) (t : Thread) (s : State) (sound : IsSound s) (own : Thr
 
   -- ---- and receives
 
-  module _ (capability : Cap) (call : CallsOn image t s 2 capability)
-      (receives : (m : State) → IsSound m → CallsOn image t m 2 capability → KeepsSlice image t m (receive_by m (self_of image t) Receiving capability).0) where
+  module _ (number : ℕ) (capability : Cap) (call : CallsOn image t s number capability)
+      (receives : (m : State) → IsSound m → CallsOn image t m number capability → KeepsSlice image t m (receive_by m (self_of image t) Receiving capability).0) where
     sound-replied : IsSound (reply s self)
     sound-replied = reply-whole s self sound (ap (option_map kind_of) is)
 
@@ -105,7 +106,7 @@ module _ (image : Image) (t : Thread) (s : State) (sound : IsSound s) (own : Thr
           is = after-self image t s sound own is runs caller right u there awaits;
           runs = runs;
           calls =
-              ap (λ (v : ThreadState). read v.registers a7) (sym (at-place s self own is)) ∙ number-is s self call.own 2 call.is call.calls;
+              ap (λ (v : ThreadState). read v.registers a7) (sym (at-place s self own is)) ∙ number-is s self call.own number call.is call.calls;
           slot = call.slot;
           named = named-same image t s sound own is runs caller right u there awaits ∙ call.named;
           among = call.among;
@@ -132,35 +133,37 @@ module _ (image : Image) (t : Thread) (s : State) (sound : IsSound s) (own : Thr
 -- ---- the calls
 
 module _ (image : Image) (t : Thread) (s : State) (sound : IsSound s) where
-  pub reply-within : (own : ThreadState) → s.objects (self_of image t) ≡ Some (ThreadObject own) → own.status ≡ Runnable
-      → ((caller : ℕ) → own.caller ≡ Some caller → (thread_at s caller).status ≢ AwaitsHandler) → read own.registers a7 ≡ 6
+  pub reply-within : (number : ℕ) → call_of number ≡ Some Replies → (own : ThreadState) → s.objects (self_of image t) ≡ Some (ThreadObject own)
+      → own.status ≡ Runnable → ((caller : ℕ) → own.caller ≡ Some caller → (thread_at s caller).status ≢ AwaitsHandler) → read own.registers a7 ≡ number
       → WithinAuthority image t s (system_call s (self_of image t)).0
   unfolding system_call
-  reply-within own is runs unhandled number =
+  reply-within number call own is runs unhandled calls_it =
       subst (λ (n : ℕ). WithinAuthority image t s (calls_known s (self_of image t) n (call_of n)).0)
-      (sym (number-is s (self_of image t) own 6 is number)) (reply-goes image t s sound own is runs unhandled)
+      (sym (number-is s (self_of image t) own number is calls_it))
+      (subst (λ (c : Option SystemCall). WithinAuthority image t s (calls_known s (self_of image t) number c).0) (sym call)
+      (reply-goes image t s sound own is runs unhandled))
 
-  module _ (slotted : ℕ) (badge : ℕ) (allowed : Rights) (reads : may_read allowed ≡ true) where
-    pub reply-endpoint : (call : CallsOn image t s 2 (Endpoint slotted allowed badge))
+  module _ (number : ℕ) (both : call_of number ≡ Some RepliesAndReceives) (slotted : ℕ) (badge : ℕ) (allowed : Rights) (reads : may_read allowed ≡ true) where
+    pub reply-endpoint : (call : CallsOn image t s number (Endpoint slotted allowed badge))
         → ((caller : ℕ) → call.own.caller ≡ Some caller → (thread_at s caller).status ≢ AwaitsHandler)
         → WithinAuthority image t s (system_call s (self_of image t)).0
     reply-endpoint call unhandled =
         subst (λ (d : Done). WithinAuthority image t s d.0)
-        (sym (called-as image t s 2 (Endpoint slotted allowed badge) call RepliesAndReceives refl))
-        (reply-receives image t s sound call.own call.is call.runs unhandled (Endpoint slotted allowed badge) call
+        (sym (called-as image t s number (Endpoint slotted allowed badge) call RepliesAndReceives both))
+        (reply-receives image t s sound call.own call.is call.runs unhandled number (Endpoint slotted allowed badge) call
         (λ m whole at.
         subst (λ (b : Bool). KeepsSlice image t m (if b then receive_on_endpoint m (self_of image t) Receiving slotted else
         lacks_capability m (self_of image t) 1 MissingCapability).0) (sym reads)
-        (receive-keeps image t m whole 2 slotted badge allowed at reads)))
+        (receive-keeps image t m whole number slotted badge allowed at reads)))
 
-    pub reply-notification : (call : CallsOn image t s 2 (Notification slotted allowed badge))
+    pub reply-notification : (call : CallsOn image t s number (Notification slotted allowed badge))
         → ((caller : ℕ) → call.own.caller ≡ Some caller → (thread_at s caller).status ≢ AwaitsHandler)
         → WithinAuthority image t s (system_call s (self_of image t)).0
     reply-notification call unhandled =
         subst (λ (d : Done). WithinAuthority image t s d.0)
-        (sym (called-as image t s 2 (Notification slotted allowed badge) call RepliesAndReceives refl))
-        (reply-receives image t s sound call.own call.is call.runs unhandled (Notification slotted allowed badge) call
+        (sym (called-as image t s number (Notification slotted allowed badge) call RepliesAndReceives both))
+        (reply-receives image t s sound call.own call.is call.runs unhandled number (Notification slotted allowed badge) call
         (λ m whole at.
         subst (λ (b : Bool). KeepsSlice image t m (if b then receive_on_notification m (self_of image t) Receiving slotted else
         lacks_capability m (self_of image t) 1 MissingCapability).0) (sym reads)
-        (wait-keeps image t m whole 2 slotted badge allowed at reads)))
+        (wait-keeps image t m whole number slotted badge allowed at reads)))

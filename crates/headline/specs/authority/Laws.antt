@@ -1,19 +1,29 @@
 -- The laws on calls: what each changes stays within authority, from every sound state.
-use Rattle.std.specs.Prelude.{ℕ, ◌≡◌, ◌≢◌, IsTrue, Some, None, Ok}
+use Rattle.std.specs.Prelude.{ℕ, ◌≡◌, ◌≢◌, IsTrue, Option, Some, None, Ok}
+use Rattle.model.specs.declared.capabilities.Cap.{Cap}
 use Rattle.model.specs.declared.capabilities.Cap.TheVariants.{Endpoint, Frame, InterruptControl, InterruptHandler, Notification}
+use Rattle.model.specs.declared.capabilities.FrameMapping.{FrameMapping}
+use Rattle.model.specs.declared.capabilities.TableMapping.{TableMapping}
 use Rattle.model.specs.declared.invocations.HandlerCall.TheVariants.{Acknowledge}
 use Rattle.model.specs.declared.invocations.Invocation.TheVariants.{OnHandler}
+use Rattle.model.specs.declared.invocations.SlotName.{SlotName}
 use Rattle.model.specs.declared.rights.Rights.{Rights}
 use Rattle.model.specs.declared.system_calls.ReceiveCall.{ReceiveCall}
 use Rattle.model.specs.declared.system_calls.SendCall.{SendCall}
-use Rattle.model.specs.declared.system_calls.SystemCall.TheVariants.{Receives, Sends}
-use Rattle.model.specs.Acceptance.Authority.{WithinAuthority, self_of}
+use Rattle.model.specs.declared.system_calls.SystemCall.TheVariants.{PutsCharacter, Receives, Replies, RepliesAndReceives, Sends, Yields}
+use Rattle.model.specs.Acceptance.Authority.{IsOwnSlot, WithinAuthority, self_of}
+use Rattle.model.specs.Capabilities.CapabilityKinds.{frame_mapping, table_mapping}
 use Rattle.model.specs.Capabilities.Rights.{may_read, may_write}
+use Rattle.model.specs.Capabilities.Slots.{capability_at, parent_at}
 use Rattle.model.specs.Images.Image.{Image, Thread}
+use Rattle.model.specs.Images.Places.{offset_of}
+use Rattle.model.specs.Kernel.Arguments.{Call}
+use Rattle.model.specs.Kernel.CNodeCalls.{copy, mint, move as moved}
+use Rattle.model.specs.Kernel.MappingCalls.{unmap_frame}
 use Rattle.model.specs.Kernel.Soundness.{IsSound}
-use Rattle.model.specs.Kernel.State.{State, AwaitsHandler, ThreadState, thread_at}
-use Rattle.model.specs.Kernel.Steps.{call_of, system_call}
-use Rattle.headline.specs.authority.Scenarios.{CallsOn, GetsHandler, MapsFrame, RunsAt, asked}
+use Rattle.model.specs.Kernel.State.{State, Runnable, AwaitsHandler, ThreadObject, ThreadState, thread_at}
+use Rattle.model.specs.Kernel.Steps.{call_of, completed, system_call}
+use Rattle.headline.specs.authority.Scenarios.{CallsOn, GetsHandler, MapsFrame, OwnSlots, RunsAt, asked}
 
 -- what the thread's system call leaves
 abbrev pub CallStaysWithin : Image → Thread → State → Type 0
@@ -52,27 +62,31 @@ abbrev pub HandlesNobody : State → ThreadState → Type 0
 HandlesNobody s own = (caller : ℕ) → own.caller ≡ Some caller → (thread_at s caller).status ≢ AwaitsHandler
 
 abbrev pub RepliesStayWithin : Type 0
-RepliesStayWithin = (image : Image) (t : Thread) (s : State) → IsSound s → (at : RunsAt image t s 6) → HandlesNobody s at.own → CallStaysWithin image t s
+RepliesStayWithin =
+    (image : Image) (t : Thread) (s : State) (number : ℕ) → IsSound s → call_of number ≡ Some Replies → (at : RunsAt image t s number) → HandlesNobody s at.own
+    → CallStaysWithin image t s
 
 -- a Reply and then a Recv
 abbrev pub RepliesToReceiveStayWithin : Type 0
 RepliesToReceiveStayWithin =
-    (image : Image) (t : Thread) (s : State) (endpoint badge : ℕ) (allowed : Rights) → IsSound s
-    → (call : CallsOn image t s 2 (Endpoint endpoint allowed badge)) → IsTrue (may_read allowed) → HandlesNobody s call.own → CallStaysWithin image t s
+    (image : Image) (t : Thread) (s : State) (number endpoint badge : ℕ) (allowed : Rights) → IsSound s
+    → call_of number ≡ Some RepliesAndReceives → (call : CallsOn image t s number (Endpoint endpoint allowed badge)) → IsTrue (may_read allowed) → HandlesNobody s call.own → CallStaysWithin image t s
 
 abbrev pub RepliesToWaitStayWithin : Type 0
 RepliesToWaitStayWithin =
-    (image : Image) (t : Thread) (s : State) (notification badge : ℕ) (allowed : Rights) → IsSound s
-    → (call : CallsOn image t s 2 (Notification notification allowed badge)) → IsTrue (may_read allowed) → HandlesNobody s call.own
+    (image : Image) (t : Thread) (s : State) (number notification badge : ℕ) (allowed : Rights) → IsSound s
+    → call_of number ≡ Some RepliesAndReceives → (call : CallsOn image t s number (Notification notification allowed badge)) → IsTrue (may_read allowed) → HandlesNobody s call.own
     → CallStaysWithin image t s
 
 -- ---- calls that concern the thread alone
 
 abbrev pub YieldsStayWithin : Type 0
-YieldsStayWithin = (image : Image) (t : Thread) (s : State) → IsSound s → RunsAt image t s 7 → CallStaysWithin image t s
+YieldsStayWithin = (image : Image) (t : Thread) (s : State) (number : ℕ) → IsSound s → call_of number ≡ Some Yields → RunsAt image t s number → CallStaysWithin image t s
 
 abbrev pub CharactersStayWithin : Type 0
-CharactersStayWithin = (image : Image) (t : Thread) (s : State) → IsSound s → RunsAt image t s 9 → CallStaysWithin image t s
+CharactersStayWithin =
+    (image : Image) (t : Thread) (s : State) (number : ℕ) → IsSound s → call_of number ≡ Some PutsCharacter → RunsAt image t s number
+    → CallStaysWithin image t s
 
 -- ---- lines
 
@@ -93,3 +107,44 @@ abbrev pub HandlersStayWithin : Type 0
 HandlersStayWithin =
     (image : Image) (t : Thread) (s : State) (kind : SendCall) (number : ℕ) → IsSound s → call_of number ≡ Some (Sends kind)
     → (call : CallsOn image t s number InterruptControl) → GetsHandler image t s call.slot → CallStaysWithin image t s
+
+-- what a frame's or a page table's capability maps is under the thread's own root table
+abbrev pub MapsUnderOwn : Image → Thread → Cap → Type 0
+MapsUnderOwn image t capability =
+    ((mapping : FrameMapping) → frame_mapping capability ≡ Some mapping → mapping.root ≡ offset_of image t.header.root)
+    × ((mapping : TableMapping) → table_mapping capability ≡ Some mapping → mapping.root ≡ offset_of image t.header.root)
+
+abbrev pub CopiesStayWithin : Type 0
+CopiesStayWithin =
+    (image : Image) (t : Thread) (s after : State) (own : ThreadState) (call : Call) (destination source : SlotName) (word : ℕ)
+    → s.objects (self_of image t) ≡ Some (ThreadObject own) → OwnSlots image t s call destination source → copy s call destination source word ≡ Ok after
+    → WithinAuthority image t s after
+
+-- with a badge or a guard word
+abbrev pub MintsStayWithin : Type 0
+MintsStayWithin =
+    (image : Image) (t : Thread) (s after : State) (own : ThreadState) (call : Call) (destination source : SlotName) (word payload : ℕ)
+    → s.objects (self_of image t) ≡ Some (ThreadObject own) → OwnSlots image t s call destination source
+    → mint s call destination source word payload ≡ Ok after → WithinAuthority image t s after
+
+-- what derives from the source is the thread's own
+abbrev pub MovesStayWithin : Type 0
+MovesStayWithin =
+    (image : Image) (t : Thread) (s after : State) (own : ThreadState) (call : Call) (destination source : SlotName)
+    → s.objects (self_of image t) ≡ Some (ThreadObject own) → (slots : OwnSlots image t s call destination source)
+    → ((child : ℕ) → parent_at s.slots child ≡ Some slots.from → IsOwnSlot image t child) → MapsUnderOwn image t (capability_at s.slots slots.from)
+    → moved s call destination source ≡ Ok after → WithinAuthority image t s after
+
+abbrev pub UnmapsStayWithin : Type 0
+UnmapsStayWithin =
+    (image : Image) (t : Thread) (s : State) (own : ThreadState) (call : Call) (offset : ℕ) (allowed : Rights) (mapping : Option FrameMapping)
+    → s.objects (self_of image t) ≡ Some (ThreadObject own) → call.capability ≡ Frame offset allowed mapping
+    → capability_at s.slots call.slot ≡ Frame offset allowed mapping → IsOwnSlot image t call.slot → MapsUnderOwn image t call.capability
+    → WithinAuthority image t s (unmap_frame s call)
+
+-- the thread goes on after what its invocation left
+abbrev pub CompletedStayWithin : Type 0
+CompletedStayWithin =
+    (image : Image) (t : Thread) (s after : State) (kind : SendCall) (own now : ThreadState) → IsSound s
+    → s.objects (self_of image t) ≡ Some (ThreadObject own) → own.status ≡ Runnable → after.objects (self_of image t) ≡ Some (ThreadObject now)
+    → WithinAuthority image t s after → WithinAuthority image t s (completed after (self_of image t) kind)

@@ -14,7 +14,7 @@ use Rattle.model.specs.Capabilities.Slots.{capability_at, recapped}
 use Rattle.model.specs.declared.instructions.Access.TheVariants.{Store}
 use Rattle.model.specs.Kernel.AddressSpaces.{content_of}
 use Rattle.model.specs.Images.Image.{Image, Thread}
-use Rattle.model.specs.Kernel.Arguments.{Call, destination_slot}
+use Rattle.model.specs.Kernel.Arguments.{Call, destination_slot, source_slot}
 use Rattle.model.specs.Kernel.CallForms.{decode}
 use Rattle.model.specs.Kernel.Invocations.{invoke}
 use Rattle.model.specs.Kernel.MappingCalls.{root_named}
@@ -96,3 +96,12 @@ pub record GetsHandler (image : Image) (t : Thread) (s : State) (slot : ℕ) : T
   pub own : IsOwnSlot image t window
   pub after : State
   pub passes : invoked s (self_of image t) slot ≡ Ok after
+
+-- a destination and a source that a call names, both slots of the thread's own
+pub record OwnSlots (image : Image) (t : Thread) (s : State) (call : Call) (destination source : SlotName) : Type 0 where
+  pub to : ℕ
+  pub from : ℕ
+  pub named_to : destination_slot s.slots call.capability destination ≡ Ok to
+  pub named_from : source_slot s.slots call.root source ≡ Ok from
+  pub own_to : IsOwnSlot image t to
+  pub own_from : IsOwnSlot image t from
