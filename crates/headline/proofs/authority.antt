@@ -14,6 +14,7 @@ mod NewMappings
 mod NotificationCalls
 mod OwnCalls
 mod OwnRegisters
+mod PlainStanding
 mod PlainSteps
 mod ReadyLists
 mod ReadySteps
@@ -23,6 +24,8 @@ mod Sending
 mod Signalling
 mod SlotCalls
 mod SlotChanges
+mod StandingCalls
+mod StandingInvocations
 mod Stored
 mod Ticks
 mod Yielding

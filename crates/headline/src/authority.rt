@@ -4,6 +4,7 @@
 mod call_laws;
 mod ready_laws;
 mod slot_laws;
+mod standing_laws;
 mod step_laws;
 
 pub use call_laws::{
@@ -16,6 +17,10 @@ pub use ready_laws::the_ready_list_holds_no_thread_twice;
 pub use slot_laws::{
     completed_invocations_stay_within_authority, copies_stay_within_authority,
     mints_stay_within_authority, moves_stay_within_authority, unmaps_stay_within_authority,
+};
+pub use standing_laws::{
+    calls_that_invoke_nothing_stay_within_authority, instructions_stay_within_authority,
+    noted_calls_stay_within_authority,
 };
 pub use step_laws::{
     a_new_endpoint_stays_within_authority, a_plain_step_stays_within_authority,

@@ -38,7 +38,7 @@ use Rattle.headline.proofs.invocations.Recapping.{recapped-changes}
 use Rattle.thread_spaces.proofs.Laws.{negated}
 
 -- a root table among the thread's capabilities is its own
-own-table : (image : Image) (t : Thread) (c : Cap) (table : ℕ) → root_of c ≡ Some table → is_foreign image t (reached image t) c ≡ false
+pub own-table : (image : Image) (t : Thread) (c : Cap) (table : ℕ) → root_of c ≡ Some table → is_foreign image t (reached image t) c ≡ false
     → table ≡ offset_of image t.header.root
 own-table image t (RootTable offset) table is home = sym (same_Some offset table is) ∙ root-near image t (reached image t) offset home
 own-table image t Empty table clash home = absurd (none-some table clash)

@@ -112,15 +112,31 @@ module _ (laws : Laws) (bytes : List ℕ) (image : Image) (t : Numbered) (s : St
           stands = subst (λ (x : State × Label). AllStand image x.0 (labels ++ x.1 ∷ [])) (sym stepped) well-called.stands;
         }
 
-  from-invariant : ThreadInvariant image t s labels → CallsAreFine image t s labels → GoesWell image s labels Step
-  from-invariant (runs_so own point state there status stands budget) fine = goes own point state there status stands budget fine
-  from-invariant (waits_so own point state there status stands asks none) fine =
+  -- the thread runs, so its invariant says where it is
+  from-invariant : (Goal : Type 0) → ((own : ThreadState) (point : ℕ) (state : PointState) → s.objects tcb ≡ Some (ThreadObject own) → own.status ≡ Runnable
+      → StandsAt image t s own point state → IsWithinBudget image t labels own state → Goal) → ThreadInvariant image t s labels → Goal
+  from-invariant Goal reaches (runs_so own point state there status stands budget) = reaches own point state there status stands budget
+  from-invariant Goal reaches (waits_so own point state there status stands asks none) =
       let running = current-runs s all.sound.threads tcb now in
       absurd (no-runner own.status (ap (λ (u : ThreadState). u.status) (sym (at-place s tcb own there)) ∙ runs-status (thread_at s tcb).status running.runs)
       status)
 
   pub call-goes-well : CallsAreFine image t s labels → GoesWell image s labels Step
-  call-goes-well fine = from-invariant (all.stand t listed) fine
+  call-goes-well fine =
+      from-invariant (GoesWell image s labels Step) (λ own point state there status stands budget. goes own point state there status stands budget fine)
+      (all.stand t listed)
+
+  -- what is so of each state that a call leaves which the rules allow is so of what the step leaves
+  pub call-leaves : (P : State → Type 0) → ((own : ThreadState) (point : ℕ) (state : PointState) (left : AfterCall) (call : SystemCall)
+      → CallsAt image t s labels own point state left → call_of (read own.registers a7) ≡ Some call
+      → call_of (read (registers_of s (tcb_of image t)) a7) ≡ Some call → by_call image t.thread (point_of t point) state call ≡ Ok left
+      → P (system_call s (tcb_of image t)).0) → P (step s Step).0
+  call-leaves P each =
+      from-invariant (P (step s Step).0) (λ own point state there status stands budget.
+      let called = so own point state there status stands budget in
+      subst (λ (x : State × Label). P x.0) (sym (stepped own point state there status stands budget))
+      (each own point state (left own point state there status stands budget) called.call (at own point state there status stands budget) called.number
+      (number-is own point state there status stands budget) called.rule)) (all.stand t listed)
 
   pub message-goes-well : InvokesNothing s (tcb_of image t) → GoesWell image s labels Step
   message-goes-well quiet =

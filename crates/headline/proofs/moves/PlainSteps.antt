@@ -264,17 +264,30 @@ module _ (laws : Laws) (keeps : PlainStepsKeepThreads) (writes : WritesWhereStor
       }
 
     -- what spells no instruction would be a fault
-    by-decoded : (o : Option Instr) → decoded word ≡ o → GoesWell image s labels Step
-    by-decoded None is = absurd (let clash : true ≡ false = no-fault None is in cc)
-    by-decoded (Some instr) is = goes-by instr is
+    by-decoded : (Goal : Type 0) → ((instr : Instr) → decoded word ≡ Some instr → Goal) → (o : Option Instr) → decoded word ≡ o → Goal
+    by-decoded Goal goes None is = absurd (let clash : true ≡ false = no-fault None is in cc)
+    by-decoded Goal goes (Some instr) is = goes instr is
 
-  from-invariant : ThreadInvariant image t s labels → GoesWell image s labels Step
-  from-invariant (runs_so own point state there status stands budget) =
-      by-decoded own point state there status stands (decoded (slice_index t.thread.words point)) refl
-  from-invariant (waits_so own point state there status stands asks none) =
+  from-invariant : (Goal : Type 0) → ((own : ThreadState) (point : ℕ) (state : PointState) → s.objects thread ≡ Some (ThreadObject own) → own.status ≡ Runnable
+      → StandsAt image t s own point state → (instr : Instr) → decoded (slice_index t.thread.words point) ≡ Some instr → Goal)
+      → ThreadInvariant image t s labels → Goal
+  from-invariant Goal goes (runs_so own point state there status stands budget) =
+      by-decoded own point state there status stands Goal (goes own point state there status stands) (decoded (slice_index t.thread.words point)) refl
+  from-invariant Goal goes (waits_so own point state there status stands asks none) =
       let running = current-runs s all.sound.threads thread now in
       absurd (no-runner own.status (ap (λ (u : ThreadState). u.status) (sym (at-place s thread own there))
       ∙ runs-status (thread_at s thread).status running.runs) status)
 
   pub plain-goes-well : GoesWell image s labels Step
-  plain-goes-well = from-invariant (all.stand t listed)
+  plain-goes-well =
+      from-invariant (GoesWell image s labels Step) (λ own point state there status stands instr is. goes-by own point state there status stands instr is)
+      (all.stand t listed)
+
+  -- what is so of each state that an instruction leaves is so of what the step leaves
+  pub plain-leaves : (P : State → Type 0) → ((own : ThreadState) → s.objects (tcb_of image t) ≡ Some (ThreadObject own) → own.status ≡ Runnable
+      → (instr : Instr)
+      → P (with_content (with_registers s (tcb_of image t) (effect (registers_of s (tcb_of image t)) (content_of s (tcb_of image t)) instr).registers)
+      (effect (registers_of s (tcb_of image t)) (content_of s (tcb_of image t)) instr).content)) → P (step s Step).0
+  plain-leaves P each =
+      from-invariant (P (step s Step).0) (λ own point state there status stands instr is.
+      subst (λ (x : State × Label). P x.0) (sym (stepped own point state there status stands instr is)) (each own there status instr)) (all.stand t listed)

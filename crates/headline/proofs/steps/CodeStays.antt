@@ -66,18 +66,18 @@ placed c access (suc count) address place found places from is apart =
     first-placed c access count address place places (λ others more. placed c access count (next_address address) place (Ok others) others more refl apart)
     apart (c.place access address) refl (from ∙ is)
 
-jump-content : (r : RegisterFile) (c : Content) (written : RegisterFile) (target : ℕ) → (jumps r c written target).content ≡ c
+pub jump-content : (r : RegisterFile) (c : Content) (written : RegisterFile) (target : ℕ) → (jumps r c written target).content ≡ c
 jump-content r c written target = elim (target % 4 == 0)
     as (λ b. (if b then goes_on (record written { pc = target }) c else stays r c (outcomes.Trap Misaligned)).content ≡ c) [
       | true ↦ refl
       | false ↦ refl
     ]
 
-branch-content : (r : RegisterFile) (c : Content) (taken : Bool) (target : ℕ) → (branches r c taken target).content ≡ c
+pub branch-content : (r : RegisterFile) (c : Content) (taken : Bool) (target : ℕ) → (branches r c taken target).content ≡ c
 branch-content r c true target = jump-content r c r target
 branch-content r c false target = refl
 
-load-content : (r : RegisterFile) (c : Content) (op : LoadOp) (rd : Register) (found : Result ℕ MemoryFault) → (loads r c op rd found).content ≡ c
+pub load-content : (r : RegisterFile) (c : Content) (op : LoadOp) (rd : Register) (found : Result ℕ MemoryFault) → (loads r c op rd found).content ≡ c
 load-content r c op rd (Ok n) = refl
 load-content r c op rd (Err failed) = refl
 

@@ -1,28 +1,44 @@
 -- The laws on calls: what each changes stays within authority, from every sound state.
-use Rattle.std.specs.Prelude.{ℕ, ◌≡◌, ◌≢◌, IsTrue, Option, Some, None, Ok}
+use Rattle.std.specs.Prelude.{ℕ, ◌≡◌, ◌≢◌, IsTrue, Contains, List, Option, Some, None, Ok}
 use Rattle.model.specs.declared.capabilities.Cap.{Cap}
 use Rattle.model.specs.declared.capabilities.Cap.TheVariants.{Endpoint, Frame, InterruptControl, InterruptHandler, Notification}
 use Rattle.model.specs.declared.capabilities.FrameMapping.{FrameMapping}
+use Rattle.model.specs.declared.events.Event.TheVariants.{Step}
+use Rattle.model.specs.declared.labels.Label.{Label}
 use Rattle.model.specs.declared.capabilities.TableMapping.{TableMapping}
 use Rattle.model.specs.declared.invocations.HandlerCall.TheVariants.{Acknowledge}
-use Rattle.model.specs.declared.invocations.Invocation.TheVariants.{OnHandler}
+use Rattle.model.specs.declared.invocations.CNodeCall.TheVariants.{Copy, Mint}
+use Rattle.model.specs.declared.invocations.FrameCall.TheVariants.{MapFrame}
+use Rattle.model.specs.declared.invocations.Invocation.TheVariants.{OnCNode, OnFrame, OnHandler}
 use Rattle.model.specs.declared.invocations.SlotName.{SlotName}
 use Rattle.model.specs.declared.rights.Rights.{Rights}
 use Rattle.model.specs.declared.system_calls.ReceiveCall.{ReceiveCall}
 use Rattle.model.specs.declared.system_calls.SendCall.{SendCall}
 use Rattle.model.specs.declared.system_calls.SystemCall.TheVariants.{PutsCharacter, Receives, Replies, RepliesAndReceives, Sends, Yields}
-use Rattle.model.specs.Acceptance.Authority.{IsOwnSlot, WithinAuthority, self_of}
+use Rattle.model.specs.Acceptance.Accepted.{IsAccepted}
+use Rattle.model.specs.Acceptance.Authority.{IsOwnSlot, StaysWithin, WithinAuthority, self_of}
+use Rattle.model.specs.Acceptance.NotedStates.{NotedSlot}
+use Rattle.model.specs.Acceptance.ThreadInvariants.{tcb_of}
 use Rattle.model.specs.Capabilities.CapabilityKinds.{frame_mapping, table_mapping}
 use Rattle.model.specs.Capabilities.Rights.{may_read, may_write}
 use Rattle.model.specs.Capabilities.Slots.{capability_at, parent_at}
+use Rattle.model.specs.Images.Described.{Numbered, numbered_threads}
 use Rattle.model.specs.Images.Image.{Image, Thread}
 use Rattle.model.specs.Images.Places.{offset_of}
 use Rattle.model.specs.Kernel.Arguments.{Call}
 use Rattle.model.specs.Kernel.CNodeCalls.{copy, mint, move as moved}
+use Rattle.model.specs.Kernel.Invocations.{perform}
 use Rattle.model.specs.Kernel.MappingCalls.{unmap_frame}
 use Rattle.model.specs.Kernel.Soundness.{IsSound}
 use Rattle.model.specs.Kernel.State.{State, Runnable, AwaitsHandler, ThreadObject, ThreadState, thread_at}
-use Rattle.model.specs.Kernel.Steps.{call_of, completed, system_call}
+use Rattle.model.specs.Kernel.Scheduling.{current}
+use Rattle.model.specs.Kernel.Steps.{call_of, completed, step, system_call}
+use Rattle.headline.specs.facts.Standing.{AllStand}
+use Rattle.headline.specs.invocations.Mirrors.{Mirrors}
+use Rattle.headline.specs.invocations.Performed.{MayInvoke}
+use Rattle.headline.specs.moves.Steps.{InvokesNothing, MakesCall}
+use Rattle.headline.specs.steps.Points.{ReachesNoCall}
+use Rattle.typestate.specs.Calls.{call_on}
 use Rattle.headline.specs.authority.Scenarios.{CallsOn, GetsHandler, MapsFrame, OwnSlots, RunsAt, asked}
 
 -- what the thread's system call leaves
@@ -148,3 +164,43 @@ CompletedStayWithin =
     (image : Image) (t : Thread) (s after : State) (kind : SendCall) (own now : ThreadState) → IsSound s
     → s.objects (self_of image t) ≡ Some (ThreadObject own) → own.status ≡ Runnable → after.objects (self_of image t) ≡ Some (ThreadObject now)
     → WithinAuthority image t s after → WithinAuthority image t s (completed after (self_of image t) kind)
+
+-- ---- where all threads of an accepted image stand
+
+-- a step whose system call invokes nothing
+abbrev pub MessagesStayWithin : Type 0
+MessagesStayWithin =
+    (bytes : List ℕ) (image : Image) (t : Numbered) (s : State) (labels : List Label) → IsAccepted bytes image → AllStand image s labels
+    → Contains (numbered_threads image) t → current s ≡ Some (tcb_of image t) → MakesCall s (tcb_of image t) → InvokesNothing s (tcb_of image t)
+    → StaysWithin image s Step (step s Step).0
+
+-- a step that makes no system call
+abbrev pub PlainStepsStayWithin : Type 0
+PlainStepsStayWithin =
+    (bytes : List ℕ) (image : Image) (t : Numbered) (s : State) (labels : List Label) → IsAccepted bytes image → AllStand image s labels
+    → Contains (numbered_threads image) t → current s ≡ Some (tcb_of image t) → ReachesNoCall s (tcb_of image t) → StaysWithin image s Step (step s Step).0
+
+-- invocations that the rules allow, of a thread whose slots hold what is noted
+abbrev pub NotedCopiesStayWithin : Type 0
+NotedCopiesStayWithin =
+    (image : Image) (t : Numbered) (s after : State) (slots : List NotedSlot) (own : ThreadState) (slot : ℕ) (destination source : SlotName) (word : ℕ)
+    → Mirrors image t s slots → s.objects (tcb_of image t) ≡ Some (ThreadObject own)
+    → MayInvoke image t s slots slot (OnCNode (Copy destination source word))
+    → perform s (call_on image t.thread slot (capability_at s.slots slot)) (OnCNode (Copy destination source word)) ≡ Ok after
+    → WithinAuthority image t.thread s after
+
+abbrev pub NotedMintsStayWithin : Type 0
+NotedMintsStayWithin =
+    (image : Image) (t : Numbered) (s after : State) (slots : List NotedSlot) (own : ThreadState) (slot : ℕ) (destination source : SlotName)
+    (word payload : ℕ) → Mirrors image t s slots → s.objects (tcb_of image t) ≡ Some (ThreadObject own)
+    → MayInvoke image t s slots slot (OnCNode (Mint destination source word payload))
+    → perform s (call_on image t.thread slot (capability_at s.slots slot)) (OnCNode (Mint destination source word payload)) ≡ Ok after
+    → WithinAuthority image t.thread s after
+
+abbrev pub NotedMapsStayWithin : Type 0
+NotedMapsStayWithin =
+    (image : Image) (t : Numbered) (s after : State) (slots : List NotedSlot) (own : ThreadState) (slot : ℕ) (allowed : Rights) (name : SlotName)
+    (address word : ℕ) → Mirrors image t s slots → s.objects (tcb_of image t) ≡ Some (ThreadObject own)
+    → MayInvoke image t s slots slot (OnFrame allowed (MapFrame name address word))
+    → perform s (call_on image t.thread slot (capability_at s.slots slot)) (OnFrame allowed (MapFrame name address word)) ≡ Ok after
+    → WithinAuthority image t.thread s after
