@@ -3,7 +3,7 @@ use Rattle.std.proofs.Common.{◌≡◌, ℕ, ℤ, ◌+◌, ◌-◌, ◌≤◌, 
 use Rattle.std.specs.Int.{w32, cast_signed}
 use Rattle.std.proofs.lemmas.Bool.{and_parts, le-leb, ltb-false}
 use Rattle.model.specs.declared.refusals.Refusal.TheVariants.{Limit}
-use Rattle.model.specs.Images.Format.{Format, ◌>>=◌, number_at, field, both, named, signed}
+use Rattle.model.specs.Images.Format.{Format, ◌>>=◌, number_at, field, both, named, signed_number}
 use Rattle.model.specs.Images.Image.{anything, below, between, capability_format, frame_format, interrupt_format, object_format, names_parent, no_parent, not_zero, pair_key, size_fits}
 use Rattle.model.specs.Images.Image.{promised_word_format, range_format, register_format, slot_format, table_format, term_format, untyped_format}
 use Rattle.model.specs.Capabilities.CapabilityFields.{unpacked}
@@ -104,7 +104,7 @@ frame_size objects least = named_size 16 _ _ _ _
     both_size 4 4 _ _ _ _ (same_field (below objects)) (λ (b : ℕ).
     same_field (between 0 7)))))
 
-signed_size : (test : ℤ → Bool) → HasSize 4 (signed w32 test) (signed w32 test)
+signed_size : (test : ℤ → Bool) → HasSize 4 (signed_number w32 test) (signed_number w32 test)
 signed_size test = record {
   reads = λ bytes at y after e.
       let p = bind_ok ((field (λ n. test (cast_signed w32 n))).reads bytes at) (λ x. Ok (cast_signed w32 x.0, x.1)) (y, after) e in

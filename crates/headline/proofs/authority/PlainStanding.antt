@@ -27,7 +27,8 @@ use Rattle.model.specs.Kernel.Scheduling.{current}
 use Rattle.model.specs.Kernel.State.{State}
 use Rattle.model.specs.Kernel.Steps.{registers_of, step}
 use Rattle.model.specs.Machine.Effects.{effect, is_taken, load_size, next_pc, plus, store_size, stores}
-use Rattle.model.specs.Machine.ProgramMemory.{Content, RegisterFile, ◌>>=◌, loaded, named, next_address, places_from, put_byte, put_bytes, read, width_of, write}
+use Rattle.model.specs.Machine.ProgramMemory.{Content, RegisterFile, ◌>>=◌, loaded, next_address, place_or_fault, places_from, put_byte, put_bytes, read}
+use Rattle.model.specs.Machine.ProgramMemory.{width_of, write}
 use Rattle.headline.proofs.facts.Laws.{is-listed}
 use Rattle.headline.proofs.moves.Laws.{plain-leaves}
 use Rattle.headline.proofs.starts.Laws.{contains}
@@ -72,7 +73,7 @@ placed-among c zero address place places from among =
     absurd (subst (Among place) same among)
 placed-among c (suc count) address place places from among =
     elim (c.place accesses.Store address) as (λ (o : Option ℕ). c.place accesses.Store address ≡ o
-    → (named o accesses.Store address >>= λ q. places_from c accesses.Store (next_address address) count >>= λ others. Ok (q ∷ others)) ≡ Ok places
+    → (place_or_fault o accesses.Store address >>= λ q. places_from c accesses.Store (next_address address) count >>= λ others. Ok (q ∷ others)) ≡ Ok places
     → MayStoreAt c place) [
       | Some q ↦ λ is done.
           rest-among c place q places (places_from c accesses.Store (next_address address) count) done
