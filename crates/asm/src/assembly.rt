@@ -24,7 +24,7 @@ use std::alloc::Global;
 use std::marker::Model;
 
 /// How many threads an image has at most.
-const MOST_THREADS: usize = 64;
+const MOST_THREADS: usize = model::MOST_THREADS as usize;
 
 /// The version of the format of image files.
 const VERSION: u32 = 1;

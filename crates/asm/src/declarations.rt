@@ -19,22 +19,22 @@ use std::alloc::Global;
 use std::marker::Model;
 
 /// How many entries the sections have at most.
-const MOST_UNTYPEDS: usize = 64;
+const MOST_UNTYPEDS: usize = model::MOST_UNTYPEDS as usize;
 
-const MOST_OBJECTS: usize = 4096;
+const MOST_OBJECTS: usize = model::MOST_OBJECTS as usize;
 
-const MOST_CAPABILITIES: usize = 16384;
+const MOST_CAPABILITIES: usize = model::MOST_CAPABILITIES as usize;
 
-const MOST_INTERRUPTS: usize = 64;
+const MOST_INTERRUPTS: usize = model::MOST_INTERRUPTS as usize;
 
-const MOST_TABLES: usize = 1024;
+const MOST_TABLES: usize = model::MOST_TABLES as usize;
 
-const MOST_FRAMES: usize = 4096;
+const MOST_FRAMES: usize = model::MOST_FRAMES as usize;
 
-const MOST_CONTENTS: usize = 4096;
+const MOST_CONTENTS: usize = model::MOST_CONTENTS as usize;
 
 /// How many words a frame begins with at most.
-const MOST_CONTENT_WORDS: usize = 1024;
+const MOST_CONTENT_WORDS: usize = model::MOST_CONTENT_WORDS as usize;
 
 /// A capability in a slot of a CNode, as it is declared.
 #[derive(Clone, Copy)]

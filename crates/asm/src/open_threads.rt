@@ -17,13 +17,13 @@ use std::alloc::Global;
 use std::marker::Model;
 
 /// How many of each a thread or a record has at most.
-const MOST_REGISTERS: usize = 31;
+const MOST_REGISTERS: usize = model::MOST_REGISTERS as usize;
 
-const MOST_WORDS: usize = 65536;
+const MOST_WORDS: usize = model::MOST_WORDS as usize;
 
-const MOST_RANGES: usize = 31;
+const MOST_RANGES: usize = model::MOST_REGISTERS as usize;
 
-const MOST_SLOTS: usize = 256;
+const MOST_SLOTS: usize = model::MOST_SLOTS as usize;
 
 const MOST_TERMS: usize = 4;
 

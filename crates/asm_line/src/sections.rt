@@ -1,7 +1,6 @@
 //! The lines of the sections before the threads.
 
 ghost use Rattle.std.specs.Prelude.{◌≡◌};
-ghost use Rattle.model.specs.Images.Image.{size_fits as size_fits_kind};
 ghost use Rattle.asm_line.specs.Lines.{all_numbers, all_words, some_numbers, capability_of, content_of, frame_of, interrupt_of, kind_first, last_kind, memory_of, object_of, size_first, table_of, untyped_of, word_first};
 
 use crate::faults::{RANGE, SYNTAX};
@@ -9,7 +8,7 @@ use crate::keywords::kind_in;
 use crate::lines::Line;
 use crate::numbers::{between, number_in, word};
 use crate::words::Words;
-use model::UntypedEntry;
+use model::{ObjectType, UntypedEntry};
 
 /// `memory BITS RADIX`
 #[tactic(auto, unfolding(crate::specs::Lines::memory_of))]
@@ -72,15 +71,6 @@ fn kind_and_size(words: Words<'_>) -> Result<(u32, i64), u8>
     Ok((kind, size))
 }
 
-/// Whether an object of this kind may have this size.
-fn size_fits(kind: u32, size: u32) -> bool
-    ensures { result ≡ size_fits_kind kind size }
-{
-    (kind == 1 && 4 <= size && size <= 24)
-        || (kind == 5 && 1 <= size && size <= 14)
-        || (1 < kind && size == 0 && (kind < 5 || 5 < kind))
-}
-
 /// `object NAME UNTYPED KIND [SIZE]`
 #[tactic(auto, unfolding(crate::specs::Lines::object_of))]
 pub(crate) fn object(words: Words<'_>) -> Result<Line<'_>, u8>
@@ -90,7 +80,7 @@ pub(crate) fn object(words: Words<'_>) -> Result<Line<'_>, u8>
     let (untyped, words) = words.object()?;
     let (kind, size) = kind_and_size(words)?;
     let size = word(size)?;
-    if !size_fits(kind, size) {
+    if !ObjectType::size_fits(kind, size) {
         return Err(RANGE);
     }
     Ok(Line::Object {

@@ -10,6 +10,11 @@ use crate::parts::{Content, Parts, Promise, RecordParts, ThreadParts};
 use image_reading::{
     Counts, Keyed, Listed, has_buffers, has_promises, is_known_version, radix_limit,
 };
+use model::{
+    MOST_CAPABILITIES, MOST_CONTENT_WORDS, MOST_CONTENTS, MOST_FRAMES, MOST_INTERRUPTS,
+    MOST_OBJECTS, MOST_PROMISES, MOST_REGISTERS, MOST_TABLES, MOST_THREADS, MOST_UNTYPEDS,
+    MOST_WORDS,
+};
 use std::marker::Model;
 
 /// An image: parts whose fields are all in the ranges and orders of the format.
@@ -102,7 +107,7 @@ fn promise_count_fits(version: u32, count: usize) -> bool
     ensures { result ≡ (only_if (has_promises version) 0 (field (between 0 4096))).fits count }
 {
     if has_promises(version) {
-        is_within(count, 0, 4096)
+        is_within(count, 0, MOST_PROMISES)
     } else {
         count == 0
     }
@@ -126,13 +131,13 @@ fn last_counts_fit(parts: &Parts) -> bool
         && ((field (between 0 4096)).fits h.contents && ((only_if (has_promises h.version) 0 (field (between 0 4096))).fits h.promises
         && (field (between 1 64)).fits h.threads)))))) }
 {
-    is_within(parts.capabilities.len(), 0, 16384)
-        && is_within(parts.interrupts.len(), 0, 64)
-        && is_within(parts.tables.len(), 0, 1024)
-        && is_within(parts.frames.len(), 0, 4096)
-        && is_within(parts.contents.len(), 0, 4096)
+    is_within(parts.capabilities.len(), 0, MOST_CAPABILITIES)
+        && is_within(parts.interrupts.len(), 0, MOST_INTERRUPTS)
+        && is_within(parts.tables.len(), 0, MOST_TABLES)
+        && is_within(parts.frames.len(), 0, MOST_FRAMES)
+        && is_within(parts.contents.len(), 0, MOST_CONTENTS)
         && promise_count_fits(parts.version, parts.promises.len())
-        && is_within(parts.threads.len(), 1, 64)
+        && is_within(parts.threads.len(), 1, MOST_THREADS)
 }
 
 /// Whether the numbers of the image's head are in their ranges.
@@ -143,8 +148,8 @@ fn head_fits(parts: &Parts) -> bool
     is_known_version(parts.version)
         && is_within(parts.memory_bits as usize, 16, 24)
         && is_within(parts.boot_radix as usize, 1, radix_limit(parts.memory_bits))
-        && is_within(parts.untypeds.len(), 1, 64)
-        && is_within(parts.objects.len(), 0, 4096)
+        && is_within(parts.untypeds.len(), 1, MOST_UNTYPEDS)
+        && is_within(parts.objects.len(), 0, MOST_OBJECTS)
         && last_counts_fit(parts)
 }
 
@@ -198,7 +203,7 @@ impl Listed for Content {
         if key < least || counts.objects <= self.frame {
             return None;
         }
-        if is_within(self.words.len(), 1, 1024) && words_fit(&self.words) {
+        if is_within(self.words.len(), 1, MOST_CONTENT_WORDS) && words_fit(&self.words) {
             Some(key + 1)
         } else {
             None
@@ -295,8 +300,8 @@ fn program_fits(thread: &ThreadParts, version: u32, objects: u32) -> bool
         && buffer_fits(version, thread.buffer, objects)
         && is_word(thread.entry)
         && is_word(thread.base)
-        && is_within(thread.registers.len(), 0, 31)
-        && is_within(thread.words.len(), 1, 65536)
+        && is_within(thread.registers.len(), 0, MOST_REGISTERS)
+        && is_within(thread.words.len(), 1, MOST_WORDS)
         && thread.records.len() <= thread.words.len()
 }
 

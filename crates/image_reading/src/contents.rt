@@ -8,7 +8,7 @@ ghost use Rattle.model.specs.Images.Image.{content_format};
 
 use crate::fields::{rising_word, word_between};
 use crate::word_lists::{bytes_of_words, word_of, words_end};
-use model::{ContentHeader, Refusal};
+use model::{ContentHeader, MOST_CONTENT_WORDS, Refusal};
 use std::marker::Model;
 
 /// The words that a frame begins with, lent from the file.
@@ -46,7 +46,7 @@ pub(crate) fn content_at<'a>(
     ensures { result ≡ (content_format objects least).reads bytes.now at }
 {
     let (frame, at) = rising_word(bytes, at, least, objects)?;
-    let (words, words_at) = word_between(bytes, at, 1, 1024)?;
+    let (words, words_at) = word_between(bytes, at, 1, MOST_CONTENT_WORDS)?;
     let end = words_end(bytes, words_at, words)?;
     let content = ContentRef {
         bytes,

@@ -8,7 +8,7 @@ ghost use Rattle.model.specs.Images.Image.{anything, below, between, has_buffers
 
 use crate::versions::{has_buffers, has_promises, is_known_version};
 use byteorder::{ByteOrder, LittleEndian};
-use model::Refusal;
+use model::{MOST_PROMISES, Refusal};
 
 /// The number for no object.
 const NO_OBJECT: u32 = u32::MAX;
@@ -92,7 +92,7 @@ pub(crate) fn promise_count(bytes: &[u8], at: usize, version: u32) -> Result<(u3
     if !has_promises(version) {
         return Ok((0, at));
     }
-    word_between(bytes, at, 0, 4096)
+    word_between(bytes, at, 0, MOST_PROMISES)
 }
 
 /// The 4 bytes at `at` as the number of an object, or `u32::MAX` for none, and the offset after them.

@@ -9,7 +9,11 @@ use crate::fields::{
     any_word, buffer, constant, double_between, magic, promise_count, rising_word, version,
     word_below, word_between,
 };
-use model::{ImageHeader, RecordHeader, Refusal, ThreadHeader};
+use model::{
+    ImageHeader, MOST_CAPABILITIES, MOST_CONTENTS, MOST_FRAMES, MOST_INTERRUPTS, MOST_OBJECTS,
+    MOST_REGISTERS, MOST_SLOTS, MOST_TABLES, MOST_THREADS, MOST_UNTYPEDS, MOST_WORDS, RecordHeader,
+    Refusal, ThreadHeader,
+};
 use std::marker::Model;
 
 /// The largest radix of the boot CNode in memory of so many bits (2^bits bytes).
@@ -45,15 +49,15 @@ impl Model for SectionCounts {
 fn section_counts(bytes: &[u8], at: usize, version: u32) -> Result<(SectionCounts, usize), Refusal>
     ensures { result ≡ (counts_format version).reads bytes.now at }
 {
-    let (untypeds, at) = word_between(bytes, at, 1, 64)?;
-    let (objects, at) = word_between(bytes, at, 0, 4096)?;
-    let (capabilities, at) = word_between(bytes, at, 0, 16384)?;
-    let (interrupts, at) = word_between(bytes, at, 0, 64)?;
-    let (tables, at) = word_between(bytes, at, 0, 1024)?;
-    let (frames, at) = word_between(bytes, at, 0, 4096)?;
-    let (contents, at) = word_between(bytes, at, 0, 4096)?;
+    let (untypeds, at) = word_between(bytes, at, 1, MOST_UNTYPEDS)?;
+    let (objects, at) = word_between(bytes, at, 0, MOST_OBJECTS)?;
+    let (capabilities, at) = word_between(bytes, at, 0, MOST_CAPABILITIES)?;
+    let (interrupts, at) = word_between(bytes, at, 0, MOST_INTERRUPTS)?;
+    let (tables, at) = word_between(bytes, at, 0, MOST_TABLES)?;
+    let (frames, at) = word_between(bytes, at, 0, MOST_FRAMES)?;
+    let (contents, at) = word_between(bytes, at, 0, MOST_CONTENTS)?;
     let (promises, at) = promise_count(bytes, at, version)?;
-    let (threads, at) = word_between(bytes, at, 1, 64)?;
+    let (threads, at) = word_between(bytes, at, 1, MOST_THREADS)?;
     let counts = SectionCounts {
         untypeds,
         objects,
@@ -101,7 +105,7 @@ fn word_count(bytes: &[u8], at: usize) -> Result<(u32, usize), Refusal>
     ensures some { IfOk result (λ x. 0 < x.0) }
 {
     let (words, next) = any_word(bytes, at)?;
-    if 1 <= words && words <= 65536 {
+    if 1 <= words && words <= MOST_WORDS {
         Ok((words, next))
     } else {
         Err(Refusal::Limit { offset: at as u64 })
@@ -142,7 +146,7 @@ fn program_at(
     let (buffer, at) = buffer(bytes, at, version, objects)?;
     let (entry, at) = any_word(bytes, at)?;
     let (base, at) = any_word(bytes, at)?;
-    let (registers, at) = word_between(bytes, at, 0, 31)?;
+    let (registers, at) = word_between(bytes, at, 0, MOST_REGISTERS)?;
     let (words, at) = word_count(bytes, at)?;
     let (records, at) = word_between(bytes, at, 0, words)?;
     let program = Program {
@@ -206,8 +210,8 @@ pub(crate) fn record_header(
     ensures { result ≡ (record_header_format (slots_format objects) words least).reads bytes.now at }
 {
     let (point, at) = rising_word(bytes, at, least, words)?;
-    let (ranges, at) = word_between(bytes, at, 0, 31)?;
-    let (slots, at) = word_between(bytes, at, 0, 256)?;
+    let (ranges, at) = word_between(bytes, at, 0, MOST_REGISTERS)?;
+    let (slots, at) = word_between(bytes, at, 0, MOST_SLOTS)?;
     let (terms, at) = word_between(bytes, at, 0, 4)?;
     let (constant, at) = constant(bytes, at)?;
     let header = RecordHeader {

@@ -13,8 +13,8 @@ use crate::fields::{
 use crate::slot_words::{is_empty, names_parent, unpacks};
 use crate::spelled::{Spelled, append_all};
 use model::{
-    CapabilityEntry, FrameEntry, InterruptEntry, ObjectEntry, PromisedWord, Refusal, SlotEntry,
-    TableEntry, UntypedEntry,
+    CapabilityEntry, FrameEntry, InterruptEntry, ObjectEntry, ObjectType, PromisedWord, Refusal,
+    SlotEntry, TableEntry, UntypedEntry,
 };
 use std::alloc::AllocError;
 
@@ -76,24 +76,12 @@ impl Entry for UntypedEntry {
     }
 }
 
-/// Whether an object of this type may have this size.
-fn size_fits(kind: u32, size: u32) -> bool
-    ensures { result ≡ size_fits kind size }
-{
-    match kind {
-        0 => false,
-        1 => 4 <= size && size <= 24,
-        5 => 1 <= size && size <= 14,
-        _ => size == 0,
-    }
-}
-
 /// The size of an object of this type at `at`, and the offset after it.
 fn object_size(bytes: &[u8], at: usize, kind: u32) -> Result<(u32, usize), Refusal>
     ensures { result ≡ (field (size_fits kind)).reads bytes.now at }
 {
     let (size, next) = any_word(bytes, at)?;
-    if size_fits(kind, size) {
+    if ObjectType::size_fits(kind, size) {
         Ok((size, next))
     } else {
         Err(Refusal::Limit { offset: at as u64 })
@@ -134,7 +122,7 @@ impl Listed for ObjectEntry {
             && untyped < counts.untypeds
             && 1 <= kind
             && kind <= 8
-            && size_fits(kind, size)
+            && ObjectType::size_fits(kind, size)
         {
             Some(key)
         } else {
