@@ -4,7 +4,6 @@ pub mod FillLemmas
 pub mod Fitting
 pub mod OnlyMemory
 pub mod Order
-pub mod PlaceLemmas
 pub mod PlaceSteps
 pub mod Rests
 pub mod Searches

@@ -13,9 +13,9 @@ ghost use Rattle.model.specs.Kernel.AddressSpaces.{page_size};
 ghost use Rattle.model.specs.Kernel.Setup.{fill};
 
 use crate::loading::Loader;
-use crate::object_kinds::{is_frame, is_root_table};
 use image_reading::{ContentRef, ImageRef, ThreadRef, frame_at};
 use model::{BootFault, FrameEntry};
+use wellformed::{is_frame, is_root_table, type_at};
 
 /// How many bytes a page has.
 const PAGE: u32 = 4096;
@@ -51,7 +51,7 @@ impl Loader {
         ensures counted { self.new.calls ≡ self.old.calls }
     {
         let frame = content.header().frame;
-        if !is_frame(image, frame) {
+        if !is_frame(type_at(image, frame)) {
             return Err(BootFault::Outside(frame));
         }
         self.fill(frame, places[frame as usize], content.bytes())
@@ -94,7 +94,7 @@ impl Loader {
         if header.base % PAGE != 0 {
             return Err(BootFault::Outside(number));
         }
-        if is_root_table(image, header.root) {
+        if is_root_table(type_at(image, header.root)) {
             self.fill_pages(image, places, number, thread)
         } else {
             Err(BootFault::Outside(number))

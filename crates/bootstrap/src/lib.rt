@@ -6,7 +6,6 @@ mod boot_slots;
 mod entry_addresses;
 mod fills;
 mod loading;
-mod object_kinds;
 mod object_places;
 mod systems;
 mod untyped_places;

@@ -14,7 +14,6 @@ use crate::boot_slots::{
     source_boot_slot,
 };
 use crate::entry_addresses::start_of;
-use crate::object_kinds::is_untyped_source;
 use image_reading::{ImageRef, ThreadRef};
 use invoke::{
     CONFIGURE, COPY, GET_HANDLER, MAP_FRAME, MAP_TABLE, MINT, MOVE, RESUME, RETYPE,
@@ -22,6 +21,7 @@ use invoke::{
 };
 use kernel_machine::Machine;
 use model::{BootFault, CapabilityEntry, FrameEntry, InterruptEntry, TableEntry, ThreadHeader};
+use wellformed::{is_untyped, source_type};
 
 /// The address of the boot CNode itself.
 const BOOT_CNODE: u32 = 0xFFFF_FFFF;
@@ -148,7 +148,7 @@ impl Loader {
         let cnode = image.object(entry.cnode);
         let slot = original_slot(image, entry.cnode);
         let source = source_boot_slot(image, entry.source);
-        if is_untyped_source(image, entry.source) {
+        if is_untyped(source_type(image, entry.source)) {
             let words = [entry.index, cnode.size, source, DEPTH];
             self.call(slot, MOVE, &words)
         } else {

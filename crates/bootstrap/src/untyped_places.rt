@@ -7,9 +7,9 @@ ghost use Rattle.model.specs.Images.Boot.{misplaced};
 ghost use Rattle.model.specs.Kernel.State.{boot_area_end};
 
 use crate::boot_slots::boot_slots;
-use crate::object_kinds::power;
 use image_reading::ImageRef;
 use model::{ImageHeader, UntypedEntry};
+use untyped::power;
 
 /// The first untyped that is not where untyped memory may lie, or the number of untypeds where boot slots are too few.
 pub(crate) fn misplaced(image: &ImageRef<'_>) -> Option<u32>

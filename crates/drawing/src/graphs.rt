@@ -2,6 +2,7 @@
 
 use crate::faults::DrawingFault;
 use crate::scenes::{Scene, uses_of};
+use model::{ObjectKind, ObjectType};
 use sinks::{Sink, put_all};
 use source_texts::{Budgets, SourceText, read, with_budgets};
 use std::alloc::{AllocError, Global};
@@ -11,8 +12,19 @@ const HEAD: &str =
     "digraph system {\n  graph [rankdir=LR, bgcolor=white, pad=0.3, nodesep=0.35, ranksep=0.7, fontname=\"Helvetica\"];\n  node [fontname=\"Helvetica\", fontsize=12, margin=\"0.14,0.08\"];\n  edge [fontname=\"Helvetica\", fontsize=10, fontcolor=\"#333333\", color=\"#555555\", arrowsize=0.7];\n";
 
 /// Whether an object of this kind is drawn where a capability names it: untyped memory, an endpoint, or a notification.
-fn is_drawn(kind: u32) -> bool {
-    kind == 1 || kind == 3 || kind == 4
+fn is_drawn(kind: Option<ObjectType>) -> bool {
+    matches!(
+        &kind,
+        Some(
+            ObjectType::Untyped { .. }
+                | ObjectType::Object(ObjectKind::Endpoint | ObjectKind::Notification)
+        )
+    )
+}
+
+/// Whether this is a frame.
+fn is_frame(kind: Option<ObjectType>) -> bool {
+    matches!(&kind, Some(ObjectType::Object(ObjectKind::Frame)))
 }
 
 /// The graph of a text.
@@ -50,7 +62,9 @@ impl Scene<'_, '_, '_> {
     fn push_objects(&mut self) -> Result<(), AllocError> {
         for number in 0..self.text.objects.len() {
             let kind = self.text.kind(number);
-            if (is_drawn(kind) && self.is_named(number)) || (kind == 6 && self.is_shared(number)) {
+            if (is_drawn(kind) && self.is_named(number))
+                || (is_frame(kind) && self.is_shared(number))
+            {
                 self.push_object(number)?;
             }
         }

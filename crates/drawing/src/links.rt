@@ -3,6 +3,7 @@
 use crate::reaches::{cnodes_of, index_of};
 use crate::rights_words::{frame_words, mapping_words};
 use crate::scenes::Scene;
+use model::{ObjectKind, ObjectType};
 use source_texts::{CapabilityLine, FrameLine, Source, SourceThread};
 use std::alloc::{AllocError, Global};
 
@@ -106,20 +107,24 @@ impl Scene<'_, '_, '_> {
         &mut self,
         name: &str,
         object: &str,
-        kind: u32,
+        kind: Option<ObjectType>,
         capability: &CapabilityLine,
     ) -> Result<(), AllocError> {
         match kind {
-            1 => push_edge(
+            Some(ObjectType::Untyped { .. }) => push_edge(
                 &mut self.graph,
                 object,
                 name,
                 "memory",
                 "style=dotted, arrowhead=none",
             ),
-            3 => self.push_endpoint(name, object, capability),
-            4 => self.push_notification(name, object, capability),
-            6 => push_edge(
+            Some(ObjectType::Object(ObjectKind::Endpoint)) => {
+                self.push_endpoint(name, object, capability)
+            }
+            Some(ObjectType::Object(ObjectKind::Notification)) => {
+                self.push_notification(name, object, capability)
+            }
+            Some(ObjectType::Object(ObjectKind::Frame)) => push_edge(
                 &mut self.graph,
                 object,
                 name,

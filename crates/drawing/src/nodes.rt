@@ -3,6 +3,7 @@
 use crate::links::push_ends;
 use crate::rights_words::mapping_words;
 use crate::scenes::Scene;
+use model::{ObjectKind, ObjectType};
 use source_texts::{FrameLine, InterruptLine, SourceThread};
 use std::alloc::AllocError;
 
@@ -137,10 +138,18 @@ impl Scene<'_, '_, '_> {
     pub(crate) fn push_object(&mut self, number: usize) -> Result<(), AllocError> {
         let name = self.text.object_name(number);
         match self.text.kind(number) {
-            1 => push_memory(&mut self.graph, name, self.text.size(number)),
-            3 => push_node(&mut self.graph, name, ENDPOINT, "endpoint"),
-            4 => push_node(&mut self.graph, name, NOTIFICATION, "notification"),
-            6 => push_node(&mut self.graph, name, FRAME, "frame"),
+            Some(ObjectType::Untyped { bits }) => {
+                push_memory(&mut self.graph, name, u32::from(bits))
+            }
+            Some(ObjectType::Object(ObjectKind::Endpoint)) => {
+                push_node(&mut self.graph, name, ENDPOINT, "endpoint")
+            }
+            Some(ObjectType::Object(ObjectKind::Notification)) => {
+                push_node(&mut self.graph, name, NOTIFICATION, "notification")
+            }
+            Some(ObjectType::Object(ObjectKind::Frame)) => {
+                push_node(&mut self.graph, name, FRAME, "frame")
+            }
             _ => Ok(()),
         }
     }

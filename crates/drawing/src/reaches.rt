@@ -1,16 +1,20 @@
 //! The CNodes that a thread reaches, by its root and by what its capabilities name.
 
+use model::{ObjectKind, ObjectType};
 use source_texts::{CapabilityLine, Source, SourceText, SourceThread};
 use std::alloc::{AllocError, Global};
 
-/// The number of the kind of a CNode.
-const CNODE: u32 = 5;
+/// Whether an object is a CNode.
+fn is_cnode(text: &SourceText<'_>, number: usize) -> bool {
+    let kind = text.kind(number);
+    matches!(&kind, Some(ObjectType::Object(ObjectKind::CNode { .. })))
+}
 
 /// The CNode that a capability in one of these names, if it is none of them.
 fn leads_on(text: &SourceText<'_>, found: &[usize], capability: &CapabilityLine) -> Option<usize> {
     match capability.source {
         Source::Object(number)
-            if text.kind(number) == CNODE
+            if is_cnode(text, number)
                 && found.contains(&capability.cnode)
                 && !found.contains(&number) => Some(number),
         _ => None,
@@ -52,8 +56,7 @@ pub(crate) fn index_of(
     thread: &SourceThread<'_>,
     address: u32,
 ) -> Option<u32> {
-    let object = text.objects.get(thread.cnode)?;
-    let radix = object.size;
+    let radix = u32::from(text.radix(thread.cnode));
     let guard_size = thread.guard & 31;
     if radix == 0 || radix >= 32 || guard_size.saturating_add(radix) != 32 {
         return None;

@@ -1,6 +1,11 @@
 //! System calls, their labels and their errors in words. seL4 Reference Manual, "System Calls" and "API Reference"; the labels are
 //! this kernel's.
 
+use invoke::{
+    ACKNOWLEDGE, CLEAR, CONFIGURE, COPY, DELETE, GET_HANDLER, MAP_FRAME, MAP_TABLE, MINT, MOVE,
+    MUTATE, RESUME, RETYPE, REVOKE, SET_NOTIFICATION, SET_PRIORITY, SET_REGISTER, SUSPEND,
+    UNMAP_FRAME, UNMAP_TABLE, listed_words,
+};
 use model::{Cap, KError};
 
 /// The name of a system call by its number.
@@ -22,56 +27,28 @@ pub(crate) fn call_name(number: u32) -> Option<&'static str> {
 /// The name of what a label asks for, by its number.
 pub(crate) fn label_name(label: u32) -> Option<&'static str> {
     Some(match label {
-        1 => "Retype",
-        2 => "Configure",
-        3 => "SetPriority",
-        4 => "SetRegister",
-        5 => "Resume",
-        6 => "Suspend",
-        7 => "Copy",
-        8 => "Mint",
-        9 => "Move",
-        10 => "Mutate",
-        11 => "Delete",
-        12 => "Revoke",
-        13 => "Map",
-        14 => "Unmap",
-        15 => "Map (of a page table)",
-        16 => "Unmap (of a page table)",
-        17 => "Get",
-        18 => "Ack",
-        19 => "SetNotification",
-        20 => "Clear",
+        RETYPE => "Retype",
+        CONFIGURE => "Configure",
+        SET_PRIORITY => "SetPriority",
+        SET_REGISTER => "SetRegister",
+        RESUME => "Resume",
+        SUSPEND => "Suspend",
+        COPY => "Copy",
+        MINT => "Mint",
+        MOVE => "Move",
+        MUTATE => "Mutate",
+        DELETE => "Delete",
+        REVOKE => "Revoke",
+        MAP_FRAME => "Map",
+        UNMAP_FRAME => "Unmap",
+        MAP_TABLE => "Map (of a page table)",
+        UNMAP_TABLE => "Unmap (of a page table)",
+        GET_HANDLER => "Get",
+        ACKNOWLEDGE => "Ack",
+        SET_NOTIFICATION => "SetNotification",
+        CLEAR => "Clear",
         _ => return None,
     })
-}
-
-/// How many words a label wants.
-pub(crate) fn words_wanted(label: u32) -> u32 {
-    match label {
-        1 => 6,
-        2 | 7 | 10 => 5,
-        8 => 6,
-        4 | 11 | 12 | 19 => 2,
-        3 => 1,
-        9 | 13 => 4,
-        15 | 17 => 3,
-        _ => 0,
-    }
-}
-
-/// Whether a capability has a label.
-pub(crate) fn has_label(capability: Cap, label: u32) -> bool {
-    match capability {
-        Cap::Untyped { .. } => label == 1,
-        Cap::Tcb { .. } => 2 <= label && label <= 6,
-        Cap::CNode { .. } => 7 <= label && label <= 12,
-        Cap::Frame { .. } => label == 13 || label == 14,
-        Cap::PageTable { .. } => label == 15 || label == 16,
-        Cap::InterruptControl => label == 17,
-        Cap::InterruptHandler { .. } => 18 <= label && label <= 20,
-        _ => false,
-    }
 }
 
 /// The name of an error.
@@ -91,63 +68,68 @@ pub fn error_name(error: KError) -> &'static str {
 }
 
 /// What is checked of Retype.
-fn retype_check(error: u8) -> &'static str {
+fn retype_check(error: KError) -> &'static str {
     match error {
-        1 => "the type (word 0) is none of 1 to 8, or the size (word 1) too small",
-        3 => "accepted programs make endpoints (type 3), notifications (4) and frames (6) alone",
-        4 =>
+        KError::InvalidArgument =>
+            "the type (word 0) is none of 1 to 8, or the size (word 1) too small",
+        KError::IllegalOperation =>
+            "accepted programs make endpoints (type 3), notifications (4) and frames (6) alone",
+        KError::RangeError =>
             "the size (word 1) is too large, the count (word 5) is not 1 to 256, or the slots from the first index (word 4) on pass the CNode's end",
-        6 => "words 2 and 3 name no CNode (0 0 names the thread's own)",
-        8 => "a slot from the first index (word 4) on is full",
+        KError::FailedLookup => "words 2 and 3 name no CNode (0 0 names the thread's own)",
+        KError::DeleteFirst => "a slot from the first index (word 4) on is full",
         _ => "the untyped memory has no room for as many: Revoke gives it back whole",
     }
 }
 
 /// What is checked of calls on CNodes.
-fn cnode_check(label: u32, error: u8) -> &'static str {
+fn cnode_check(label: u32, error: KError) -> &'static str {
     match (label, error) {
-        (7 | 8, 3) =>
+        (COPY | MINT, KError::IllegalOperation) =>
             "the source cannot be copied, is badged already, or the guard word does not suit; accepted programs copy endpoints, notifications and frames alone",
-        (9, 3) => "accepted programs move endpoints, notifications and frames alone",
-        (10, 3) => "no accepted program may make this call",
-        (8, 4) => "the badge (word 5) is 2^28 or more, or a bit count is not 1 to 32",
-        (_, 4) => "a bit count (the second word of a slot's name) is not 1 to 32",
-        (11 | 12, 6) => "words 0 and 1 name no slot",
-        (_, 6) => "words 0 and 1 or words 2 and 3 name no slot, or the source is empty",
-        (_, 8) => "the slot that words 0 and 1 name is full",
+        (MOVE, KError::IllegalOperation) =>
+            "accepted programs move endpoints, notifications and frames alone",
+        (MUTATE, KError::IllegalOperation) => "no accepted program may make this call",
+        (MINT, KError::RangeError) =>
+            "the badge (word 5) is 2^28 or more, or a bit count is not 1 to 32",
+        (_, KError::RangeError) => "a bit count (the second word of a slot's name) is not 1 to 32",
+        (DELETE | REVOKE, KError::FailedLookup) => "words 0 and 1 name no slot",
+        (_, KError::FailedLookup) =>
+            "words 0 and 1 or words 2 and 3 name no slot, or the source is empty",
+        (_, KError::DeleteFirst) => "the slot that words 0 and 1 name is full",
         _ => "it holds the last capability to a CNode or a thread that is not empty",
     }
 }
 
 /// What is checked of calls on frames.
-fn frame_check(label: u32, error: u8) -> &'static str {
+fn frame_check(label: u32, error: KError) -> &'static str {
     match (label, error) {
-        (13, 1) =>
+        (MAP_FRAME, KError::InvalidArgument) =>
             "the address (word 2) is 0x80000000 or more, or neither read nor execute is left of the rights (word 3) that the capability has",
-        (13, 2) =>
+        (MAP_FRAME, KError::InvalidCapability) =>
             "the frame is mapped already (Unmap it first), or words 0 and 1 name no root table",
-        (13, 3) => "accepted programs map without execute: take 4 off the rights (word 3)",
-        (13, 4) => "the bit count (word 1) is not 1 to 32",
-        (13, 5) => "the address (word 2) is no multiple of 4096",
-        (13, 6) => "words 0 and 1 name no slot, or no page table covers the address (word 2)",
-        (13, 8) => "the page at the address (word 2) is mapped already",
+        (MAP_FRAME, KError::IllegalOperation) =>
+            "accepted programs map without execute: take 4 off the rights (word 3)",
+        (MAP_FRAME, KError::RangeError) => "the bit count (word 1) is not 1 to 32",
+        (MAP_FRAME, KError::AlignmentError) => "the address (word 2) is no multiple of 4096",
+        (MAP_FRAME, KError::FailedLookup) =>
+            "words 0 and 1 name no slot, or no page table covers the address (word 2)",
+        (MAP_FRAME, KError::DeleteFirst) => "the page at the address (word 2) is mapped already",
         _ => "the frame's mapping does not let it",
     }
 }
 
 /// Which check fails with an error.
 pub(crate) fn check_words(capability: Cap, label: u32, error: KError) -> &'static str {
-    let number = error.number();
-    if !has_label(capability, label) {
+    if listed_words(capability, label).is_none() {
         return "the capability has no call with this label (the label is the info word, x11, by 4096: `lui x11 LABEL` and `addi x11 x11 WORDS` make it)";
     }
-    if number == 7 {
-        return "the info word says fewer words than the call wants, or capabilities";
-    }
-    match label {
-        1 => retype_check(number),
-        7..=12 => cnode_check(label, number),
-        13 | 14 => frame_check(label, number),
+    match (label, error) {
+        (_, KError::TruncatedMessage) =>
+            "the info word says fewer words than the call wants, or capabilities",
+        (RETYPE, _) => retype_check(error),
+        (COPY | MINT | MOVE | MUTATE | DELETE | REVOKE, _) => cnode_check(label, error),
+        (MAP_FRAME | UNMAP_FRAME, _) => frame_check(label, error),
         _ => "no accepted program may make this call",
     }
 }

@@ -2,7 +2,7 @@
 
 use crate::scenes::Scene;
 use capwords::pack;
-use model::{Cap, FrameMapping, Rights};
+use model::{Cap, FrameMapping, ObjectKind, ObjectType, Rights};
 use std::alloc::AllocError;
 use typestate::{NotedSlot, SlotKey};
 
@@ -49,26 +49,49 @@ fn kind_words(capability: Cap) -> (&'static str, u32) {
     }
 }
 
-/// The number of a capability's kind, as in objects.
-fn kind_number(capability: Cap) -> u32 {
-    match capability {
-        Cap::Untyped { .. } => 1,
-        Cap::Tcb { .. } => 2,
-        Cap::Endpoint { .. } => 3,
-        Cap::Notification { .. } => 4,
-        Cap::CNode { .. } => 5,
-        Cap::Frame { .. } => 6,
-        Cap::PageTable { .. } => 7,
-        Cap::RootTable { .. } => 8,
-        Cap::Empty | Cap::InterruptControl | Cap::InterruptHandler { .. } => 0,
-    }
+/// Whether a capability is to an object or to untyped memory.
+fn is_to_object(capability: Cap) -> bool {
+    !matches!(
+        &capability,
+        Cap::Empty | Cap::InterruptControl | Cap::InterruptHandler { .. }
+    )
+}
+
+/// Whether a capability is to an object of this kind.
+fn is_to(capability: Cap, kind: ObjectType) -> bool {
+    matches!(
+        (&capability, &kind),
+        (Cap::Untyped { .. }, ObjectType::Untyped { .. })
+            | (Cap::Tcb { .. }, ObjectType::Object(ObjectKind::Thread))
+            | (
+                Cap::Endpoint { .. },
+                ObjectType::Object(ObjectKind::Endpoint)
+            )
+            | (
+                Cap::Notification { .. },
+                ObjectType::Object(ObjectKind::Notification)
+            )
+            | (
+                Cap::CNode { .. },
+                ObjectType::Object(ObjectKind::CNode { .. })
+            )
+            | (Cap::Frame { .. }, ObjectType::Object(ObjectKind::Frame))
+            | (
+                Cap::PageTable { .. },
+                ObjectType::Object(ObjectKind::PageTable)
+            )
+            | (
+                Cap::RootTable { .. },
+                ObjectType::Object(ObjectKind::RootTable)
+            )
+    )
 }
 
 impl Scene<'_, '_, '_, '_, '_, '_, '_> {
-    /// The name of the object of a kind that is at an offset, if the text declares it.
-    fn name_at(&self, kind: u32, offset: u32) -> Option<&str> {
+    /// The name of the object that a capability to an offset names, if the text declares it.
+    fn name_at(&self, capability: Cap, offset: u32) -> Option<&str> {
         for (number, object) in self.source.objects.iter().enumerate() {
-            if object.kind == kind && self.offsets.get(number) == Some(&offset) {
+            if is_to(capability, object.kind) && self.offsets.get(number) == Some(&offset) {
                 return Some(object.name);
             }
         }
@@ -86,9 +109,9 @@ impl Scene<'_, '_, '_, '_, '_, '_, '_> {
     pub(crate) fn push_cap(&self, to: &mut String, capability: Cap) -> Result<(), AllocError> {
         let (kind, offset) = kind_words(capability);
         to.push_str(kind)?;
-        match self.name_at(kind_number(capability), offset) {
+        match self.name_at(capability, offset) {
             Some(name) => write!(to, " `{name}`")?,
-            None if kind_number(capability) != 0 => write!(to, " at {offset:#x}")?,
+            None if is_to_object(capability) => write!(to, " at {offset:#x}")?,
             None => {}
         }
         self.push_detail(to, capability)

@@ -27,6 +27,7 @@ mod ways;
 pub use call_words::error_name;
 pub use explanations::{explain, report_refused};
 pub use faults::{ExplainFault, Explanation};
+pub use programs::point_of;
 pub use requests::Certificates;
 pub use source_gaps::{Text, push_place};
 pub use texts::wants_certificates;

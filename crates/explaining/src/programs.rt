@@ -13,7 +13,7 @@ use std::alloc::{AllocError, Global};
 use thread_spaces::{given_space, offsets_of, reached_of, slots_of, windows_of};
 
 /// The point that a refusal names, if it is one of programs.
-pub(crate) fn point_of(refusal: Refusal) -> Option<Point> {
+pub fn point_of(refusal: Refusal) -> Option<Point> {
     match refusal {
         Refusal::IllegalInstruction(at)
         | Refusal::ComputedJump(at)

@@ -1,10 +1,11 @@
 //! System calls that the rules refuse.
 
-use crate::call_words::{call_name, check_words, error_name, has_label, label_name, words_wanted};
+use crate::call_words::{call_name, check_words, error_name, label_name};
 use crate::point_words::{push_number, push_range};
 use crate::scenes::Scene;
 use crate::states::State;
 use cspace::called_slot;
+use invoke::listed_words;
 use model::{Cap, KError, Register, Rights};
 use slots::SlotMap;
 use std::alloc::AllocError;
@@ -221,7 +222,7 @@ impl Scene<'_, '_, '_, '_, '_, '_, '_> {
 
     /// Puts how the thread's guard word makes addresses, where they are no numbers of slots.
     fn push_guard(&self, to: &mut String) -> Result<(), AllocError> {
-        let radix = self.source.size(self.thread.cnode);
+        let radix = u32::from(self.source.radix(self.thread.cnode));
         let guard = self.thread.guard & 31;
         if guard.saturating_add(radix) == 32 {
             return Ok(());
@@ -304,10 +305,10 @@ impl Scene<'_, '_, '_, '_, '_, '_, '_> {
     ) -> Result<(), AllocError> {
         let label = info / 4096;
         push_error(to, capability, label, error)?;
-        if has_label(capability, label) {
-            self.push_words(to, state, words_wanted(label), info & 127)?;
+        match listed_words(capability, label) {
+            Some(wanted) => self.push_words(to, state, wanted, info & 127),
+            None => Ok(()),
         }
-        Ok(())
     }
 
     /// Puts the words of a call.
@@ -315,11 +316,11 @@ impl Scene<'_, '_, '_, '_, '_, '_, '_> {
         &self,
         to: &mut String,
         state: &State,
-        wanted: u32,
+        wanted: usize,
         given: u32,
     ) -> Result<(), AllocError> {
         write!(to, "  words: {given} of {wanted} given")?;
-        let mut place = 0u32;
+        let mut place = 0usize;
         for register in WORDS {
             if place < wanted && register < 32 {
                 write!(to, ", {place} (x{register}) ")?;

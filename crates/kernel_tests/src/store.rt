@@ -6,6 +6,7 @@ mod cnode_calls;
 mod decoding;
 mod fresh;
 mod lookups;
+mod manual_rows;
 mod mappings;
 mod nodes;
 mod rows;

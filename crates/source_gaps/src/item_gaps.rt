@@ -2,11 +2,12 @@
 
 use crate::lines::{Text, push_line};
 use image_reading::ImageRef;
-use model::Refusal;
+use model::{ObjectKind, ObjectType, Refusal};
 use source_texts::{
-    CapabilityLine, FrameLine, ObjectLine, Source, SourceText, TableLine, UntypedLine, word_at,
+    CapabilityLine, FrameLine, Source, SourceText, TableLine, UntypedLine, word_at,
 };
 use std::alloc::{AllocError, Global};
+use wellformed::{is_frame, is_page_table, is_root_table, is_thread, is_untyped};
 
 /// A text, the image that it makes, and what the text declares.
 #[derive(Clone, Copy, Drop)]
@@ -22,33 +23,24 @@ pub(crate) struct Items<'f, 't, 'm, 'x, 'j, 'i> {
 /// How many slots a boot CNode has besides those of its radix.
 const KEPT: u64 = 64;
 
-/// What each kind of objects is.
-const KINDS: [&str; 9] = [
-    "no object",
-    "untyped memory",
-    "a TCB",
-    "an endpoint",
-    "a notification",
-    "a CNode",
-    "a frame",
-    "a page table",
-    "a root table",
-];
-
-/// What a kind of objects is.
-fn kind_name(kind: u32) -> &'static str {
-    KINDS.get(kind as usize).copied().unwrap_or("no object")
+/// What an object is, in words.
+fn kind_name(kind: Option<ObjectType>) -> &'static str {
+    match kind {
+        None => "no object",
+        Some(ObjectType::Untyped { .. }) => "untyped memory",
+        Some(ObjectType::Object(ObjectKind::Thread)) => "a TCB",
+        Some(ObjectType::Object(ObjectKind::Endpoint)) => "an endpoint",
+        Some(ObjectType::Object(ObjectKind::Notification)) => "a notification",
+        Some(ObjectType::Object(ObjectKind::CNode { .. })) => "a CNode",
+        Some(ObjectType::Object(ObjectKind::Frame)) => "a frame",
+        Some(ObjectType::Object(ObjectKind::PageTable)) => "a page table",
+        Some(ObjectType::Object(ObjectKind::RootTable)) => "a root table",
+    }
 }
 
-/// An object has 2 to the power of so many bytes.
-fn bits_of(object: &ObjectLine<'_>) -> u32 {
-    match object.kind {
-        1 => object.size,
-        2 => 9,
-        3 | 4 => 4,
-        5 => object.size.saturating_add(4),
-        _ => 12,
-    }
+/// Whether this is a CNode.
+pub(crate) fn is_cnode(kind: Option<ObjectType>) -> bool {
+    matches!(&kind, Some(ObjectType::Object(ObjectKind::CNode { .. })))
 }
 
 /// The least radix, from a given one on, with which a CNode has so many slots.
@@ -96,15 +88,19 @@ fn report_guard(to: &mut String, name: &str, payload: u32) -> Result<(), AllocEr
 /// Reports what is wrong with the rights and the data of a capability to an object of a kind.
 fn report_data(
     to: &mut String,
-    kind: u32,
+    kind: Option<ObjectType>,
     name: &str,
     rights: u32,
     payload: u32,
 ) -> Result<(), AllocError> {
     match kind {
-        3 | 4 => report_badge(to, rights, payload),
-        6 => report_frame_data(to, rights),
-        5 if rights == 0 => report_guard(to, name, payload),
+        Some(ObjectType::Object(ObjectKind::Endpoint | ObjectKind::Notification)) => {
+            report_badge(to, rights, payload)
+        }
+        Some(ObjectType::Object(ObjectKind::Frame)) => report_frame_data(to, rights),
+        Some(ObjectType::Object(ObjectKind::CNode { .. })) if rights == 0 => {
+            report_guard(to, name, payload)
+        }
         _ => write!(
             to,
             "a capability to `{name}` has the rights 0 and the data 0\n"
@@ -245,7 +241,7 @@ impl Items<'_, '_, '_, '_, '_, '_> {
         let mut used = 0u64;
         for (number, other) in self.source.objects.iter().enumerate() {
             if number < item && other.untyped == untyped {
-                used = behind(used, bits_of(other));
+                used = behind(used, other.kind.bits());
             }
         }
         used
@@ -260,7 +256,7 @@ impl Items<'_, '_, '_, '_, '_, '_> {
             return Ok(());
         };
         self.push_line(to, object.line)?;
-        let bits = bits_of(object);
+        let bits = object.kind.bits();
         let used = self.used_before(item as usize, object.untyped);
         report_room(to, untyped, power(bits), behind(used, bits))
     }
@@ -331,7 +327,7 @@ impl Items<'_, '_, '_, '_, '_, '_> {
             return Ok(());
         };
         self.push_line(to, capability.line)?;
-        if self.source.kind(capability.cnode) != 5 {
+        if !is_cnode(self.source.kind(capability.cnode)) {
             return self.report_kind(to, capability.cnode, "CNode");
         }
         self.report_slot(to, &capability)
@@ -339,8 +335,8 @@ impl Items<'_, '_, '_, '_, '_, '_> {
 
     /// Reports what is wrong with a capability in the slot of a CNode.
     fn report_slot(&self, to: &mut String, capability: &CapabilityLine) -> Result<(), AllocError> {
-        let radix = self.source.size(capability.cnode);
-        let (index, last) = (capability.index, power(radix).saturating_sub(1));
+        let radix = self.source.radix(capability.cnode);
+        let (index, last) = (capability.index, power(u32::from(radix)).saturating_sub(1));
         if u64::from(index) > last {
             let cnode = self.source.object_name(capability.cnode);
             return write!(to, "`{cnode}` has the slots 0 to {last}, and no {index}\n");
@@ -357,13 +353,13 @@ impl Items<'_, '_, '_, '_, '_, '_> {
         let name = self.source.source_name(capability.source);
         let kind = match capability.source {
             Source::Object(number) => self.source.kind(number),
-            Source::Interrupt(_) => 0,
+            Source::Interrupt(_) => None,
         };
-        if kind == 2 || kind == 7 {
+        if is_thread(kind) || is_page_table(kind) {
             let words = kind_name(kind);
             return write!(to, "`{name}` is {words}: no capability may name one\n");
         }
-        if kind == 1 {
+        if is_untyped(kind) {
             if let Some(line) = self.other_gift(capability) {
                 return write!(
                     to,
@@ -413,10 +409,10 @@ impl Items<'_, '_, '_, '_, '_, '_> {
     /// Reports what is wrong with a table.
     fn report_table(&self, to: &mut String, table: &TableLine) -> Result<(), AllocError> {
         self.push_line(to, table.line)?;
-        if self.source.kind(table.root) != 8 {
+        if !is_root_table(self.source.kind(table.root)) {
             return self.report_kind(to, table.root, "root table");
         }
-        if self.source.kind(table.table) != 7 {
+        if !is_page_table(self.source.kind(table.table)) {
             return self.report_kind(to, table.table, "page table");
         }
         self.report_table_place(to, table)
@@ -451,10 +447,10 @@ impl Items<'_, '_, '_, '_, '_, '_> {
     /// Reports what is wrong with a frame's mapping.
     fn report_frame(&self, to: &mut String, frame: &FrameLine) -> Result<(), AllocError> {
         self.push_line(to, frame.line)?;
-        if self.source.kind(frame.root) != 8 {
+        if !is_root_table(self.source.kind(frame.root)) {
             return self.report_kind(to, frame.root, "root table");
         }
-        if self.source.kind(frame.frame) != 6 {
+        if !is_frame(self.source.kind(frame.frame)) {
             return self.report_kind(to, frame.frame, "frame");
         }
         self.report_frame_place(to, frame)
@@ -556,7 +552,7 @@ impl Items<'_, '_, '_, '_, '_, '_> {
     /// Reports which content fills what is no frame.
     fn report_content(&self, to: &mut String) -> Result<(), AllocError> {
         for content in &self.source.contents {
-            if self.source.kind(content.frame) != 6 {
+            if !is_frame(self.source.kind(content.frame)) {
                 self.push_line(to, content.line)?;
                 return self.report_kind(to, content.frame, "frame");
             }

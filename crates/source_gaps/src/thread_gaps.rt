@@ -1,21 +1,12 @@
 //! Refusals of threads as the image starts them.
 
-use crate::item_gaps::Items;
+use crate::item_gaps::{Items, is_cnode};
 use image_reading::ThreadRef;
 use model::Refusal;
 use source_texts::{CapabilityLine, Source, SourceThread};
 use std::alloc::AllocError;
 use thread_spaces::reached_of;
-use wellformed::NumberSet;
-
-/// The number of the kind of a TCB.
-const TCB: u32 = 2;
-
-/// The number of the kind of a CNode.
-const CNODE: u32 = 5;
-
-/// The number of the kind of a root table.
-const ROOT: u32 = 8;
+use wellformed::{NumberSet, is_root_table, is_thread};
 
 /// The least address that no program may reach.
 const LIMIT: u64 = 0x8000_0000;
@@ -109,7 +100,7 @@ impl Items<'_, '_, '_, '_, '_, '_> {
 
     /// Whether an object is a root table, and another one than this.
     fn is_other_root(&self, number: usize, root: usize) -> bool {
-        self.source.kind(number) == ROOT && number != root
+        is_root_table(self.source.kind(number)) && number != root
     }
 
     /// The earliest thread before one that has the same root table, by its TCB.
@@ -192,11 +183,11 @@ impl Items<'_, '_, '_, '_, '_, '_> {
 
     /// The object that a thread names where one of another kind is wanted, and what is wanted.
     fn wrong_object(&self, thread: &SourceThread<'_>) -> Option<(usize, &'static str)> {
-        if self.source.kind(thread.tcb) != TCB {
+        if !is_thread(self.source.kind(thread.tcb)) {
             Some((thread.tcb, "a TCB (`tcb`)"))
-        } else if self.source.kind(thread.cnode) != CNODE {
+        } else if !is_cnode(self.source.kind(thread.cnode)) {
             Some((thread.cnode, "a CNode"))
-        } else if self.source.kind(thread.root) != ROOT {
+        } else if !is_root_table(self.source.kind(thread.root)) {
             Some((thread.root, "a root table (`root`)"))
         } else {
             None
@@ -235,11 +226,11 @@ impl Items<'_, '_, '_, '_, '_, '_> {
         to: &mut String,
         thread: &SourceThread<'_>,
     ) -> Result<(), AllocError> {
-        let radix = self.source.size(thread.cnode);
-        if capwords::is_guard_word(radix.min(255) as u8, thread.guard) {
+        let radix = self.source.radix(thread.cnode);
+        if capwords::is_guard_word(radix, thread.guard) {
             self.report_place(to, thread)
         } else {
-            report_thread_guard(to, thread.guard, radix)
+            report_thread_guard(to, thread.guard, u32::from(radix))
         }
     }
 

@@ -1,6 +1,7 @@
 //! What a text declares, with the lines that it is on. Numbers count what is in the text from 0.
 
 use crate::source_threads::SourceThread;
+use model::{ObjectKind, ObjectType};
 
 /// `untyped NAME OFFSET BITS`
 #[derive(Clone, Copy, Debug)]
@@ -12,14 +13,13 @@ pub struct UntypedLine<'a> {
 }
 
 /// `object NAME UNTYPED KIND [SIZE]`
-#[derive(Clone, Copy, Debug)]
+#[derive(Clone, Copy)]
 pub struct ObjectLine<'a> {
     pub line: u64,
     pub name: &'a str,
     pub untyped: usize,
-    /// The number of its kind, 1 to 8.
-    pub kind: u32,
-    pub size: u32,
+    /// What it is, by its kind and its size.
+    pub kind: ObjectType,
 }
 
 /// `irq NAME LINE NOTIFICATION BADGE`
@@ -111,19 +111,19 @@ impl<'a> SourceText<'a> {
         }
     }
 
-    /// The number of an object's kind, or 0 if there is no such object.
-    pub fn kind(&self, number: usize) -> u32 {
+    /// What an object is, by its number, if there is one.
+    pub fn kind(&self, number: usize) -> Option<ObjectType> {
         match self.objects.get(number) {
-            Some(object) => object.kind,
-            None => 0,
+            Some(object) => Some(object.kind),
+            None => None,
         }
     }
 
-    /// The size of an object, or 0 if there is no such object.
-    pub fn size(&self, number: usize) -> u32 {
-        match self.objects.get(number) {
-            Some(object) => object.size,
-            None => 0,
+    /// The radix of a CNode, or 0 if the object is none.
+    pub fn radix(&self, number: usize) -> u8 {
+        match self.kind(number) {
+            Some(ObjectType::Object(ObjectKind::CNode { radix })) => radix,
+            _ => 0,
         }
     }
 

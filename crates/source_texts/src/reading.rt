@@ -8,6 +8,7 @@ use crate::faults::TextFault;
 use crate::names::{Named, Names};
 use crate::source_threads::{RecordLine, SourceThread};
 use asm_line::{Line, Name, ThreadLine, parse_line};
+use model::ObjectType;
 use std::alloc::Global;
 
 /// What is read of a text up to some line.
@@ -59,6 +60,9 @@ impl<'a> Reader<'a> {
         size: u32,
     ) -> Result<(), TextFault> {
         let number = self.text.objects.len();
+        let Some(kind) = ObjectType::of(kind, size) else {
+            return Err(TextFault::Line(self.names.line));
+        };
         let untyped = self.names.untyped(&untyped)?;
         let name = self.names.add(&name, Named::Object(number))?;
         self.text.objects.push(ObjectLine {
@@ -66,7 +70,6 @@ impl<'a> Reader<'a> {
             name,
             untyped,
             kind,
-            size,
         })?;
         Ok(())
     }

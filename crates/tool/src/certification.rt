@@ -7,8 +7,9 @@ use crate::trials::{drop_records, judged};
 use asm::{SourceFault, assemble};
 use certified_texts::{Draft, Layout, bare_text, layout_of};
 use certifying::{Certificate, Effort, Reason, Unfit, certificates};
+use explaining::point_of;
 use image::write;
-use model::{Point, Refusal};
+use model::Refusal;
 use progress::{Progress, Stage};
 use std::alloc::{AllocError, AllocFailed, Global};
 
@@ -63,25 +64,6 @@ impl<T: Drop> From<AllocFailed<T>> for NotCertified {
 impl From<SourceFault> for NotCertified {
     fn from(fault: SourceFault) -> NotCertified {
         NotCertified::Source(fault)
-    }
-}
-
-/// The point of a program that a refusal names.
-fn point_of(refusal: Refusal) -> Option<Point> {
-    match refusal {
-        Refusal::IllegalInstruction(at)
-        | Refusal::ComputedJump(at)
-        | Refusal::BadTarget(at)
-        | Refusal::RangeNotKept(at)
-        | Refusal::NotMapped(at)
-        | Refusal::MeasureNotFalling(at)
-        | Refusal::OverBudget(at)
-        | Refusal::CallNotConstant(at)
-        | Refusal::CapNotThere(at)
-        | Refusal::CallRefused(at, _)
-        | Refusal::PoolLost(at)
-        | Refusal::PromiseNotKept(at) => Some(at),
-        _ => None,
     }
 }
 

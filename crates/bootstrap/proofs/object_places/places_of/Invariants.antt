@@ -1,14 +1,10 @@
 -- So many objects are placed, and so much of each untyped is used by them.
-use Rattle.std.proofs.Common.{◌≡◌, ℕ, ◌*◌, ◌<◌, ◌≤◌, length, take}
-use Rattle.std.specs.Prelude.{slice_index}
-use Rattle.model.specs.Images.Places.{used_by}
+use Rattle.wellformed.specs.Used.{IsUsed}
 use Rattle.bootstrap.specs.Filling.{ArePlaces}
 use Rattle.bootstrap.proofs.object_places.places_of.Given as goal
 
 abbrev pub invariant-loop-number : goal.invariant-loop-number
 invariant-loop-number l = record {
-  size : length l.used ≡ 64;
-  used : (u : ℕ) → u < 64 → slice_index l.used u ≡ used_by (take l.number l.image.objects) u;
-  low : (u : ℕ) → u < 64 → slice_index l.used u ≤ 2147483648 * l.number;
+  used : IsUsed l.image l.number l.used.used;
   placed : ArePlaces l.image l.number l.places.items;
 }
