@@ -1,14 +1,14 @@
 //! What is kept of the points of a program: of some the whole state, of those with records where these are, and of others how their
 //! states follow.
 
-ghost use Rattle.std.specs.Prelude.{ℕ, ◌≡◌, ◌≢◌, ◌+◌, ◌<◌, ◌≤◌, ◌^◌, IfOk, List, None, Some, false, length, slice_get, true};
+ghost use Rattle.std.specs.Prelude.{ℕ, ◌≡◌, ◌≢◌, ◌+◌, ◌<◌, ◌≤◌, ◌^◌, IfOk, IfSome, List, None, Some, false, length, slice_get, true};
 ghost use Rattle.model.specs.Acceptance.NotedStates.{NotedSlot, record_of};
 ghost use Rattle.model.specs.Acceptance.PointStates.{noted};
 ghost use Rattle.model.specs.Images.Described.{Numbered};
 ghost use Rattle.model.specs.Images.Image.{Image};
 ghost use Rattle.model.specs.Machine.Decoding.{decoded};
 ghost use Rattle.model.specs.declared.instructions.Instr.TheVariants.{Ecall};
-ghost use Rattle.program_rules.specs.Kept.{AreKept, IsAt, IsInRecord, IsKeptAt, IsNextAt, IsWhole, KeepsAll, has_state, is_step};
+ghost use Rattle.program_rules.specs.Kept.{AreKept, IsAt, IsInRecord, IsKeptAt, IsNextAt, IsWhole, KeepsAll, has_state, is_step, wide};
 ghost use Rattle.program_rules.specs.Programs.{thread_of};
 ghost use Rattle.program_rules.specs.declared.kept.Kept.TheVariants as kept;
 ghost use Rattle.program_rules.specs.declared.kept.Known.{Known as State};
@@ -28,6 +28,10 @@ use typestate::SlotLog;
 /// How many points one after another follow from a state that is kept: that has some 320 bytes.
 const MOST_STEPS: u32 = 7;
 
+/// A record that notes at most so many slots is read again when its state is asked for. With more of them that takes too long, and the
+/// record alone has more bytes than a state that is kept.
+const MOST_SLOTS: u32 = 15;
+
 /// What is kept of points, one after another.
 #[derive(Drop)]
 pub(crate) struct KeptPoints<'a> {
@@ -45,6 +49,16 @@ fn is_call(word: u32) -> bool
     ensures { result ≡ false → decoded word ≢ Some Ecall }
 {
     matches!(decode(word), Some(Instr::Ecall))
+}
+
+/// The part of the log of a state whose record is read again: none where that would take too long, or is too far on in the log.
+fn part_of_record(noted: &PlacedRecord<'_>, known: &Known) -> Option<ShortPart>
+    ensures { IfSome result (λ short. wide short ≡ known.now.part) }
+{
+    if MOST_SLOTS < noted.record().slot_count() {
+        return None;
+    }
+    ShortPart::of(known.part)
 }
 
 /// A state, if there is one.
@@ -101,7 +115,7 @@ impl<'a> KeptPoints<'a> {
         ensures at { IfOk result (λ place. (image : Image) (t : Numbered) (slots : List NotedSlot) (log : List LogEntry) (point : ℕ) → record_of t.thread point ≡ Some noted.now
             → IsKeptAt image t slots log point (kept.Known known.now) → IsAt image t slots log self.new point place) }
     {
-        let Some(part) = ShortPart::of(known.part) else {
+        let Some(part) = part_of_record(noted, known) else {
             return self.keep_whole(known);
         };
         let at = narrowed(self.recorded.len())?;

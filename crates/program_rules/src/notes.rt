@@ -38,7 +38,7 @@ impl<'a> PlacedRecord<'a> {
     }
 
     /// The record.
-    fn record(&self) -> &RecordRef<'a>
+    pub(crate) fn record(&self) -> &RecordRef<'a>
         ensures { result.now ≡ self.now }
     {
         &self.record
