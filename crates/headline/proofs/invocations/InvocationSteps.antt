@@ -24,12 +24,12 @@ use Rattle.model.specs.Images.Described.{Numbered, numbered_threads}
 use Rattle.model.specs.Images.Image.{Image, Thread}
 use Rattle.model.specs.Kernel.Arguments.{Call}
 use Rattle.model.specs.Kernel.Invocations.{invoke, perform}
-use Rattle.model.specs.Kernel.Messages.{a1, extra_capabilities_of, message_of}
+use Rattle.model.specs.Kernel.Messages.{a1, a7, extra_capabilities_of, message_of}
 use Rattle.model.specs.Kernel.Scheduling.{current}
 use Rattle.model.specs.Kernel.Soundness.{IsSound}
 use Rattle.model.specs.Kernel.State.{State, ThreadState}
-use Rattle.model.specs.Kernel.Steps.{Done, after_invocation, calls, completed, cspace_of, invokes, memory_base, named_slot, registers_of, send_by, send_call}
-use Rattle.model.specs.Kernel.Steps.{send_named}
+use Rattle.model.specs.Kernel.Steps.{Done, after_invocation, call_of, calls, calls_known, completed, cspace_of, invokes, memory_base, named_slot}
+use Rattle.model.specs.Kernel.Steps.{registers_of, send_by, send_call, send_named, step, system_call}
 use Rattle.model.specs.declared.system_calls.SendCall.{SendCall}
 use Rattle.model.specs.declared.system_calls.SystemCall.{SystemCall}
 use Rattle.model.specs.declared.system_calls.SystemCall.TheVariants.{Sends}
@@ -37,13 +37,13 @@ use Rattle.model.specs.Kernel.Waits.{is_error, is_fault}
 use Rattle.model.specs.Machine.ProgramMemory.{RegisterFile, read}
 use Rattle.headline.specs.moves.Moving.{CallsAt}
 use Rattle.headline.specs.moves.Steps.{GoesWell, MakesCall}
-use Rattle.headline.proofs.moves.Laws.{IsFine, call-goes-well, named-here}
+use Rattle.headline.proofs.moves.Laws.{IsFine, call-goes-well, call-leaves, named-here}
 use Rattle.headline.specs.invocations.Invoking.{Invokes}
 use Rattle.headline.specs.invocations.Laws.{Laws}
 use Rattle.headline.specs.invocations.Performed.{MayInvoke}
 use Rattle.headline.proofs.invocations.DecodedCalls.{invokes-made, made-on}
 use Rattle.headline.proofs.invocations.PerformedCalls.{StandsBehind, stands-behind}
-use Rattle.headline.proofs.invocations.RuledCalls.{IsRuled, invocation-ruled, listed_words}
+use Rattle.headline.proofs.invocations.RuledCalls.{IsRuled, invocation-ruled, left_by, listed_words}
 use Rattle.typestate.specs.Calls.{call_on}
 use Rattle.headline.proofs.facts.Laws.{at-place}
 
@@ -116,10 +116,18 @@ module _ (laws : Laws) (bytes : List ℕ) (image : Image) (s : State) (labels : 
                 (behind.stands (subst (λ (d : Done). IsSound d.0) ends sound));
           }
 
-    invocation-fine : (kind : SendCall) (slot : ℕ) → named_slot s tcb ≡ Ok slot → IsInvoked (capability_at s.slots slot)
-        → by_capability image t.thread (point_of t point) state (send_rule image t.thread (point_of t point) state kind) ≡ Ok left
-        → IsSound (send_call s tcb kind).0 → IsFine image t labels own.registers.pc (send_call s tcb kind)
-    invocation-fine kind slot named invoked rule sound =
+    -- the call as the rules made it on what is noted
+    record MakesRuled (kind : SendCall) : Type 0 where
+      pub slot : ℕ
+      pub named : named_slot s tcb ≡ Ok slot
+      pub ruled : IsRuled image t.thread state (call_on image t.thread slot (capability_at s.slots slot)) (answers kind) left own.registers
+      pub may : MayInvoke image t s state.slots slot (ruled.form.call (listed_words own.registers ruled.form.count))
+      pub left_is : left ≡ left_by image t.thread state (answers kind) may.noted
+      pub is : send_call s tcb kind ≡ invokes s tcb kind slot (capability_at s.slots slot)
+
+    makes-ruled : (kind : SendCall) (slot : ℕ) → named_slot s tcb ≡ Ok slot → IsInvoked (capability_at s.slots slot)
+        → by_capability image t.thread (point_of t point) state (send_rule image t.thread (point_of t point) state kind) ≡ Ok left → MakesRuled kind
+    makes-ruled kind slot named invoked rule =
         let rules = send_rule image t.thread (point_of t point) state kind in
         let names = named-here laws.below bytes image s labels accepted t listed own point state left at rules rule in
         let here : slot ≡ names.slot = (let e : ◌≡◌ {A = Result ℕ LookupFailure} (Ok slot) (Ok names.slot) = sym named ∙ names.named in cc) in
@@ -129,19 +137,36 @@ module _ (laws : Laws) (bytes : List ℕ) (image : Image) (s : State) (labels : 
         let ruled =
         invocation-ruled image t.thread (point_of t point) state (call_on image t.thread names.slot c) (answers kind) left own.registers at.stands.registers
         (ruled-so image t.thread (point_of t point) state kind names.slot c left held by) in
-        let may : MayInvoke image t s state.slots names.slot (ruled.form.call (listed_words own.registers ruled.form.count)) = record {
-          own = names.own;
-          full = names.full;
-          on = made-on c own.registers ruled.form ruled.called;
-          noted = ruled.noted;
-          performs = ruled.performs;
-          keeps_pools = ruled.keeps_pools;
-          may = ruled.may;
-        } in
-        completes kind names.slot (send_call s tcb kind) ruled
-        (stands-behind laws bytes image s labels accepted all t listed own point state left at kind names.slot
-        (ruled.form.call (listed_words own.registers ruled.form.count)) may ruled.left_is)
-        (ap (send_named s tcb kind) names.named ∙ by-invoking s tcb kind names.slot c held) sound
+        record {
+          slot = names.slot;
+          named = names.named;
+          ruled = ruled;
+          may = record {
+            own = names.own;
+            full = names.full;
+            on = made-on c own.registers ruled.form ruled.called;
+            noted = ruled.noted;
+            performs = ruled.performs;
+            keeps_pools = ruled.keeps_pools;
+            may = ruled.may;
+          };
+          left_is = ruled.left_is;
+          is = ap (send_named s tcb kind) names.named ∙ by-invoking s tcb kind names.slot c held;
+        }
+
+    -- it has no error
+    goes-behind : (kind : SendCall) (m : MakesRuled kind)
+        → StandsBehind image t s labels own.registers.pc m.slot kind (m.ruled.form.call (listed_words own.registers m.ruled.form.count))
+    goes-behind kind m =
+        stands-behind laws bytes image s labels accepted all t listed own point state left at kind m.slot
+        (m.ruled.form.call (listed_words own.registers m.ruled.form.count)) m.may m.left_is
+
+    invocation-fine : (kind : SendCall) (slot : ℕ) → named_slot s tcb ≡ Ok slot → IsInvoked (capability_at s.slots slot)
+        → by_capability image t.thread (point_of t point) state (send_rule image t.thread (point_of t point) state kind) ≡ Ok left
+        → IsSound (send_call s tcb kind).0 → IsFine image t labels own.registers.pc (send_call s tcb kind)
+    invocation-fine kind slot named invoked rule sound =
+        let m = makes-ruled kind slot named invoked rule in
+        completes kind m.slot (send_call s tcb kind) m.ruled (goes-behind kind m) m.is sound
 
     call-fine : (kind : SendCall) (slot : ℕ) → named_slot s tcb ≡ Ok slot → IsInvoked (capability_at s.slots slot) → (call : SystemCall) → call ≡ Sends kind
         → by_call image t.thread (point_of t point) state call ≡ Ok left → IsSound (calls s tcb call).0
@@ -158,3 +183,37 @@ module _ (laws : Laws) (bytes : List ℕ) (image : Image) (s : State) (labels : 
       (λ own point state left call at number rule sound.
       let is : call ≡ Sends i.kind = (let e : ◌≡◌ {A = Option SystemCall} (Some call) (Some (Sends i.kind)) = sym number ∙ i.number in cc) in
       call-fine own point state left at i.kind i.slot i.named i.invoked call is rule sound)
+
+  -- what is so of each state that an invocation leaves which the rules allow, and its answer, is so of what the step leaves
+  abbrev LeftByEach : (State → Type 0) → Type 0
+  LeftByEach P =
+      (own : ThreadState) (point : ℕ) (state : PointState) (left : AfterCall) → CallsAt image t s labels own point state left → (kind : SendCall) (slot : ℕ)
+      (c : Invocation) → named_slot s tcb ≡ Ok slot → MayInvoke image t s state.slots slot c → (after : State)
+      → perform s (call_on image t.thread slot (capability_at s.slots slot)) c ≡ Ok after → P (completed after tcb kind)
+
+  call-left : (P : State → Type 0) → LeftByEach P → (own : ThreadState) (point : ℕ) (state : PointState) (left : AfterCall)
+      → CallsAt image t s labels own point state left → (kind : SendCall) (slot : ℕ) → named_slot s tcb ≡ Ok slot → IsInvoked (capability_at s.slots slot)
+      → by_call image t.thread (point_of t point) state (Sends kind) ≡ Ok left → P (send_call s tcb kind).0
+  call-left P each own point state left at kind slot named invoked rule =
+      let m = makes-ruled own point state left at kind slot named invoked rule in
+      let behind = goes-behind own point state left at kind m in
+      let ends : send_call s tcb kind ≡ (completed behind.after tcb kind, Completed) =
+      m.is ∙ invokes-is own point state left at kind m.slot m.ruled ∙ ap (after_invocation s tcb kind) behind.performs in
+      subst (λ (d : Done). P d.0) (sym ends)
+      (each own point state left at kind m.slot (m.ruled.form.call (listed_words own.registers m.ruled.form.count)) m.named m.may behind.after behind.performs)
+
+  system-call : (kind : SendCall) → call_of (read (registers_of s tcb) a7) ≡ Some (Sends kind) → system_call s tcb ≡ send_call s tcb kind
+  unfolding system_call
+  system-call kind number = ap (calls_known s tcb (read (registers_of s tcb) a7)) number
+
+  pub invocation-leaves : (P : State → Type 0) → ((own : ThreadState) (point : ℕ) (state : PointState) (left : AfterCall)
+      → CallsAt image t s labels own point state left → (kind : SendCall) (slot : ℕ) (c : Invocation) → named_slot s (tcb_of image t) ≡ Ok slot
+      → MayInvoke image t s state.slots slot c → (after : State) → perform s (call_on image t.thread slot (capability_at s.slots slot)) c ≡ Ok after
+      → P (completed after (tcb_of image t) kind)) → MakesCall s (tcb_of image t) → Invokes s (tcb_of image t) → P (step s Step).0
+  invocation-leaves P each makes i =
+      call-leaves laws.below bytes image t s labels accepted all listed now makes P
+      (λ own point state left call at _ number rule.
+      let is : call ≡ Sends i.kind = (let e : ◌≡◌ {A = Option SystemCall} (Some call) (Some (Sends i.kind)) = sym number ∙ i.number in cc) in
+      subst (λ (d : Done). P d.0) (sym (system-call i.kind i.number))
+      (call-left P each own point state left at i.kind i.slot i.named i.invoked
+      (subst (λ (x : SystemCall). by_call image t.thread (point_of t point) state x ≡ Ok left) is rule)))
