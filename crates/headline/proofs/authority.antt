@@ -9,6 +9,7 @@ mod Gains
 mod Interrupted
 mod Invoked
 mod MadeEndpoints
+mod MapsKept
 mod NewHandlers
 mod NewMappings
 mod NotificationCalls
@@ -26,6 +27,7 @@ mod SlotCalls
 mod SlotChanges
 mod StandingCalls
 mod StandingInvocations
+mod StartingMaps
 mod Stored
 mod Ticks
 mod Yielding

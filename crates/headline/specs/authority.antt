@@ -1,3 +1,4 @@
 pub mod Laws
+pub mod OwnMaps
 pub mod Ready
 pub mod Scenarios

@@ -6,4 +6,5 @@ pub use Rattle.headline.proofs.kept.KeptCode.{program-kept}
 pub use Rattle.headline.proofs.kept.OwnBlocks.{one-object, thread-entry}
 pub use Rattle.headline.proofs.kept.OwnKeys.{IsOwnKey, key-kept, keys-own, member-passes, noted-own}
 pub use Rattle.headline.proofs.kept.StandingOn.{same-capability}
+pub use Rattle.headline.proofs.kept.StartObjects.{listed-from}
 pub use Rattle.headline.proofs.kept.ThreadsGiven.{IsGiven, given}

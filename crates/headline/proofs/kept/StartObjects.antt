@@ -25,7 +25,7 @@ some-there f x from (suc count) is = elim (f from) as (λ o. f from ≡ o → fi
     ] refl is
 
 -- a listed thread has a number
-listed-from : (from : ℕ) (threads : List Thread) (k : ℕ) (t : Thread) → slice_get threads k ≡ Some t
+pub listed-from : (from : ℕ) (threads : List Thread) (k : ℕ) (t : Thread) → slice_get threads k ≡ Some t
     → (n : ℕ) × Contains (map with_number (enumerate_from from threads)) (with_number (n, t))
 listed-from from [] k t at = absurd (let clash : None ≡ Some t = at in cc)
 listed-from from (u ∷ us) zero t at =

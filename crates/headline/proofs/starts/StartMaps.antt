@@ -112,7 +112,7 @@ first-frame (Some NewFrame) offset = refl
 first-frame (Some NewPageTable) offset = refl
 first-frame (Some NewRootTable) offset = refl
 
-original-no-frame : (image : Image) (number : ℕ) → frame_mapping (original image number) ≡ None
+pub original-no-frame : (image : Image) (number : ℕ) → frame_mapping (original image number) ≡ None
 original-no-frame image number =
     table-frame image (find (λ e. e.table == number) image.tables) (first_of_type (type_at image number) (offset_of image number))
     ∙ first-frame (type_at image number) (offset_of image number)
@@ -121,7 +121,7 @@ handler-frame : (found : Option InterruptEntry) → frame_mapping (option_map_or
 handler-frame None = refl
 handler-frame (Some i) = refl
 
-listed-no-frame : (image : Image) (c : CapabilityEntry) → frame_mapping (listed_capability image c) ≡ None
+pub listed-no-frame : (image : Image) (c : CapabilityEntry) → frame_mapping (listed_capability image c) ≡ None
 listed-no-frame image c =
     limited-frame (source_capability image c.source) c.rights c.payload
     ∙ elim (is_handler image c.source)
