@@ -1,41 +1,61 @@
--- A Copy, a Mint and a Map that the rules allow stay within authority, where a thread's slots hold what is noted: what they name is the
--- thread's own.
-use Rattle.std.proofs.Common.{ℕ, ◌≡◌, ◌∙◌, ◌==◌, ◌/◌, ◌%◌, ◌||◌, true, false, not, nat_lt, Option, Some, None, Ok, List, refl, sym, ap, subst}
+-- A Copy, a Mint, a Move, a Map and an Unmap that the rules allow stay within authority, where a thread's slots hold what is noted: what
+-- they name is the thread's own.
+use Rattle.std.proofs.Common.{ℕ, ◌≡◌, ◌∙◌, ◌==◌, ◌/◌, ◌%◌, ◌||◌, inl, inr, true, false, not, nat_lt, Option, Some, None, Ok, List, refl, sym, ap, subst}
+use Rattle.std.proofs.lemmas.Bool.{false≢true}
+use Rattle.std.proofs.lemmas.Option.{none-some}
 use Rattle.soundness.proofs.Laws.{passes-both}
 use Rattle.typestate.specs.Calls.{call_on}
 use Rattle.typestate.specs.Spaces.{is_inside}
+use Rattle.headline.specs.authority.OwnMaps.{MapsOwn}
 use Rattle.headline.specs.authority.Scenarios.{OwnSlots}
 use Rattle.headline.specs.invocations.Mirrors.{Mirrors}
 use Rattle.headline.specs.invocations.Performed.{MayInvoke}
 use Rattle.model.specs.declared.capabilities.Cap.{Cap}
-use Rattle.model.specs.declared.capabilities.Cap.TheVariants.{Frame, Untyped}
+use Rattle.model.specs.declared.capabilities.Cap.TheVariants.{Empty, Untyped, Endpoint, Notification, CNode, Frame, PageTable, Tcb, RootTable, InterruptControl}
+use Rattle.model.specs.declared.capabilities.Cap.TheVariants.{InterruptHandler}
 use Rattle.model.specs.declared.capabilities.FrameMapping.{FrameMapping}
 use Rattle.model.specs.declared.errors.KError.TheVariants.{AlignmentError, DeleteFirst, FailedLookup, InvalidArgument, InvalidCapability}
-use Rattle.model.specs.declared.invocations.CNodeCall.TheVariants.{Copy, Mint}
+use Rattle.model.specs.declared.invocations.CNodeCall.TheVariants.{Copy, Mint, Move}
 use Rattle.model.specs.declared.invocations.CNodeCall.{CNodeCall}
-use Rattle.model.specs.declared.invocations.FrameCall.TheVariants.{MapFrame}
+use Rattle.model.specs.declared.invocations.FrameCall.TheVariants.{MapFrame, UnmapFrame}
 use Rattle.model.specs.declared.invocations.Invocation.TheVariants.{OnCNode, OnFrame}
 use Rattle.model.specs.declared.invocations.SlotName.{SlotName}
 use Rattle.model.specs.declared.rights.Rights.{Rights}
-use Rattle.model.specs.Acceptance.Authority.{WithinAuthority, given, without_use}
-use Rattle.model.specs.Acceptance.NotedStates.{NotedSlot}
+use Rattle.model.specs.Acceptance.Authority.{IsOwnSlot, WithinAuthority, given, without_use}
+use Rattle.model.specs.Acceptance.NotedStates.{NotedSlot, is_foreign}
 use Rattle.model.specs.Acceptance.ThreadInvariants.{root_table_of, tcb_of}
+use Rattle.model.specs.Acceptance.ThreadRules.{reached}
 use Rattle.model.specs.Capabilities.CapabilityKinds.{frame_mapping, root_of, table_mapping, with_frame_mapping}
 use Rattle.model.specs.Capabilities.Rights.{mapping_rights, may_execute, may_read}
-use Rattle.model.specs.Capabilities.Slots.{capability_at, recapped}
+use Rattle.model.specs.Capabilities.Slots.{capability_at, parent_at, recapped}
 use Rattle.model.specs.Images.Described.{Numbered}
-use Rattle.model.specs.Images.Image.{Image}
+use Rattle.model.specs.Images.Image.{Image, Thread}
 use Rattle.model.specs.Kernel.AddressSpaces.{address_limit, is_page_taken, is_region_taken, page_size, region_pages}
 use Rattle.model.specs.Kernel.Arguments.{Call, destination_slot, source_slot, wanted}
 use Rattle.model.specs.Kernel.Invocations.{perform}
-use Rattle.model.specs.Kernel.MappingCalls.{is_mapped, root_named}
+use Rattle.model.specs.Kernel.MappingCalls.{is_mapped, root_named, unmap_frame}
 use Rattle.model.specs.Kernel.State.{State, ThreadObject, ThreadState, with_slots}
 use Rattle.soundness.proofs.Laws.{wanted-some}
+use Rattle.headline.proofs.invocations.BlockSlots.{own-or-other}
 use Rattle.headline.proofs.invocations.FrameCalls.{own-table}
 use Rattle.headline.proofs.invocations.NamedSlots.{cnode-inside, destination-named, root-inside, source-named}
-use Rattle.headline.proofs.authority.SlotCalls.{copy-within, mint-within}
+use Rattle.headline.proofs.authority.SlotCalls.{copy-within, mint-within, move-within, unmap-within}
 use Rattle.headline.proofs.authority.SlotChanges.{recapped-within}
 use Rattle.headline.proofs.authority.Stored.{got, passed}
+
+-- no slot of a thread's holds a page table
+pub own-no_table : (image : Image) (t : Thread) (c : Cap) → is_foreign image t (reached image t) c ≡ false → table_mapping c ≡ None
+own-no_table image t Empty mine = refl
+own-no_table image t (Untyped a b d) mine = refl
+own-no_table image t (Endpoint a r b) mine = refl
+own-no_table image t (Notification a r b) mine = refl
+own-no_table image t (CNode a r g) mine = refl
+own-no_table image t (Frame a r m) mine = refl
+own-no_table image t (PageTable a m) mine = absurd (false≢true (sym mine))
+own-no_table image t (Tcb a) mine = refl
+own-no_table image t (RootTable a) mine = refl
+own-no_table image t InterruptControl mine = refl
+own-no_table image t (InterruptHandler a) mine = refl
 
 module _ (image : Image) (t : Numbered) (s : State) (slots : List NotedSlot) (m : Mirrors image t s slots) (own : ThreadState)
     (is : s.objects (tcb_of image t) ≡ Some (ThreadObject own)) (slot : ℕ) where
@@ -78,6 +98,36 @@ module _ (image : Image) (t : Numbered) (s : State) (slots : List NotedSlot) (m 
       let two = got (source_slot s.slots called.root source) _ after one.2 in
       mint-within image t.thread s own is called destination source
       (own-slots (Mint destination source word payload) may destination source one.0 two.0 one.1 two.1) word payload after made
+
+  -- ---- Move and Unmap
+
+  -- what derives from a slot of the thread's own is in one
+  own-below : (child parent : ℕ) → parent_at s.slots child ≡ Some parent → IsOwnSlot image t.thread parent → IsOwnSlot image t.thread child
+  own-below child parent below mine = elim (own-or-other image t child) [
+    | inl own_child ↦ own_child
+    | inr other ↦ absurd (m.outside child parent other below mine)
+  ]
+
+  pub moves-within : MapsOwn image t s → (destination source : SlotName) → MayInvoke image t s slots slot (OnCNode (Move destination source)) → (after : State)
+      → perform s (call_on image t.thread slot (capability_at s.slots slot)) (OnCNode (Move destination source)) ≡ Ok after
+      → WithinAuthority image t.thread s after
+  unfolding own-slots
+  moves-within maps destination source may after made =
+      let one = got (destination_slot s.slots called.capability destination) _ after made in
+      let two = got (source_slot s.slots called.root source) _ after one.2 in
+      let own_two = own-slots (Move destination source) may destination source one.0 two.0 one.1 two.1 in
+      let mine : IsOwnSlot image t.thread two.0 = own_two.own_from in
+      move-within image t.thread s own is called destination source own_two (λ child below. own-below child two.0 below mine)
+      (λ n mapped. maps two.0 n mine mapped)
+      (λ n mapped. absurd (none-some n (sym (own-no_table image t.thread (capability_at s.slots two.0) (m.home two.0 mine)) ∙ mapped))) after made
+
+  pub unmaps-within : MapsOwn image t s → (allowed : Rights) → MayInvoke image t s slots slot (OnFrame allowed UnmapFrame) → (after : State)
+      → perform s (call_on image t.thread slot (capability_at s.slots slot)) (OnFrame allowed UnmapFrame) ≡ Ok after → WithinAuthority image t.thread s after
+  unmaps-within maps allowed may after made =
+      let same : unmap_frame s called ≡ after = let e : Ok (unmap_frame s called) ≡ Ok after = made in cc in
+      subst (λ (x : State). WithinAuthority image t.thread s x) same
+      (unmap-within image t.thread s own is called may.on.0 allowed may.on.1 may.on.2 may.on.2 may.own
+      (λ n mapped. maps slot n may.own (ap frame_mapping may.on.2 ∙ mapped)))
 
   -- ---- Map
 
