@@ -27,6 +27,7 @@ mod SlotCalls
 mod SlotChanges
 mod StandingCalls
 mod StandingInvocations
+mod StandingRetypes
 mod StartingMaps
 mod Stored
 mod Ticks

@@ -16,7 +16,7 @@ use Rattle.soundness.proofs.Laws.{IsLaid, next-within, some-place}
 
 -- ---- numbers
 
-within-parts : (first count place : ℕ) → is_within first count place ≡ true → (first ≤ place) × (place < first + count)
+pub within-parts : (first count place : ℕ) → is_within first count place ≡ true → (first ≤ place) × (place < first + count)
 within-parts first count place is = (grind (arith, nat_tests), grind (arith, nat_tests))
 
 module _ (s : State) (offset bits watermark : ℕ) (unused : IsUnused s offset bits watermark) (new : NewObjects) (mark : ℕ)

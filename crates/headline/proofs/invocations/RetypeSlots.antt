@@ -106,7 +106,7 @@ module _ (image : Image) (t : Numbered) (s : State) (m : Making image t s) where
     abbrev noted : Slots
     noted = slots_noted image t slots
 
-    in-window : (x : ℕ) → is_within window m.asked.count x ≡ true → IsOwnSlot image t.thread x
+    pub in-window : (x : ℕ) → is_within window m.asked.count x ≡ true → IsOwnSlot image t.thread x
     in-window x inside =
         let parts = index-of window m.asked.count x inside in
         window-own image t s slots mirrors m.cnode m.mine m.asked.index m.asked.count m.fits x parts.0 parts.1

@@ -63,10 +63,10 @@ module _ (image : Image) (t : Numbered) (s : State) (slots : List NotedSlot) (mi
   -- ---- what it leaves
 
   module _ (of : Asked s.slots (noted_root image t.thread) pool memory asked) (made : IsMade of.kind) where
-    numbers : Counted asked of.cnode.radix
+    pub numbers : Counted asked of.cnode.radix
     numbers = counted asked of.cnode.radix of.fits
 
-    abbrev making : Making image t s
+    abbrev pub making : Making image t s
     making = record {
       pool = pool;
       own = own;
@@ -84,10 +84,10 @@ module _ (image : Image) (t : Numbered) (s : State) (slots : List NotedSlot) (mi
     valid : IsCapability (Untyped memory.offset memory.bits memory.watermark)
     valid = subst IsCapability holds (mirrors.all.sound.slots.derivation.valid pool)
 
-    lies : IsLaid memory.offset memory.bits memory.watermark (object_bits of.kind) asked.count (memory.offset + of.place.0) of.place.1
+    pub lies : IsLaid memory.offset memory.bits memory.watermark (object_bits of.kind) asked.count (memory.offset + of.place.0) of.place.1
     lies = laid memory.offset memory.bits memory.watermark (object_bits of.kind) asked.count of.place of.placed valid.0.0 numbers.some
 
-    unused : IsUnused s memory.offset memory.bits memory.watermark
+    pub unused : IsUnused s memory.offset memory.bits memory.watermark
     unused = unused-free s mirrors.all.sound pool memory.offset memory.bits memory.watermark holds
 
     abbrev after : State
@@ -96,7 +96,7 @@ module _ (image : Image) (t : Numbered) (s : State) (slots : List NotedSlot) (mi
     abbrev left : State
     left = made_of (noted_kernel image t.thread slots) pool memory asked of.kind of.cnode of.place
 
-    stays : (place : ℕ) (o : Object) → s.objects place ≡ Some o → after.objects place ≡ Some o
+    pub stays : (place : ℕ) (o : Object) → s.objects place ≡ Some o → after.objects place ≡ Some o
     stays place o is = object-stays s memory.offset memory.bits memory.watermark unused (objects_of memory asked of.kind of.place) of.place.1 lies place o is
 
     was : (place : ℕ) (o : Object) → after.objects place ≡ Some o → (made.new ≡ o → ⊥) → s.objects place ≡ Some o
