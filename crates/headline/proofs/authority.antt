@@ -26,7 +26,9 @@ mod Signalling
 mod SlotCalls
 mod SlotChanges
 mod StandingCalls
+mod StandingDeletes
 mod StandingInvocations
+mod StandingRemovals
 mod StandingRetypes
 mod StartingMaps
 mod Stored

@@ -59,18 +59,18 @@ module _ (image : Image) (t : Numbered) (s : State) (slots : List NotedSlot) (m 
     capability = capability_at s.slots slot
 
     module _ (c : MayInvoke image t s slots slot (OnCNode (Delete name))) where
-      deleted : Target image t s slots m capability name (delete kernel) c.noted
+      pub deleted : Target image t s slots m capability name (delete kernel) c.noted
       deleted = target image t s slots m capability name (delete kernel) c.noted
           (cnode-inside image t s slots m slot c.own c.on.0 c.on.1 c.on.2 c.on.3) c.performs
 
       module _ (at : ℕ) (own : own_set image t at ≡ true) (there : argument_slot s.slots capability name ≡ Ok at)
           (noted : argument_slot (slots_noted image t slots) capability name ≡ Ok at) where
-        no-pool : (other : ℕ) → (other == at) ≡ true → is_untyped (capability_at s.slots other) ≡ false
+        pub no-pool : (other : ℕ) → (other == at) ≡ true → is_untyped (capability_at s.slots other) ≡ false
         no-pool other is =
             ap (λ (n : ℕ). is_untyped (capability_at s.slots n)) (eqb-true other at is) ∙ ap is_untyped (m.held at own)
             ∙ sym (ap (names_such is_untyped (slots_noted image t slots)) noted) ∙ c.keeps_pools
 
-        only-own : (other : ℕ) → (other == at) ≡ true → own_set image t other ≡ true
+        pub only-own : (other : ℕ) → (other == at) ≡ true → own_set image t other ≡ true
         only-own other is = ap (own_set image t) (eqb-true other at is) ∙ own
 
         deletes : (b : Bool) → is_full s.slots at ≡ b → (if b then remove kernel (λ other. other == at) else Ok kernel) ≡ Ok c.noted

@@ -30,7 +30,7 @@ module _ (image : Image) (t : Numbered) (s : State) (slots : List NotedSlot) (m 
   all = with_bindings s set
 
   -- it hung there before, or below a slot of the thread's, above which a removed one hung there
-  data HangsThere (slot parent : ℕ) : Type 0 where
+  pub data HangsThere (slot parent : ℕ) : Type 0 where
     direct : parent_at s.slots slot ≡ Some parent → HangsThere slot parent
     through : (p z : ℕ) → parent_at s.slots slot ≡ Some p → own_set image t p ≡ true → set z ≡ true → parent_at s.slots z ≡ Some parent → HangsThere slot parent
 
@@ -45,13 +45,13 @@ module _ (image : Image) (t : Numbered) (s : State) (slots : List NotedSlot) (m 
     | false ↦ λ out. direct (up ∙ sym (outside-out 255 all s.slots p (parent-stays image t s slots m set inside pools slot p up out)) ∙ is)
   ] refl
 
-  stays-with : (slot parent : ℕ) → parent_at (slots_emptied s all) slot ≡ Some parent → all slot ≡ false
+  pub stays-with : (slot parent : ℕ) → parent_at (slots_emptied s all) slot ≡ Some parent → all slot ≡ false
   stays-with slot parent is = elim (all slot) as (λ b. all slot ≡ b → b ≡ false) [
     | false ↦ λ _. refl
     | true ↦ λ gone. absurd (none-some parent (sym (parent-left s all slot ∙ ap (λ b. if b then None else new_parent s all slot) gone) ∙ is))
   ] refl
 
-  hangs-there : (slot parent : ℕ) → parent_at (slots_emptied s all) slot ≡ Some parent → HangsThere slot parent
+  pub hangs-there : (slot parent : ℕ) → parent_at (slots_emptied s all) slot ≡ Some parent → HangsThere slot parent
   hangs-there slot parent is =
       by-parent slot parent (parent_at s.slots slot) refl
       (sym (parent-left s all slot ∙ ap (λ b. if b then None else new_parent s all slot) (stays-with slot parent is)) ∙ is)
@@ -65,7 +65,7 @@ module _ (image : Image) (t : Numbered) (s : State) (slots : List NotedSlot) (m 
 
   -- ---- depths
 
-  boot-away : (parent : ℕ) → parent < 2 ^ s.boot_radix → own_set image t parent ≡ false
+  pub boot-away : (parent : ℕ) → parent < 2 ^ s.boot_radix → own_set image t parent ≡ false
   boot-away parent boot =
       let below : parent < 2 ^ image.header.boot_radix = subst (λ (n : ℕ). parent < 2 ^ n) m.all.boot_radix boot in
       boot-out image t m.stand parent (omega (arith, below))

@@ -40,7 +40,7 @@ module _ (s : State) (set : SlotSet) (none : NoBoot s set) (slot : ℕ) (less : 
   unbound : (line : ℕ) → binds line ≡ false
   unbound line = ap (λ b. b && takes_last s set (is_handler_of line)) (ne_eqb slot (binding_slot s line) (λ same. absurd (omega (arith, same, less))))
 
-  bound-no-boot : with_bindings s set slot ≡ false
+  pub bound-no-boot : with_bindings s set slot ≡ false
   bound-no-boot =
       ap (λ b. b || list_any binds (range_with_len 0 64)) (none slot less)
       ∙ list_any_none binds (range_with_len 0 64) (λ k d inside. unbound (get_or (range_with_len 0 64) k d))
@@ -74,7 +74,7 @@ module _ (s : State) (derivation : IsDerivation s.slots) (own : ℕ → Type 0) 
         let deep = derivation.shallow slot in
         heir 256 slot mine (ap (λ (o : Option Entry). not (is_empty (option_map_or (λ (e : Entry). e.capability) o Empty))) is ∙ was) (omega (arith, deep))
 
-    emptied-hang : AllHang own (slots_emptied s set)
+    pub emptied-hang : AllHang own (slots_emptied s set)
     emptied-hang slot mine = elim (set slot) as (λ b. Hangs (if b then Some empty_entry else option_map (kept_entry s set slot) (s.slots slot))) [
       | true ↦ empty-hangs
       | false ↦ kept-hangs slot mine (s.slots slot) refl

@@ -44,7 +44,7 @@ module _ (image : Image) (t : Numbered) (s : State) (slots : List NotedSlot) (m 
 
   -- ---- frames
 
-  cap-left : (slot : ℕ)
+  pub cap-left : (slot : ℕ)
       → capability_at (slots_emptied s all) slot ≡ (if all slot then Empty else reset (loses_last_child s all slot) (capability_at s.slots slot))
   cap-left slot =
       capability-left s all slot ∙ ap (λ c. if all slot then Empty else c) (kept-reset image t s slots m set inside slot (capability_at s.slots slot))
@@ -58,7 +58,7 @@ module _ (image : Image) (t : Numbered) (s : State) (slots : List NotedSlot) (m 
       by-set true clash = absurd cc
       by-set false there = reset-frame (loses_last_child s all slot) (capability_at s.slots slot) frame held mapping there
 
-  mapping-there : (slot : ℕ) (mapping : FrameMapping) → frame_mapping (capability_at (slots_emptied s all) slot) ≡ Some mapping
+  pub mapping-there : (slot : ℕ) (mapping : FrameMapping) → frame_mapping (capability_at (slots_emptied s all) slot) ≡ Some mapping
       → frame_mapping (capability_at s.slots slot) ≡ Some mapping
   mapping-there slot mapping is = by-set (all slot) (sym (ap frame_mapping (cap-left slot)) ∙ is)
     where
@@ -83,7 +83,7 @@ module _ (image : Image) (t : Numbered) (s : State) (slots : List NotedSlot) (m 
 
   -- ---- objects and bytes
 
-  was-there : (offset : ℕ) (o : Object) → after.objects offset ≡ Some o → s.objects offset ≡ Some o
+  pub was-there : (offset : ℕ) (o : Object) → after.objects offset ≡ Some o → s.objects offset ≡ Some o
   was-there offset o is = by-end (ends s all offset) (sym (objects-left image t s slots m set inside offset) ∙ is)
     where
       by-end : (b : Bool) → (if b then None else s.objects offset) ≡ Some o → s.objects offset ≡ Some o

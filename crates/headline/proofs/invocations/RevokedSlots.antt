@@ -35,12 +35,12 @@ module _ (image : Image) (t : Numbered) (s : State) (slots : List NotedSlot) (m 
     capability = capability_at s.slots slot
 
     module _ (c : MayInvoke image t s slots slot (OnCNode (Revoke name))) where
-      revoked : Target image t s slots m capability name (revoke kernel) c.noted
+      pub revoked : Target image t s slots m capability name (revoke kernel) c.noted
       revoked = target image t s slots m capability name (revoke kernel) c.noted
           (cnode-inside image t s slots m slot c.own c.on.0 c.on.1 c.on.2 c.on.3) c.performs
 
       module _ (at : ℕ) (own : own_set image t at ≡ true) where
-        below-own : (other : ℕ) → is_descendant s.slots at other ≡ true → own_set image t other ≡ true
+        pub below-own : (other : ℕ) → is_descendant s.slots at other ≡ true → own_set image t other ≡ true
         below-own other is = elim (own_set image t other) as (λ b. own_set image t other ≡ b → b ≡ true) [
           | true ↦ λ _. refl
           | false ↦ λ out. absurd
@@ -62,7 +62,7 @@ module _ (image : Image) (t : Numbered) (s : State) (slots : List NotedSlot) (m 
             ∙ descends-same (own_set image t) s kernel (out-there image t s slots m) (out-noted image t s slots m) (parents-meet image t s slots m)
             (depth_of (slots_noted image t slots) other) at other own mine
 
-        no-pool-below : (other : ℕ) → is_descendant s.slots at other ≡ true → is_untyped (capability_at s.slots other) ≡ false
+        pub no-pool-below : (other : ℕ) → is_descendant s.slots at other ≡ true → is_untyped (capability_at s.slots other) ≡ false
         no-pool-below other is =
             let up = descends-below (own_set image t) s.slots (out-there image t s slots m) (depth_of s.slots other) at other own is in
             m.hang.own other up.0 (below-own other is) up.1 up.2

@@ -50,7 +50,7 @@ module _ (image : Image) (t : Numbered) (s : State) (slots : List NotedSlot) (m 
         absurd (false≢true (named-kind e.slot offset e.there e.names (ap (option_map kind_of) is)))
   ] refl
 
-  no-thread-ends : (offset : ℕ) → is_ending_thread s all offset ≡ false
+  pub no-thread-ends : (offset : ℕ) → is_ending_thread s all offset ≡ false
   no-thread-ends offset = by-object (s.objects offset) refl
     where
       by-object : (o : Option Object) → s.objects offset ≡ o → option_map_or (λ _. ends s all offset) (as_thread o) false ≡ false

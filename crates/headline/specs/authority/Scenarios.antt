@@ -1,5 +1,5 @@
 -- What the laws on authority start from.
-use Rattle.std.specs.Prelude.{ℕ, ◌≡◌, ◌≢◌, ◌+◌, ◌^◌, ◌≤◌, IsSome, Result, Ok, Option, Some, None}
+use Rattle.std.specs.Prelude.{ℕ, ◌≡◌, ◌≢◌, ◌==◌, ◌+◌, ◌^◌, ◌≤◌, true, IsSome, Contains, Result, Ok, Option, Some, None}
 use Rattle.model.specs.declared.capabilities.Cap.{Cap}
 use Rattle.model.specs.declared.capabilities.Cap.TheVariants.{Empty, Untyped}
 use Rattle.model.specs.declared.errors.KError.{KError}
@@ -8,18 +8,21 @@ use Rattle.model.specs.declared.invocations.Invocation.{Invocation}
 use Rattle.model.specs.declared.invocations.Invocation.TheVariants.{OnControl, OnFrame}
 use Rattle.model.specs.declared.invocations.SlotName.{SlotName}
 use Rattle.model.specs.declared.rights.Rights.{Rights}
-use Rattle.model.specs.Acceptance.Authority.{IsOwnSlot, self_of}
+use Rattle.model.specs.Acceptance.Authority.{Holds, IsOwnSlot, IsUntypedAround, self_of}
 use Rattle.model.specs.Images.Places.{offset_of}
-use Rattle.model.specs.Capabilities.Slots.{capability_at, recapped}
+use Rattle.model.specs.Capabilities.Slots.{capability_at, is_descendant, recapped}
 use Rattle.model.specs.declared.instructions.Access.TheVariants.{Store}
 use Rattle.model.specs.Kernel.AddressSpaces.{content_of}
+use Rattle.model.specs.Images.Described.{Numbered, numbered_threads}
 use Rattle.model.specs.Images.Image.{Image, Thread}
 use Rattle.model.specs.Kernel.Arguments.{Call, destination_slot, source_slot}
 use Rattle.model.specs.Kernel.CallForms.{decode}
 use Rattle.model.specs.Kernel.Invocations.{invoke}
+use Rattle.model.specs.Kernel.Kinds.{kind_at}
 use Rattle.model.specs.Kernel.MappingCalls.{root_named}
 use Rattle.model.specs.Kernel.Messages.{a1, a7, extra_capabilities_of, message_of}
-use Rattle.model.specs.Kernel.Retype.{NewObjects, NewEndpoint, with_new}
+use Rattle.model.specs.Kernel.Removal.{SlotSet, ends, with_bindings}
+use Rattle.model.specs.Kernel.Retype.{NewObject, NewObjects, NewEndpoint, object_bits, with_new}
 use Rattle.model.specs.Kernel.State.{State, Runnable, ThreadObject, ThreadState, thread_at, with_slots}
 use Rattle.model.specs.Kernel.Steps.{cspace_of, named_slot, registers_of}
 use Rattle.model.specs.Machine.ProgramMemory.{read}
@@ -105,3 +108,15 @@ pub record OwnSlots (image : Image) (t : Thread) (s : State) (call : Call) (dest
   pub named_from : source_slot s.slots call.root source ≡ Ok from
   pub own_to : IsOwnSlot image t to
   pub own_from : IsOwnSlot image t from
+
+-- what ends with the slots of a set lies inside untyped memory of the thread's own
+abbrev pub EndsInside : Image → Thread → State → SlotSet → Type 0
+EndsInside image t s set =
+    (offset : ℕ) (kind : NewObject) → ends s (with_bindings s set) offset ≡ true → kind_at s offset ≡ Some kind
+    → Holds image t s (IsUntypedAround offset (2 ^ object_bits kind))
+
+-- so for a slot of a thread's own, and for all that descends from one
+abbrev pub AllEndInside : Image → State → Type 0
+AllEndInside image s =
+    (t : Numbered) (at : ℕ) → Contains (numbered_threads image) t → IsOwnSlot image t.thread at
+    → EndsInside image t.thread s (λ slot. slot == at) × EndsInside image t.thread s (is_descendant s.slots at)
