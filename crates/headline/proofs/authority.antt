@@ -6,6 +6,7 @@ mod Changes
 mod EndpointCalls
 mod FurtherUsed
 mod Gains
+mod InsideKept
 mod Interrupted
 mod Invoked
 mod MadeEndpoints
@@ -30,6 +31,7 @@ mod StandingDeletes
 mod StandingInvocations
 mod StandingRemovals
 mod StandingRetypes
+mod StandingSteps
 mod StartingMaps
 mod Stored
 mod Ticks

@@ -1,3 +1,4 @@
+pub mod HeldInside
 pub mod Laws
 pub mod OwnMaps
 pub mod Ready

@@ -15,6 +15,7 @@ mod standing_laws;
 pub use copy_laws::{copies_go_well, mints_go_well, moves_go_well};
 pub use frame_laws::{maps_go_well, unmaps_go_well};
 pub use invocation_laws::invocations_go_well;
+pub(crate) use laws::laws_on_invocations;
 pub use mirror_laws::threads_mirror_what_is_noted;
 pub use parent_laws::invocations_leave_a_parent_to_each_slot;
 pub use removing_laws::{deletes_go_well, revokes_go_well};

@@ -1,9 +1,9 @@
--- A Delete and a Revoke that the rules allow stay within authority, where a thread's slots hold what is noted and what ends lies inside
--- untyped memory of its own.
+-- A Delete and a Revoke that the rules allow stay within authority, where a thread's slots hold what is noted: what ends with them the boot
+-- CNode does not name, so it lies inside untyped memory of the thread's own.
 use Rattle.std.proofs.Common.{ℕ, ◌≡◌, ◌∙◌, ◌==◌, Bool, true, false, if◌then◌else◌, Some, Result, Ok, List, refl, sym, ap, subst}
 use Rattle.typestate.specs.Calls.{call_on}
+use Rattle.headline.specs.authority.HeldInside.{HoldsInside}
 use Rattle.headline.specs.authority.OwnMaps.{MapsOwn}
-use Rattle.headline.specs.authority.Scenarios.{EndsInside}
 use Rattle.headline.specs.invocations.Mirrors.{Mirrors}
 use Rattle.headline.specs.invocations.Performed.{MayInvoke}
 use Rattle.headline.specs.invocations.Running.{Runs}
@@ -26,6 +26,7 @@ use Rattle.headline.proofs.invocations.DeletedSlots.{deleted, no-pool, only-own}
 use Rattle.headline.proofs.invocations.NobodySetBack.{removed}
 use Rattle.headline.proofs.invocations.RemovalTargets.{Target}
 use Rattle.headline.proofs.invocations.RevokedSlots.{below-own, no-pool-below, revoked}
+use Rattle.headline.proofs.authority.InsideKept.{ends-inside}
 use Rattle.headline.proofs.authority.PlainSteps.{one-used}
 use Rattle.headline.proofs.authority.StandingRemovals.{emptied-within}
 use Rattle.headline.proofs.authority.Stored.{stored-within}
@@ -51,9 +52,9 @@ module _ (image : Image) (t : Numbered) (s : State) (slots : List NotedSlot) (m 
   done-as a b same within = subst (λ (x : State). WithinAuthority image t.thread s x) (let e : a ≡ b = cc in e) within
 
   pub deletes-within : (c : MayInvoke image t s slots slot (OnCNode (Delete name)))
-      → ((at : ℕ) → argument_slot s.slots (capability_at s.slots slot) name ≡ Ok at → EndsInside image t.thread s (λ other. other == at)) → (after : State)
+      → HoldsInside image t s → (after : State)
       → perform s (call_on image t.thread slot (capability_at s.slots slot)) (OnCNode (Delete name)) ≡ Ok after → WithinAuthority image t.thread s after
-  deletes-within c lies after performed =
+  deletes-within c holds after performed =
       let at = deleted image t s slots m runs slot name c in
       let place = Target.slot at in
       let there : argument_slot s.slots capability name ≡ Ok place = Target.there at in
@@ -65,14 +66,14 @@ module _ (image : Image) (t : Numbered) (s : State) (slots : List NotedSlot) (m 
             let inside = only-own image t s slots m runs slot name c place (Target.own at) there (Target.noted at) in
             let pools = no-pool image t s slots m runs slot name c place (Target.own at) there (Target.noted at) in
             done-as (emptied s (with_bindings s set)) after (sym (removed image t s slots m runs set inside) ∙ gone)
-            (emptied-within image t s slots m own is set inside pools maps (lies place there))
+            (emptied-within image t s slots m own is set inside pools maps (ends-inside image t s slots m set inside holds))
         | false ↦ λ same. done-as s after same same-within
       ] acts
 
   pub revokes-within : (c : MayInvoke image t s slots slot (OnCNode (Revoke name)))
-      → ((at : ℕ) → argument_slot s.slots (capability_at s.slots slot) name ≡ Ok at → EndsInside image t.thread s (is_descendant s.slots at)) → (after : State)
+      → HoldsInside image t s → (after : State)
       → perform s (call_on image t.thread slot (capability_at s.slots slot)) (OnCNode (Revoke name)) ≡ Ok after → WithinAuthority image t.thread s after
-  revokes-within c lies after performed =
+  revokes-within c holds after performed =
       let at = revoked image t s slots m runs slot name c in
       let place = Target.slot at in
       let there : argument_slot s.slots capability name ≡ Ok place = Target.there at in
@@ -81,4 +82,4 @@ module _ (image : Image) (t : Numbered) (s : State) (slots : List NotedSlot) (m 
       let inside = below-own image t s slots m runs slot name c place (Target.own at) in
       let pools = no-pool-below image t s slots m runs slot name c place (Target.own at) in
       done-as (emptied s (with_bindings s set)) after (sym (removed image t s slots m runs set inside) ∙ acts)
-      (emptied-within image t s slots m own is set inside pools maps (lies place there))
+      (emptied-within image t s slots m own is set inside pools maps (ends-inside image t s slots m set inside holds))

@@ -73,7 +73,7 @@ module _ (s : State) (thread : ℕ) where
   by-number (Some Yields) is = no-send (Some Yields) is (λ kind clash. absurd cc)
   by-number (Some PutsCharacter) is = no-send (Some PutsCharacter) is (λ kind clash. absurd cc)
 
-  either-invokes : Either
+  pub either-invokes : InvokesNothing s thread ⊎ Invokes s thread
   either-invokes = by-number (call_of (read (registers_of s thread) a7)) refl
 
 -- ---- steps

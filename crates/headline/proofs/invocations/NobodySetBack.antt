@@ -35,7 +35,7 @@ use Rattle.headline.proofs.invocations.TwoThreads.{one-owner}
 
 -- ---- what a capability names
 
-object-by : (c : Cap) (kind : NewObject) (offset : ℕ) → object_named c ≡ Some (kind, offset) → names_object offset c ≡ true
+pub object-by : (c : Cap) (kind : NewObject) (offset : ℕ) → object_named c ≡ Some (kind, offset) → names_object offset c ≡ true
 object-by c kind offset is = by-name c ∙ ap (λ (o : Option (NewObject × ℕ)). option_map_or (λ n. n.1 == offset) o false) is ∙ eq-eqb offset offset refl
   where
     by-name : (d : Cap) → names_object offset d ≡ option_map_or (λ n. n.1 == offset) (object_named d) false

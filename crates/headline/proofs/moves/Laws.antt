@@ -11,7 +11,7 @@ pub use Rattle.headline.proofs.moves.Places.{endpoint-there, passed, passed-ther
 pub use Rattle.headline.proofs.moves.PlainSteps.{plain-leaves}
 pub use Rattle.headline.proofs.moves.Puts.{decided, other-label, own-label, put-here, put-there}
 pub use Rattle.headline.proofs.moves.ReceiveCalls.{IsFine}
-pub use Rattle.headline.proofs.moves.Runs.{run-goes-by, step-goes-by}
+pub use Rattle.headline.proofs.moves.Runs.{idle-is, run-goes-by, step-cases, step-goes-by}
 pub use Rattle.headline.proofs.moves.SimpleCalls.{calls-on, passes-stand, result-stands}
 pub use Rattle.headline.proofs.moves.Waiters.{StandsWaiting, stands-waiting}
 pub use Rattle.headline.proofs.moves.Woken.{runs-free}

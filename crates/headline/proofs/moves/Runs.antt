@@ -78,12 +78,12 @@ not-stopped (Blocked queue) runs is = absurd cc
 not-stopped AwaitsReply runs is = absurd cc
 not-stopped AwaitsHandler runs is = absurd cc
 
-module _ (laws : Laws) (plain : PlainStepsGoWell) (bytes : List ℕ) (image : Image) (s : State) (labels : List Label) (accepted : IsAccepted bytes image)
-    (all : AllStand image s labels)
-    (calls : (t : Numbered) → Contains (numbered_threads image) t → current s ≡ Some (tcb_of image t) → MakesCall s (tcb_of image t) →
-    GoesWell image s labels Step) where
-  thread-goes : (x : ℕ) → current s ≡ Some x → GoesWell image s labels Step
-  thread-goes x now =
+-- no thread runs, or one of the image's does, whose step makes a system call or none
+module _ (image : Image) (s : State) (labels : List Label) (all : AllStand image s labels) (Goal : Type 0) (idle : current s ≡ None → Goal)
+    (calls : (t : Numbered) → Contains (numbered_threads image) t → current s ≡ Some (tcb_of image t) → MakesCall s (tcb_of image t) → Goal)
+    (plain : (t : Numbered) → Contains (numbered_threads image) t → current s ≡ Some (tcb_of image t) → ReachesNoCall s (tcb_of image t) → Goal) where
+  thread-steps : (x : ℕ) → current s ≡ Some x → Goal
+  thread-steps x now =
       let running = current-runs s all.sound.threads x now in
       elim (all.others x (thread_at s x) (thread-there (s.objects x) running.kind)) [
         | inl stopped ↦ absurd (not-stopped (thread_at s x).status running.runs stopped)
@@ -91,30 +91,39 @@ module _ (laws : Laws) (plain : PlainStepsGoWell) (bytes : List ℕ) (image : Im
             let here : current s ≡ Some (tcb_of image block.thread) = now ∙ ap Some block.is in
             elim (either-step s (tcb_of image block.thread)) [
               | inl makes ↦ calls block.thread block.listed here makes
-              | inr none ↦ plain bytes image block.thread s labels accepted all block.listed here none
+              | inr none ↦ plain block.thread block.listed here none
             ]
       ]
 
-  idle-is : current s ≡ None → step s Step ≡ (s, Idle)
-  unfolding step
-  idle-is none = ap (λ (o : Option ℕ). option_map_or (ran s) o (s, Idle)) none
+  pub step-cases : Goal
+  step-cases = elim (current s) as (λ o. current s ≡ o → Goal) [
+    | None ↦ idle
+    | Some x ↦ λ now. thread-steps x now
+  ] refl
 
+pub idle-is : (s : State) → current s ≡ None → step s Step ≡ (s, Idle)
+unfolding step
+idle-is s none = ap (λ (o : Option ℕ). option_map_or (ran s) o (s, Idle)) none
+
+module _ (laws : Laws) (plain : PlainStepsGoWell) (bytes : List ℕ) (image : Image) (s : State) (labels : List Label) (accepted : IsAccepted bytes image)
+    (all : AllStand image s labels)
+    (calls : (t : Numbered) → Contains (numbered_threads image) t → current s ≡ Some (tcb_of image t) → MakesCall s (tcb_of image t) →
+    GoesWell image s labels Step) where
   idle-goes : current s ≡ None → GoesWell image s labels Step
   idle-goes none =
       let stands = unchanged-stand laws bytes image s labels (labels ++ Idle ∷ []) accepted all (λ t listed. other-label (tcb_of image t) labels Idle refl) s
       all.sound
       (record { memory_bits = refl; boot_radix = refl; slots = λ slot. refl; bytes = λ frame place code low high. refl }) (λ y. refl) in
       record {
-        faults = ap (λ (x : State × Label). is_fault x.1) (idle-is none);
-        errors = ap (λ (x : State × Label). is_error x.1) (idle-is none);
-        stands = subst (λ (x : State × Label). AllStand image x.0 (labels ++ x.1 ∷ [])) (sym (idle-is none)) stands;
+        faults = ap (λ (x : State × Label). is_fault x.1) (idle-is s none);
+        errors = ap (λ (x : State × Label). is_error x.1) (idle-is s none);
+        stands = subst (λ (x : State × Label). AllStand image x.0 (labels ++ x.1 ∷ [])) (sym (idle-is s none)) stands;
       }
 
   pub step-goes-by : GoesWell image s labels Step
-  step-goes-by = elim (current s) as (λ o. current s ≡ o → GoesWell image s labels Step) [
-    | None ↦ λ none. idle-goes none
-    | Some x ↦ λ now. thread-goes x now
-  ] refl
+  step-goes-by =
+      step-cases image s labels all (GoesWell image s labels Step) idle-goes calls
+      (λ t listed here none. plain bytes image t s labels accepted all listed here none)
 
 -- ---- events, one after another
 

@@ -3,14 +3,18 @@ use Rattle.std.specs.Prelude.{ℕ, ◌≡◌, ◌≢◌, IsTrue, Contains, List,
 use Rattle.model.specs.declared.capabilities.Cap.{Cap}
 use Rattle.model.specs.declared.capabilities.Cap.TheVariants.{Endpoint, Frame, InterruptControl, InterruptHandler, Notification}
 use Rattle.model.specs.declared.capabilities.FrameMapping.{FrameMapping}
+use Rattle.model.specs.declared.events.Event.{Event}
 use Rattle.model.specs.declared.events.Event.TheVariants.{Step}
 use Rattle.model.specs.declared.labels.Label.{Label}
 use Rattle.model.specs.declared.capabilities.TableMapping.{TableMapping}
 use Rattle.model.specs.declared.invocations.HandlerCall.TheVariants.{Acknowledge}
-use Rattle.model.specs.declared.invocations.CNodeCall.TheVariants.{Copy, Mint}
-use Rattle.model.specs.declared.invocations.FrameCall.TheVariants.{MapFrame}
-use Rattle.model.specs.declared.invocations.Invocation.TheVariants.{OnCNode, OnFrame, OnHandler}
+use Rattle.model.specs.declared.invocations.CNodeCall.TheVariants.{Copy, Mint, Move, Delete, Revoke}
+use Rattle.model.specs.declared.invocations.FrameCall.TheVariants.{MapFrame, UnmapFrame}
+use Rattle.model.specs.declared.invocations.Invocation.{Invocation}
+use Rattle.model.specs.declared.invocations.Invocation.TheVariants.{OnUntyped, OnCNode, OnFrame, OnHandler}
+use Rattle.model.specs.declared.invocations.RetypeCall.{RetypeCall}
 use Rattle.model.specs.declared.invocations.SlotName.{SlotName}
+use Rattle.model.specs.declared.invocations.UntypedMemory.{UntypedMemory}
 use Rattle.model.specs.declared.rights.Rights.{Rights}
 use Rattle.model.specs.declared.system_calls.ReceiveCall.{ReceiveCall}
 use Rattle.model.specs.declared.system_calls.SendCall.{SendCall}
@@ -22,7 +26,7 @@ use Rattle.model.specs.Acceptance.ThreadInvariants.{tcb_of}
 use Rattle.model.specs.Capabilities.CapabilityKinds.{frame_mapping, table_mapping}
 use Rattle.model.specs.Capabilities.Rights.{may_read, may_write}
 use Rattle.model.specs.Capabilities.Slots.{capability_at, parent_at}
-use Rattle.model.specs.Images.Described.{Numbered, numbered_threads}
+use Rattle.model.specs.Images.Described.{Numbered, described, numbered_threads}
 use Rattle.model.specs.Images.Image.{Image, Thread}
 use Rattle.model.specs.Images.Places.{offset_of}
 use Rattle.model.specs.Kernel.Arguments.{Call}
@@ -32,13 +36,16 @@ use Rattle.model.specs.Kernel.MappingCalls.{unmap_frame}
 use Rattle.model.specs.Kernel.Soundness.{IsSound}
 use Rattle.model.specs.Kernel.State.{State, Runnable, AwaitsHandler, ThreadObject, ThreadState, thread_at}
 use Rattle.model.specs.Kernel.Scheduling.{current}
-use Rattle.model.specs.Kernel.Steps.{call_of, completed, step, system_call}
+use Rattle.model.specs.Kernel.Steps.{call_of, completed, named_slot, step, system_call}
 use Rattle.headline.specs.facts.Standing.{AllStand}
 use Rattle.headline.specs.invocations.Mirrors.{Mirrors}
 use Rattle.headline.specs.invocations.Performed.{MayInvoke}
+use Rattle.headline.specs.invocations.Running.{Runs}
 use Rattle.headline.specs.moves.Steps.{InvokesNothing, MakesCall}
 use Rattle.headline.specs.steps.Points.{ReachesNoCall}
 use Rattle.typestate.specs.Calls.{call_on}
+use Rattle.headline.specs.authority.HeldInside.{AllHoldInside, AllPoolsStay, HoldsInside}
+use Rattle.headline.specs.authority.OwnMaps.{AllMapOwn, MapsOwn}
 use Rattle.headline.specs.authority.Scenarios.{CallsOn, GetsHandler, MapsFrame, OwnSlots, RunsAt, asked}
 
 -- what the thread's system call leaves
@@ -204,3 +211,67 @@ NotedMapsStayWithin =
     → MayInvoke image t s slots slot (OnFrame allowed (MapFrame name address word))
     → perform s (call_on image t.thread slot (capability_at s.slots slot)) (OnFrame allowed (MapFrame name address word)) ≡ Ok after
     → WithinAuthority image t.thread s after
+
+-- what an invocation leaves that the rules allow
+abbrev pub LeavesWithin : Image → Numbered → State → List NotedSlot → ℕ → Invocation → Type 0
+LeavesWithin image t s slots slot c =
+    MayInvoke image t s slots slot c → (after : State) → perform s (call_on image t.thread slot (capability_at s.slots slot)) c ≡ Ok after
+    → WithinAuthority image t.thread s after
+
+abbrev pub NotedMovesStayWithin : Type 0
+NotedMovesStayWithin =
+    (image : Image) (t : Numbered) (s : State) (slots : List NotedSlot) (own : ThreadState) (slot : ℕ) (destination source : SlotName)
+    → Mirrors image t s slots → s.objects (tcb_of image t) ≡ Some (ThreadObject own) → MapsOwn image t s
+    → LeavesWithin image t s slots slot (OnCNode (Move destination source))
+
+abbrev pub NotedUnmapsStayWithin : Type 0
+NotedUnmapsStayWithin =
+    (image : Image) (t : Numbered) (s : State) (slots : List NotedSlot) (own : ThreadState) (slot : ℕ) (allowed : Rights)
+    → Mirrors image t s slots → s.objects (tcb_of image t) ≡ Some (ThreadObject own) → MapsOwn image t s
+    → LeavesWithin image t s slots slot (OnFrame allowed UnmapFrame)
+
+-- endpoints, notifications and frames, with their capabilities in a window of slots
+abbrev pub NotedRetypesStayWithin : Type 0
+NotedRetypesStayWithin =
+    (image : Image) (t : Numbered) (s : State) (slots : List NotedSlot) (own : ThreadState) (slot : ℕ) (memory : UntypedMemory) (retyped : RetypeCall)
+    → Mirrors image t s slots → s.objects (tcb_of image t) ≡ Some (ThreadObject own) → named_slot s (tcb_of image t) ≡ Ok slot
+    → LeavesWithin image t s slots slot (OnUntyped memory retyped)
+
+-- of a thread that runs
+abbrev pub NotedDeletesStayWithin : Type 0
+NotedDeletesStayWithin =
+    (image : Image) (t : Numbered) (s : State) (slots : List NotedSlot) (own : ThreadState) (slot : ℕ) (name : SlotName)
+    → Mirrors image t s slots → Runs image t s → s.objects (tcb_of image t) ≡ Some (ThreadObject own) → MapsOwn image t s
+    → HoldsInside image t s → LeavesWithin image t s slots slot (OnCNode (Delete name))
+
+abbrev pub NotedRevokesStayWithin : Type 0
+NotedRevokesStayWithin =
+    (image : Image) (t : Numbered) (s : State) (slots : List NotedSlot) (own : ThreadState) (slot : ℕ) (name : SlotName)
+    → Mirrors image t s slots → Runs image t s → s.objects (tcb_of image t) ≡ Some (ThreadObject own) → MapsOwn image t s
+    → HoldsInside image t s → LeavesWithin image t s slots slot (OnCNode (Revoke name))
+
+-- ---- whatever the step
+
+-- what threads map is under their own root tables, from the start on and over all that stays within authority
+abbrev pub ThreadsStartMappingOwn : Type 0
+ThreadsStartMappingOwn = (bytes : List ℕ) (image : Image) → IsAccepted bytes image → AllMapOwn image (described image)
+
+abbrev pub WithinKeepsMappingOwn : Type 0
+WithinKeepsMappingOwn =
+    (bytes : List ℕ) (image : Image) (s after : State) (event : Event) → IsAccepted bytes image → AllMapOwn image s → StaysWithin image s event after
+    → AllMapOwn image after
+
+-- the objects that threads' slots name last by the boot CNode, or lie inside untyped memory of the thread's own: from the start on, and over
+-- a step that stays within authority and leaves each thread its untyped memory
+abbrev pub ThreadsStartHoldingInside : Type 0
+ThreadsStartHoldingInside = (bytes : List ℕ) (image : Image) → IsAccepted bytes image → AllHoldInside image (described image)
+
+abbrev pub WithinKeepsHoldingInside : Type 0
+WithinKeepsHoldingInside =
+    (bytes : List ℕ) (image : Image) (s after : State) (t : Numbered) → IsAccepted bytes image → IsSound s → IsSound after → AllHoldInside image s
+    → AllPoolsStay image s after → Contains (numbered_threads image) t → WithinAuthority image t.thread s after → AllHoldInside image after
+
+abbrev pub StepsStayWithin : Type 0
+StepsStayWithin =
+    (bytes : List ℕ) (image : Image) (s : State) (labels : List Label) → IsAccepted bytes image → AllStand image s labels → AllMapOwn image s
+    → AllHoldInside image s → StaysWithin image s Step (step s Step).0

@@ -1,5 +1,5 @@
 -- What the laws on authority start from.
-use Rattle.std.specs.Prelude.{ℕ, ◌≡◌, ◌≢◌, ◌==◌, ◌+◌, ◌^◌, ◌≤◌, true, IsSome, Contains, Result, Ok, Option, Some, None}
+use Rattle.std.specs.Prelude.{ℕ, ◌≡◌, ◌≢◌, ◌+◌, ◌^◌, ◌≤◌, true, IsSome, Result, Ok, Option, Some, None}
 use Rattle.model.specs.declared.capabilities.Cap.{Cap}
 use Rattle.model.specs.declared.capabilities.Cap.TheVariants.{Empty, Untyped}
 use Rattle.model.specs.declared.errors.KError.{KError}
@@ -10,10 +10,9 @@ use Rattle.model.specs.declared.invocations.SlotName.{SlotName}
 use Rattle.model.specs.declared.rights.Rights.{Rights}
 use Rattle.model.specs.Acceptance.Authority.{Holds, IsOwnSlot, IsUntypedAround, self_of}
 use Rattle.model.specs.Images.Places.{offset_of}
-use Rattle.model.specs.Capabilities.Slots.{capability_at, is_descendant, recapped}
+use Rattle.model.specs.Capabilities.Slots.{capability_at, recapped}
 use Rattle.model.specs.declared.instructions.Access.TheVariants.{Store}
 use Rattle.model.specs.Kernel.AddressSpaces.{content_of}
-use Rattle.model.specs.Images.Described.{Numbered, numbered_threads}
 use Rattle.model.specs.Images.Image.{Image, Thread}
 use Rattle.model.specs.Kernel.Arguments.{Call, destination_slot, source_slot}
 use Rattle.model.specs.Kernel.CallForms.{decode}
@@ -114,9 +113,3 @@ abbrev pub EndsInside : Image → Thread → State → SlotSet → Type 0
 EndsInside image t s set =
     (offset : ℕ) (kind : NewObject) → ends s (with_bindings s set) offset ≡ true → kind_at s offset ≡ Some kind
     → Holds image t s (IsUntypedAround offset (2 ^ object_bits kind))
-
--- so for a slot of a thread's own, and for all that descends from one
-abbrev pub AllEndInside : Image → State → Type 0
-AllEndInside image s =
-    (t : Numbered) (at : ℕ) → Contains (numbered_threads image) t → IsOwnSlot image t.thread at
-    → EndsInside image t.thread s (λ slot. slot == at) × EndsInside image t.thread s (is_descendant s.slots at)

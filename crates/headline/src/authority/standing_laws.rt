@@ -1,7 +1,8 @@
 //! Steps stay within authority where all threads of an accepted image are as certified.
 
-ghost use Rattle.headline.specs.authority.Laws.{MessagesStayWithin, NotedCopiesStayWithin, NotedMapsStayWithin, NotedMintsStayWithin, PlainStepsStayWithin};
+ghost use Rattle.headline.specs.authority.Laws.{MessagesStayWithin, NotedCopiesStayWithin, NotedDeletesStayWithin, NotedMapsStayWithin, NotedMintsStayWithin, NotedMovesStayWithin, NotedRetypesStayWithin, NotedRevokesStayWithin, NotedUnmapsStayWithin, PlainStepsStayWithin, StepsStayWithin, ThreadsStartHoldingInside, ThreadsStartMappingOwn, WithinKeepsHoldingInside, WithinKeepsMappingOwn};
 
+use crate::invocations::laws_on_invocations;
 use crate::kept::stores_touch_no_thread;
 use crate::moves::laws_below;
 use crate::steps::{instructions_write_where_stores_may, plain_steps_keep_threads};
@@ -29,3 +30,47 @@ pub fn noted_calls_stay_within_authority()
     ensures mints { NotedMintsStayWithin }
     ensures maps { NotedMapsStayWithin }
 {}
+
+/// So do a Move and an Unmap, where what the thread maps is under its own root table.
+pub fn noted_mappings_stay_within_authority()
+    ensures moves { NotedMovesStayWithin }
+    ensures unmaps { NotedUnmapsStayWithin }
+{}
+
+/// So does a Retype to endpoints, notifications or frames: they lie in the unused part of a pool of the thread's own, and their
+/// capabilities are in empty slots of its own.
+pub fn noted_retypes_stay_within_authority()
+    ensures { NotedRetypesStayWithin }
+{}
+
+/// So do a Delete and a Revoke, where what the thread maps is under its own root table, and what its slots name lasts by the boot CNode
+/// or lies inside untyped memory of its own.
+pub fn noted_removals_stay_within_authority()
+    ensures deletes { NotedDeletesStayWithin }
+    ensures revokes { NotedRevokesStayWithin }
+{}
+
+/// In the state that an accepted image describes what threads map is under their own root tables, and what stays within authority
+/// keeps this.
+pub fn threads_map_under_their_own_root_tables()
+    ensures start { ThreadsStartMappingOwn }
+    ensures kept { WithinKeepsMappingOwn }
+{}
+
+/// In the state that an accepted image describes the objects that threads' slots name are those that the boot CNode names. After a step
+/// that stays within authority, and leaves each thread its untyped memory, they are those still, or lie inside that memory.
+pub fn threads_hold_objects_inside_their_own_memory()
+    ensures start { ThreadsStartHoldingInside }
+    ensures kept { WithinKeepsHoldingInside }
+{}
+
+/// A step stays within authority, whoever runs and whatever it does, where what threads map is under their own root tables, and the
+/// objects that their slots name last by the boot CNode or lie inside untyped memory of their own.
+pub fn steps_stay_within_authority()
+    ensures { StepsStayWithin }
+{
+    laws_on_invocations();
+    plain_steps_keep_threads();
+    instructions_write_where_stores_may();
+    stores_touch_no_thread();
+}

@@ -1,0 +1,152 @@
+-- Each step stays within authority, where all threads of an accepted image stand, what they map is under their own root tables, and the
+-- objects that their slots name last by the boot CNode or lie inside untyped memory of their own.
+use Rattle.std.proofs.Common.{ℕ, ◌≡◌, ◌∙◌, false, true, Some, Result, Ok, List, inl, inr, sym, ap, subst}
+use Rattle.std.specs.Prelude.{Contains}
+use Rattle.typestate.specs.Calls.{call_on}
+use Rattle.headline.specs.authority.HeldInside.{AllHoldInside}
+use Rattle.headline.specs.authority.OwnMaps.{AllMapOwn}
+use Rattle.headline.specs.facts.Standing.{AllStand}
+use Rattle.headline.specs.invocations.Invoking.{Invokes}
+use Rattle.headline.specs.invocations.Laws.{Laws}
+use Rattle.headline.specs.invocations.Mirrors.{Mirrors}
+use Rattle.headline.specs.invocations.Performed.{InvokesWell, MayInvoke}
+use Rattle.headline.specs.invocations.Running.{Runs}
+use Rattle.headline.specs.kept.Laws.{StoresTouchNone}
+use Rattle.headline.specs.moves.Moving.{CallsAt}
+use Rattle.headline.specs.moves.Steps.{MakesCall}
+use Rattle.headline.specs.steps.Laws.{PlainStepsKeepThreads, WritesWhereStoresMay}
+use Rattle.model.specs.declared.errors.KError.{KError}
+use Rattle.model.specs.declared.events.Event.TheVariants.{Step}
+use Rattle.model.specs.declared.invocations.CNodeCall.TheVariants.{Copy, Mint, Move, Mutate, Delete, Revoke}
+use Rattle.model.specs.declared.invocations.FrameCall.TheVariants.{MapFrame, UnmapFrame}
+use Rattle.model.specs.declared.invocations.HandlerCall.TheVariants.{Acknowledge, SetNotification, Clear}
+use Rattle.model.specs.declared.invocations.Invocation.{Invocation}
+use Rattle.model.specs.declared.invocations.Invocation.TheVariants.{OnUntyped, OnThread, OnCNode, OnFrame, OnTable, OnControl, OnHandler}
+use Rattle.model.specs.declared.labels.Label.{Label}
+use Rattle.model.specs.Acceptance.Accepted.{IsAccepted}
+use Rattle.model.specs.Acceptance.Authority.{StaysWithin, WithinAuthority}
+use Rattle.model.specs.Acceptance.CallRules.{AfterCall}
+use Rattle.model.specs.Acceptance.NotedStates.{PointState}
+use Rattle.model.specs.Acceptance.ThreadInvariants.{tcb_of}
+use Rattle.model.specs.Capabilities.Slots.{capability_at}
+use Rattle.model.specs.Images.Described.{Numbered, numbered_threads}
+use Rattle.model.specs.Images.Image.{Image}
+use Rattle.model.specs.Kernel.Interrupts.{acknowledge}
+use Rattle.model.specs.Kernel.Invocations.{perform}
+use Rattle.model.specs.Kernel.Scheduling.{current}
+use Rattle.model.specs.Kernel.State.{State, Runnable, ThreadObject, ThreadState}
+use Rattle.model.specs.Kernel.Steps.{named_slot, step}
+use Rattle.headline.proofs.facts.Laws.{is-listed}
+use Rattle.headline.proofs.invocations.AllRuns.{either-invokes}
+use Rattle.headline.proofs.invocations.InvocationSteps.{invocation-leaves}
+use Rattle.headline.proofs.moves.Laws.{idle-is, one-thread, step-cases}
+use Rattle.headline.proofs.starts.Laws.{contains}
+use Rattle.headline.proofs.authority.Acknowledging.{acknowledge-changes}
+use Rattle.headline.proofs.authority.CallsMade.{completed-within, runs-apart}
+use Rattle.headline.proofs.authority.Changes.{changes-within}
+use Rattle.headline.proofs.authority.PlainStanding.{plain-stands}
+use Rattle.headline.proofs.authority.StandingCalls.{stands-within}
+use Rattle.headline.proofs.authority.StandingDeletes.{deletes-within, revokes-within}
+use Rattle.headline.proofs.authority.StandingInvocations.{copies-within, maps-within, mints-within, moves-within, unmaps-within}
+use Rattle.headline.proofs.authority.StandingRetypes.{retypes-within}
+
+refused : {A : Type 0} → false ≡ true → A
+refused clash = absurd cc
+
+module _ (laws : Laws) (bytes : List ℕ) (image : Image) (s : State) (labels : List Label) (accepted : IsAccepted bytes image) (all : AllStand image s labels)
+    (maps : AllMapOwn image s) (inside : AllHoldInside image s) (t : Numbered) (listed : Contains (numbered_threads image) t) where
+  abbrev tcb : ℕ
+  tcb = tcb_of image t
+
+  -- within authority, and the thread is still there
+  record IsLeft (after : State) : Type 0 where
+    pub within : WithinAuthority image t.thread s after
+    pub now : ThreadState
+    pub there : after.objects tcb ≡ Some (ThreadObject now)
+
+  -- ---- an invocation that the rules allow
+
+  module _ (own : ThreadState) (point : ℕ) (state : PointState) (left : AfterCall) (at : CallsAt image t s labels own point state left) (slot : ℕ)
+      (called : named_slot s (tcb_of image t) ≡ Ok slot) where
+    mirrors : Mirrors image t s state.slots
+    mirrors = laws.mirror bytes image t s labels own point state accepted listed all at.stands
+
+    runs : Runs image t s
+    runs other there = subst (λ (u : ThreadState). u.status ≡ Runnable) (one-thread (s.objects tcb) own other at.there there) at.status
+
+    abbrev Performs : Invocation → State → Type 0
+    Performs c after = perform s (call_on image t.thread slot (capability_at s.slots slot)) c ≡ Ok after
+
+    by-changes : (c : Invocation) (m : MayInvoke image t s state.slots slot c) (after : State) → InvokesWell image t s slot c m.noted → Performs c after
+        → WithinAuthority image t.thread s after → IsLeft after
+    by-changes c m after well made within =
+        let same : well.after ≡ after = (let e : ◌≡◌ {A = Result State KError} (Ok well.after) (Ok after) = sym well.performs ∙ made in cc) in
+        record {
+          within = within;
+          now = own;
+          there = subst (λ (x : State). x.objects tcb ≡ Some (ThreadObject own)) same (well.changes.threads tcb own at.there);
+        }
+
+    left-within : (c : Invocation) → MayInvoke image t s state.slots slot c → (after : State) → Performs c after → IsLeft after
+    left-within (OnUntyped memory asked) m after made =
+        by-changes (OnUntyped memory asked) m after (laws.retypes image t s state.slots slot memory asked mirrors m) made
+        (retypes-within image t s state.slots mirrors own at.there slot memory asked m called after made)
+    left-within (OnCNode (Copy destination source word)) m after made =
+        by-changes (OnCNode (Copy destination source word)) m after (laws.copies image t s state.slots slot destination source word mirrors m) made
+        (copies-within image t s state.slots mirrors own at.there slot destination source word m after made)
+    left-within (OnCNode (Mint destination source word payload)) m after made =
+        by-changes (OnCNode (Mint destination source word payload)) m after
+        (laws.mints image t s state.slots slot destination source word payload mirrors m) made
+        (mints-within image t s state.slots mirrors own at.there slot destination source word payload m after made)
+    left-within (OnCNode (Move destination source)) m after made =
+        by-changes (OnCNode (Move destination source)) m after (laws.moves image t s state.slots slot destination source mirrors m) made
+        (moves-within image t s state.slots mirrors own at.there slot (maps t listed) destination source m after made)
+    left-within (OnCNode (Delete name)) m after made =
+        by-changes (OnCNode (Delete name)) m after (laws.deletes image t s state.slots slot name mirrors runs m) made
+        (deletes-within image t s state.slots mirrors runs own at.there (maps t listed) slot name m
+        (inside t listed) after made)
+    left-within (OnCNode (Revoke name)) m after made =
+        by-changes (OnCNode (Revoke name)) m after (laws.revokes image t s state.slots slot name mirrors runs m) made
+        (revokes-within image t s state.slots mirrors runs own at.there (maps t listed) slot name m
+        (inside t listed) after made)
+    left-within (OnFrame held (MapFrame name address word)) m after made =
+        by-changes (OnFrame held (MapFrame name address word)) m after (laws.maps image t s state.slots slot held name address word mirrors m) made
+        (maps-within image t s state.slots mirrors own at.there slot held name address word m after made)
+    left-within (OnFrame held UnmapFrame) m after made =
+        by-changes (OnFrame held UnmapFrame) m after (laws.unmaps image t s state.slots slot held mirrors m) made
+        (unmaps-within image t s state.slots mirrors own at.there slot (maps t listed) held m after made)
+    left-within (OnHandler line Acknowledge) m after made =
+        let same : acknowledge s line ≡ after = (let e : ◌≡◌ {A = Result State KError} (Ok (acknowledge s line)) (Ok after) = made in cc) in
+        let change =
+        acknowledge-changes image t.thread s all.sound own at.there at.status line (record { slot = slot; own = m.own; named = called; such = m.on }) in
+        subst IsLeft same (record { within = changes-within image t.thread s (acknowledge s line) change; now = change.now; there = change.is })
+    left-within (OnThread thread c) m after made = refused m.may
+    left-within (OnCNode (Mutate destination source payload)) m after made = refused m.may
+    left-within (OnTable c) m after made = refused m.may
+    left-within (OnControl line destination) m after made = refused m.may
+    left-within (OnHandler line (SetNotification name)) m after made = refused m.may
+    left-within (OnHandler line Clear) m after made = refused m.may
+
+  -- ---- the step that makes it
+
+  pub invoked-within : current s ≡ Some (tcb_of image t) → MakesCall s (tcb_of image t) → Invokes s (tcb_of image t) → StaysWithin image s Step (step s Step).0
+  invoked-within now makes invokes =
+      inr (record {
+        thread = t.thread;
+        listed = let entry = is-listed image t listed in contains image.threads entry.number t.thread entry.listed;
+        runs = now;
+        within = invocation-leaves laws bytes image s labels accepted all t listed now (λ (after : State). WithinAuthority image t.thread s after)
+            (λ own point state left at kind slot c called may after made.
+            let l = left-within own point state left at slot called c may after made in
+            completed-within image t.thread s after (runs-apart image t.thread s all.sound own at.there at.status) l.now l.there l.within kind) makes invokes;
+      })
+
+pub steps-within : Laws → PlainStepsKeepThreads → WritesWhereStoresMay → StoresTouchNone → (bytes : List ℕ) (image : Image) (s : State) (labels : List Label)
+    → IsAccepted bytes image → AllStand image s labels → AllMapOwn image s → AllHoldInside image s → StaysWithin image s Step (step s Step).0
+steps-within laws keeps writes touches bytes image s labels accepted all maps inside =
+    step-cases image s labels all (StaysWithin image s Step (step s Step).0) (λ none. inl (none, ap (λ (x : State × Label). x.0) (idle-is s none)))
+    (λ t listed now makes. elim (either-invokes s (tcb_of image t)) [
+      | inl nothing ↦ stands-within laws.below bytes image t s labels accepted all listed now makes nothing
+      | inr invokes ↦ invoked-within laws bytes image s labels accepted all maps inside t listed now makes invokes
+    ])
+    (λ t listed now free. plain-stands laws.below keeps writes touches bytes image t s labels accepted all listed now free)
