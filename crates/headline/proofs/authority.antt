@@ -18,6 +18,8 @@ mod OwnCalls
 mod OwnRegisters
 mod PlainStanding
 mod PlainSteps
+mod PoolsKept
+mod QuietCalls
 mod ReadyLists
 mod ReadySteps
 mod Receiving
@@ -31,6 +33,7 @@ mod StandingDeletes
 mod StandingInvocations
 mod StandingRemovals
 mod StandingRetypes
+mod StandingRuns
 mod StandingSteps
 mod StartingMaps
 mod Stored

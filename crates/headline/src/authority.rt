@@ -19,11 +19,11 @@ pub use slot_laws::{
     mints_stay_within_authority, moves_stay_within_authority, unmaps_stay_within_authority,
 };
 pub use standing_laws::{
-    calls_that_invoke_nothing_stay_within_authority, instructions_stay_within_authority,
-    noted_calls_stay_within_authority, noted_mappings_stay_within_authority,
-    noted_removals_stay_within_authority, noted_retypes_stay_within_authority,
-    steps_stay_within_authority, threads_hold_objects_inside_their_own_memory,
-    threads_map_under_their_own_root_tables,
+    calls_that_invoke_nothing_stay_within_authority, events_stay_within_authority,
+    instructions_stay_within_authority, noted_calls_stay_within_authority,
+    noted_mappings_stay_within_authority, noted_removals_stay_within_authority,
+    noted_retypes_stay_within_authority, steps_stay_within_authority,
+    threads_hold_objects_inside_their_own_memory, threads_map_under_their_own_root_tables,
 };
 pub use step_laws::{
     a_new_endpoint_stays_within_authority, a_plain_step_stays_within_authority,

@@ -15,20 +15,23 @@ use Rattle.model.specs.declared.invocations.SlotName.{SlotName}
 use Rattle.model.specs.Acceptance.Authority.{WithinAuthority}
 use Rattle.model.specs.Acceptance.NotedStates.{NotedSlot}
 use Rattle.model.specs.Acceptance.ThreadInvariants.{tcb_of}
+use Rattle.model.specs.Capabilities.CapabilityKinds.{is_untyped}
 use Rattle.model.specs.Capabilities.Slots.{capability_at, is_descendant, is_full}
 use Rattle.model.specs.Images.Described.{Numbered}
 use Rattle.model.specs.Images.Image.{Image}
 use Rattle.model.specs.Kernel.Arguments.{◌>>=◌, argument_slot}
 use Rattle.model.specs.Kernel.Invocations.{perform}
-use Rattle.model.specs.Kernel.Removal.{delete, emptied, remove, revoke, with_bindings}
+use Rattle.model.specs.Kernel.Removal.{SlotSet, delete, emptied, remove, revoke, with_bindings}
 use Rattle.model.specs.Kernel.State.{State, ThreadObject, ThreadState}
 use Rattle.headline.proofs.invocations.DeletedSlots.{deleted, no-pool, only-own}
 use Rattle.headline.proofs.invocations.NobodySetBack.{removed}
+use Rattle.headline.proofs.invocations.RemovalSides.{own_set}
 use Rattle.headline.proofs.invocations.RemovalTargets.{Target}
 use Rattle.headline.proofs.invocations.RevokedSlots.{below-own, no-pool-below, revoked}
 use Rattle.headline.proofs.authority.InsideKept.{ends-inside}
 use Rattle.headline.proofs.authority.PlainSteps.{one-used}
-use Rattle.headline.proofs.authority.StandingRemovals.{emptied-within}
+use Rattle.headline.proofs.authority.PoolsKept.{PoolsIn}
+use Rattle.headline.proofs.authority.StandingRemovals.{emptied-within, left-pools}
 use Rattle.headline.proofs.authority.Stored.{stored-within}
 
 module _ (image : Image) (t : Numbered) (s : State) (slots : List NotedSlot) (m : Mirrors image t s slots) (runs : Runs image t s) (own : ThreadState)
@@ -48,32 +51,34 @@ module _ (image : Image) (t : Numbered) (s : State) (slots : List NotedSlot) (m 
     used = λ x offset bits old now before behind differs. absurd (one-used (capability_at s.slots x) offset bits old now before behind differs);
   })
 
-  done-as : (a b : State) → ◌≡◌ {A = Result State KError} (Ok a) (Ok b) → WithinAuthority image t.thread s a → WithinAuthority image t.thread s b
-  done-as a b same within = subst (λ (x : State). WithinAuthority image t.thread s x) (let e : a ≡ b = cc in e) within
+  done-as : (P : State → Type 0) (a b : State) → ◌≡◌ {A = Result State KError} (Ok a) (Ok b) → P a → P b
+  done-as P a b same = subst P (let e : a ≡ b = cc in e)
 
-  pub deletes-within : (c : MayInvoke image t s slots slot (OnCNode (Delete name)))
-      → HoldsInside image t s → (after : State)
-      → perform s (call_on image t.thread slot (capability_at s.slots slot)) (OnCNode (Delete name)) ≡ Ok after → WithinAuthority image t.thread s after
-  deletes-within c holds after performed =
+  -- what is so of the state, and of what each removal of its own slots leaves that hold no untyped memory
+  abbrev EachRemoval : (State → Type 0) → Type 0
+  EachRemoval P =
+      (set : SlotSet) → ((x : ℕ) → set x ≡ true → own_set image t x ≡ true) → ((x : ℕ) → set x ≡ true → is_untyped (capability_at s.slots x) ≡ false)
+      → P (emptied s (with_bindings s set))
+
+  pub deletes-leave : (P : State → Type 0) → P s → EachRemoval P → (c : MayInvoke image t s slots slot (OnCNode (Delete name))) → (after : State)
+      → perform s (call_on image t.thread slot (capability_at s.slots slot)) (OnCNode (Delete name)) ≡ Ok after → P after
+  deletes-leave P unchanged each c after performed =
       let at = deleted image t s slots m runs slot name c in
       let place = Target.slot at in
       let there : argument_slot s.slots capability name ≡ Ok place = Target.there at in
-      let acts : delete s place ≡ Ok after =
-      sym (ap (λ (r : Result ℕ KError). r >>= delete s) there) ∙ performed in
-      elim (is_full s.slots place) as (λ (b : Bool). (if b then remove s (λ other. other == place) else Ok s) ≡ Ok after → WithinAuthority image t.thread s after) [
+      let acts : delete s place ≡ Ok after = sym (ap (λ (r : Result ℕ KError). r >>= delete s) there) ∙ performed in
+      elim (is_full s.slots place) as (λ (b : Bool). (if b then remove s (λ other. other == place) else Ok s) ≡ Ok after → P after) [
         | true ↦ λ gone.
             let set : ℕ → Bool = λ other. other == place in
             let inside = only-own image t s slots m runs slot name c place (Target.own at) there (Target.noted at) in
             let pools = no-pool image t s slots m runs slot name c place (Target.own at) there (Target.noted at) in
-            done-as (emptied s (with_bindings s set)) after (sym (removed image t s slots m runs set inside) ∙ gone)
-            (emptied-within image t s slots m own is set inside pools maps (ends-inside image t s slots m set inside holds))
-        | false ↦ λ same. done-as s after same same-within
+            done-as P (emptied s (with_bindings s set)) after (sym (removed image t s slots m runs set inside) ∙ gone) (each set inside pools)
+        | false ↦ λ same. done-as P s after same unchanged
       ] acts
 
-  pub revokes-within : (c : MayInvoke image t s slots slot (OnCNode (Revoke name)))
-      → HoldsInside image t s → (after : State)
-      → perform s (call_on image t.thread slot (capability_at s.slots slot)) (OnCNode (Revoke name)) ≡ Ok after → WithinAuthority image t.thread s after
-  revokes-within c holds after performed =
+  pub revokes-leave : (P : State → Type 0) → EachRemoval P → (c : MayInvoke image t s slots slot (OnCNode (Revoke name))) → (after : State)
+      → perform s (call_on image t.thread slot (capability_at s.slots slot)) (OnCNode (Revoke name)) ≡ Ok after → P after
+  revokes-leave P each c after performed =
       let at = revoked image t s slots m runs slot name c in
       let place = Target.slot at in
       let there : argument_slot s.slots capability name ≡ Ok place = Target.there at in
@@ -81,5 +86,31 @@ module _ (image : Image) (t : Numbered) (s : State) (slots : List NotedSlot) (m 
       let acts : revoke s place ≡ Ok after = sym (ap (λ (r : Result ℕ KError). r >>= revoke s) there) ∙ performed in
       let inside = below-own image t s slots m runs slot name c place (Target.own at) in
       let pools = no-pool-below image t s slots m runs slot name c place (Target.own at) in
-      done-as (emptied s (with_bindings s set)) after (sym (removed image t s slots m runs set inside) ∙ acts)
-      (emptied-within image t s slots m own is set inside pools maps (ends-inside image t s slots m set inside holds))
+      done-as P (emptied s (with_bindings s set)) after (sym (removed image t s slots m runs set inside) ∙ acts) (each set inside pools)
+
+  -- ---- within authority
+
+  each-within : HoldsInside image t s → EachRemoval (λ x. WithinAuthority image t.thread s x)
+  each-within holds set inside pools = emptied-within image t s slots m own is set inside pools maps (ends-inside image t s slots m set inside holds)
+
+  pub deletes-within : (c : MayInvoke image t s slots slot (OnCNode (Delete name))) → HoldsInside image t s → (after : State)
+      → perform s (call_on image t.thread slot (capability_at s.slots slot)) (OnCNode (Delete name)) ≡ Ok after → WithinAuthority image t.thread s after
+  deletes-within c holds = deletes-leave (λ x. WithinAuthority image t.thread s x) same-within (each-within holds) c
+
+  pub revokes-within : (c : MayInvoke image t s slots slot (OnCNode (Revoke name))) → HoldsInside image t s → (after : State)
+      → perform s (call_on image t.thread slot (capability_at s.slots slot)) (OnCNode (Revoke name)) ≡ Ok after → WithinAuthority image t.thread s after
+  revokes-within c holds = revokes-leave (λ x. WithinAuthority image t.thread s x) (each-within holds) c
+
+  -- ---- untyped memory
+
+  each-keeps : HoldsInside image t s → EachRemoval (λ x. PoolsIn image t s.slots x.slots)
+  each-keeps holds set inside pools = left-pools image t s slots m own is set inside pools maps (ends-inside image t s slots m set inside holds)
+
+  pub deletes-keep : (c : MayInvoke image t s slots slot (OnCNode (Delete name))) → HoldsInside image t s → (after : State)
+      → perform s (call_on image t.thread slot (capability_at s.slots slot)) (OnCNode (Delete name)) ≡ Ok after → PoolsIn image t s.slots after.slots
+  deletes-keep c holds =
+      deletes-leave (λ x. PoolsIn image t s.slots x.slots) (λ x offset bits old mine before. (old, before)) (each-keeps holds) c
+
+  pub revokes-keep : (c : MayInvoke image t s slots slot (OnCNode (Revoke name))) → HoldsInside image t s → (after : State)
+      → perform s (call_on image t.thread slot (capability_at s.slots slot)) (OnCNode (Revoke name)) ≡ Ok after → PoolsIn image t s.slots after.slots
+  revokes-keep c holds = revokes-leave (λ x. PoolsIn image t s.slots x.slots) (each-keeps holds) c

@@ -43,10 +43,12 @@ use Rattle.headline.proofs.invocations.EmptiedSlots.{parent-left}
 use Rattle.headline.proofs.invocations.HangsLeft.{HangsThere, direct, through, boot-away, hangs-there, stays-with}
 use Rattle.headline.proofs.invocations.Heirs.{NoBoot, bound-no-boot, emptied-hang}
 use Rattle.headline.proofs.invocations.OtherSlotsLeft.{other-kept}
+use Rattle.headline.proofs.invocations.RealRemoval.{set-or-empty}
 use Rattle.headline.proofs.invocations.RemovalChanges.{cap-left, mapping-there}
 use Rattle.headline.proofs.invocations.RemovalSides.{other-out, own_set}
 use Rattle.headline.proofs.invocations.ThreadsRemain.{no-thread-ends, objects-left, thread-stays}
 use Rattle.headline.proofs.authority.PlainSteps.{append-none, between}
+use Rattle.headline.proofs.authority.PoolsKept.{PoolsIn}
 use Rattle.headline.proofs.authority.StandingInvocations.{own-no_table}
 use Rattle.headline.proofs.authority.Stored.{capability_of, parent_of}
 use Rattle.headline.proofs.authority.Ticks.{thread-object}
@@ -327,3 +329,22 @@ module _ (image : Image) (t : Numbered) (s : State) (slots : List NotedSlot) (m 
           own = omega (arith, count);
         };
   }
+
+  -- ---- untyped memory
+
+  not-gone : (slot offset bits old : ℕ) → capability_at s.slots slot ≡ Untyped offset bits old → all slot ≡ true → ⊥
+  not-gone slot offset bits old before gone = elim (set-or-empty image t s slots m set inside slot gone) [
+    | inl here ↦ false≢true (sym (pools slot here) ∙ ap is_untyped before)
+    | inr none ↦ let clash : Empty ≡ Untyped offset bits old = sym none ∙ before in cc
+  ]
+
+  -- each of the thread's untyped memories stays, with a watermark
+  pub left-pools : PoolsIn image t s.slots (emptied s (with_bindings s set)).slots
+  left-pools slot offset bits old mine before =
+      elim (all slot) as (λ (b : Bool). all slot ≡ b → (now : ℕ) × (capability_at after.slots slot ≡ Untyped offset bits now)) [
+        | true ↦ λ gone. absurd (not-gone slot offset bits old before gone)
+        | false ↦ λ stays. (
+          (if loses_last_child s all slot then 0 else old),
+          held slot ∙ ap (λ (b : Bool). if b then Empty else stays_as slot) stays ∙ ap (reset (loses_last_child s all slot)) before,
+        )
+      ] refl

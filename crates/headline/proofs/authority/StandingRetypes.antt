@@ -44,6 +44,7 @@ use Rattle.headline.proofs.invocations.RetypeWell.{lies, making as making_of, st
 use Rattle.headline.proofs.authority.FurtherUsed.{used-further}
 use Rattle.headline.proofs.authority.MadeEndpoints.{outside-window}
 use Rattle.headline.proofs.authority.PlainSteps.{append-none, between, one-used}
+use Rattle.headline.proofs.authority.PoolsKept.{PoolsIn}
 
 -- ---- numbers
 
@@ -338,6 +339,18 @@ module _ (image : Image) (t : Numbered) (s : State) (slots : List NotedSlot) (mi
     };
   }
 
+  -- each of the thread's untyped memories stays, with a watermark
+  pub made-pools : PoolsIn image t s.slots (made_of s pool memory asked of.kind of.cnode of.place).slots
+  made-pools x o b old own_slot was =
+      by-place (λ y. capability_at s.slots y ≡ Untyped o b old → (now : ℕ) × (capability_at after.slots y ≡ Untyped o b now))
+      (λ y inside before. absurd (let clash : Empty ≡ Untyped o b old = sym (empty y inside) ∙ before in cc))
+      (λ y outside same before.
+      let e : Untyped memory.offset memory.bits memory.watermark ≡ Untyped o b old = sym (pool-was y same) ∙ before in
+      let one : memory.offset ≡ o = cc in
+      let two : memory.bits ≡ b = cc in
+      (of.place.1, pool-is y outside same ∙ (λ i. Untyped (one i) (two i) of.place.1)))
+      (λ y same before. (old, ap held_by same ∙ before)) x was
+
 pub retypes-within : (image : Image) (t : Numbered) (s : State) (slots : List NotedSlot) → Mirrors image t s slots → (own : ThreadState)
     → s.objects (tcb_of image t) ≡ Some (ThreadObject own) → (pool : ℕ) (memory : UntypedMemory) (asked : RetypeCall)
     → MayInvoke image t s slots pool (OnUntyped memory asked) → named_slot s (tcb_of image t) ≡ Ok pool → (after : State)
@@ -347,3 +360,13 @@ retypes-within image t s slots mirrors own is pool memory asked may called after
     let made = may-made found.of.kind (ap may_make (sym found.of.kind_is) ∙ may.may) in
     subst (λ (x : State). WithinAuthority image t.thread s x) found.is
     (made-within image t s slots mirrors own is pool may.own memory asked may.on called found.of made)
+
+pub retypes-keep : (image : Image) (t : Numbered) (s : State) (slots : List NotedSlot) → Mirrors image t s slots → (own : ThreadState)
+    → s.objects (tcb_of image t) ≡ Some (ThreadObject own) → (pool : ℕ) (memory : UntypedMemory) (asked : RetypeCall)
+    → MayInvoke image t s slots pool (OnUntyped memory asked) → named_slot s (tcb_of image t) ≡ Ok pool → (after : State)
+    → perform s (call_on image t.thread pool (capability_at s.slots pool)) (OnUntyped memory asked) ≡ Ok after → PoolsIn image t s.slots after.slots
+retypes-keep image t s slots mirrors own is pool memory asked may called after performed =
+    let found = retype-found s after (noted_root image t.thread) pool memory asked performed in
+    let made = may-made found.of.kind (ap may_make (sym found.of.kind_is) ∙ may.may) in
+    subst (λ (x : State). PoolsIn image t s.slots x.slots) found.is
+    (made-pools image t s slots mirrors own is pool may.own memory asked may.on called found.of made)

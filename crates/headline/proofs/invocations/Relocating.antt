@@ -40,7 +40,7 @@ is-below gone parent is = ap (is_below gone) is ∙ eq-eqb gone gone refl
 abbrev passed_on : ℕ → ℕ → Option ℕ → Option ℕ
 passed_on gone to parent = if is_below gone parent then Some to else parent
 
-adopted-capability : (gone to : ℕ) (held : Option Entry) → held_capability (option_map (adopted gone (Some to)) held) ≡ held_capability held
+pub adopted-capability : (gone to : ℕ) (held : Option Entry) → held_capability (option_map (adopted gone (Some to)) held) ≡ held_capability held
 adopted-capability gone to None = refl
 adopted-capability gone to (Some h) =
     elim (is_below gone h.parent) as (λ b. (if b then (record h { parent = Some to }) else h).capability ≡ h.capability) [ true ↦ refl | false ↦ refl ]

@@ -13,5 +13,6 @@ pub use Rattle.headline.proofs.moves.Puts.{decided, other-label, own-label, put-
 pub use Rattle.headline.proofs.moves.ReceiveCalls.{IsFine}
 pub use Rattle.headline.proofs.moves.Runs.{idle-is, run-goes-by, step-cases, step-goes-by}
 pub use Rattle.headline.proofs.moves.SimpleCalls.{calls-on, passes-stand, result-stands}
+pub use Rattle.headline.proofs.moves.Ticks.{one-event}
 pub use Rattle.headline.proofs.moves.Waiters.{StandsWaiting, stands-waiting}
 pub use Rattle.headline.proofs.moves.Woken.{runs-free}

@@ -36,7 +36,7 @@ use Rattle.model.specs.Kernel.MappingCalls.{unmap_frame}
 use Rattle.model.specs.Kernel.Soundness.{IsSound}
 use Rattle.model.specs.Kernel.State.{State, Runnable, AwaitsHandler, ThreadObject, ThreadState, thread_at}
 use Rattle.model.specs.Kernel.Scheduling.{current}
-use Rattle.model.specs.Kernel.Steps.{call_of, completed, named_slot, step, system_call}
+use Rattle.model.specs.Kernel.Steps.{call_of, completed, named_slot, state_after, step, system_call}
 use Rattle.headline.specs.facts.Standing.{AllStand}
 use Rattle.headline.specs.invocations.Mirrors.{Mirrors}
 use Rattle.headline.specs.invocations.Performed.{MayInvoke}
@@ -275,3 +275,9 @@ abbrev pub StepsStayWithin : Type 0
 StepsStayWithin =
     (bytes : List ℕ) (image : Image) (s : State) (labels : List Label) → IsAccepted bytes image → AllStand image s labels → AllMapOwn image s
     → AllHoldInside image s → StaysWithin image s Step (step s Step).0
+
+-- whatever has happened to an accepted image, the next event
+abbrev pub EventsStayWithin : Type 0
+EventsStayWithin =
+    (bytes : List ℕ) (image : Image) (before : List Event) (event : Event) → IsAccepted bytes image
+    → StaysWithin image (state_after (described image) before) event (step (state_after (described image) before) event).0

@@ -1,9 +1,10 @@
 //! Steps stay within authority where all threads of an accepted image are as certified.
 
-ghost use Rattle.headline.specs.authority.Laws.{MessagesStayWithin, NotedCopiesStayWithin, NotedDeletesStayWithin, NotedMapsStayWithin, NotedMintsStayWithin, NotedMovesStayWithin, NotedRetypesStayWithin, NotedRevokesStayWithin, NotedUnmapsStayWithin, PlainStepsStayWithin, StepsStayWithin, ThreadsStartHoldingInside, ThreadsStartMappingOwn, WithinKeepsHoldingInside, WithinKeepsMappingOwn};
+ghost use Rattle.headline.specs.authority.Laws.{EventsStayWithin, MessagesStayWithin, NotedCopiesStayWithin, NotedDeletesStayWithin, NotedMapsStayWithin, NotedMintsStayWithin, NotedMovesStayWithin, NotedRetypesStayWithin, NotedRevokesStayWithin, NotedUnmapsStayWithin, PlainStepsStayWithin, StepsStayWithin, ThreadsStartHoldingInside, ThreadsStartMappingOwn, WithinKeepsHoldingInside, WithinKeepsMappingOwn};
 
+use crate::events_keep_all_standing;
 use crate::invocations::laws_on_invocations;
-use crate::kept::stores_touch_no_thread;
+use crate::kept::{all_stand_at_the_start, stores_touch_no_thread};
 use crate::moves::laws_below;
 use crate::steps::{instructions_write_where_stores_may, plain_steps_keep_threads};
 
@@ -73,4 +74,16 @@ pub fn steps_stay_within_authority()
     plain_steps_keep_threads();
     instructions_write_where_stores_may();
     stores_touch_no_thread();
+}
+
+/// Whatever has happened to an accepted image, the next event stays within authority.
+pub fn events_stay_within_authority()
+    ensures { EventsStayWithin }
+{
+    laws_on_invocations();
+    plain_steps_keep_threads();
+    instructions_write_where_stores_may();
+    stores_touch_no_thread();
+    events_keep_all_standing();
+    all_stand_at_the_start();
 }

@@ -1,0 +1,77 @@
+-- Whatever has happened to an accepted image, the next event stays within authority.
+use Rattle.std.proofs.Common.{ℕ, ◌++◌, List, [], ◌∷◌}
+use Rattle.soundness.proofs.Laws.{raise-machine, tick-machine}
+use Rattle.headline.specs.SafeRuns.{EventsKeepAllStanding}
+use Rattle.headline.specs.authority.HeldInside.{AllHoldInside}
+use Rattle.headline.specs.authority.OwnMaps.{AllMapOwn}
+use Rattle.headline.specs.facts.Standing.{AllStand}
+use Rattle.headline.specs.invocations.Laws.{Laws}
+use Rattle.headline.specs.kept.Laws.{StoresTouchNone}
+use Rattle.headline.specs.steps.Laws.{PlainStepsKeepThreads, WritesWhereStoresMay}
+use Rattle.model.specs.declared.events.Event.{Event}
+use Rattle.model.specs.declared.events.Event.TheVariants.{Step, Tick, Irq}
+use Rattle.model.specs.declared.labels.Label.{Label}
+use Rattle.model.specs.Acceptance.Accepted.{IsAccepted}
+use Rattle.model.specs.Acceptance.Authority.{StaysWithin}
+use Rattle.model.specs.Images.Described.{described}
+use Rattle.model.specs.Images.Image.{Image}
+use Rattle.model.specs.Kernel.Interrupts.{raise}
+use Rattle.model.specs.Kernel.Scheduling.{tick}
+use Rattle.model.specs.Kernel.State.{State}
+use Rattle.model.specs.Kernel.Steps.{state_after, step}
+use Rattle.headline.proofs.authority.InsideKept.{inside-at-start}
+use Rattle.headline.proofs.authority.Interrupted.{raise-within}
+use Rattle.headline.proofs.authority.MapsKept.{maps-own-kept}
+use Rattle.headline.proofs.authority.PoolsKept.{base-inside}
+use Rattle.headline.proofs.authority.StandingSteps.{StepIsWithin, step-within}
+use Rattle.headline.proofs.authority.StartingMaps.{maps-own-at-start}
+use Rattle.headline.proofs.authority.Ticks.{tick-within}
+
+-- what is known of each state of a run
+record IsReached (image : Image) (s : State) : Type 0 where
+  pub labels : List Label
+  pub stand : AllStand image s labels
+  pub maps : AllMapOwn image s
+  pub inside : AllHoldInside image s
+
+record EventIsWithin (image : Image) (s : State) (event : Event) : Type 0 where
+  pub within : StaysWithin image s event (step s event).0
+  pub inside : AllHoldInside image (step s event).0
+
+module _ (laws : Laws) (keeps : PlainStepsKeepThreads) (writes : WritesWhereStoresMay) (touches : StoresTouchNone) (stand : EventsKeepAllStanding)
+    (bytes : List ℕ) (image : Image) (accepted : IsAccepted bytes image) where
+  event-within : (s : State) (event : Event) → IsReached image s → EventIsWithin image s event
+  unfolding step
+  event-within s Step reached =
+      let so = step-within laws keeps writes touches bytes image s reached.labels accepted reached.stand reached.maps reached.inside in
+      record { within = StepIsWithin.within so; inside = StepIsWithin.inside so }
+  event-within s Tick reached = record {
+    within = tick-within s reached.stand.sound;
+    inside = base-inside image s (tick s) (tick-machine s) reached.inside;
+  }
+  event-within s (Irq number) reached = record {
+    within = raise-within s reached.stand.sound number;
+    inside = base-inside image s (raise s number) (raise-machine s number) reached.inside;
+  }
+
+  next : (s : State) (event : Event) → IsReached image s → IsReached image (step s event).0
+  next s event reached =
+      let so = event-within s event reached in
+      record {
+        labels = reached.labels ++ (step s event).1 ∷ [];
+        stand = (stand bytes image s reached.labels event accepted reached.stand).stands;
+        maps = maps-own-kept bytes image accepted s (step s event).0 reached.maps event (EventIsWithin.within so);
+        inside = EventIsWithin.inside so;
+      }
+
+  reach : (events : List Event) (s : State) → IsReached image s → IsReached image (state_after s events)
+  unfolding state_after
+  reach [] s reached = reached
+  reach (event ∷ rest) s reached = reach rest (step s event).0 (next s event reached)
+
+  pub run-within : AllStand image (described image) [] → (before : List Event) (event : Event)
+      → StaysWithin image (state_after (described image) before) event (step (state_after (described image) before) event).0
+  run-within start before event =
+      EventIsWithin.within (event-within (state_after (described image) before) event
+      (reach before (described image)
+      (record { labels = []; stand = start; maps = maps-own-at-start bytes image accepted; inside = inside-at-start bytes image accepted })))
