@@ -1,15 +1,16 @@
 -- The headline: what is accepted boots as described, and runs without a fault, without an error, and within its budgets.
-use Rattle.std.specs.Prelude.{ℕ, ◌≡◌, false, All, Contains, List, Ok}
+use Rattle.std.specs.Prelude.{ℕ, ◌≡◌, false, All, Contains, List, ◌∷◌, ◌++◌, Ok}
 use Rattle.model.specs.declared.events.Event.{Event}
 use Rattle.model.specs.declared.labels.Label.{Label}
 use Rattle.model.specs.Acceptance.Accepted.{IsAccepted}
+use Rattle.model.specs.Acceptance.Authority.{StaysWithin}
 use Rattle.model.specs.Acceptance.ThreadInvariants.{tcb_of}
 use Rattle.model.specs.Images.Boot.{booted}
 use Rattle.model.specs.Images.Described.{described, Numbered, numbered_threads}
 use Rattle.model.specs.Images.Image.{Image, Thread}
 use Rattle.model.specs.Images.Places.{offset_of}
 use Rattle.model.specs.Kernel.State.{State}
-use Rattle.model.specs.Kernel.Steps.{trace}
+use Rattle.model.specs.Kernel.Steps.{state_after, step, trace}
 use Rattle.model.specs.Kernel.Waits.{KeepsBudget, is_error, is_fault}
 use Rattle.soundness.specs.boot_laws.Standing.{StandApart}
 use Rattle.headline.specs.Throughout.{AllStandThroughout}
@@ -21,8 +22,8 @@ abbrev pub trace_of : Image → List Event → List Label
 trace_of image events = trace (described image) events
 
 -- The bytes are an accepted image. It boots with no kernel error into the state that it describes, each object inside its untyped
--- memory and no two on one another. Over the events no line of the kernel's trace is a fault or an error, and no stretch of a thread is
--- longer than its budget.
+-- memory and no two on one another. Over the events no line of the kernel's trace is a fault or an error, no stretch of a thread is longer
+-- than its budget, and each event changes only what authority lets it.
 pub record IsSafeRun (bytes : List ℕ) (image : Image) (events : List Event) : Type 0 where
   pub accepted : IsAccepted bytes image
   pub boots : booted image ≡ Ok (described image)
@@ -30,6 +31,8 @@ pub record IsSafeRun (bytes : List ℕ) (image : Image) (events : List Event) : 
   pub faults : All (λ label. is_fault label ≡ false) (trace_of image events)
   pub errors : All (λ label. is_error label ≡ false) (trace_of image events)
   pub budgets : (t : Thread) → Contains image.threads t → KeepsBudget (offset_of image t.header.tcb) t.header.budget (trace_of image events)
+  pub within : (before : List Event) (event : Event) (later : List Event) → events ≡ before ++ event ∷ later
+      → StaysWithin image (state_after (described image) before) event (step (state_after (described image) before) event).0
 
 -- ---- the laws
 

@@ -2,12 +2,13 @@
 
 ghost use Rattle.headline.specs.SafeRuns.{AcceptedImagesRunSafely};
 
+use crate::authority::events_stay_within_authority;
 use crate::budget_laws::standing_threads_keep_their_budgets;
 use crate::invocations::events_go_well;
 use soundness::{objects_stand_inside_their_untypeds, well_formed_images_boot};
 
 /// An accepted image boots into the state that it describes, inside its untyped memory; over any events nothing is a fault or an error
-/// in the trace from there, and each thread waits again within its budget.
+/// in the trace from there, each thread waits again within its budget, and each event stays within authority.
 pub fn accepted_images_run_safely()
     ensures { AcceptedImagesRunSafely }
 {
@@ -15,4 +16,5 @@ pub fn accepted_images_run_safely()
     objects_stand_inside_their_untypeds();
     events_go_well();
     standing_threads_keep_their_budgets();
+    events_stay_within_authority();
 }

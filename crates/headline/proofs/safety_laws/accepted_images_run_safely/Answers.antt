@@ -16,4 +16,5 @@ returns c = λ bytes image events accepted.
           c.standing_threads_keep_their_budgets.ensures bytes image events accepted
           (λ before behind is. (c.events_go_well.ensures bytes image before accepted).stand)
           (record { number = of.0; thread = t }) of.1;
+      within = λ before event later is. c.events_stay_within_authority.ensures bytes image before event accepted;
     }
