@@ -1,5 +1,6 @@
 pub mod Ancestors
 pub mod BytesLemmas
+pub mod ConditionTests
 pub mod Depths
 pub mod Derivations
 pub mod FieldsLemmas

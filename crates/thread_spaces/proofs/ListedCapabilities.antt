@@ -16,8 +16,7 @@ use Rattle.model.specs.declared.entries.ObjectEntry.{ObjectEntry}
 use Rattle.model.specs.declared.entries.TableEntry.{TableEntry}
 use Rattle.model.specs.Acceptance.Accepted.{IsWellFormed}
 use Rattle.model.specs.Acceptance.WellFormed.{are_among, is_table_type, may_have, source_type}
-use Rattle.model.specs.Capabilities.CapabilityFields.{is_badge}
-use Rattle.model.specs.Capabilities.CapabilityKinds.{is_guard_word}
+use Rattle.model.specs.Capabilities.CapabilityKinds.{is_badge, is_guard_word}
 use Rattle.model.specs.Images.Described.{limited, listed_capability, original, source_capability}
 use Rattle.model.specs.Images.Image.{Image, whole_image}
 use Rattle.model.specs.Images.Places.{interrupt_of, object_at, offset_of, type_at}

@@ -11,8 +11,7 @@ use Rattle.model.specs.declared.entries.FrameEntry.{FrameEntry}
 use Rattle.model.specs.declared.entries.TableEntry.{TableEntry}
 use Rattle.model.specs.declared.refusals.Refusal.TheVariants.{UntypedOverlap, NoRoom, BadObject, BadCap, BadMapping, WritableCode}
 use Rattle.model.specs.Kernel.AddressSpaces.{address_limit, page_size, region_size}
-use Rattle.model.specs.Capabilities.CapabilityKinds.{is_guard_word}
-use Rattle.model.specs.Capabilities.CapabilityFields.{is_badge}
+use Rattle.model.specs.Capabilities.CapabilityKinds.{is_badge, is_guard_word}
 use Rattle.model.specs.Images.Described.{numbered}
 use Rattle.model.specs.Images.Image.{Image, ImageContent}
 use Rattle.model.specs.Capabilities.Placement.{placement}

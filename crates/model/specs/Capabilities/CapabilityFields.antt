@@ -1,17 +1,15 @@
 -- The capability that two words represent, if they are the words of one.
 -- seL4 Reference Manual, "Capability Spaces", for the kinds; the layout is this project's own.
-use Rattle.std.specs.Prelude.{ℕ, ◌==◌, ◌+◌, ◌*◌, ◌/◌, ◌%◌, ◌^◌, bit_and, Bool, true, ◌&&◌, nat_eq, nat_le, nat_lt, Option, Some, None, List, [], ◌∷◌}
+use Rattle.std.specs.Prelude.{ℕ, ◌==◌, ◌*◌, ◌/◌, ◌%◌, ◌^◌, Bool, ◌&&◌, nat_eq, Option, Some, None, List, [], ◌∷◌}
 use Rattle.std.specs.Prelude.{if◌then◌else◌}
-use Rattle.std.specs.Option.{option_map_or}
-use Rattle.std.specs.List.{list_any}
 use lib.Pointwise.{pointwise}
 use Rattle.model.specs.declared.capabilities.Cap.{Cap}
 use Rattle.model.specs.declared.capabilities.Cap.TheVariants.{Empty, Untyped, Endpoint, Notification, CNode, Frame, PageTable, Tcb, RootTable, InterruptControl}
 use Rattle.model.specs.declared.capabilities.Cap.TheVariants.{InterruptHandler}
 use Rattle.model.specs.declared.capabilities.FrameMapping.{FrameMapping}
 use Rattle.model.specs.declared.capabilities.TableMapping.{TableMapping}
-use Rattle.model.specs.Capabilities.CapabilityKinds.{is_guard_word}
-use Rattle.model.specs.Capabilities.CapabilityWords.{words_of}
+use Rattle.model.specs.Capabilities.CapabilityWords.{allowed_fields, words_of}
+use Rattle.model.specs.Capabilities.Conditions.{is_met}
 use Rattle.model.specs.Capabilities.Rights.{rights}
 
 -- ---- the fields in two words, whether or not they are the words of a capability
@@ -42,38 +40,9 @@ fields_of_kind kind detail bits offset word =
 abbrev pub fields_of : ℕ → ℕ → Cap
 fields_of head word = fields_of_kind (head % 16) (head / 2 ^ 4 % 2 ^ 5) (head / 2 ^ 9 % 2 ^ 3) (head / 2 ^ 12 * 16) word
 
--- ---- whether fields are in their ranges: `IsCapability` as a test
-
-abbrev pub is_place : ℕ → ℕ → Bool
-is_place offset bits = (offset % 2 ^ bits == 0) && nat_lt offset (2 ^ 24)
-
-abbrev pub are_endpoint_rights : ℕ → Bool
-are_endpoint_rights bits = bit_and bits 11 == bits
-
-abbrev pub are_mapping_rights : ℕ → Bool
-are_mapping_rights bits = list_any (nat_eq bits) (2 ∷ 3 ∷ 4 ∷ 6 ∷ 7 ∷ [])
-
-abbrev pub is_badge : ℕ → Bool
-is_badge n = nat_lt n (2 ^ 28)
-
-abbrev pub is_frame_mapping : FrameMapping → Bool
-is_frame_mapping m = is_place m.root 12 && nat_lt m.page (2 ^ 19) && are_mapping_rights m.rights.0
-
-abbrev pub is_table_mapping : TableMapping → Bool
-is_table_mapping m = is_place m.root 12 && nat_lt m.region (2 ^ 9)
-
+-- whether the fields are in their ranges
 unfoldable pub is_capability : Cap → Bool
-is_capability Empty = true
-is_capability (Untyped offset bits watermark) = is_place offset bits && nat_le 4 bits && nat_le bits 24 && nat_le watermark (2 ^ bits)
-is_capability (Endpoint offset r badge) = is_place offset 4 && are_endpoint_rights r.0 && is_badge badge
-is_capability (Notification offset r badge) = is_place offset 4 && are_endpoint_rights r.0 && is_badge badge
-is_capability (CNode offset radix guard) = is_place offset (radix + 4) && nat_le 1 radix && nat_le radix 14 && is_guard_word radix guard
-is_capability (Frame offset r mapping) = is_place offset 12 && nat_lt r.0 4 && option_map_or is_frame_mapping mapping true
-is_capability (PageTable offset mapping) = is_place offset 12 && option_map_or is_table_mapping mapping true
-is_capability (Tcb offset) = is_place offset 9
-is_capability (RootTable offset) = is_place offset 12
-is_capability InterruptControl = true
-is_capability (InterruptHandler irq_line) = nat_lt irq_line 64
+is_capability capability = is_met (allowed_fields capability)
 
 -- ---- reading two words back
 

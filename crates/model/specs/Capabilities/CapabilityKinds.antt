@@ -1,12 +1,14 @@
 -- What the calls of the kernel ask about capabilities, and what they make of them.
 -- seL4 Reference Manual, "Capability-based Access Control".
-use Rattle.std.specs.Prelude.{ℕ, ◌==◌, ◌+◌, ◌/◌, ◌%◌, ◌^◌, ◌&&◌, Bool, true, false, not, nat_le, nat_lt, Option, Some, None}
+use Rattle.std.specs.Prelude.{ℕ, ◌==◌, Bool, true, false, not, Option, Some, None}
 use Rattle.std.specs.Option.{option_map_or}
 use Rattle.model.specs.declared.capabilities.Cap.{Cap}
 use Rattle.model.specs.declared.capabilities.Cap.TheVariants.{Empty, Untyped, Endpoint, Notification, CNode, Frame, PageTable, Tcb, RootTable, InterruptControl}
 use Rattle.model.specs.declared.capabilities.Cap.TheVariants.{InterruptHandler}
 use Rattle.model.specs.declared.capabilities.FrameMapping.{FrameMapping}
 use Rattle.model.specs.declared.capabilities.TableMapping.{TableMapping}
+use Rattle.model.specs.Capabilities.CapabilityWords.{allowed_badge, allowed_guard_word}
+use Rattle.model.specs.Capabilities.Conditions.{is_met}
 use Rattle.model.specs.Capabilities.Rights.{rights, common}
 
 -- the object that a capability names; an untyped is no object, and a line is none
@@ -83,17 +85,16 @@ with_payload (Notification offset r badge) payload = Notification offset r paylo
 with_payload (CNode offset radix guard) payload = CNode offset radix payload
 with_payload capability payload = capability
 
--- a badge has 28 bits
+abbrev pub is_badge : ℕ → Bool
+is_badge badge = is_met (allowed_badge badge)
+
 abbrev pub badge_fits : Cap → ℕ → Bool
-badge_fits (Endpoint offset r badge) payload = nat_lt payload (2 ^ 28)
-badge_fits (Notification offset r badge) payload = nat_lt payload (2 ^ 28)
+badge_fits (Endpoint offset r badge) payload = is_badge payload
+badge_fits (Notification offset r badge) payload = is_badge payload
 badge_fits _ payload = true
 
--- a guard word has the guard's size in bits 0 to 4 and the guard, which fits the size, in bits 5 to 22; guard and radix
--- have at most 32 bits together
 abbrev pub is_guard_word : ℕ → ℕ → Bool
-is_guard_word radix word =
-    nat_lt word (2 ^ 23) && nat_lt (word / 2 ^ 5) (2 ^ (word % 2 ^ 5)) && nat_le (word % 2 ^ 5 + radix) 32
+is_guard_word radix word = is_met (allowed_guard_word radix word)
 
 abbrev pub guard_fits : Cap → ℕ → Bool
 guard_fits (CNode offset radix guard) payload = is_guard_word radix payload
