@@ -6,16 +6,16 @@ use Rattle.std.proofs.lemmas.Bool.Decides.{eqb_tells, nat_tests}
 use Rattle.std.proofs.lemmas.Int.{ints}
 use Rattle.std.specs.List.{list_any}
 use Rattle.std.specs.Option.{option_map_or}
-use Rattle.model.specs.Acceptance.Measures.{Form, Measure, behind_form, call_form, constant_form, difference_form, exact_sum, falls, fresh, greatest}
-use Rattle.model.specs.Acceptance.Measures.{greatest_on, greatest_term, has_term, is_register, lowered, other_value, range_at, stays_below, substituted}
-use Rattle.model.specs.Acceptance.Measures.{sum_form, times_form, variable_form}
+use Rattle.model.specs.Acceptance.Measures.{After, Before, Form, Measure, Variable, after_form, before_form, behind_form, call_form, constant_form}
+use Rattle.model.specs.Acceptance.Measures.{difference_form, exact_sum, falls, greatest, greatest_on, greatest_term, has_term, is_register, lowered, other_value}
+use Rattle.model.specs.Acceptance.Measures.{range_at, stays_below, substituted, sum_form, times_form}
 use Rattle.model.specs.Acceptance.RangeRules.{destination}
 use Rattle.model.specs.declared.entries.TermEntry.{TermEntry}
 use Rattle.model.specs.declared.instructions.Instr.{Instr}
 use Rattle.model.specs.declared.instructions.Register.{Register}
 use Rattle.model.specs.declared.ranges.Range.{Range}
 use Rattle.measure.specs.Sums.{coefficient_sum, constant_sum}
-use Rattle.measure.proofs.LinearSums.{coefficient-is, constant-is, sum-none}
+use Rattle.measure.proofs.LinearSums.{coefficient-is, constant-is, sums-none}
 use Rattle.measure.proofs.SumSteps.{nothing-times}
 
 -- ---- no register of the terms is written
@@ -54,16 +54,16 @@ first-unwritten t rest (x ∷ more) none =
 
 -- what each register is after it, where those that are not written stay
 abbrev Leaves : List Register → (ℕ → Form) → Type 0
-Leaves written value_of = (register : ℕ) → is_written written register ≡ false → value_of register ≡ variable_form register
+Leaves written value_of = (register : ℕ) → is_written written register ≡ false → value_of register ≡ before_form register
 
 same-forms : (written : List Register) (value_of : ℕ → Form) (start : Form) (terms : List TermEntry) → Leaves written value_of →
     are_written terms written ≡ false
-    → fold (added value_of) start terms ≡ fold (added variable_form) start terms
+    → fold (added value_of) start terms ≡ fold (added before_form) start terms
 same-forms written value_of start [] leaves none = refl
 same-forms written value_of start (t ∷ rest) leaves none =
     let parts = first-unwritten t rest written none in
     ap (λ (f : Form). fold (added value_of) (sum_form start (times_form t.coefficient f)) rest) (leaves t.register parts.0)
-    ∙ same-forms written value_of (added variable_form start t) rest leaves parts.1
+    ∙ same-forms written value_of (added before_form start t) rest leaves parts.1
 
 -- ---- a form that counts no variable
 
@@ -73,21 +73,23 @@ nothing-of z = omega (arith, ints)
 nothing-more : (z : ℤ) → z +ℤ pos 0 ≡ z
 nothing-more z = omega (arith, ints)
 
-greatest-none : (before behind : List Range) (f : Form) → ((variable : ℕ) → f.coefficient variable ≡ pos 0) → greatest_on before behind f ≡ f.constant
+greatest-none : (before behind : List Range) (f : Form) → ((variable : Variable) → f.coefficient variable ≡ pos 0) → greatest_on before behind f ≡ f.constant
 unfolding greatest
 greatest-none before behind f none =
-    let range = range_at before behind in
+    let term : Variable → ℤ = λ v. greatest_term (f.coefficient v) (range_at before behind v) in
+    let nothing : (v : Variable) → term v ≡ pos 0 =
+    λ v. ap (λ (z : ℤ). greatest_term z (range_at before behind v)) (none v) ∙ nothing-times (range_at before behind v).high in
     ap (λ (z : ℤ). f.constant +ℤ z)
-    (sum-none (λ v. greatest_term (f.coefficient v) (range v)) 64 (λ v less. ap (λ (z : ℤ). greatest_term z (range v)) (none v) ∙ nothing-times (range v).high))
+    (sums-none (λ k. term (Before k)) (λ k. term (After k)) 32 (λ k less. nothing (Before k)) (λ k less. nothing (After k)))
     ∙ nothing-more f.constant
 
 -- ---- the difference
 
-no-constant : (start : ℤ) (terms : List TermEntry) → constant_sum variable_form start terms ≡ start
+no-constant : (start : ℤ) (terms : List TermEntry) → constant_sum before_form start terms ≡ start
 no-constant start [] = refl
 no-constant start (t ∷ rest) =
     let same : start +ℤ (t.coefficient *ℤ pos 0) ≡ start = ap (λ (z : ℤ). start +ℤ z) (nothing-of t.coefficient) ∙ nothing-more start in
-    ap (λ (z : ℤ). constant_sum variable_form z rest) same ∙ no-constant start rest
+    ap (λ (z : ℤ). constant_sum before_form z rest) same ∙ no-constant start rest
 
 less-itself : (z : ℤ) → z +ℤ (negsuc 0 *ℤ z) ≡ pos 0
 less-itself z = omega (arith, ints)
@@ -96,20 +98,20 @@ one-less : (z : ℤ) → (z -ℤ pos 1) +ℤ (negsuc 0 *ℤ z) ≡ negsuc 0
 one-less z = omega (arith, ints)
 
 abbrev change : Measure → Form
-change m = difference_form (substituted (lowered m (pos 1)) variable_form) (substituted m variable_form)
+change m = difference_form (substituted (lowered m (pos 1)) before_form) (substituted m before_form)
 
 change-constant : (m : Measure) → (change m).constant ≡ negsuc 0
 change-constant m =
-    ap (λ (z : ℤ). z +ℤ (negsuc 0 *ℤ (substituted m variable_form).constant))
-    (constant-is (lowered m (pos 1)) variable_form ∙ no-constant (m.constant -ℤ pos 1) m.terms)
-    ∙ ap (λ (z : ℤ). (m.constant -ℤ pos 1) +ℤ (negsuc 0 *ℤ z)) (constant-is m variable_form ∙ no-constant m.constant m.terms)
+    ap (λ (z : ℤ). z +ℤ (negsuc 0 *ℤ (substituted m before_form).constant))
+    (constant-is (lowered m (pos 1)) before_form ∙ no-constant (m.constant -ℤ pos 1) m.terms)
+    ∙ ap (λ (z : ℤ). (m.constant -ℤ pos 1) +ℤ (negsuc 0 *ℤ z)) (constant-is m before_form ∙ no-constant m.constant m.terms)
     ∙ one-less m.constant
 
-change-coefficient : (m : Measure) (v : ℕ) → (change m).coefficient v ≡ pos 0
+change-coefficient : (m : Measure) (v : Variable) → (change m).coefficient v ≡ pos 0
 change-coefficient m v =
-    let sum = coefficient_sum variable_form v (pos 0) m.terms in
-    ap (λ (z : ℤ). z +ℤ (negsuc 0 *ℤ (substituted m variable_form).coefficient v)) (coefficient-is (lowered m (pos 1)) variable_form v)
-    ∙ ap (λ (z : ℤ). sum +ℤ (negsuc 0 *ℤ z)) (coefficient-is m variable_form v)
+    let sum = coefficient_sum before_form v (pos 0) m.terms in
+    ap (λ (z : ℤ). z +ℤ (negsuc 0 *ℤ (substituted m before_form).coefficient v)) (coefficient-is (lowered m (pos 1)) before_form v)
+    ∙ ap (λ (z : ℤ). sum +ℤ (negsuc 0 *ℤ z)) (coefficient-is m before_form v)
     ∙ less-itself sum
 
 unwritten-falls : (m : Measure) (written : List Register) (value_of : ℕ → Form) (before behind : List Range) → Leaves written value_of →
@@ -117,16 +119,16 @@ unwritten-falls : (m : Measure) (written : List Register) (value_of : ℕ → Fo
     → falls m (lowered m (pos 1)) value_of before behind ≡ true
 unfolding falls substituted
 unwritten-falls m written value_of before behind leaves none =
-    ap (λ (f : Form). int_lt (greatest_on before behind (difference_form f (substituted m variable_form))) (pos 0))
+    ap (λ (f : Form). int_lt (greatest_on before behind (difference_form f (substituted m before_form))) (pos 0))
     (same-forms written value_of (constant_form (m.constant -ℤ pos 1)) m.terms leaves none)
     ∙ ap (λ (z : ℤ). int_lt z (pos 0)) (greatest-none before behind (change m) (change-coefficient m) ∙ change-constant m)
 
 -- ---- after an instruction, and after a call
 
 of-destination : (written : Option Register) (value : ℕ → Form) →
-    Leaves (option_to_list written) (λ register. if is_register written register then value register else variable_form register)
+    Leaves (option_to_list written) (λ register. if is_register written register then value register else before_form register)
 of-destination None value register none = refl
-of-destination (Some x) value register none = ap (λ (b : Bool). if b then value register else variable_form register) (or_parts (x.0 == register) false none).0
+of-destination (Some x) value register none = ap (λ (b : Bool). if b then value register else before_form register) (or_parts (x.0 == register) false none).0
 
 none-written : (terms : List TermEntry) (written : Option Register) → option_map_or (λ x. list_any (λ t. t.register == x.0) terms) written false ≡ false
     → are_written terms (option_to_list written) ≡ false
@@ -144,7 +146,7 @@ pub falls-behind-call : (m : Measure) (written : List Register) (before behind :
     → falls m (lowered m (pos 1)) (call_form written) before behind ≡ true
 falls-behind-call m written before behind none =
     unwritten-falls m written (call_form written) before behind (λ register left.
-    ap (λ (b : Bool). variable_form (if b then fresh register else register)) left) none
+    ap (λ (b : Bool). if b then after_form register else before_form register) left) none
 
 -- ---- a budget is not above itself
 

@@ -1,14 +1,14 @@
 //! Extremes of linear forms over ranges, each variable by itself.
 
 ghost use Rattle.std.specs.Prelude.{◌≡◌, ◌<◌, ◌^◌, ◌*ℤ◌, false, pos};
-ghost use Rattle.model.specs.Acceptance.Measures.{falls, greatest_on, greatest_term, least, least_term, least_value, range_at, register_numbered, stays_below};
+ghost use Rattle.model.specs.Acceptance.Measures.{Before, falls, greatest_on, greatest_term, least, least_term, least_value, register_numbered, stays_below};
 ghost use Rattle.model.specs.Acceptance.Ranges.{range_of};
 ghost use Rattle.measure.specs.Measures.{measure_of};
 ghost use Rattle.measure.specs.Sums.{IsSmall};
-ghost use Rattle.measure.specs.Variables.{is_named};
+ghost use Rattle.measure.specs.Variables.{is_named, register_of, variable_of};
 
 use crate::forms::{Behind, Change, Linear};
-use crate::variables::Variables;
+use crate::variables::{Variable, Variables};
 use crate::{Measure, Step, Unchanged};
 use model::Register;
 use ranges::{Bounds, Range};
@@ -68,8 +68,9 @@ fn greatest<L: Linear>(form: &L, before: &Bounds, behind: &Bounds) -> i128
     }
     let named = form.variables();
     let mut sum = 0;
-    for variable in 0..64 {
-        sum += greatest_part(form, &named, before, behind, variable);
+    for register in 0..32 {
+        sum += greatest_part(form, &named, before, Variable::Before(register));
+        sum += greatest_part(form, &named, behind, Variable::After(register));
     }
     form.constant() + sum
 }
@@ -77,52 +78,50 @@ fn greatest<L: Linear>(form: &L, before: &Bounds, behind: &Bounds) -> i128
 /// The least value of a form of registers alone.
 #[tactic(auto, using(crate::proofs::LinearSums::sum_more), unfolding(model::specs::Acceptance::Measures::least))]
 fn least_of<L: Linear>(form: &L, bounds: &Bounds) -> i128
-    ensures { result ≡ least 32 (L.form form.now) (λ number. range_of bounds.now (register_numbered number)) }
+    ensures { result ≡ least (L.form form.now) (λ register. range_of bounds.now (register_numbered register)) }
 {
     if form.is_constant() {
         return form.constant();
     }
     let named = form.variables();
     let mut sum = 0;
-    for number in 0..32u8 {
-        sum += least_part(form, &named, bounds, number);
+    for register in 0..32 {
+        sum += least_part(form, &named, bounds, register);
     }
     form.constant() + sum
 }
 
-/// The greatest value of what a form has of one variable.
+/// The greatest value of what a form has of one variable, by the ranges on its side of the edge.
 fn greatest_part<L: Linear>(
     form: &L,
     named: &Variables,
-    before: &Bounds,
-    behind: &Bounds,
-    variable: u32,
+    bounds: &Bounds,
+    variable: Variable,
 ) -> i128
-    requires variable { variable < 64 }
-    requires others { is_named named.now variable ≡ false → (L.form form.now).coefficient variable ≡ pos 0 }
-    ensures value { result ≡ greatest_term ((L.form form.now).coefficient variable) (range_at before.now behind.now variable) }
+    requires register { register_of (variable_of variable) < 32 }
+    requires others { is_named named.now (variable_of variable) ≡ false → (L.form form.now).coefficient (variable_of variable) ≡ pos 0 }
+    ensures value { result ≡ greatest_term ((L.form form.now).coefficient (variable_of variable)) (range_of bounds.now (register_numbered (register_of (variable_of variable)))) }
     ensures small { IsSmall (2 ^ 96) result }
 {
     if named.contains(variable) {
-        greatest_term(
-            form.coefficient(variable),
-            range_at(before, behind, variable),
-        )
+        let range = bounds.get(Register(variable.register() as u8));
+        greatest_term(form.coefficient(variable), range)
     } else {
         0
     }
 }
 
-/// The least value of what a form has of one register.
-fn least_part<L: Linear>(form: &L, named: &Variables, bounds: &Bounds, number: u8) -> i128
-    requires number { number < 32 }
-    requires others { is_named named.now number ≡ false → (L.form form.now).coefficient number ≡ pos 0 }
-    ensures value { result ≡ least_term ((L.form form.now).coefficient number) (range_of bounds.now (register_numbered number)) }
+/// The least value of what a form has of one register before the edge.
+fn least_part<L: Linear>(form: &L, named: &Variables, bounds: &Bounds, register: u32) -> i128
+    requires register { register < 32 }
+    requires others { is_named named.now (Before register) ≡ false → (L.form form.now).coefficient (Before register) ≡ pos 0 }
+    ensures value { result ≡ least_term ((L.form form.now).coefficient (Before register)) (range_of bounds.now (register_numbered register)) }
     ensures small { IsSmall (2 ^ 96) result }
 {
-    if named.contains(u32::from(number)) {
-        let range = bounds.get(Register(number));
-        least_term(form.coefficient(u32::from(number)), range)
+    let variable = Variable::Before(register);
+    if named.contains(variable) {
+        let range = bounds.get(Register(register as u8));
+        least_term(form.coefficient(variable), range)
     } else {
         0
     }
@@ -165,16 +164,4 @@ fn wide_product(coefficient: i64, word: u32) -> i128
     ensures { result ≡ coefficient *ℤ pos word }
 {
     i128::from(coefficient) * i128::from(word)
-}
-
-/// The range of a variable on an edge, by the ranges before and after it.
-fn range_at(before: &Bounds, behind: &Bounds, variable: u32) -> Range
-    requires { variable < 64 }
-    ensures { result ≡ range_at before.now behind.now variable }
-{
-    if variable < 32 {
-        before.get(Register(variable as u8))
-    } else {
-        behind.get(Register((variable - 32) as u8))
-    }
 }

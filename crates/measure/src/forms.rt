@@ -1,13 +1,13 @@
 //! Linear forms of the variables on an edge.
 
-ghost use Rattle.std.specs.Prelude.{ℕ, ◌≡◌, ◌+◌, ◌^◌, ◌*ℤ◌, ◌<◌, false, pos, true};
-ghost use Rattle.model.specs.Acceptance.Measures.{Form, difference_form, substituted, variable_form};
+ghost use Rattle.std.specs.Prelude.{◌≡◌, ◌+◌, ◌^◌, ◌*ℤ◌, ◌<◌, false, pos, true};
+ghost use Rattle.model.specs.Acceptance.Measures.{Form, Variable as FormVariable, before_form, difference_form, substituted};
 ghost use Rattle.measure.specs.Measures.{measure_of};
 ghost use Rattle.measure.specs.Sums.{IsSmall, coefficient_sum, constant_sum};
-ghost use Rattle.measure.specs.Variables.{is_named};
+ghost use Rattle.measure.specs.Variables.{is_named, register_of, variable_of};
 
 use crate::values::{coefficient, constant};
-use crate::variables::Variables;
+use crate::variables::{Variable, Variables};
 use crate::{Measure, Step, TermEntry, Unchanged};
 
 /// A linear form: a constant, and a coefficient for each variable.
@@ -18,16 +18,16 @@ pub(crate) trait Linear {
         ensures value { result ≡ (form self.now).constant }
         ensures small { IsSmall (2 ^ 100) result };
 
-    fn coefficient(&self, variable: u32) -> i64
-        ensures { result ≡ (form self.now).coefficient variable };
+    fn coefficient(&self, variable: Variable) -> i64
+        ensures { result ≡ (form self.now).coefficient (variable_of variable) };
 
     /// Whether it counts no variable, as far as is seen at once.
     fn is_constant(&self) -> bool
-        ensures { (variable : ℕ) → result ≡ true → (form self.now).coefficient variable ≡ pos 0 };
+        ensures { (variable : FormVariable) → result ≡ true → (form self.now).coefficient variable ≡ pos 0 };
 
     /// The variables that it may count.
     fn variables(&self) -> Variables
-        ensures { (variable : ℕ) → variable < 64 → is_named result variable ≡ false → (form self.now).coefficient variable ≡ pos 0 };
+        ensures { (variable : FormVariable) → register_of variable < 32 → is_named result variable ≡ false → (form self.now).coefficient variable ≡ pos 0 };
 }
 
 /// A measure after a step, over the registers before it.
@@ -44,7 +44,7 @@ impl<'a, S: Step> Linear for Behind<'a, S> {
         constant_of(self.measure, self.step)
     }
 
-    fn coefficient(&self, variable: u32) -> i64 {
+    fn coefficient(&self, variable: Variable) -> i64 {
         coefficient_of(self.measure, self.step, variable)
     }
 
@@ -67,13 +67,13 @@ pub(crate) struct Change<'a, S: Step> {
 }
 
 impl<'a, S: Step> Linear for Change<'a, S> {
-    ghost form = { λ c. difference_form (substituted (measure_of c.behind.measure.now) (S.value_of c.behind.step.now)) (substituted (measure_of c.before.now) variable_form) };
+    ghost form = { λ c. difference_form (substituted (measure_of c.behind.measure.now) (S.value_of c.behind.step.now)) (substituted (measure_of c.before.now) before_form) };
 
     fn constant(&self) -> i128 {
         constant_of(self.behind.measure, self.behind.step) - constant_of(self.before, &Unchanged)
     }
 
-    fn coefficient(&self, variable: u32) -> i64 {
+    fn coefficient(&self, variable: Variable) -> i64 {
         coefficient_of(self.behind.measure, self.behind.step, variable)
             - coefficient_of(self.before, &Unchanged, variable)
     }
@@ -92,7 +92,7 @@ impl<'a, S: Step> Linear for Change<'a, S> {
 
 /// Whether a measure counts no variable, after any step.
 fn counts_none<S: Step>(measure: &Measure, step: &S) -> bool
-    ensures { (variable : ℕ) → result ≡ true → (substituted (measure_of measure.now) (S.value_of step.now)).coefficient variable ≡ pos 0 }
+    ensures { (variable : FormVariable) → result ≡ true → (substituted (measure_of measure.now) (S.value_of step.now)).coefficient variable ≡ pos 0 }
 {
     let _ = step;
     measure.is_constant()
@@ -100,7 +100,7 @@ fn counts_none<S: Step>(measure: &Measure, step: &S) -> bool
 
 /// The variables that a measure counts after a step.
 fn add_terms<S: Step>(measure: &Measure, step: &S, named: &mut Variables)
-    ensures { (variable : ℕ) → variable < 64 → is_named named.new variable ≡ false
+    ensures { (variable : FormVariable) → register_of variable < 32 → is_named named.new variable ≡ false
         → (is_named named.old variable ≡ false) × ((substituted (measure_of measure.now) (S.value_of step.now)).coefficient variable ≡ pos 0) }
 {
     let terms = measure.terms();
@@ -123,8 +123,8 @@ pub(crate) fn constant_of<S: Step>(measure: &Measure, step: &S) -> i128
 }
 
 /// The coefficient of a variable in a measure after a step.
-fn coefficient_of<S: Step>(measure: &Measure, step: &S, variable: u32) -> i64
-    ensures value { result ≡ (substituted (measure_of measure.now) (S.value_of step.now)).coefficient variable }
+fn coefficient_of<S: Step>(measure: &Measure, step: &S, variable: Variable) -> i64
+    ensures value { result ≡ (substituted (measure_of measure.now) (S.value_of step.now)).coefficient (variable_of variable) }
     ensures small { IsSmall (2 ^ 42) result }
 {
     let terms = measure.terms();

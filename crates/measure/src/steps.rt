@@ -3,7 +3,7 @@
 ghost use Rattle.std.specs.Prelude.{◌≡◌, ◌==◌, ℕ, IfSome, option_map};
 ghost use Rattle.std.specs.List.{list_any};
 ghost use Rattle.std.specs.Option.{option_map_or};
-ghost use Rattle.model.specs.Acceptance.Measures.{Form, behind_form, call_form, exact_sum, moves_within, other_value, variable_form};
+ghost use Rattle.model.specs.Acceptance.Measures.{Form, before_form, behind_form, call_form, exact_sum, moves_within, other_value};
 ghost use Rattle.model.specs.Acceptance.RangeRules.{destination, difference_fits, sum_fits};
 ghost use Rattle.model.specs.Machine.Instructions.{IsInstr, IsRegister};
 ghost use Rattle.measure.specs.Values.{form_of};
@@ -26,7 +26,7 @@ pub trait Step {
 pub struct Unchanged;
 
 impl Step for Unchanged {
-    ghost value_of = { λ _. variable_form };
+    ghost value_of = { λ _. before_form };
 
     fn value(&self, register: u32) -> Value {
         Value::Same(register)

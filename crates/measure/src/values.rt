@@ -1,8 +1,11 @@
 //! What a register is after an edge, by the registers before it.
 
 ghost use Rattle.std.specs.Prelude.{◌≡◌, ◌≤ℤ◌, ◌+ℤ◌, ◌-ℤ◌, ◌^◌, if◌then◌else◌, negsuc, pos};
+ghost use Rattle.model.specs.Acceptance.Measures.{After, Before};
 ghost use Rattle.measure.specs.Values.{form_of};
+ghost use Rattle.measure.specs.Variables.{variable_of};
 
+use crate::variables::Variable;
 use model::Register;
 
 /// What a register is after an edge.
@@ -44,30 +47,52 @@ fn in_difference(is_first: bool, is_second: bool) -> i8
     one_if(is_first) - one_if(is_second)
 }
 
-/// How often a variable counts in a value. Variables 0 to 31 are the registers before the edge, and 32 + k is what
-/// register k becomes.
-pub(crate) fn coefficient(value: Value, variable: u32) -> i8
-    ensures value { result ≡ (form_of value).coefficient variable }
+/// How often a variable counts in a value.
+pub(crate) fn coefficient(value: Value, variable: Variable) -> i8
+    ensures value { result ≡ (form_of value).coefficient (variable_of variable) }
+    ensures least { negsuc 0 ≤ℤ result }
+    ensures greatest { result ≤ℤ pos 2 }
+{
+    match variable {
+        Variable::Before(register) => before_in(value, register),
+        Variable::After(register) => after_in(value, register),
+    }
+}
+
+/// How often what this register was before the edge counts in a value.
+fn before_in(value: Value, register: u32) -> i8
+    ensures value { result ≡ (form_of value).coefficient (Before register) }
     ensures least { negsuc 0 ≤ℤ result }
     ensures greatest { result ≤ℤ pos 2 }
 {
     match value {
-        Value::Same(register) => one_if(variable == register),
-        Value::Fresh(register) => one_if(u64::from(variable) == 32 + u64::from(register)),
+        Value::Same(same) => one_if(register == same),
         Value::Sum(first, second) => {
             in_sum(
-                variable == u32::from(first.0),
-                variable == u32::from(second.0),
+                register == u32::from(first.0),
+                register == u32::from(second.0),
             )
         }
         Value::Difference(first, second) => {
             in_difference(
-                variable == u32::from(first.0),
-                variable == u32::from(second.0),
+                register == u32::from(first.0),
+                register == u32::from(second.0),
             )
         }
-        Value::Moved(register, _) => one_if(variable == u32::from(register.0)),
-        Value::Constant(_) => 0,
+        Value::Moved(moved, _) => one_if(register == u32::from(moved.0)),
+        Value::Fresh(_) | Value::Constant(_) => 0,
+    }
+}
+
+/// How often what this register becomes counts in a value.
+fn after_in(value: Value, register: u32) -> i8
+    ensures value { result ≡ (form_of value).coefficient (After register) }
+    ensures least { negsuc 0 ≤ℤ result }
+    ensures greatest { result ≤ℤ pos 2 }
+{
+    match value {
+        Value::Fresh(fresh) => one_if(register == fresh),
+        _ => 0,
     }
 }
 

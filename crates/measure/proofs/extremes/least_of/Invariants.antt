@@ -1,13 +1,12 @@
 -- The sum over the registers so far.
-use Rattle.std.proofs.Common.{◌≡◌, ◌*◌, ◌^◌, map, ℕ}
-use Rattle.std.specs.List.{range_with_len}
-use Rattle.model.specs.Acceptance.Measures.{least_term, register_numbered, sum_of}
+use Rattle.std.proofs.Common.{◌≡◌, ◌*◌, ◌^◌, ℕ}
+use Rattle.model.specs.Acceptance.Measures.{Before, least_term, register_numbered}
 use Rattle.model.specs.Acceptance.Ranges.{range_of}
 use Rattle.measure.specs.Sums.{IsSmall}
+use Rattle.measure.proofs.LinearSums.{sum_below}
 use Rattle.measure.proofs.extremes.least_of.Given as goal
 
-abbrev pub invariant-loop-number : goal.invariant-loop-number
-invariant-loop-number g l =
-    (l.sum ≡ sum_of (map (λ (number : ℕ). least_term ((g.L.Linear.form l.form).coefficient number) (range_of l.bounds (register_numbered number)))
-    (range_with_len 0 l.number)))
-    × IsSmall (l.number * 2 ^ 97) l.sum
+abbrev pub invariant-loop-register : goal.invariant-loop-register
+invariant-loop-register g l =
+    (l.sum ≡ sum_below (λ (k : ℕ). least_term ((g.L.Linear.form l.form).coefficient (Before k)) (range_of l.bounds (register_numbered k))) l.register)
+    × IsSmall (l.register * 2 ^ 98) l.sum
