@@ -4,15 +4,20 @@ use Rattle.std.proofs.Common.{arith}
 use Rattle.std.proofs.lemmas.Int.{ints}
 use Rattle.std.proofs.lemmas.Bool.Decides.{eqb_tells}
 use Rattle.std.proofs.Math.IntN.{zero-*ℤ, +ℤ_idr, +ℤ_idl, *ℤ_comm, *ℤ-negsuc, neg_ℤ, neg_ℤ-+ℤ}
-use Rattle.model.specs.Acceptance.Measures.{Form, constant_form, difference_form, sum_form, times_form, variable_form}
+use Rattle.model.specs.Acceptance.Measures.{After, Before, Form, Variable, after_form, before_form, constant_form, difference_form, sum_form, times_form}
 
--- the sum over the variables below a number
+-- the sum over the registers below a number
 unfoldable pub total : (ℕ → ℤ) → (ℕ → ℕ) → ℕ → ℤ
 total coefficient v zero = pos 0
 total coefficient v (suc n) = total coefficient v n +ℤ (coefficient n *ℤ pos (v n))
 
-abbrev pub value : ℕ → (ℕ → ℕ) → Form → ℤ
-value n v f = f.constant +ℤ total f.coefficient v n
+-- the sum over the variables
+abbrev pub whole : (Variable → ℤ) → (Variable → ℕ) → ℤ
+whole coefficient v =
+    total (λ k. coefficient (Before k)) (λ k. v (Before k)) 32 +ℤ total (λ k. coefficient (After k)) (λ k. v (After k)) 32
+
+abbrev pub value : (Variable → ℕ) → Form → ℤ
+value v f = f.constant +ℤ whole f.coefficient v
 
 -- ---- sums and products
 
@@ -70,6 +75,13 @@ total-nothing v zero = refl
 total-nothing v (suc n) =
     ap (λ (z : ℤ). z +ℤ (pos 0 *ℤ pos (v n))) (total-nothing v n) ∙ +ℤ_idl (pos 0 *ℤ pos (v n)) ∙ zero-*ℤ (pos (v n))
 
+pub total-none : (a : ℕ → ℤ) (v : ℕ → ℕ) (n : ℕ) → ((k : ℕ) → v k ≡ 0) → total a v n ≡ pos 0
+unfolding total
+total-none a v zero none = refl
+total-none a v (suc n) none =
+    ap (λ (z : ℤ). z +ℤ (a n *ℤ pos (v n))) (total-none a v n none)
+    ∙ ap (λ (z : ℤ). pos 0 +ℤ z) (ap (λ (x : ℕ). a n *ℤ pos x) (none n) ∙ times-zero (a n))
+
 -- ---- one variable
 
 abbrev chosen : ℕ → ℕ → ℤ
@@ -112,20 +124,50 @@ total-chosen v i (suc n) less =
 
 -- ---- forms
 
-pub value-constant : (n : ℕ) (v : ℕ → ℕ) (z : ℤ) → value n v (constant_form z) ≡ z
-value-constant n v z = ap (λ (y : ℤ). z +ℤ y) (total-nothing v n) ∙ +ℤ_idr z
+pub value-constant : (v : Variable → ℕ) (z : ℤ) → value v (constant_form z) ≡ z
+value-constant v z =
+    ap (λ (y : ℤ). z +ℤ (y +ℤ total (λ k. pos 0) (λ k. v (After k)) 32)) (total-nothing (λ k. v (Before k)) 32)
+    ∙ ap (λ (y : ℤ). z +ℤ (pos 0 +ℤ y)) (total-nothing (λ k. v (After k)) 32)
+    ∙ +ℤ_idr z
 
-pub value-variable : (n : ℕ) (v : ℕ → ℕ) (i : ℕ) → i < n → value n v (variable_form i) ≡ pos (v i)
-value-variable n v i less = ap (λ (y : ℤ). pos 0 +ℤ y) (total-chosen v i n less) ∙ +ℤ_idl (pos (v i))
+pub value-before : (v : Variable → ℕ) (i : ℕ) → i < 32 → value v (before_form i) ≡ pos (v (Before i))
+value-before v i less =
+    ap (λ (y : ℤ). pos 0 +ℤ (y +ℤ total (λ k. pos 0) (λ k. v (After k)) 32)) (total-chosen (λ k. v (Before k)) i 32 less)
+    ∙ ap (λ (y : ℤ). pos 0 +ℤ (pos (v (Before i)) +ℤ y)) (total-nothing (λ k. v (After k)) 32)
+    ∙ ap (λ (y : ℤ). pos 0 +ℤ y) (+ℤ_idr (pos (v (Before i))))
+    ∙ +ℤ_idl (pos (v (Before i)))
 
-pub value-sum : (n : ℕ) (v : ℕ → ℕ) (f g : Form) → value n v (sum_form f g) ≡ value n v f +ℤ value n v g
-value-sum n v f g =
-    ap (λ (y : ℤ). (f.constant +ℤ g.constant) +ℤ y) (total-sum f.coefficient g.coefficient v n)
-    ∙ exchanged f.constant g.constant (total f.coefficient v n) (total g.coefficient v n)
+pub value-after : (v : Variable → ℕ) (i : ℕ) → i < 32 → value v (after_form i) ≡ pos (v (After i))
+value-after v i less =
+    ap (λ (y : ℤ). pos 0 +ℤ (y +ℤ total (chosen i) (λ k. v (After k)) 32)) (total-nothing (λ k. v (Before k)) 32)
+    ∙ ap (λ (y : ℤ). pos 0 +ℤ (pos 0 +ℤ y)) (total-chosen (λ k. v (After k)) i 32 less)
+    ∙ ap (λ (y : ℤ). pos 0 +ℤ y) (+ℤ_idl (pos (v (After i))))
+    ∙ +ℤ_idl (pos (v (After i)))
 
-pub value-times : (n : ℕ) (v : ℕ → ℕ) (c : ℤ) (f : Form) → value n v (times_form c f) ≡ c *ℤ value n v f
-value-times n v c f =
-    ap (λ (y : ℤ). (c *ℤ f.constant) +ℤ y) (total-times c f.coefficient v n) ∙ sym (times-sum c f.constant (total f.coefficient v n))
+pub value-sum : (v : Variable → ℕ) (f g : Form) → value v (sum_form f g) ≡ value v f +ℤ value v g
+value-sum v f g =
+    let before : ℕ → ℕ = λ k. v (Before k) in
+    let after : ℕ → ℕ = λ k. v (After k) in
+    let a : ℤ = total (λ k. f.coefficient (Before k)) before 32 in
+    let b : ℤ = total (λ k. g.coefficient (Before k)) before 32 in
+    let x : ℤ = total (λ k. f.coefficient (After k)) after 32 in
+    let y : ℤ = total (λ k. g.coefficient (After k)) after 32 in
+    ap (λ (z : ℤ). (f.constant +ℤ g.constant) +ℤ (z +ℤ total (λ k. f.coefficient (After k) +ℤ g.coefficient (After k)) after 32))
+    (total-sum (λ k. f.coefficient (Before k)) (λ k. g.coefficient (Before k)) before 32)
+    ∙ ap (λ (z : ℤ). (f.constant +ℤ g.constant) +ℤ ((a +ℤ b) +ℤ z)) (total-sum (λ k. f.coefficient (After k)) (λ k. g.coefficient (After k)) after 32)
+    ∙ ap (λ (z : ℤ). (f.constant +ℤ g.constant) +ℤ z) (exchanged a b x y)
+    ∙ exchanged f.constant g.constant (a +ℤ x) (b +ℤ y)
 
-pub value-difference : (n : ℕ) (v : ℕ → ℕ) (f g : Form) → value n v (difference_form f g) ≡ value n v f +ℤ (negsuc 0 *ℤ value n v g)
-value-difference n v f g = value-sum n v f (times_form (negsuc 0) g) ∙ ap (λ (y : ℤ). value n v f +ℤ y) (value-times n v (negsuc 0) g)
+pub value-times : (v : Variable → ℕ) (c : ℤ) (f : Form) → value v (times_form c f) ≡ c *ℤ value v f
+value-times v c f =
+    let before : ℕ → ℕ = λ k. v (Before k) in
+    let after : ℕ → ℕ = λ k. v (After k) in
+    let a : ℤ = total (λ k. f.coefficient (Before k)) before 32 in
+    let x : ℤ = total (λ k. f.coefficient (After k)) after 32 in
+    ap (λ (z : ℤ). (c *ℤ f.constant) +ℤ (z +ℤ total (λ k. c *ℤ f.coefficient (After k)) after 32)) (total-times c (λ k. f.coefficient (Before k)) before 32)
+    ∙ ap (λ (z : ℤ). (c *ℤ f.constant) +ℤ ((c *ℤ a) +ℤ z)) (total-times c (λ k. f.coefficient (After k)) after 32)
+    ∙ ap (λ (z : ℤ). (c *ℤ f.constant) +ℤ z) (sym (times-sum c a x))
+    ∙ sym (times-sum c f.constant (a +ℤ x))
+
+pub value-difference : (v : Variable → ℕ) (f g : Form) → value v (difference_form f g) ≡ value v f +ℤ (negsuc 0 *ℤ value v g)
+value-difference v f g = value-sum v f (times_form (negsuc 0) g) ∙ ap (λ (y : ℤ). value v f +ℤ y) (value-times v (negsuc 0) g)

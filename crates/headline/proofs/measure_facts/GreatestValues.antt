@@ -2,14 +2,15 @@
 use Rattle.std.proofs.Common.{ℕ, zero, suc, ◌≡◌, ◌∙◌, ◌+◌, ◌*◌, ◌<◌, ◌≤◌, [], ◌∷◌, ℤ, pos, negsuc, ◌+ℤ◌, ◌*ℤ◌, map, sym, ap, subst, arith}
 use Rattle.std.specs.Prelude.{◌≤ℤ◌}
 use Rattle.std.specs.List.{range_with_len}
+use Rattle.std.proofs.Math.IntN.{+ℤ_idr}
 use Rattle.std.proofs.lemmas.Int.{ints}
 use Rattle.std.proofs.lemmas.Nat.{mul-le}
 use Rattle.std.proofs.lemmas.List.FromFn.{map-range_with_len_more}
 use Rattle.std.proofs.lemmas.List.Sums.{fold-append}
 use Rattle.model.specs.declared.ranges.Range.{Range}
-use Rattle.model.specs.Acceptance.Measures.{Form, greatest, greatest_term, least, least_term, sum_of}
+use Rattle.model.specs.Acceptance.Measures.{After, Before, Form, Variable, greatest, greatest_term, least, least_term, sum_of, sum_over}
 use Rattle.ranges.specs.Inside.{LiesIn}
-use Rattle.headline.proofs.measure_facts.FormValues.{total, value}
+use Rattle.headline.proofs.measure_facts.FormValues.{total, total-none, value}
 
 -- one more variable
 sum-more : (term : ℕ → ℤ) (n : ℕ) → sum_of (map term (range_with_len 0 (suc n))) ≡ sum_of (map term (range_with_len 0 n)) +ℤ term n
@@ -59,14 +60,29 @@ total-below c v range (suc n) inside =
     (both-less (sum_of (map (λ k. least_term (c k) (range k)) (range_with_len 0 n))) (least_term (c n) (range n)) (total c v n) (c n *ℤ pos (v n))
     (total-below c v range n (λ k less. inside k (omega arith))) (below (c n) (range n) (v n) (inside n (omega arith))))
 
-pub value-above : (n : ℕ) (v : ℕ → ℕ) (f : Form) (range : ℕ → Range) → ((k : ℕ) → k < n → LiesIn (v k) (range k)) → value n v f ≤ℤ greatest n f range
+pub value-above : (v : Variable → ℕ) (f : Form) (range : Variable → Range)
+    → ((k : ℕ) → k < 32 → LiesIn (v (Before k)) (range (Before k))) → ((k : ℕ) → k < 32 → LiesIn (v (After k)) (range (After k)))
+    → value v f ≤ℤ greatest f range
 unfolding greatest
-value-above n v f range inside =
-    both-less f.constant (total f.coefficient v n) f.constant (sum_of (map (λ k. greatest_term (f.coefficient k) (range k)) (range_with_len 0 n)))
-    (no-more f.constant) (total-above f.coefficient v range n inside)
+value-above v f range sooner later =
+    let term : Variable → ℤ = λ k. greatest_term (f.coefficient k) (range k) in
+    let before : ℤ = total (λ k. f.coefficient (Before k)) (λ k. v (Before k)) 32 in
+    let after : ℤ = total (λ k. f.coefficient (After k)) (λ k. v (After k)) 32 in
+    let first : ℤ = sum_over (λ k. term (Before k)) in
+    let second : ℤ = sum_over (λ k. term (After k)) in
+    both-less f.constant (before +ℤ after) f.constant (first +ℤ second) (no-more f.constant)
+    (both-less before after first second (total-above (λ k. f.coefficient (Before k)) (λ k. v (Before k)) (λ k. range (Before k)) 32 sooner)
+    (total-above (λ k. f.coefficient (After k)) (λ k. v (After k)) (λ k. range (After k)) 32 later))
 
-pub value-below : (n : ℕ) (v : ℕ → ℕ) (f : Form) (range : ℕ → Range) → ((k : ℕ) → k < n → LiesIn (v k) (range k)) → least n f range ≤ℤ value n v f
+-- where what registers are after an edge does not count
+pub value-below : (v : Variable → ℕ) (f : Form) (range : ℕ → Range) → ((k : ℕ) → k < 32 → LiesIn (v (Before k)) (range k)) → ((k : ℕ) → v (After k) ≡ 0)
+    → least f range ≤ℤ value v f
 unfolding least
-value-below n v f range inside =
-    both-less f.constant (sum_of (map (λ k. least_term (f.coefficient k) (range k)) (range_with_len 0 n))) f.constant (total f.coefficient v n)
-    (no-more f.constant) (total-below f.coefficient v range n inside)
+value-below v f range inside none =
+    let before : ℤ = total (λ k. f.coefficient (Before k)) (λ k. v (Before k)) 32 in
+    let after : ℤ = total (λ k. f.coefficient (After k)) (λ k. v (After k)) 32 in
+    let low : ℤ = sum_over (λ k. least_term (f.coefficient (Before k)) (range k)) in
+    let nothing : before ≡ before +ℤ after =
+    sym (ap (λ (z : ℤ). before +ℤ z) (total-none (λ k. f.coefficient (After k)) (λ k. v (After k)) 32 none) ∙ +ℤ_idr before) in
+    both-less f.constant low f.constant (before +ℤ after) (no-more f.constant)
+    (subst (λ (z : ℤ). low ≤ℤ z) nothing (total-below (λ k. f.coefficient (Before k)) (λ k. v (Before k)) range 32 inside))

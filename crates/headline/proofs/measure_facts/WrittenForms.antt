@@ -23,14 +23,14 @@ use Rattle.model.specs.Machine.Instructions.{IsInstr, IsRegister}
 use Rattle.model.specs.Machine.ProgramMemory.{Content, RegisterFile, loaded, read, stored, write}
 use Rattle.model.specs.Machine.Effects.{branches, effect, goes_on, immediate_result, is_taken, jumps, load_size, loads, next_pc, plus, register_result, stays}
 use Rattle.model.specs.Machine.Effects.{store_size, stores}
-use Rattle.model.specs.Acceptance.Measures.{Form, before_form, behind_form, constant_form, difference_form, exact_sum, form_if, fresh, immediate_sum}
-use Rattle.model.specs.Acceptance.Measures.{is_register, moves_within, other_value, register_numbered, register_sum, sum_form, variable_form}
+use Rattle.model.specs.Acceptance.Measures.{After, Before, Form, Variable, after_form, before_form, behind_form, constant_form, difference_form, exact_sum}
+use Rattle.model.specs.Acceptance.Measures.{form_if, immediate_sum, is_register, moves_within, other_value, register_numbered, register_sum, sum_form}
 use Rattle.model.specs.Acceptance.RangeRules.{destination, difference_fits, is_single, sum_fits}
 use Rattle.model.specs.Acceptance.Ranges.{range_of}
 use Rattle.model.specs.Acceptance.ThreadInvariants.{LieWithin}
 use Rattle.ranges.specs.Inside.{LiesIn}
 use Rattle.ranges.specs.Standing.{AreWords}
-use Rattle.headline.proofs.measure_facts.FormValues.{value, value-constant, value-difference, value-sum, value-variable}
+use Rattle.headline.proofs.measure_facts.FormValues.{value, value-after, value-before, value-constant, value-difference, value-sum}
 
 -- ---- what is read after a write
 
@@ -146,20 +146,20 @@ subtracted-exactly x y s t small here there fits =
 
 -- ---- what exact sums are worth
 
-abbrev Reads : RegisterFile → (ℕ → ℕ) → Type 0
-Reads r v = (k : ℕ) → k < 32 → v k ≡ word r k
+abbrev Reads : RegisterFile → (Variable → ℕ) → Type 0
+Reads r v = (k : ℕ) → k < 32 → v (Before k) ≡ word r k
 
-before-value : (r : RegisterFile) (v : ℕ → ℕ) (x : Register) → Reads r v → IsRegister x → value 64 v (before_form x) ≡ pos (read r x)
-before-value r v x reads fits = value-variable 64 v x.0 (omega (arith, fits)) ∙ ap pos (reads x.0 fits)
+before-value : (r : RegisterFile) (v : Variable → ℕ) (x : Register) → Reads r v → IsRegister x → value v (before_form x.0) ≡ pos (read r x)
+before-value r v x reads fits = value-before v x.0 fits ∙ ap pos (reads x.0 fits)
 
-immediate-exact : (r : RegisterFile) (v : ℕ → ℕ) (op : ImmediateOp) (rs1 : Register) (z : ℤ) (s : Range) (form : Form) → Reads r v → IsRegister rs1 →
+immediate-exact : (r : RegisterFile) (v : Variable → ℕ) (op : ImmediateOp) (rs1 : Register) (z : ℤ) (s : Range) (form : Form) → Reads r v → IsRegister rs1 →
     read r rs1 < 2 ^ 32 → LiesIn (read r rs1) s
-    → immediate_sum op rs1 z s ≡ Some form → value 64 v form ≡ pos (immediate_result op (read r rs1) z)
+    → immediate_sum op rs1 z s ≡ Some form → value v form ≡ pos (immediate_result op (read r rs1) z)
 immediate-exact r v Addi rs1 z s form reads fits small inside is =
-    let found = if-form (moves_within s z) (sum_form (before_form rs1) (constant_form z)) form is in
-    sym (ap (λ (f : Form). value 64 v f) found.1) ∙ value-sum 64 v (before_form rs1) (constant_form z)
-    ∙ ap (λ (y : ℤ). y +ℤ value 64 v (constant_form z)) (before-value r v rs1 reads fits)
-    ∙ ap (λ (y : ℤ). pos (read r rs1) +ℤ y) (value-constant 64 v z)
+    let found = if-form (moves_within s z) (sum_form (before_form rs1.0) (constant_form z)) form is in
+    sym (ap (λ (f : Form). value v f) found.1) ∙ value-sum v (before_form rs1.0) (constant_form z)
+    ∙ ap (λ (y : ℤ). y +ℤ value v (constant_form z)) (before-value r v rs1 reads fits)
+    ∙ ap (λ (y : ℤ). pos (read r rs1) +ℤ y) (value-constant v z)
     ∙ moved-exactly (read r rs1) s z small inside found.0
 immediate-exact r v Slti rs1 z s form reads fits small inside is = absurd (let clash : ◌≡◌ {A = Option Form} None (Some form) = is in cc)
 immediate-exact r v Sltiu rs1 z s form reads fits small inside is = absurd (let clash : ◌≡◌ {A = Option Form} None (Some form) = is in cc)
@@ -167,22 +167,22 @@ immediate-exact r v Xori rs1 z s form reads fits small inside is = absurd (let c
 immediate-exact r v Ori rs1 z s form reads fits small inside is = absurd (let clash : ◌≡◌ {A = Option Form} None (Some form) = is in cc)
 immediate-exact r v Andi rs1 z s form reads fits small inside is = absurd (let clash : ◌≡◌ {A = Option Form} None (Some form) = is in cc)
 
-abbrev IsExact : RegisterFile → (ℕ → ℕ) → RegisterOp → Register → Register → Range → Range → Type 0
-IsExact r v op rs1 rs2 s t = (form : Form) → register_sum op rs1 rs2 s t ≡ Some form → value 64 v form ≡ pos (register_result op (read r rs1) (read r rs2))
+abbrev IsExact : RegisterFile → (Variable → ℕ) → RegisterOp → Register → Register → Range → Range → Type 0
+IsExact r v op rs1 rs2 s t = (form : Form) → register_sum op rs1 rs2 s t ≡ Some form → value v form ≡ pos (register_result op (read r rs1) (read r rs2))
 
-register-exact : (r : RegisterFile) (v : ℕ → ℕ) (op : RegisterOp) (rs1 rs2 : Register) (s t : Range) → Reads r v → IsRegister rs1 → IsRegister rs2 →
+register-exact : (r : RegisterFile) (v : Variable → ℕ) (op : RegisterOp) (rs1 rs2 : Register) (s t : Range) → Reads r v → IsRegister rs1 → IsRegister rs2 →
     read r rs1 < 2 ^ 32
     → LiesIn (read r rs1) s → LiesIn (read r rs2) t → IsExact r v op rs1 rs2 s t
 register-exact r v Add rs1 rs2 s t reads first second small here there form is =
-    let found = if-form (sum_fits s t) (sum_form (before_form rs1) (before_form rs2)) form is in
-    sym (ap (λ (f : Form). value 64 v f) found.1) ∙ value-sum 64 v (before_form rs1) (before_form rs2)
-    ∙ ap (λ (y : ℤ). y +ℤ value 64 v (before_form rs2)) (before-value r v rs1 reads first)
+    let found = if-form (sum_fits s t) (sum_form (before_form rs1.0) (before_form rs2.0)) form is in
+    sym (ap (λ (f : Form). value v f) found.1) ∙ value-sum v (before_form rs1.0) (before_form rs2.0)
+    ∙ ap (λ (y : ℤ). y +ℤ value v (before_form rs2.0)) (before-value r v rs1 reads first)
     ∙ ap (λ (y : ℤ). pos (read r rs1) +ℤ y) (before-value r v rs2 reads second)
     ∙ summed-exactly (read r rs1) (read r rs2) s t here there found.0
 register-exact r v Sub rs1 rs2 s t reads first second small here there form is =
-    let found = if-form (difference_fits s t) (difference_form (before_form rs1) (before_form rs2)) form is in
-    sym (ap (λ (f : Form). value 64 v f) found.1) ∙ value-difference 64 v (before_form rs1) (before_form rs2)
-    ∙ ap (λ (y : ℤ). y +ℤ (negsuc 0 *ℤ value 64 v (before_form rs2))) (before-value r v rs1 reads first)
+    let found = if-form (difference_fits s t) (difference_form (before_form rs1.0) (before_form rs2.0)) form is in
+    sym (ap (λ (f : Form). value v f) found.1) ∙ value-difference v (before_form rs1.0) (before_form rs2.0)
+    ∙ ap (λ (y : ℤ). y +ℤ (negsuc 0 *ℤ value v (before_form rs2.0))) (before-value r v rs1 reads first)
     ∙ ap (λ (y : ℤ). pos (read r rs1) +ℤ (negsuc 0 *ℤ y)) (before-value r v rs2 reads second)
     ∙ subtracted-exactly (read r rs1) (read r rs2) s t small here there found.0
 register-exact r v Sll rs1 rs2 s t reads first second small here there form is = absurd (let clash : ◌≡◌ {A = Option Form} None (Some form) = is in cc)
@@ -194,10 +194,10 @@ register-exact r v Sra rs1 rs2 s t reads first second small here there form is =
 register-exact r v Or rs1 rs2 s t reads first second small here there form is = absurd (let clash : ◌≡◌ {A = Option Form} None (Some form) = is in cc)
 register-exact r v And rs1 rs2 s t reads first second small here there form is = absurd (let clash : ◌≡◌ {A = Option Form} None (Some form) = is in cc)
 
-sum-exact : (r : RegisterFile) (content : Content) (v : ℕ → ℕ) (instr : Instr) (before : List Range) (k : ℕ) (form : Form) → AreWords r content →
+sum-exact : (r : RegisterFile) (content : Content) (v : Variable → ℕ) (instr : Instr) (before : List Range) (k : ℕ) (form : Form) → AreWords r content →
     IsInstr instr → LieWithin r before → Reads r v
     → 1 ≤ k → k < 32 → is_register (destination instr) k ≡ true → exact_sum instr before ≡ Some form →
-    value 64 v form ≡ pos (word (effect r content instr).registers k)
+    value v form ≡ pos (word (effect r content instr).registers k)
 unfolding effect exact_sum
 sum-exact r content v (Immediate op rd rs1 z) before k form are fits within reads some less here is =
     immediate-exact r v op rs1 z (range_of before rs1) form reads fits.1 (are.words rs1) (within rs1.0 fits.1) is
@@ -230,21 +230,21 @@ single-value s x inside is =
     let ends : s.low ≡ s.high = eqb-true s.low s.high is in
     omega (arith, ends, inside.0, inside.1)
 
-by-single : (v : ℕ → ℕ) (s : Range) (k x : ℕ) (b : Bool) → k < 32 → v (fresh k) ≡ x → (b ≡ true → s.low ≡ x)
-    → value 64 v (if b then constant_form (pos s.low) else variable_form (fresh k)) ≡ pos x
-by-single v s k x true less is single = value-constant 64 v (pos s.low) ∙ ap pos (single refl)
-by-single v s k x false less is single = value-variable 64 v (fresh k) (omega (arith, less)) ∙ ap pos is
+by-single : (v : Variable → ℕ) (s : Range) (k x : ℕ) (b : Bool) → k < 32 → v (After k) ≡ x → (b ≡ true → s.low ≡ x)
+    → value v (if b then constant_form (pos s.low) else after_form k) ≡ pos x
+by-single v s k x true less is single = value-constant v (pos s.low) ∙ ap pos (single refl)
+by-single v s k x false less is single = value-after v k less ∙ ap pos is
 
 -- ---- the form of each register
 
-abbrev ReadsBehind : RegisterFile → (ℕ → ℕ) → Type 0
-ReadsBehind r v = (k : ℕ) → k < 32 → v (fresh k) ≡ word r k
+abbrev ReadsBehind : RegisterFile → (Variable → ℕ) → Type 0
+ReadsBehind r v = (k : ℕ) → k < 32 → v (After k) ≡ word r k
 
-by-sum : (r : RegisterFile) (content : Content) (v : ℕ → ℕ) (instr : Instr) (before behind : List Range) (k : ℕ) (found : Option Form) → AreWords r content →
+by-sum : (r : RegisterFile) (content : Content) (v : Variable → ℕ) (instr : Instr) (before behind : List Range) (k : ℕ) (found : Option Form) → AreWords r content →
     IsInstr instr
     → LieWithin r before → LieWithin (effect r content instr).registers behind → Reads r v → ReadsBehind (effect r content instr).registers v → 1 ≤ k → k < 32
     → is_register (destination instr) k ≡ true → exact_sum instr before ≡ found
-    → value 64 v (option_map_or (λ form. form) found (other_value behind k)) ≡ pos (word (effect r content instr).registers k)
+    → value v (option_map_or (λ form. form) found (other_value behind k)) ≡ pos (word (effect r content instr).registers k)
 by-sum r content v instr before behind k (Some form) are fits within after reads later some less here is =
     sum-exact r content v instr before k form are fits within reads some less here is
 by-sum r content v instr before behind k None are fits within after reads later some less here is =
@@ -252,13 +252,13 @@ by-sum r content v instr before behind k None are fits within after reads later 
     let x : ℕ = word (effect r content instr).registers k in
     by-single v s k x (is_single s) less (later k less) (single-value s x (after k less))
 
-pub behind-valued : (r : RegisterFile) (content : Content) (v : ℕ → ℕ) (instr : Instr) (before behind : List Range) (k : ℕ) → AreWords r content → IsInstr instr
+pub behind-valued : (r : RegisterFile) (content : Content) (v : Variable → ℕ) (instr : Instr) (before behind : List Range) (k : ℕ) → AreWords r content → IsInstr instr
     → LieWithin r before → LieWithin (effect r content instr).registers behind → Reads r v → ReadsBehind (effect r content instr).registers v → 1 ≤ k → k < 32
-    → value 64 v (behind_form instr before behind k) ≡ pos (word (effect r content instr).registers k)
+    → value v (behind_form instr before behind k) ≡ pos (word (effect r content instr).registers k)
 behind-valued r content v instr before behind k are fits within after reads later some less =
     elim (is_register (destination instr) k) as (λ b. is_register (destination instr) k ≡ b
-    → value 64 v (if b then option_map_or (λ form. form) (exact_sum instr before) (other_value behind k) else variable_form k) ≡ pos
+    → value v (if b then option_map_or (λ form. form) (exact_sum instr before) (other_value behind k) else before_form k) ≡ pos
     (word (effect r content instr).registers k)) [
       | true ↦ λ here. by-sum r content v instr before behind k (exact_sum instr before) are fits within after reads later some less here refl
-      | false ↦ λ here. value-variable 64 v k (omega (arith, less)) ∙ ap pos (reads k less ∙ sym (others-stay r content instr k here))
+      | false ↦ λ here. value-before v k less ∙ ap pos (reads k less ∙ sym (others-stay r content instr k here))
     ] refl
