@@ -6,13 +6,14 @@ use Rattle.std.specs.List.{range_with_len}
 use Rattle.model.specs.declared.entries.TermEntry.{TermEntry}
 use Rattle.model.specs.declared.ranges.Range.{Range}
 use Rattle.model.specs.Machine.ProgramMemory.{RegisterFile, read}
-use Rattle.model.specs.Acceptance.Measures.{Form, Measure, constant_form, difference_form, falls, greatest, greatest_term, least, least_term, least_value}
-use Rattle.model.specs.Acceptance.Measures.{measured, range_at, register_numbered, stays_below, substituted, sum_form, sum_of, times_form, variable_form}
+use Rattle.model.specs.Acceptance.Measures.{After, Before, Form, Measure, Variable, before_form, constant_form, difference_form, falls, greatest, greatest_term}
+use Rattle.model.specs.Acceptance.Measures.{least, least_term, least_value, measured, range_at, register_numbered, stays_below, substituted, sum_form, sum_of, sum_over}
+use Rattle.model.specs.Acceptance.Measures.{times_form}
 use Rattle.model.specs.Acceptance.Ranges.{range_of}
 
 -- a form of no variable
 record IsConstant (f : Form) : Type 0 where
-  none : (variable : ℕ) → f.coefficient variable ≡ pos 0
+  none : (variable : Variable) → f.coefficient variable ≡ pos 0
 
 sum_from : (f : ℕ → ℤ) → ((n : ℕ) → f n ≡ pos 0) → (start : ℤ) (ns : List ℕ) → fold (λ n m. n +ℤ m) start (map f ns) ≡ start
 sum_from f each start [] = refl
@@ -25,18 +26,20 @@ no_greatest n r none = ap (λ (z : ℤ). greatest_term z r) none ∙ zero-*ℤ (
 no_least : (n : ℤ) (r : Range) → n ≡ pos 0 → least_term n r ≡ pos 0
 no_least n r none = ap (λ (z : ℤ). least_term z r) none ∙ zero-*ℤ (pos r.low)
 
-greatest_is : (variables : ℕ) (f : Form) (range : ℕ → Range) → IsConstant f → greatest variables f range ≡ f.constant
+greatest_is : (f : Form) (range : Variable → Range) → IsConstant f → greatest f range ≡ f.constant
 unfolding greatest
-greatest_is variables f range is =
-    ap (λ (z : ℤ). f.constant +ℤ z) (sum_from (λ variable. greatest_term (f.coefficient variable) (range variable))
-    (λ n. no_greatest (f.coefficient n) (range n) (is.none n)) (pos 0) (range_with_len 0 variables))
+greatest_is f range is =
+    let term : Variable → ℤ = λ variable. greatest_term (f.coefficient variable) (range variable) in
+    let each : (variable : Variable) → term variable ≡ pos 0 = λ variable. no_greatest (f.coefficient variable) (range variable) (is.none variable) in
+    ap (λ (z : ℤ). f.constant +ℤ (z +ℤ sum_over (λ k. term (After k)))) (sum_from (λ k. term (Before k)) (λ k. each (Before k)) (pos 0) (range_with_len 0 32))
+    ∙ ap (λ (z : ℤ). f.constant +ℤ (pos 0 +ℤ z)) (sum_from (λ k. term (After k)) (λ k. each (After k)) (pos 0) (range_with_len 0 32))
     ∙ +ℤ_idr f.constant
 
-least_is : (variables : ℕ) (f : Form) (range : ℕ → Range) → IsConstant f → least variables f range ≡ f.constant
+least_is : (f : Form) (range : ℕ → Range) → IsConstant f → least f range ≡ f.constant
 unfolding least
-least_is variables f range is =
-    ap (λ (z : ℤ). f.constant +ℤ z) (sum_from (λ variable. least_term (f.coefficient variable) (range variable))
-    (λ n. no_least (f.coefficient n) (range n) (is.none n)) (pos 0) (range_with_len 0 variables))
+least_is f range is =
+    ap (λ (z : ℤ). f.constant +ℤ z) (sum_from (λ k. least_term (f.coefficient (Before k)) (range k))
+    (λ k. no_least (f.coefficient (Before k)) (range k) (is.none (Before k))) (pos 0) (range_with_len 0 32))
     ∙ +ℤ_idr f.constant
 
 constant_is : (n : ℤ) → IsConstant (constant_form n)
@@ -60,11 +63,11 @@ pub constant_falls : (from to : Measure) (value_of : ℕ → Form) (before behin
     falls from to value_of before behind ≡ int_lt to.constant from.constant
 unfolding falls
 constant_falls from to value_of before behind none_from none_to =
-    ap (λ (f : Form). int_lt (greatest 64 (difference_form f (substituted from variable_form)) (range_at before behind)) (pos 0))
+    ap (λ (f : Form). int_lt (greatest (difference_form f (substituted from before_form)) (range_at before behind)) (pos 0))
     (substituted_is to value_of none_to)
-    ∙ ap (λ (f : Form). int_lt (greatest 64 (difference_form (constant_form to.constant) f) (range_at before behind)) (pos 0))
-    (substituted_is from variable_form none_from)
-    ∙ ap (λ (z : ℤ). int_lt z (pos 0)) (greatest_is 64 (difference_form (constant_form to.constant) (constant_form from.constant)) (range_at before behind)
+    ∙ ap (λ (f : Form). int_lt (greatest (difference_form (constant_form to.constant) f) (range_at before behind)) (pos 0))
+    (substituted_is from before_form none_from)
+    ∙ ap (λ (z : ℤ). int_lt z (pos 0)) (greatest_is (difference_form (constant_form to.constant) (constant_form from.constant)) (range_at before behind)
     (difference_is to.constant from.constant))
     ∙ below_by_difference to.constant from.constant
 
@@ -72,13 +75,13 @@ pub constant_stays_below : (budget : ℕ) (to : Measure) (value_of : ℕ → For
     stays_below budget to value_of before behind ≡ int_le to.constant (pos budget)
 unfolding stays_below
 constant_stays_below budget to value_of before behind none =
-    ap (λ (f : Form). int_le (greatest 64 f (range_at before behind)) (pos budget)) (substituted_is to value_of none)
-    ∙ ap (λ (z : ℤ). int_le z (pos budget)) (greatest_is 64 (constant_form to.constant) (range_at before behind) (constant_is to.constant))
+    ap (λ (f : Form). int_le (greatest f (range_at before behind)) (pos budget)) (substituted_is to value_of none)
+    ∙ ap (λ (z : ℤ). int_le z (pos budget)) (greatest_is (constant_form to.constant) (range_at before behind) (constant_is to.constant))
 
 pub constant_least_value : (m : Measure) (ranges : List Range) → m.terms ≡ [] → least_value m ranges ≡ m.constant
 constant_least_value m ranges none =
-    ap (λ (f : Form). least 32 f (λ number. range_of ranges (register_numbered number))) (substituted_is m variable_form none)
-    ∙ least_is 32 (constant_form m.constant) (λ number. range_of ranges (register_numbered number)) (constant_is m.constant)
+    ap (λ (f : Form). least f (λ register. range_of ranges (register_numbered register))) (substituted_is m before_form none)
+    ∙ least_is (constant_form m.constant) (λ register. range_of ranges (register_numbered register)) (constant_is m.constant)
 
 pub constant_measured : (m : Measure) (r : RegisterFile) → m.terms ≡ [] → measured m r ≡ m.constant
 constant_measured m r none =
