@@ -1,3 +1,4 @@
 pub mod Loading
 pub mod Filling
 pub mod Limits
+pub mod Propositions

@@ -3,7 +3,7 @@
 ghost use Rattle.std.specs.Prelude.{◌≡◌, ◌+◌, ◌*◌, ◌%◌, ◌^◌, ◌<◌, ◌≤◌, IfSome, None, true, false, drop, map, take};
 ghost use Rattle.kernel_machine.specs.Setups.{state_in};
 ghost use Rattle.bootstrap.specs.Filling.{ArePlaces, page_filled, pages_filled};
-ghost use Rattle.bootstrap.specs.Limits.{ContentFits, IsLimited, ThreadFits};
+ghost use Rattle.bootstrap.specs.Limits.{ContentFits, ThreadFits};
 ghost use Rattle.bootstrap.specs.Loading.{all_performed, performed, placed, progress_of};
 ghost use Rattle.model.specs.Kernel.Outcomes.{GivesState};
 ghost use Rattle.model.specs.Images.BootCalls.{content_operation, program_operation};
@@ -12,8 +12,9 @@ ghost use Rattle.model.specs.Images.Fills.{frame_at, program_pages};
 ghost use Rattle.model.specs.Kernel.AddressSpaces.{page_size};
 ghost use Rattle.model.specs.Kernel.Setup.{fill};
 
+use crate::boot_images::BootImage;
 use crate::loading::Loader;
-use image_reading::{ContentRef, ImageRef, ThreadRef, frame_at};
+use image_reading::{ContentRef, ThreadRef, frame_at};
 use model::{BootFault, FrameEntry};
 use wellformed::{is_frame, is_root_table, type_at};
 
@@ -24,15 +25,14 @@ impl Loader {
     /// Fills frames with what the image lists for them.
     pub(crate) fn fill_contents(
         &mut self,
-        image: &ImageRef<'_>,
+        image: &BootImage<'_, '_>,
         places: &[u64],
     ) -> Result<(), BootFault>
-        requires limits { IsLimited image.now }
-        requires places { ArePlaces image.now image.now.header.objects places.now }
-        ensures outcome { GivesState (all_performed image.now.header.untypeds (progress_of self.old) (map (content_operation image.now) image.now.contents)) result (progress_of self.new) }
+        requires places { ArePlaces image.now.read.now image.now.read.now.header.objects places.now }
+        ensures outcome { GivesState (all_performed image.now.read.now.header.untypeds (progress_of self.old) (map (content_operation image.now.read.now) image.now.read.now.contents)) result (progress_of self.new) }
         ensures counted { self.new.calls ≡ self.old.calls }
     {
-        for content in image.contents() {
+        for content in image.read.contents() {
             self.fill_content(image, places, &content)?;
         }
         Ok(())
@@ -41,17 +41,17 @@ impl Loader {
     /// Fills one frame.
     fn fill_content(
         &mut self,
-        image: &ImageRef<'_>,
+        image: &BootImage<'_, '_>,
         places: &[u64],
         content: &ContentRef<'_>,
     ) -> Result<(), BootFault>
-        requires fits { ContentFits image.now.header content.now }
-        requires places { ArePlaces image.now image.now.header.objects places.now }
-        ensures outcome { GivesState (performed image.now.header.untypeds (progress_of self.old) (content_operation image.now content.now)) result (progress_of self.new) }
+        requires fits { ContentFits image.now.read.now.header content.now }
+        requires places { ArePlaces image.now.read.now image.now.read.now.header.objects places.now }
+        ensures outcome { GivesState (performed image.now.read.now.header.untypeds (progress_of self.old) (content_operation image.now.read.now content.now)) result (progress_of self.new) }
         ensures counted { self.new.calls ≡ self.old.calls }
     {
         let frame = content.header().frame;
-        if !is_frame(type_at(image, frame)) {
+        if !is_frame(type_at(image.read, frame)) {
             return Err(BootFault::Outside(frame));
         }
         self.fill(frame, places[frame as usize], content.bytes())
@@ -60,16 +60,15 @@ impl Loader {
     /// Puts the programs of the threads where they are mapped.
     pub(crate) fn fill_programs(
         &mut self,
-        image: &ImageRef<'_>,
+        image: &BootImage<'_, '_>,
         places: &[u64],
     ) -> Result<(), BootFault>
-        requires limits { IsLimited image.now }
-        requires places { ArePlaces image.now image.now.header.objects places.now }
-        ensures outcome { GivesState (all_performed image.now.header.untypeds (progress_of self.old) (map (program_operation image.now) (numbered_threads image.now))) result (progress_of self.new) }
+        requires places { ArePlaces image.now.read.now image.now.read.now.header.objects places.now }
+        ensures outcome { GivesState (all_performed image.now.read.now.header.untypeds (progress_of self.old) (map (program_operation image.now.read.now) (numbered_threads image.now.read.now))) result (progress_of self.new) }
         ensures counted { self.new.calls ≡ self.old.calls }
     {
         let mut number = 0;
-        for thread in image.threads() {
+        for thread in image.read.threads() {
             self.fill_program(image, places, number, &thread)?;
             number += 1;
         }
@@ -79,22 +78,21 @@ impl Loader {
     /// Puts one program where it is mapped, if it begins at a page under a root table.
     fn fill_program(
         &mut self,
-        image: &ImageRef<'_>,
+        image: &BootImage<'_, '_>,
         places: &[u64],
         number: u32,
         thread: &ThreadRef<'_>,
     ) -> Result<(), BootFault>
-        requires limits { IsLimited image.now }
-        requires fits { ThreadFits image.now.header thread.now }
-        requires places { ArePlaces image.now image.now.header.objects places.now }
-        ensures outcome { GivesState (performed image.now.header.untypeds (progress_of self.old) (program_operation image.now (record { number = number; thread = thread.now }))) result (progress_of self.new) }
+        requires fits { ThreadFits image.now.read.now.header thread.now }
+        requires places { ArePlaces image.now.read.now image.now.read.now.header.objects places.now }
+        ensures outcome { GivesState (performed image.now.read.now.header.untypeds (progress_of self.old) (program_operation image.now.read.now (record { number = number; thread = thread.now }))) result (progress_of self.new) }
         ensures counted { self.new.calls ≡ self.old.calls }
     {
         let header = thread.header();
         if header.base % PAGE != 0 {
             return Err(BootFault::Outside(number));
         }
-        if is_root_table(type_at(image, header.root)) {
+        if is_root_table(type_at(image.read, header.root)) {
             self.fill_pages(image, places, number, thread)
         } else {
             Err(BootFault::Outside(number))
@@ -104,15 +102,14 @@ impl Loader {
     /// Fills the pages of a program.
     fn fill_pages(
         &mut self,
-        image: &ImageRef<'_>,
+        image: &BootImage<'_, '_>,
         places: &[u64],
         number: u32,
         thread: &ThreadRef<'_>,
     ) -> Result<(), BootFault>
-        requires limits { IsLimited image.now }
-        requires fits { ThreadFits image.now.header thread.now }
-        requires places { ArePlaces image.now image.now.header.objects places.now }
-        ensures outcome { GivesState (placed number self.old.calls (pages_filled image.now thread.now (state_in self.old.machine) (program_pages thread.now))) result (progress_of self.new) }
+        requires fits { ThreadFits image.now.read.now.header thread.now }
+        requires places { ArePlaces image.now.read.now image.now.read.now.header.objects places.now }
+        ensures outcome { GivesState (placed number self.old.calls (pages_filled image.now.read.now thread.now (state_in self.old.machine) (program_pages thread.now))) result (progress_of self.new) }
         ensures counted { self.new.calls ≡ self.old.calls }
     {
         let pages = (4 * thread.header().words + (PAGE - 1)) / PAGE;
@@ -125,16 +122,15 @@ impl Loader {
     /// Fills one page of a program.
     fn fill_page(
         &mut self,
-        image: &ImageRef<'_>,
+        image: &BootImage<'_, '_>,
         places: &[u64],
         number: u32,
         thread: &ThreadRef<'_>,
         page: u32,
     ) -> Result<(), BootFault>
-        requires limits { IsLimited image.now }
-        requires places { ArePlaces image.now image.now.header.objects places.now }
+        requires places { ArePlaces image.now.read.now image.now.read.now.header.objects places.now }
         requires page { page ≤ 64 }
-        ensures outcome { GivesState (placed number self.old.calls (page_filled image.now thread.now (state_in self.old.machine) (thread.now.header.base + page * page_size))) result (progress_of self.new) }
+        ensures outcome { GivesState (placed number self.old.calls (page_filled image.now.read.now thread.now (state_in self.old.machine) (thread.now.header.base + page * page_size))) result (progress_of self.new) }
         ensures counted { self.new.calls ≡ self.old.calls }
     {
         let header = thread.header();
@@ -173,13 +169,12 @@ impl Loader {
 }
 
 /// The frame that the image maps at an address under a root table. None is mapped beyond the last address.
-fn frame_behind(image: &ImageRef<'_>, root: u32, address: u64) -> Option<FrameEntry>
-    requires { IsLimited image.now }
-    ensures value { result ≡ frame_at image.now root address }
-    ensures named { IfSome result (λ f. f.frame < image.now.header.objects) }
+fn frame_behind(image: &BootImage<'_, '_>, root: u32, address: u64) -> Option<FrameEntry>
+    ensures value { result ≡ frame_at image.now.read.now root address }
+    ensures named { IfSome result (λ f. f.frame < image.now.read.now.header.objects) }
 {
     match u32::try_from(address) {
-        Ok(address) => frame_at(image, root, address),
+        Ok(address) => frame_at(image.read, root, address),
         Err(_) => None,
     }
 }

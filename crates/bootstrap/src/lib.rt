@@ -2,6 +2,7 @@
 //! seL4 Reference Manual, "System Bootstrapping".
 #![tactic(auto)]
 
+mod boot_images;
 mod boot_slots;
 mod entry_addresses;
 mod fills;

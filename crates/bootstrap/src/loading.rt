@@ -2,19 +2,20 @@
 
 ghost use Rattle.std.specs.Prelude.{ℕ, ◌≡◌, ◌+◌, ◌-◌, ◌≤◌, ◌<◌, ◌^◌, ◌∷◌, ◌++◌, [], map, flat_map, length};
 ghost use Rattle.std.specs.List.{range_with_len};
-ghost use Rattle.bootstrap.specs.Limits.{CapabilityFits, FrameFits, InterruptFits, IsLimited, TableFits, ThreadFits};
+ghost use Rattle.bootstrap.specs.Limits.{CapabilityFits, FrameFits, InterruptFits, TableFits, ThreadFits};
 ghost use Rattle.bootstrap.specs.Loading.{called, first_thread_calls, progress_of, register_call};
 ghost use Rattle.model.specs.Kernel.Outcomes.{GivesState};
 ghost use Rattle.model.specs.Images.BootCalls.{capability_call, frame_calls, interrupt_call, loader_call, object_call, signal_calls, table_call, thread_calls};
 ghost use Rattle.model.specs.Images.Described.{numbered};
 ghost use Rattle.model.specs.Kernel.CallForms.{resume_label};
 
+use crate::boot_images::BootImage;
 use crate::boot_slots::{
     control_slot, frame_copy_slot, handler_slot, notification_copy_slot, original_slot,
     source_boot_slot,
 };
 use crate::entry_addresses::start_of;
-use image_reading::{ImageRef, ThreadRef};
+use image_reading::ThreadRef;
 use invoke::{
     CONFIGURE, COPY, GET_HANDLER, MAP_FRAME, MAP_TABLE, MINT, MOVE, RESUME, RETYPE,
     SET_NOTIFICATION, SET_PRIORITY, SET_REGISTER,
@@ -62,41 +63,38 @@ impl Loader {
     }
 
     /// Makes the objects, each in its untyped, after the ones before it.
-    pub(crate) fn make_objects(&mut self, image: &ImageRef<'_>) -> Result<(), BootFault>
-        requires limits { IsLimited image.now }
+    pub(crate) fn make_objects(&mut self, image: &BootImage<'_, '_>) -> Result<(), BootFault>
         requires room { self.old.calls ≤ 2 ^ 29 }
-        ensures outcome { GivesState (called (progress_of self.old) (map (object_call image.now) (range_with_len 0 image.now.header.objects))) result (progress_of self.new) }
+        ensures outcome { GivesState (called (progress_of self.old) (map (object_call image.now.read.now) (range_with_len 0 image.now.read.now.header.objects))) result (progress_of self.new) }
         ensures counted { self.new.calls ≤ self.old.calls + 4096 }
     {
-        for number in 0..image.header().objects {
+        for number in 0..image.read.header().objects {
             self.make_object(image, number)?;
         }
         Ok(())
     }
 
     /// Makes one object.
-    fn make_object(&mut self, image: &ImageRef<'_>, number: u32) -> Result<(), BootFault>
-        requires limits { IsLimited image.now }
-        requires number { number < image.now.header.objects }
+    fn make_object(&mut self, image: &BootImage<'_, '_>, number: u32) -> Result<(), BootFault>
+        requires number { number < image.now.read.now.header.objects }
         requires room { self.old.calls ≤ 2 ^ 30 }
-        ensures outcome { GivesState (called (progress_of self.old) (object_call image.now number ∷ [])) result (progress_of self.new) }
+        ensures outcome { GivesState (called (progress_of self.old) (object_call image.now.read.now number ∷ [])) result (progress_of self.new) }
         ensures counted { self.new.calls ≤ self.old.calls + 1 }
     {
-        let object = image.object(number);
+        let object = image.read.object(number);
         let slot = original_slot(image, number);
         let words = [object.kind, object.size, 0, 0, slot, 1];
         self.call(object.untyped, RETYPE, &words)
     }
 
     /// Takes the handler of each interrupt's line.
-    pub(crate) fn take_handlers(&mut self, image: &ImageRef<'_>) -> Result<(), BootFault>
-        requires limits { IsLimited image.now }
+    pub(crate) fn take_handlers(&mut self, image: &BootImage<'_, '_>) -> Result<(), BootFault>
         requires room { self.old.calls ≤ 2 ^ 29 }
-        ensures outcome { GivesState (called (progress_of self.old) (map (interrupt_call image.now) (numbered image.now.interrupts))) result (progress_of self.new) }
+        ensures outcome { GivesState (called (progress_of self.old) (map (interrupt_call image.now.read.now) (numbered image.now.read.now.interrupts))) result (progress_of self.new) }
         ensures counted { self.new.calls ≤ self.old.calls + 64 }
     {
-        for number in 0..image.header().interrupts {
-            let entry = image.interrupt(number);
+        for number in 0..image.read.header().interrupts {
+            let entry = image.read.interrupt(number);
             self.take_handler(image, number, entry)?;
         }
         Ok(())
@@ -105,14 +103,13 @@ impl Loader {
     /// Takes the handler of one line.
     fn take_handler(
         &mut self,
-        image: &ImageRef<'_>,
+        image: &BootImage<'_, '_>,
         number: u32,
         entry: InterruptEntry,
     ) -> Result<(), BootFault>
-        requires limits { IsLimited image.now }
-        requires number { number < image.now.header.interrupts }
+        requires number { number < image.now.read.now.header.interrupts }
         requires room { self.old.calls ≤ 2 ^ 30 }
-        ensures outcome { GivesState (called (progress_of self.old) (interrupt_call image.now (number, entry) ∷ [])) result (progress_of self.new) }
+        ensures outcome { GivesState (called (progress_of self.old) (interrupt_call image.now.read.now (number, entry) ∷ [])) result (progress_of self.new) }
         ensures counted { self.new.calls ≤ self.old.calls + 1 }
     {
         let words = [entry.line, handler_slot(image, number), DEPTH];
@@ -120,14 +117,13 @@ impl Loader {
     }
 
     /// Puts the listed capabilities into their slots.
-    pub(crate) fn put_capabilities(&mut self, image: &ImageRef<'_>) -> Result<(), BootFault>
-        requires limits { IsLimited image.now }
+    pub(crate) fn put_capabilities(&mut self, image: &BootImage<'_, '_>) -> Result<(), BootFault>
         requires room { self.old.calls ≤ 2 ^ 29 }
-        ensures outcome { GivesState (called (progress_of self.old) (map (capability_call image.now) image.now.capabilities)) result (progress_of self.new) }
+        ensures outcome { GivesState (called (progress_of self.old) (map (capability_call image.now.read.now) image.now.read.now.capabilities)) result (progress_of self.new) }
         ensures counted { self.new.calls ≤ self.old.calls + 16384 }
     {
-        for number in 0..image.header().capabilities {
-            let entry = image.capability(number);
+        for number in 0..image.read.header().capabilities {
+            let entry = image.read.capability(number);
             self.put_capability(image, entry)?;
         }
         Ok(())
@@ -136,19 +132,18 @@ impl Loader {
     /// Puts one capability into its slot: a copy with the listed rights and badge or guard word, or untyped memory itself.
     fn put_capability(
         &mut self,
-        image: &ImageRef<'_>,
+        image: &BootImage<'_, '_>,
         entry: CapabilityEntry,
     ) -> Result<(), BootFault>
-        requires limits { IsLimited image.now }
-        requires fits { CapabilityFits image.now.header entry }
+        requires fits { CapabilityFits image.now.read.now.header entry }
         requires room { self.old.calls ≤ 2 ^ 30 }
-        ensures outcome { GivesState (called (progress_of self.old) (capability_call image.now entry ∷ [])) result (progress_of self.new) }
+        ensures outcome { GivesState (called (progress_of self.old) (capability_call image.now.read.now entry ∷ [])) result (progress_of self.new) }
         ensures counted { self.new.calls ≤ self.old.calls + 1 }
     {
-        let cnode = image.object(entry.cnode);
+        let cnode = image.read.object(entry.cnode);
         let slot = original_slot(image, entry.cnode);
         let source = source_boot_slot(image, entry.source);
-        if is_untyped(source_type(image, entry.source)) {
+        if is_untyped(source_type(image.read, entry.source)) {
             let words = [entry.index, cnode.size, source, DEPTH];
             self.call(slot, MOVE, &words)
         } else {
@@ -165,25 +160,23 @@ impl Loader {
     }
 
     /// Maps the page tables.
-    pub(crate) fn map_tables(&mut self, image: &ImageRef<'_>) -> Result<(), BootFault>
-        requires limits { IsLimited image.now }
+    pub(crate) fn map_tables(&mut self, image: &BootImage<'_, '_>) -> Result<(), BootFault>
         requires room { self.old.calls ≤ 2 ^ 29 }
-        ensures outcome { GivesState (called (progress_of self.old) (map (table_call image.now) image.now.tables)) result (progress_of self.new) }
+        ensures outcome { GivesState (called (progress_of self.old) (map (table_call image.now.read.now) image.now.read.now.tables)) result (progress_of self.new) }
         ensures counted { self.new.calls ≤ self.old.calls + 1024 }
     {
-        for number in 0..image.header().tables {
-            let entry = image.table(number);
+        for number in 0..image.read.header().tables {
+            let entry = image.read.table(number);
             self.map_table(image, entry)?;
         }
         Ok(())
     }
 
     /// Maps one page table.
-    fn map_table(&mut self, image: &ImageRef<'_>, entry: TableEntry) -> Result<(), BootFault>
-        requires limits { IsLimited image.now }
-        requires fits { TableFits image.now.header entry }
+    fn map_table(&mut self, image: &BootImage<'_, '_>, entry: TableEntry) -> Result<(), BootFault>
+        requires fits { TableFits image.now.read.now.header entry }
         requires room { self.old.calls ≤ 2 ^ 30 }
-        ensures outcome { GivesState (called (progress_of self.old) (table_call image.now entry ∷ [])) result (progress_of self.new) }
+        ensures outcome { GivesState (called (progress_of self.old) (table_call image.now.read.now entry ∷ [])) result (progress_of self.new) }
         ensures counted { self.new.calls ≤ self.old.calls + 1 }
     {
         let words = [original_slot(image, entry.root), DEPTH, entry.address];
@@ -191,14 +184,13 @@ impl Loader {
     }
 
     /// Maps the frames, each by a copy of its capability.
-    pub(crate) fn map_frames(&mut self, image: &ImageRef<'_>) -> Result<(), BootFault>
-        requires limits { IsLimited image.now }
+    pub(crate) fn map_frames(&mut self, image: &BootImage<'_, '_>) -> Result<(), BootFault>
         requires room { self.old.calls ≤ 2 ^ 29 }
-        ensures outcome { GivesState (called (progress_of self.old) (flat_map (frame_calls image.now) (numbered image.now.frames))) result (progress_of self.new) }
+        ensures outcome { GivesState (called (progress_of self.old) (flat_map (frame_calls image.now.read.now) (numbered image.now.read.now.frames))) result (progress_of self.new) }
         ensures counted { self.new.calls ≤ self.old.calls + 8192 }
     {
-        for number in 0..image.header().frames {
-            let entry = image.frame(number);
+        for number in 0..image.read.header().frames {
+            let entry = image.read.frame(number);
             self.map_frame(image, number, entry)?;
         }
         Ok(())
@@ -207,15 +199,14 @@ impl Loader {
     /// Copies the capability of one frame, and maps it by the copy.
     fn map_frame(
         &mut self,
-        image: &ImageRef<'_>,
+        image: &BootImage<'_, '_>,
         number: u32,
         entry: FrameEntry,
     ) -> Result<(), BootFault>
-        requires limits { IsLimited image.now }
-        requires fits { FrameFits image.now.header entry }
-        requires number { number < image.now.header.frames }
+        requires fits { FrameFits image.now.read.now.header entry }
+        requires number { number < image.now.read.now.header.frames }
         requires room { self.old.calls ≤ 2 ^ 30 - 1 }
-        ensures outcome { GivesState (called (progress_of self.old) (frame_calls image.now (number, entry))) result (progress_of self.new) }
+        ensures outcome { GivesState (called (progress_of self.old) (frame_calls image.now.read.now (number, entry))) result (progress_of self.new) }
         ensures counted { self.new.calls ≤ self.old.calls + 2 }
     {
         let copy = frame_copy_slot(image, number);
@@ -230,14 +221,13 @@ impl Loader {
     }
 
     /// Binds each interrupt's line to its notification, by a copy with the badge.
-    pub(crate) fn bind_interrupts(&mut self, image: &ImageRef<'_>) -> Result<(), BootFault>
-        requires limits { IsLimited image.now }
+    pub(crate) fn bind_interrupts(&mut self, image: &BootImage<'_, '_>) -> Result<(), BootFault>
         requires room { self.old.calls ≤ 2 ^ 29 }
-        ensures outcome { GivesState (called (progress_of self.old) (flat_map (signal_calls image.now) (numbered image.now.interrupts))) result (progress_of self.new) }
+        ensures outcome { GivesState (called (progress_of self.old) (flat_map (signal_calls image.now.read.now) (numbered image.now.read.now.interrupts))) result (progress_of self.new) }
         ensures counted { self.new.calls ≤ self.old.calls + 128 }
     {
-        for number in 0..image.header().interrupts {
-            let entry = image.interrupt(number);
+        for number in 0..image.read.header().interrupts {
+            let entry = image.read.interrupt(number);
             self.bind_interrupt(image, number, entry)?;
         }
         Ok(())
@@ -246,15 +236,14 @@ impl Loader {
     /// Makes the copy that an interrupt signals by, and binds the line to it.
     fn bind_interrupt(
         &mut self,
-        image: &ImageRef<'_>,
+        image: &BootImage<'_, '_>,
         number: u32,
         entry: InterruptEntry,
     ) -> Result<(), BootFault>
-        requires limits { IsLimited image.now }
-        requires fits { InterruptFits image.now.header entry }
-        requires number { number < image.now.header.interrupts }
+        requires fits { InterruptFits image.now.read.now.header entry }
+        requires number { number < image.now.read.now.header.interrupts }
         requires room { self.old.calls ≤ 2 ^ 30 - 1 }
-        ensures outcome { GivesState (called (progress_of self.old) (signal_calls image.now (number, entry))) result (progress_of self.new) }
+        ensures outcome { GivesState (called (progress_of self.old) (signal_calls image.now.read.now (number, entry))) result (progress_of self.new) }
         ensures counted { self.new.calls ≤ self.old.calls + 2 }
     {
         let copy = notification_copy_slot(image, number);
@@ -276,13 +265,12 @@ impl Loader {
     }
 
     /// Sets the threads up and lets them run, in the image's order.
-    pub(crate) fn start_threads(&mut self, image: &ImageRef<'_>) -> Result<(), BootFault>
-        requires limits { IsLimited image.now }
+    pub(crate) fn start_threads(&mut self, image: &BootImage<'_, '_>) -> Result<(), BootFault>
         requires room { self.old.calls ≤ 2 ^ 29 }
-        ensures outcome { GivesState (called (progress_of self.old) (flat_map (thread_calls image.now) image.now.threads)) result (progress_of self.new) }
+        ensures outcome { GivesState (called (progress_of self.old) (flat_map (thread_calls image.now.read.now) image.now.read.now.threads)) result (progress_of self.new) }
         ensures counted { self.new.calls ≤ self.old.calls + 2240 }
     {
-        for thread in image.threads() {
+        for thread in image.read.threads() {
             self.start_thread(image, &thread)?;
         }
         Ok(())
@@ -291,13 +279,12 @@ impl Loader {
     /// Gives a thread its spaces, its priority and its registers, and lets it run.
     fn start_thread(
         &mut self,
-        image: &ImageRef<'_>,
+        image: &BootImage<'_, '_>,
         thread: &ThreadRef<'_>,
     ) -> Result<(), BootFault>
-        requires limits { IsLimited image.now }
-        requires fits { ThreadFits image.now.header thread.now }
+        requires fits { ThreadFits image.now.read.now.header thread.now }
         requires room { self.old.calls ≤ 2 ^ 30 - 40 }
-        ensures outcome { GivesState (called (progress_of self.old) (thread_calls image.now thread.now)) result (progress_of self.new) }
+        ensures outcome { GivesState (called (progress_of self.old) (thread_calls image.now.read.now thread.now)) result (progress_of self.new) }
         ensures counted { self.new.calls ≤ self.old.calls + 35 }
     {
         let header = thread.header();

@@ -2,7 +2,6 @@
 
 ghost use Rattle.std.specs.Prelude.{◌≡◌, ◌+◌, ◌^◌, ◌≤◌, ◌⊎◌, IfOk, IfErr, Ok, Err, map, true};
 ghost use Rattle.bootstrap.specs.Filling.{ArePlaces};
-ghost use Rattle.bootstrap.specs.Limits.{IsLimited};
 ghost use Rattle.bootstrap.specs.Loading.{all_performed, called, performed, placed, progress_of};
 ghost use Rattle.kernel_machine.specs.Setups.{state_in};
 ghost use Rattle.model.specs.Kernel.Outcomes.{GivesState};
@@ -15,13 +14,14 @@ ghost use Rattle.model.specs.Images.Places.{control_slot};
 ghost use Rattle.model.specs.declared.boot_faults.BootFault.TheVariants.{OutOfMemory};
 ghost use Rattle.model.specs.Kernel.Setup.{put_untyped};
 
+use crate::boot_images::BootImage;
 use crate::boot_slots::control_slot;
 use crate::loading::Loader;
 use crate::object_places::places_of;
 use crate::untyped_places::misplaced;
 use image_reading::ImageRef;
 use kernel_machine::Machine;
-use model::{BootFault, ImageHeader, UntypedEntry};
+use model::{BootFault, UntypedEntry};
 use std::alloc::Global;
 
 /// Loads an image into a new machine by kernel calls alone.
@@ -37,8 +37,9 @@ pub fn load_unverified(alloc: Global, image: &ImageRef<'_>) -> Result<Machine, B
     // A well-formed image is loaded, if memory is not refused.
     ensures formed { whole_image.fits image.now ≡ true → IsWellFormed image.now → IfErr result (λ fault. fault ≡ OutOfMemory) }
 {
-    let header = limited_header(image);
-    if let Some(number) = misplaced(image) {
+    let header = image.header();
+    let boot_image = BootImage { read: image };
+    if let Some(number) = misplaced(&boot_image) {
         return Err(BootFault::Outside(number));
     }
     let Ok(places) = places_of(alloc, image) else {
@@ -48,25 +49,16 @@ pub fn load_unverified(alloc: Global, image: &ImageRef<'_>) -> Result<Machine, B
         return Err(BootFault::OutOfMemory);
     };
     let mut loader = Loader { machine, calls: 0 };
-    loader.load(image, &places)?;
+    loader.load(&boot_image, &places)?;
     Ok(loader.machine)
-}
-
-/// The header of an image. What is read keeps to its limits.
-fn limited_header(image: &ImageRef<'_>) -> ImageHeader
-    ensures value { result ≡ image.now.header }
-    ensures limits { IsLimited image.now }
-{
-    image.header()
 }
 
 impl Loader {
     /// All that the loader does, in its order.
-    fn load(&mut self, image: &ImageRef<'_>, places: &[u64]) -> Result<(), BootFault>
-        requires limits { IsLimited image.now }
-        requires places { ArePlaces image.now image.now.header.objects places.now }
+    fn load(&mut self, image: &BootImage<'_, '_>, places: &[u64]) -> Result<(), BootFault>
+        requires places { ArePlaces image.now.read.now image.now.read.now.header.objects places.now }
         requires first { self.old.calls ≡ 0 }
-        ensures { GivesState (all_performed image.now.header.untypeds (progress_of self.old) (operations image.now)) result (progress_of self.new) }
+        ensures { GivesState (all_performed image.now.read.now.header.untypeds (progress_of self.old) (operations image.now.read.now)) result (progress_of self.new) }
     {
         self.put_untypeds(image)?;
         self.put_control(image)?;
@@ -77,13 +69,12 @@ impl Loader {
     }
 
     /// Puts the untyped memory into its boot slots.
-    fn put_untypeds(&mut self, image: &ImageRef<'_>) -> Result<(), BootFault>
-        requires limits { IsLimited image.now }
-        ensures outcome { GivesState (all_performed image.now.header.untypeds (progress_of self.old) (map (λ u. PutsUntyped u.0 u.1) (numbered image.now.untypeds))) result (progress_of self.new) }
+    fn put_untypeds(&mut self, image: &BootImage<'_, '_>) -> Result<(), BootFault>
+        ensures outcome { GivesState (all_performed image.now.read.now.header.untypeds (progress_of self.old) (map (λ u. PutsUntyped u.0 u.1) (numbered image.now.read.now.untypeds))) result (progress_of self.new) }
         ensures counted { self.new.calls ≡ self.old.calls }
     {
-        for number in 0..image.header().untypeds {
-            let entry = image.untyped(number);
+        for number in 0..image.read.header().untypeds {
+            let entry = image.read.untyped(number);
             self.put_untyped(number, entry)?;
         }
         Ok(())
@@ -103,23 +94,21 @@ impl Loader {
     }
 
     /// Puts interrupt control into its boot slot.
-    fn put_control(&mut self, image: &ImageRef<'_>) -> Result<(), BootFault>
-        requires limits { IsLimited image.now }
-        ensures outcome { GivesState (performed image.now.header.untypeds (progress_of self.old) (PutsControl (control_slot image.now))) result (progress_of self.new) }
+    fn put_control(&mut self, image: &BootImage<'_, '_>) -> Result<(), BootFault>
+        ensures outcome { GivesState (performed image.now.read.now.header.untypeds (progress_of self.old) (PutsControl (control_slot image.now.read.now))) result (progress_of self.new) }
         ensures counted { self.new.calls ≡ self.old.calls }
     {
         if self.machine.control(control_slot(image)) {
             Ok(())
         } else {
-            Err(BootFault::Outside(image.header().untypeds))
+            Err(BootFault::Outside(image.read.header().untypeds))
         }
     }
 
     /// The calls before frames are filled.
-    fn make_first_calls(&mut self, image: &ImageRef<'_>) -> Result<(), BootFault>
-        requires limits { IsLimited image.now }
+    fn make_first_calls(&mut self, image: &BootImage<'_, '_>) -> Result<(), BootFault>
         requires room { self.old.calls ≡ 0 }
-        ensures outcome { GivesState (called (progress_of self.old) (first_calls image.now)) result (progress_of self.new) }
+        ensures outcome { GivesState (called (progress_of self.old) (first_calls image.now.read.now)) result (progress_of self.new) }
         ensures counted { self.new.calls ≤ self.old.calls + 2 ^ 15 }
     {
         self.make_objects(image)?;
@@ -130,10 +119,9 @@ impl Loader {
     }
 
     /// The calls after that.
-    fn make_last_calls(&mut self, image: &ImageRef<'_>) -> Result<(), BootFault>
-        requires limits { IsLimited image.now }
+    fn make_last_calls(&mut self, image: &BootImage<'_, '_>) -> Result<(), BootFault>
         requires room { self.old.calls ≤ 2 ^ 16 }
-        ensures { GivesState (called (progress_of self.old) (last_calls image.now)) result (progress_of self.new) }
+        ensures { GivesState (called (progress_of self.old) (last_calls image.now.read.now)) result (progress_of self.new) }
     {
         self.bind_interrupts(image)?;
         self.start_threads(image)

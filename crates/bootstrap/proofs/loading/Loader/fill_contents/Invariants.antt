@@ -8,8 +8,8 @@ use Rattle.bootstrap.proofs.loading.Loader.fill_contents.Given as goal
 
 abbrev pub invariant-loop-content : goal.invariant-loop-content
 invariant-loop-content l = record {
-  same : all_performed l.image.header.untypeds (progress_of l.fn.self) (map (content_operation l.image) l.image.contents)
-      ≡ all_performed l.image.header.untypeds (progress_of l.self) (map (content_operation l.image) l.content-iterator);
+  same : all_performed l.image.read.now.header.untypeds (progress_of l.fn.self) (map (content_operation l.image.read.now) l.image.read.now.contents)
+      ≡ all_performed l.image.read.now.header.untypeds (progress_of l.self) (map (content_operation l.image.read.now) l.content-iterator);
   calls : l.self.calls ≡ l.fn.self.calls;
-  fits : AllByRecursion (ContentFits l.image.header) l.content-iterator;
+  fits : AllByRecursion (ContentFits l.image.read.now.header) l.content-iterator;
 }

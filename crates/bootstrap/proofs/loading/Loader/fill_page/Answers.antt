@@ -8,7 +8,7 @@ use Rattle.bootstrap.proofs.loading.Loader.fill_page.Goals as goal
 pub returns-in-Some-clause-outcome : goal.returns-in-Some-clause-outcome
 returns-in-Some-clause-outcome c =
     let f = c.in-Some.frame in
-    page-leaves c.args.image.now c.args.thread.now (state_in c.args.self.now.machine) c.args.page f c.from.result c.from-2.result
+    page-leaves c.args.image.now.read.now c.args.thread.now (state_in c.args.self.now.machine) c.args.page f c.from.result c.from-2.result
     (slice_index c.args.places.now f.frame) c.program.result.now
     c.page_of-bytes.result.now c.header-header.result c.args.number c.args.self.now.calls c.fill.result (progress_of c.fill.new.self) c.header-header.ensures
     c.from.ensures c.from-2.ensures

@@ -8,7 +8,7 @@ use Rattle.bootstrap.proofs.loading.Loader.fill_pages.Given as goal
 
 abbrev pub invariant-loop-page : goal.invariant-loop-page
 invariant-loop-page l = record {
-  same : placed l.fn.number l.fn.self.calls (pages_filled l.image l.thread (state_in l.fn.self.machine) (program_pages l.thread))
-      ≡ placed l.fn.number l.self.calls (pages_filled l.image l.thread (state_in l.self.machine) (pages_from l.thread l.page));
+  same : placed l.fn.number l.fn.self.calls (pages_filled l.image.read.now l.thread (state_in l.fn.self.machine) (program_pages l.thread))
+      ≡ placed l.fn.number l.self.calls (pages_filled l.image.read.now l.thread (state_in l.self.machine) (pages_from l.thread l.page));
   calls : l.self.calls ≡ l.fn.self.calls;
 }

@@ -11,7 +11,7 @@ use Rattle.bootstrap.proofs.loading.Loader.fill_program.Goals as goal
 
 pub returns-then-is_root_table-clause-outcome : goal.returns-then-is_root_table-clause-outcome
 returns-then-is_root_table-clause-outcome c =
-    let image = c.args.image.now in
+    let image = c.args.image.now.read.now in
     let t = c.args.thread.now in
     let none : t.header.base % page_size ≡ 0 = ap (λ h. h.base % page_size) (sym c.header-header.ensures) ∙ c.if-header-ne0.false in
     let aligned : (t.header.base % page_size == 0) ≡ true = elim (eqb_tells (t.header.base % page_size) 0)

@@ -12,11 +12,11 @@ use Rattle.bootstrap.proofs.loading.Loader.fill_programs.Goals as goal
 
 pub fill_program-requires-clause-fits : goal.fill_program-requires-clause-fits
 fill_program-requires-clause-fits c =
-    (subst (λ (ts : List Thread). AllByRecursion (ThreadFits c.args.image.now.header) ts) c.in-Some.ensures.steps c.loop-thread.invariant.fits).0
+    (subst (λ (ts : List Thread). AllByRecursion (ThreadFits c.args.image.now.read.now.header) ts) c.in-Some.ensures.steps c.loop-thread.invariant.fits).0
 
 pub returns-in_err-fill_program-clause-outcome : goal.returns-in_err-fill_program-clause-outcome
 returns-in_err-fill_program-clause-outcome c =
-    let image = c.args.image.now in
+    let image = c.args.image.now.read.now in
     let n = c.loop-thread.number in
     let now = progress_of c.loop-thread.self in
     let p = err_from_is_err_and c.from_residual.result c.from_residual.ensures.1 in
@@ -27,7 +27,7 @@ returns-in_err-fill_program-clause-outcome c =
 
 pub loop-thread-preserved : goal.loop-thread-preserved
 loop-thread-preserved c =
-    let image = c.args.image.now in
+    let image = c.args.image.now.read.now in
     let n = c.loop-thread.number in
     let now = progress_of c.loop-thread.self in
     record {
@@ -37,12 +37,12 @@ loop-thread-preserved c =
           c.in_ok-fill_program.ensures.outcome;
       calls = c.fill_program.ensures.counted ∙ c.loop-thread.invariant.calls;
       few = omega (arith, ap length c.in-Some.ensures.steps, c.loop-thread.invariant.few);
-      fits = (subst (λ (ts : List Thread). AllByRecursion (ThreadFits c.args.image.now.header) ts) c.in-Some.ensures.steps c.loop-thread.invariant.fits).1;
+      fits = (subst (λ (ts : List Thread). AllByRecursion (ThreadFits c.args.image.now.read.now.header) ts) c.in-Some.ensures.steps c.loop-thread.invariant.fits).1;
     }
 
 pub returns-clause-outcome : goal.returns-clause-outcome
 returns-clause-outcome c =
-    let image = c.args.image.now in
+    let image = c.args.image.now.read.now in
     let n = c.loop-thread.number in
     let now = progress_of c.loop-thread.self in
     c.loop-thread.invariant.same ∙ ap (λ ts. all_performed image.header.untypeds now (programs_from image n ts)) c.in-None.ensures.steps.0

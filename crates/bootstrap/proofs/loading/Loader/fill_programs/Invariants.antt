@@ -8,9 +8,9 @@ use Rattle.bootstrap.proofs.loading.Loader.fill_programs.Given as goal
 
 abbrev pub invariant-loop-thread : goal.invariant-loop-thread
 invariant-loop-thread l = record {
-  same : all_performed l.image.header.untypeds (progress_of l.fn.self) (programs_from l.image 0 l.image.threads)
-      ≡ all_performed l.image.header.untypeds (progress_of l.self) (programs_from l.image l.number l.thread-iterator);
+  same : all_performed l.image.read.now.header.untypeds (progress_of l.fn.self) (programs_from l.image.read.now 0 l.image.read.now.threads)
+      ≡ all_performed l.image.read.now.header.untypeds (progress_of l.self) (programs_from l.image.read.now l.number l.thread-iterator);
   calls : l.self.calls ≡ l.fn.self.calls;
   few : l.number + length l.thread-iterator ≤ 64;
-  fits : AllByRecursion (ThreadFits l.image.header) l.thread-iterator;
+  fits : AllByRecursion (ThreadFits l.image.read.now.header) l.thread-iterator;
 }

@@ -14,7 +14,7 @@ use Rattle.bootstrap.proofs.loading.Loader.load.Goals as goal
 pub returns-in_err-put_untypeds : goal.returns-in_err-put_untypeds
 unfolding operations
 returns-in_err-put_untypeds c =
-    let image = c.args.image.now in
+    let image = c.args.image.now.read.now in
     let u = image.header.untypeds in
     let m1 : List Operation = map (λ u. PutsUntyped u.0 u.1) (numbered image.untypeds) in
     let first : List Operation = map Calls (first_calls image) in
@@ -30,7 +30,7 @@ returns-in_err-put_untypeds c =
 pub returns-in_err-put_control : goal.returns-in_err-put_control
 unfolding operations
 returns-in_err-put_control c =
-    let image = c.args.image.now in
+    let image = c.args.image.now.read.now in
     let u = image.header.untypeds in
     let m1 : List Operation = map (λ u. PutsUntyped u.0 u.1) (numbered image.untypeds) in
     let first : List Operation = map Calls (first_calls image) in
@@ -50,7 +50,7 @@ returns-in_err-put_control c =
 pub returns-in_err-make_first_calls : goal.returns-in_err-make_first_calls
 unfolding operations
 returns-in_err-make_first_calls c =
-    let image = c.args.image.now in
+    let image = c.args.image.now.read.now in
     let u = image.header.untypeds in
     let m1 : List Operation = map (λ u. PutsUntyped u.0 u.1) (numbered image.untypeds) in
     let first : List Operation = map Calls (first_calls image) in
@@ -73,7 +73,7 @@ returns-in_err-make_first_calls c =
 pub returns-in_err-fill_contents : goal.returns-in_err-fill_contents
 unfolding operations
 returns-in_err-fill_contents c =
-    let image = c.args.image.now in
+    let image = c.args.image.now.read.now in
     let u = image.header.untypeds in
     let m1 : List Operation = map (λ u. PutsUntyped u.0 u.1) (numbered image.untypeds) in
     let first : List Operation = map Calls (first_calls image) in
@@ -97,7 +97,7 @@ returns-in_err-fill_contents c =
 pub returns-in_err-fill_programs : goal.returns-in_err-fill_programs
 unfolding operations
 returns-in_err-fill_programs c =
-    let image = c.args.image.now in
+    let image = c.args.image.now.read.now in
     let u = image.header.untypeds in
     let m1 : List Operation = map (λ u. PutsUntyped u.0 u.1) (numbered image.untypeds) in
     let first : List Operation = map Calls (first_calls image) in
@@ -122,7 +122,7 @@ returns-in_err-fill_programs c =
 pub returns : goal.returns
 unfolding operations
 returns c =
-    let image = c.args.image.now in
+    let image = c.args.image.now.read.now in
     let u = image.header.untypeds in
     let m1 : List Operation = map (λ u. PutsUntyped u.0 u.1) (numbered image.untypeds) in
     let first : List Operation = map Calls (first_calls image) in

@@ -11,7 +11,7 @@ use Rattle.bootstrap.proofs.loading.Loader.make_first_calls.Goals as goal
 
 pub returns-in_err-make_objects-clause-outcome : goal.returns-in_err-make_objects-clause-outcome
 returns-in_err-make_objects-clause-outcome c =
-    let image = c.args.image.now in
+    let image = c.args.image.now.read.now in
     let m1 : List LoaderCall = map (object_call image) (range_with_len 0 image.header.objects) in
     let m2 : List LoaderCall = map (interrupt_call image) (numbered image.interrupts) in
     let m3 : List LoaderCall = map (capability_call image) image.capabilities in
@@ -24,7 +24,7 @@ returns-in_err-make_objects-clause-outcome c =
 
 pub returns-in_err-take_handlers-clause-outcome : goal.returns-in_err-take_handlers-clause-outcome
 returns-in_err-take_handlers-clause-outcome c =
-    let image = c.args.image.now in
+    let image = c.args.image.now.read.now in
     let m1 : List LoaderCall = map (object_call image) (range_with_len 0 image.header.objects) in
     let m2 : List LoaderCall = map (interrupt_call image) (numbered image.interrupts) in
     let m3 : List LoaderCall = map (capability_call image) image.capabilities in
@@ -39,7 +39,7 @@ returns-in_err-take_handlers-clause-outcome c =
 
 pub returns-in_err-put_capabilities-clause-outcome : goal.returns-in_err-put_capabilities-clause-outcome
 returns-in_err-put_capabilities-clause-outcome c =
-    let image = c.args.image.now in
+    let image = c.args.image.now.read.now in
     let m1 : List LoaderCall = map (object_call image) (range_with_len 0 image.header.objects) in
     let m2 : List LoaderCall = map (interrupt_call image) (numbered image.interrupts) in
     let m3 : List LoaderCall = map (capability_call image) image.capabilities in
@@ -56,7 +56,7 @@ returns-in_err-put_capabilities-clause-outcome c =
 
 pub returns-in_err-map_tables-clause-outcome : goal.returns-in_err-map_tables-clause-outcome
 returns-in_err-map_tables-clause-outcome c =
-    let image = c.args.image.now in
+    let image = c.args.image.now.read.now in
     let m1 : List LoaderCall = map (object_call image) (range_with_len 0 image.header.objects) in
     let m2 : List LoaderCall = map (interrupt_call image) (numbered image.interrupts) in
     let m3 : List LoaderCall = map (capability_call image) image.capabilities in
@@ -74,7 +74,7 @@ returns-in_err-map_tables-clause-outcome c =
 
 pub returns-clause-outcome : goal.returns-clause-outcome
 returns-clause-outcome c =
-    let image = c.args.image.now in
+    let image = c.args.image.now.read.now in
     let m1 : List LoaderCall = map (object_call image) (range_with_len 0 image.header.objects) in
     let m2 : List LoaderCall = map (interrupt_call image) (numbered image.interrupts) in
     let m3 : List LoaderCall = map (capability_call image) image.capabilities in

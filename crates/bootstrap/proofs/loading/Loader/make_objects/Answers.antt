@@ -10,7 +10,7 @@ use Rattle.bootstrap.proofs.loading.Loader.make_objects.Goals as goal
 
 pub returns-in_err-make_object-clause-outcome : goal.returns-in_err-make_object-clause-outcome
 returns-in_err-make_object-clause-outcome c =
-    let image = c.args.image.now in
+    let image = c.args.image.now.read.now in
     let n = c.loop-number.number in
     let lt : n < image.header.objects = omega (arith, ap (λ h. h.objects) c.header-number-end.ensures.value) in
     let p = err_from_is_err_and c.from_residual.result c.from_residual.ensures.1 in
@@ -21,7 +21,7 @@ returns-in_err-make_object-clause-outcome c =
 
 pub loop-number-preserved : goal.loop-number-preserved
 loop-number-preserved c =
-    let image = c.args.image.now in
+    let image = c.args.image.now.read.now in
     let n = c.loop-number.number in
     let lt : n < image.header.objects = omega (arith, ap (λ h. h.objects) c.header-number-end.ensures.value) in
     record {
@@ -33,7 +33,7 @@ loop-number-preserved c =
 
 pub returns-clause-outcome : goal.returns-clause-outcome
 returns-clause-outcome c =
-    let image = c.args.image.now in
+    let image = c.args.image.now.read.now in
     let k : image.header.objects ≡ image.header.objects - 0 = omega arith in
     ap (λ count. called (progress_of c.args.self.now) (map (object_call image) (range_with_len 0 count))) k
     ∙ done (objects_from image c.loop-number.number) _ (progress_of c.loop-number.self)

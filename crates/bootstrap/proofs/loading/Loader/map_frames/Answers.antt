@@ -9,7 +9,7 @@ use Rattle.bootstrap.proofs.loading.Loader.map_frames.Goals as goal
 
 pub returns-in_err-map_frame-clause-outcome : goal.returns-in_err-map_frame-clause-outcome
 returns-in_err-map_frame-clause-outcome c =
-    let image = c.args.image.now in
+    let image = c.args.image.now.read.now in
     let n = c.loop-number.number in
     let x = c.frame-entry.result in
     let p = err_from_is_err_and c.from_residual.result c.from_residual.ensures.1 in
@@ -18,7 +18,7 @@ returns-in_err-map_frame-clause-outcome c =
 
 pub loop-number-preserved : goal.loop-number-preserved
 loop-number-preserved c =
-    let image = c.args.image.now in
+    let image = c.args.image.now.read.now in
     let n = c.loop-number.number in
     let x = c.frame-entry.result in
     record {
@@ -30,10 +30,10 @@ loop-number-preserved c =
 
 pub returns-clause-outcome : goal.returns-clause-outcome
 returns-clause-outcome c =
-    let image = c.args.image.now in
+    let image = c.args.image.now.read.now in
     done (frames_from image c.loop-number.number) _ (progress_of c.loop-number.self)
-    (frames-none image c.loop-number.number (omega (arith, ap (λ h. h.frames) c.header-number-end.ensures.value, c.requires.limits.frames.count)))
+    (frames-none image c.loop-number.number (omega (arith, ap (λ h. h.frames) c.header-number-end.ensures.value, c.args.image.now.limits.frames.count)))
     c.loop-number.invariant.same
 
 pub map_frame-requires-clause-fits : goal.map_frame-requires-clause-fits
-map_frame-requires-clause-fits c = c.requires.limits.frames.entries c.loop-number.number c.frame-entry.result c.frame-entry.ensures
+map_frame-requires-clause-fits c = c.args.image.now.limits.frames.entries c.loop-number.number c.frame-entry.result c.frame-entry.ensures

@@ -9,7 +9,7 @@ use Rattle.bootstrap.proofs.loading.Loader.map_tables.Goals as goal
 
 pub returns-in_err-map_table-clause-outcome : goal.returns-in_err-map_table-clause-outcome
 returns-in_err-map_table-clause-outcome c =
-    let image = c.args.image.now in
+    let image = c.args.image.now.read.now in
     let n = c.loop-number.number in
     let x = c.table-entry.result in
     let p = err_from_is_err_and c.from_residual.result c.from_residual.ensures.1 in
@@ -18,7 +18,7 @@ returns-in_err-map_table-clause-outcome c =
 
 pub loop-number-preserved : goal.loop-number-preserved
 loop-number-preserved c =
-    let image = c.args.image.now in
+    let image = c.args.image.now.read.now in
     let n = c.loop-number.number in
     let x = c.table-entry.result in
     record {
@@ -30,10 +30,10 @@ loop-number-preserved c =
 
 pub returns-clause-outcome : goal.returns-clause-outcome
 returns-clause-outcome c =
-    let image = c.args.image.now in
+    let image = c.args.image.now.read.now in
     done (tables_from image c.loop-number.number) _ (progress_of c.loop-number.self)
-    (tables-none image c.loop-number.number (omega (arith, ap (λ h. h.tables) c.header-number-end.ensures.value, c.requires.limits.tables.count)))
+    (tables-none image c.loop-number.number (omega (arith, ap (λ h. h.tables) c.header-number-end.ensures.value, c.args.image.now.limits.tables.count)))
     c.loop-number.invariant.same
 
 pub map_table-requires-clause-fits : goal.map_table-requires-clause-fits
-map_table-requires-clause-fits c = c.requires.limits.tables.entries c.loop-number.number c.table-entry.result c.table-entry.ensures
+map_table-requires-clause-fits c = c.args.image.now.limits.tables.entries c.loop-number.number c.table-entry.result c.table-entry.ensures

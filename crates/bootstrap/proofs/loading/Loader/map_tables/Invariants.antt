@@ -6,6 +6,6 @@ use Rattle.bootstrap.proofs.loading.Loader.map_tables.Given as goal
 
 abbrev pub invariant-loop-number : goal.invariant-loop-number
 invariant-loop-number l = record {
-  same : called (progress_of l.fn.self) (tables_from l.image 0) ≡ called (progress_of l.self) (tables_from l.image l.number);
+  same : called (progress_of l.fn.self) (tables_from l.image.read.now 0) ≡ called (progress_of l.self) (tables_from l.image.read.now l.number);
   room : l.self.calls ≤ l.fn.self.calls + 1 * l.number;
 }

@@ -9,7 +9,7 @@ use Rattle.bootstrap.proofs.loading.Loader.put_capabilities.Goals as goal
 
 pub returns-in_err-put_capability-clause-outcome : goal.returns-in_err-put_capability-clause-outcome
 returns-in_err-put_capability-clause-outcome c =
-    let image = c.args.image.now in
+    let image = c.args.image.now.read.now in
     let n = c.loop-number.number in
     let x = c.capability-entry.result in
     let p = err_from_is_err_and c.from_residual.result c.from_residual.ensures.1 in
@@ -18,7 +18,7 @@ returns-in_err-put_capability-clause-outcome c =
 
 pub loop-number-preserved : goal.loop-number-preserved
 loop-number-preserved c =
-    let image = c.args.image.now in
+    let image = c.args.image.now.read.now in
     let n = c.loop-number.number in
     let x = c.capability-entry.result in
     record {
@@ -30,10 +30,10 @@ loop-number-preserved c =
 
 pub returns-clause-outcome : goal.returns-clause-outcome
 returns-clause-outcome c =
-    let image = c.args.image.now in
+    let image = c.args.image.now.read.now in
     done (capabilities_from image c.loop-number.number) _ (progress_of c.loop-number.self)
     (capabilities-none image c.loop-number.number
-    (omega (arith, ap (λ h. h.capabilities) c.header-number-end.ensures.value, c.requires.limits.capabilities.count))) c.loop-number.invariant.same
+    (omega (arith, ap (λ h. h.capabilities) c.header-number-end.ensures.value, c.args.image.now.limits.capabilities.count))) c.loop-number.invariant.same
 
 pub put_capability-requires-clause-fits : goal.put_capability-requires-clause-fits
-put_capability-requires-clause-fits c = c.requires.limits.capabilities.entries c.loop-number.number c.capability-entry.result c.capability-entry.ensures
+put_capability-requires-clause-fits c = c.args.image.now.limits.capabilities.entries c.loop-number.number c.capability-entry.result c.capability-entry.ensures

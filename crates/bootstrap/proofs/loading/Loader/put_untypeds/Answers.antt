@@ -8,11 +8,11 @@ use Rattle.bootstrap.proofs.Rests.{untypeds_from, untypeds-next, untypeds-none}
 use Rattle.bootstrap.proofs.loading.Loader.put_untypeds.Goals as goal
 
 pub put_untyped-requires : goal.put_untyped-requires
-put_untyped-requires c = (c.requires.limits.untypeds.entries c.loop-number.number c.untyped-entry.result c.untyped-entry.ensures).bits
+put_untyped-requires c = (c.args.image.now.limits.untypeds.entries c.loop-number.number c.untyped-entry.result c.untyped-entry.ensures).bits
 
 pub returns-in_err-put_untyped-clause-outcome : goal.returns-in_err-put_untyped-clause-outcome
 returns-in_err-put_untyped-clause-outcome c =
-    let image = c.args.image.now in
+    let image = c.args.image.now.read.now in
     let n = c.loop-number.number in
     let u = image.header.untypeds in
     let now = progress_of c.loop-number.self in
@@ -23,7 +23,7 @@ returns-in_err-put_untyped-clause-outcome c =
 
 pub loop-number-preserved : goal.loop-number-preserved
 loop-number-preserved c =
-    let image = c.args.image.now in
+    let image = c.args.image.now.read.now in
     let n = c.loop-number.number in
     let u = image.header.untypeds in
     let now = progress_of c.loop-number.self in
@@ -36,7 +36,7 @@ loop-number-preserved c =
 
 pub returns-clause-outcome : goal.returns-clause-outcome
 returns-clause-outcome c =
-    let image = c.args.image.now in
+    let image = c.args.image.now.read.now in
     op-none image.header.untypeds (untypeds_from image c.loop-number.number) _ (progress_of c.loop-number.self)
-    (untypeds-none image c.loop-number.number (omega (arith, ap (λ h. h.untypeds) c.header-number-end.ensures.value, c.requires.limits.untypeds.count)))
+    (untypeds-none image c.loop-number.number (omega (arith, ap (λ h. h.untypeds) c.header-number-end.ensures.value, c.args.image.now.limits.untypeds.count)))
     c.loop-number.invariant.same

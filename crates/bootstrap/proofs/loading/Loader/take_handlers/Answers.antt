@@ -9,7 +9,7 @@ use Rattle.bootstrap.proofs.loading.Loader.take_handlers.Goals as goal
 
 pub returns-in_err-take_handler-clause-outcome : goal.returns-in_err-take_handler-clause-outcome
 returns-in_err-take_handler-clause-outcome c =
-    let image = c.args.image.now in
+    let image = c.args.image.now.read.now in
     let n = c.loop-number.number in
     let x = c.interrupt-entry.result in
     let p = err_from_is_err_and c.from_residual.result c.from_residual.ensures.1 in
@@ -18,7 +18,7 @@ returns-in_err-take_handler-clause-outcome c =
 
 pub loop-number-preserved : goal.loop-number-preserved
 loop-number-preserved c =
-    let image = c.args.image.now in
+    let image = c.args.image.now.read.now in
     let n = c.loop-number.number in
     let x = c.interrupt-entry.result in
     record {
@@ -30,7 +30,7 @@ loop-number-preserved c =
 
 pub returns-clause-outcome : goal.returns-clause-outcome
 returns-clause-outcome c =
-    let image = c.args.image.now in
+    let image = c.args.image.now.read.now in
     done (handlers_from image c.loop-number.number) _ (progress_of c.loop-number.self)
-    (handlers-none image c.loop-number.number (omega (arith, ap (λ h. h.interrupts) c.header-number-end.ensures.value, c.requires.limits.interrupts.count)))
+    (handlers-none image c.loop-number.number (omega (arith, ap (λ h. h.interrupts) c.header-number-end.ensures.value, c.args.image.now.limits.interrupts.count)))
     c.loop-number.invariant.same
