@@ -1,13 +1,12 @@
 -- What the system call at a point leaves, where no slot is stray.
-use Rattle.std.proofs.Common.{ℕ, ◌≡◌, ◌∙◌, Bool, true, false, if◌then◌else◌, Option, Some, None, option_map, Result, Ok, Err, List, refl, sym, ap, subst, Vec, Global}
+use Rattle.std.proofs.Common.{ℕ, ◌≡◌, ◌∙◌, Bool, true, false, if◌then◌else◌, Some, None, List, sym, ap, subst, Vec, Global}
 use Rattle.model.specs.Acceptance.CallRules.{after_call}
 use Rattle.model.specs.Acceptance.Measures.{Measure}
 use Rattle.model.specs.Acceptance.NotedStates.{NotedSlot, PointState, has_stray_slots}
-use Rattle.model.specs.Acceptance.PointStates.{Missing, call_at, follows_call, point_of}
+use Rattle.model.specs.Acceptance.PointStates.{call_at, point_of}
 use Rattle.model.specs.Images.Described.{Numbered}
 use Rattle.model.specs.Images.Image.{Image, Thread}
 use Rattle.model.specs.declared.ranges.Range.{Range}
-use Rattle.model.specs.declared.refusals.Refusal.{Refusal}
 use Rattle.program_rules.specs.Kept.{IsCleanBehind, call_of}
 use Rattle.program_rules.specs.declared.space_rules.Called.TheVariants.{Leaves}
 use Rattle.program_rules.specs.declared.space_rules.Called.{Called}

@@ -90,6 +90,12 @@ IsCleanIn image t slots log (kept.Known k) = k.is_clean ≡ true → NoneStray i
 IsCleanIn image t slots log kept.Missing = Unit {0}
 IsCleanIn image t slots log kept.Unmeasured = Unit {0}
 
+-- what is kept of a point that is looked at: its changes are in the log and shown, and what is known of its slots is so
+pub record IsLookedAt (image : Image) (t : Thread) (slots : List NotedSlot) (log : List LogEntry) (point : ℕ) (shown : ShownPart) (k : Kept) : Type 0 where
+  pub sound : IsSound log point k
+  pub shows : ShowsKept log shown k
+  pub clean : IsCleanIn image t slots log k
+
 -- what a call leaves, with the changes that it makes of these slots, where it is looked at
 abbrev pub call_of : List NotedSlot → Called → Option (Result AfterCall Refusal)
 call_of slots called.Stray = None

@@ -8,12 +8,12 @@ ghost use Rattle.model.specs.Acceptance.PointStates.{address_of, behind_call, ca
 ghost use Rattle.model.specs.Images.Image.{Image, Thread};
 ghost use Rattle.model.specs.Machine.Instructions.{IsInstr};
 ghost use Rattle.model.specs.declared.instructions.Instr.TheVariants.{Ecall};
-ghost use Rattle.program_rules.specs.Kept.{IsCleanIn, IsSound, ShowsKept, kept_as, noted_by, passed_as, state_by};
+ghost use Rattle.program_rules.specs.Kept.{IsCleanIn, IsKeptAt, IsLookedAt, IsSound, ShowsKept, kept_as, noted_by, passed_as, state_by};
 ghost use Rattle.program_rules.specs.Programs.{thread_of};
 ghost use Rattle.program_rules.specs.declared.kept.Kept.TheVariants as kept;
 ghost use Rattle.program_rules.specs.declared.kept.Known.{Known as State};
 ghost use Rattle.typestate.specs.Calls.{behind_with};
-ghost use Rattle.typestate.specs.Logs.{Holds, KeepsParts, Shows, part_of};
+ghost use Rattle.typestate.specs.Logs.{Holds, KeepsParts, part_of};
 ghost use Rattle.typestate.specs.Strays.{NoneStray};
 ghost use Rattle.typestate.specs.Replays.{replayed};
 ghost use Rattle.typestate.specs.declared.log_entries.LogEntry.{LogEntry};
@@ -106,8 +106,7 @@ impl Program<'_, '_> {
     pub(crate) fn pass_plain(&self, point: u32, kept: &mut Kept, log: &SlotLog)
         requires within { point < self.now.space.thread.now.header.words }
         requires plain { instruction_at self.now.space.thread.now point ≢ Some Ecall }
-        requires sound { IsSound log.now point kept.old }
-        requires clean { IsCleanIn self.now.space.image.now self.now.space.thread.now self.now.slots.now log.now kept.old }
+        requires kept { IsKeptAt self.now.space.image.now (thread_of self.now) self.now.slots.now log.now point kept.old }
         ensures same { noted_by self.now.slots.now log.now kept.new ≡ follows self.now.space.image.now (thread_of self.now) point (noted_by self.now.slots.now log.now kept.old) }
         ensures sound { IsSound log.now (point + 1) kept.new }
         ensures clean { IsCleanIn self.now.space.image.now self.now.space.thread.now self.now.slots.now log.now kept.new }
@@ -129,8 +128,7 @@ impl Program<'_, '_> {
 impl Visit<'_, '_, '_, '_> {
     /// Whether no slot of a state is one that the thread may not have, by what is known of it, or by a look at all of them.
     fn has_no_stray_slot(&self, known: &Known, log: &SlotLog, shown: &ShownPart) -> bool
-        requires shown { Shows log.now known.now.part shown.now }
-        requires clean { IsCleanIn self.now.program.now.space.image.now self.now.program.now.space.thread.now self.now.program.now.slots.now log.now (kept.Known known.now) }
+        requires { IsLookedAt self.now.program.now.space.image.now self.now.program.now.space.thread.now self.now.program.now.slots.now log.now self.now.point shown.now (kept.Known known.now) }
         ensures { result ≡ true → NoneStray self.now.program.now.space.image.now self.now.program.now.space.thread.now (replayed self.now.program.now.slots.now (part_of log.now known.now.part)) }
     {
         points_without_stray_slots_have_none();
@@ -149,9 +147,7 @@ impl Visit<'_, '_, '_, '_> {
 
     /// Adds to what is kept of the point what a look at its slots tells, where nothing is known of them.
     pub(crate) fn look(&self, kept: &mut Kept, log: &SlotLog, shown: &ShownPart)
-        requires sound { IsSound log.now self.now.point kept.old }
-        requires shown { ShowsKept log.now shown.now kept.old }
-        requires clean { IsCleanIn self.now.program.now.space.image.now self.now.program.now.space.thread.now self.now.program.now.slots.now log.now kept.old }
+        requires { IsLookedAt self.now.program.now.space.image.now self.now.program.now.space.thread.now self.now.program.now.slots.now log.now self.now.point shown.now kept.old }
         ensures same { noted_by self.now.program.now.slots.now log.now kept.new ≡ noted_by self.now.program.now.slots.now log.now kept.old }
         ensures sound { IsSound log.now self.now.point kept.new }
         ensures shown { ShowsKept log.now shown.now kept.new }
@@ -170,10 +166,7 @@ impl Visit<'_, '_, '_, '_> {
         log: &mut SlotLog,
         shown: &ShownPart,
     ) -> Result<Kept, AllocError>
-        requires few { self.now.point ≤ 65536 }
-        requires sound { IsSound log.old self.now.point (kept.Known known.now) }
-        requires shown { Shows log.old known.now.part shown.now }
-        requires clean { IsCleanIn self.now.program.now.space.image.now self.now.program.now.space.thread.now self.now.program.now.slots.now log.old (kept.Known known.now) }
+        requires { IsLookedAt self.now.program.now.space.image.now self.now.program.now.space.thread.now self.now.program.now.slots.now log.old self.now.point shown.now (kept.Known known.now) }
         ensures same { IfOk result (λ k. noted_by self.now.program.now.slots.now log.new k
             ≡ follows_call self.now.program.now.space.thread.now (measure_of known.now.measure) (call_at self.now.program.now.space.image.now (thread_of self.now.program.now) self.now.point (state_by self.now.program.now.slots.now log.old known.now))) }
         ensures sound { IfOk result (IsSound log.new (self.now.point + 1)) }
@@ -206,9 +199,7 @@ impl Visit<'_, '_, '_, '_> {
         log: &mut SlotLog,
         shown: &ShownPart,
     ) -> Result<(), AllocError>
-        requires sound { IsSound log.old self.now.point kept.old }
-        requires shown { ShowsKept log.old shown.now kept.old }
-        requires clean { IsCleanIn self.now.program.now.space.image.now self.now.program.now.space.thread.now self.now.program.now.slots.now log.old kept.old }
+        requires { IsLookedAt self.now.program.now.space.image.now self.now.program.now.space.thread.now self.now.program.now.slots.now log.old self.now.point shown.now kept.old }
         ensures same { IfOk result (λ _. self.now.is_next_noted ≡ false → noted_by self.now.program.now.slots.now log.new kept.new ≡ follows self.now.program.now.space.image.now (thread_of self.now.program.now) self.now.point (noted_by self.now.program.now.slots.now log.old kept.old)) }
         ensures sound { IfOk result (λ _. IsSound log.new (self.now.point + 1) kept.new) }
         ensures clean { IfOk result (λ _. IsCleanIn self.now.program.now.space.image.now self.now.program.now.space.thread.now self.now.program.now.slots.now log.new kept.new) }

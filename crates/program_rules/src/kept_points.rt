@@ -20,6 +20,7 @@ use crate::kept::{Kept, Known};
 use crate::notes::PlacedRecord;
 use crate::places::{CalledPoint, Place, RecordedPoint, ShortPart, narrowed};
 use crate::programs::Program;
+use crate::visits::Visit;
 use model::Instr;
 use rv32_isa::decode;
 use std::alloc::{AllocError, Global};
@@ -153,16 +154,16 @@ impl<'a> KeptPoints<'a> {
     /// Keeps how the state of a point without a record follows, or that state. Memory may be refused.
     fn keep_step(
         &mut self,
-        program: &Program<'_, '_>,
-        point: u32,
+        visit: &Visit<'_, '_, '_, '_>,
         before: &Kept,
         known: &Known,
     ) -> Result<Place, AllocError>
-        requires { point < program.now.space.thread.now.header.words }
         ensures same { IfOk result (λ _. self.new.places ≡ self.old.places) }
         ensures others { IfOk result (λ _. KeepsAll self.old self.new) }
-        ensures at { IfOk result (λ place. record_of program.now.space.thread.now point ≡ None → IsNextAt program.now.space.thread.now self.new before.now point (kept.Known known.now) place) }
+        ensures at { IfOk result (λ place. record_of visit.now.program.now.space.thread.now visit.now.point ≡ None → IsNextAt visit.now.program.now.space.thread.now self.new before.now visit.now.point (kept.Known known.now) place) }
     {
+        let program = visit.program;
+        let point = visit.point;
         if point == 0 {
             return self.keep_whole(known);
         }
@@ -178,24 +179,20 @@ impl<'a> KeptPoints<'a> {
     /// Keeps what is kept of a point. Memory may be refused.
     fn keep(
         &mut self,
-        program: &Program<'_, '_>,
-        point: u32,
-        noted: &Option<PlacedRecord<'a>>,
+        visit: &Visit<'_, '_, 'a, '_>,
         before: &Kept,
         kept: &Kept,
     ) -> Result<Place, AllocError>
-        requires within { point < program.now.space.thread.now.header.words }
-        requires noted { noted.now ≡ record_of program.now.space.thread.now point }
         ensures same { IfOk result (λ _. self.new.places ≡ self.old.places) }
         ensures others { IfOk result (λ _. KeepsAll self.old self.new) }
-        ensures at { IfOk result (IsNextAt program.now.space.thread.now self.new before.now point kept.now) }
+        ensures at { IfOk result (IsNextAt visit.now.program.now.space.thread.now self.new before.now visit.now.point kept.now) }
     {
         match kept {
             Kept::Missing => Ok(Place::Missing),
             Kept::Unmeasured => Ok(Place::Unmeasured),
-            Kept::Known(known) => match noted {
+            Kept::Known(known) => match visit.noted {
                 Some(noted) => self.keep_record(noted, known),
-                None => self.keep_step(program, point, before, known),
+                None => self.keep_step(visit, before, known),
             },
         }
     }
@@ -203,19 +200,15 @@ impl<'a> KeptPoints<'a> {
     /// Keeps the next point, by what is kept of the one before it. Memory may be refused.
     pub(crate) fn push(
         &mut self,
-        program: &Program<'_, '_>,
-        point: u32,
-        noted: &Option<PlacedRecord<'a>>,
+        visit: &Visit<'_, '_, 'a, '_>,
         before: &Kept,
         kept: &Kept,
     ) -> Result<(), AllocError>
-        requires within { point < program.now.space.thread.now.header.words }
-        requires noted { noted.now ≡ record_of program.now.space.thread.now point }
         ensures count { IfOk result (λ _. length self.new.places.items ≡ length self.old.places.items + 1) }
-        ensures kept { IfOk result (λ _. (image : Image) (t : Numbered) (slots : List NotedSlot) (log : List LogEntry) → t.thread ≡ program.now.space.thread.now → length self.old.places.items ≡ point
-            → ((last : ℕ) → last + 1 ≡ point → IsKeptAt image t slots log last before.now) → IsKeptAt image t slots log point kept.now → AreKept image t slots log self.old → AreKept image t slots log self.new) }
+        ensures kept { IfOk result (λ _. (image : Image) (t : Numbered) (slots : List NotedSlot) (log : List LogEntry) → t.thread ≡ visit.now.program.now.space.thread.now → length self.old.places.items ≡ visit.now.point
+            → ((last : ℕ) → last + 1 ≡ visit.now.point → IsKeptAt image t slots log last before.now) → IsKeptAt image t slots log visit.now.point kept.now → AreKept image t slots log self.old → AreKept image t slots log self.new) }
     {
-        let place = self.keep(program, point, noted, before, kept)?;
+        let place = self.keep(visit, before, kept)?;
         self.places.push(place)?;
         self.steps = if place.is_step() {
             self.steps.saturating_add(1)
@@ -246,7 +239,7 @@ impl<'a> KeptPoints<'a> {
     }
 
     /// What is kept of a point that does not follow from the one before it.
-    fn first(&self, point: u32) -> Kept
+    pub(crate) fn first(&self, point: u32) -> Kept
         ensures { (image : Image) (t : Numbered) (slots : List NotedSlot) (log : List LogEntry) → AreKept image t slots log self.now → point < length self.now.places.items
             → ((place : Place) → slice_get self.now.places.items point ≡ Some place → is_step place ≡ true → point ≡ 0) → IsKeptAt image t slots log point result }
     {
@@ -257,7 +250,7 @@ impl<'a> KeptPoints<'a> {
     }
 
     /// What is kept at a place.
-    fn at_place(&self, place: Place) -> Kept
+    pub(crate) fn at_place(&self, place: Place) -> Kept
         ensures { (image : Image) (t : Numbered) (slots : List NotedSlot) (log : List LogEntry) (point : ℕ) → IsAt image t slots log self.now point place → (is_step place ≡ true → point ≡ 0)
             → IsKeptAt image t slots log point result }
     {
@@ -283,7 +276,7 @@ impl<'a> KeptPoints<'a> {
     }
 
     /// The last point up to this one that does not follow from the one before it.
-    fn first_of(&self, point: u32) -> u32
+    pub(crate) fn first_of(&self, point: u32) -> u32
         ensures near { result ≤ point }
         ensures first { (place : Place) → slice_get self.now.places.items result ≡ Some place → is_step place ≡ true → result ≡ 0 }
     {
@@ -297,7 +290,7 @@ impl<'a> KeptPoints<'a> {
     }
 
     /// What is kept of the point after one of which this is kept, by what is kept of the system call there.
-    fn after_call(&self, program: &Program<'_, '_>, at: u32, kept: &Kept) -> Kept
+    pub(crate) fn after_call(&self, program: &Program<'_, '_>, at: u32, kept: &Kept) -> Kept
         ensures { (image : Image) (t : Numbered) (slots : List NotedSlot) (log : List LogEntry) (point : ℕ) → t.thread ≡ program.now.space.thread.now → point ≤ 2 ^ 32
             → IsKeptAt image t slots log point kept.now → IsAt image t slots log self.now (point + 1) (place.Called at) → IsKeptAt image t slots log (point + 1) result }
     {
@@ -309,38 +302,5 @@ impl<'a> KeptPoints<'a> {
             Kept::Missing => Kept::Missing,
             Kept::Unmeasured => Kept::Missing,
         }
-    }
-
-    /// Makes of what is kept of a point what is kept of the one after it, if the program has one.
-    pub(crate) fn pass(&self, program: &Program<'_, '_>, log: &SlotLog, point: u32, kept: &mut Kept)
-        requires count { length self.now.places.items ≡ program.now.space.thread.now.header.words }
-        requires all { AreKept program.now.space.image.now (thread_of program.now) program.now.slots.now log.now self.now }
-        requires kept { IsKeptAt program.now.space.image.now (thread_of program.now) program.now.slots.now log.now point kept.old }
-        ensures { point + 1 < program.now.space.thread.now.header.words → IsKeptAt program.now.space.image.now (thread_of program.now) program.now.slots.now log.now (point + 1) kept.new }
-    {
-        if self.places.len() <= point as usize + 1 {
-            return;
-        }
-        let place = self.places[point as usize + 1];
-        match place {
-            Place::Plain => program.pass_plain(point, kept, log),
-            Place::Called(at) => *kept = self.after_call(program, at, kept),
-            _ => *kept = self.at_place(place),
-        }
-    }
-
-    /// What is kept of a point.
-    pub(crate) fn at(&self, program: &Program<'_, '_>, log: &SlotLog, point: u32) -> Kept
-        requires within { point < program.now.space.thread.now.header.words }
-        requires count { length self.now.places.items ≡ program.now.space.thread.now.header.words }
-        requires kept { AreKept program.now.space.image.now (thread_of program.now) program.now.slots.now log.now self.now }
-        ensures { IsKeptAt program.now.space.image.now (thread_of program.now) program.now.slots.now log.now point result }
-    {
-        let first = self.first_of(point);
-        let mut kept = self.first(first);
-        'steps: for before in first..point {
-            self.pass(program, log, before, &mut kept);
-        }
-        kept
     }
 }

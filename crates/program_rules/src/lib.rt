@@ -16,6 +16,7 @@ mod point_rules;
 mod points;
 mod points_checks;
 mod programs;
+mod read_points;
 mod records;
 mod same_parts;
 mod space_rules;

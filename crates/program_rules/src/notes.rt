@@ -53,8 +53,8 @@ impl<'a> PlacedRecord<'a> {
 }
 
 /// The record, if there is one.
-pub(crate) fn record_in<'n, 'a>(placed: &'n Option<PlacedRecord<'a>>) -> Option<&'n RecordRef<'a>>
-    ensures { option_map (λ r. r.now) result ≡ placed.now }
+pub(crate) fn record_in<'n, 'a>(placed: Option<&'n PlacedRecord<'a>>) -> Option<&'n RecordRef<'a>>
+    ensures { option_map (λ r. r.now) result ≡ option_map (λ r. r.now) placed.entry }
 {
     match placed {
         Some(placed) => Some(placed.record()),

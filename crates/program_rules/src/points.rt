@@ -11,7 +11,7 @@ ghost use Rattle.typestate.specs.Orders.{Rise};
 
 use crate::kept::{Kept, Known};
 use crate::kept_points::KeptPoints;
-use crate::notes::{PlacedRecord, RecordsLeft, record_in};
+use crate::notes::{PlacedRecord, RecordsLeft};
 use crate::programs::Program;
 use crate::records::{bounds_of, measure_of};
 use crate::visits::Visit;
@@ -48,7 +48,7 @@ fn recorded(log: &mut SlotLog, noted: &RecordRef<'_>) -> Result<Kept, AllocError
 /// What is kept of a point: the state of its record, or what the point before leaves, which was kept in this place.
 fn note_own(
     log: &mut SlotLog,
-    noted: Option<&RecordRef<'_>>,
+    noted: Option<&PlacedRecord<'_>>,
     derived: &mut Kept,
 ) -> Result<(), AllocError>
     requires { IfSome noted (λ r. (length r.now.terms ≤ 4) × (negsuc (2 ^ 62) ≤ℤ r.now.header.constant)) }
@@ -59,8 +59,8 @@ fn note_own(
     ensures others { IfOk result (λ _. KeepsParts log.old log.new) }
 {
     match noted {
-        Some(record) => {
-            *derived = recorded(log, record)?;
+        Some(placed) => {
+            *derived = recorded(log, placed.record())?;
             Ok(())
         }
         None => Ok(()),
@@ -72,13 +72,11 @@ impl<'a> Points<'a> {
     /// leaves in turn, if no record notes the point after it. Memory may be refused.
     fn note(
         &mut self,
-        visit: &Visit<'_, '_, '_, '_>,
-        noted: &Option<PlacedRecord<'a>>,
+        visit: &Visit<'_, '_, 'a, '_>,
         last: &mut Kept,
         derived: &mut Kept,
         shown: &mut ShownPart,
     ) -> Result<(), AllocError>
-        requires noted { noted.now ≡ record_of visit.now.program.now.space.thread.now visit.now.point }
         requires read { IsReadTo visit.now.program.now.space.image.now (thread_of visit.now.program.now) visit.now.program.now.slots.now visit.now.point self.old.log self.old.kept last.old derived.old }
         requires shown { ShowsSome self.old.log shown.old }
         ensures read { IfOk result (λ _. IsReadTo visit.now.program.now.space.image.now (thread_of visit.now.program.now) visit.now.program.now.slots.now (visit.now.point + 1) self.new.log self.new.kept last.new derived.new) }
@@ -87,8 +85,7 @@ impl<'a> Points<'a> {
         note_own(&mut self.log, visit.noted, derived)?;
         derived.show(&self.log, shown)?;
         visit.look(derived, &self.log, shown);
-        self.kept
-            .push(visit.program, visit.point, noted, last, derived)?;
+        self.kept.push(visit, last, derived)?;
         *last = *derived;
         visit.pass(derived, &mut self.log, shown)?;
         Ok(())
@@ -114,10 +111,10 @@ impl<'a> Points<'a> {
             let visit = Visit {
                 program,
                 point,
-                noted: record_in(&noted),
+                noted: noted.as_ref(),
                 is_next_noted,
             };
-            points.note(&visit, &noted, &mut last, &mut derived, &mut shown)?;
+            points.note(&visit, &mut last, &mut derived, &mut shown)?;
         }
         Ok((points, shown))
     }

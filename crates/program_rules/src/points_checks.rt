@@ -16,10 +16,11 @@ ghost use Rattle.typestate.specs.Replays.{replayed};
 ghost use Rattle.wellformed.specs.Answering.{Answers};
 
 use crate::kept::{Kept, Known};
-use crate::notes::{RecordsLeft, record_in};
+use crate::notes::RecordsLeft;
 use crate::point_rules::{FoundPages, entered};
 use crate::points::Points;
 use crate::programs::Program;
+use crate::read_points::ReadPoints;
 use crate::same_parts::SameParts;
 use crate::visits::{PlainPoint, Visit, VisitedSlots};
 use model::{Instr, Refusal};
@@ -117,6 +118,26 @@ impl<'a> Visit<'_, '_, 'a, '_> {
     }
 }
 
+impl ReadPoints<'_, '_, '_, '_> {
+    /// The rules on the state of the thread's entry.
+    fn entry_rules(&self) -> Result<(), Refusal>
+        ensures { Answers (first_broken (entry_rules self.now.program.now.space.image.now (thread_of self.now.program.now)
+            (noted self.now.program.now.space.image.now (thread_of self.now.program.now) self.now.program.now.space.thread.now.header.entry))) result }
+    {
+        let program = self.program;
+        let points = self.points;
+        let entry = program.space.thread.header().entry;
+        let at = program.at(entry);
+        match self.at(entry) {
+            Kept::Known(known) => {
+                let has_slots = program.has_listed_slots(&points.log, known.part)?;
+                entered(program.space.thread, at, &known, has_slots)
+            }
+            Kept::Missing | Kept::Unmeasured => Err(Refusal::RangeNotKept(at)),
+        }
+    }
+}
+
 impl<'a> Program<'a, '_> {
     /// The rules on all points, in their order. What is shown at first may be any part.
     fn points_rules(&self, points: &mut Points<'a>, shown: &mut ShownPart) -> Result<(), Refusal>
@@ -127,18 +148,26 @@ impl<'a> Program<'a, '_> {
         let mut records = RecordsLeft::of(self.space.thread);
         let mut same = SameParts::new(self.alloc);
         let mut found = FoundPages::new(self.alloc);
-        let mut kept = points.kept.at(self, &points.log, 0);
+        let read = ReadPoints {
+            program: self,
+            points: &*points,
+        };
+        let mut kept = read.at(0);
         'rules: for point in 0..self.space.thread.word_count() {
             let noted = records.take(point);
             let is_next_noted = records.is_next(point + 1);
             let visit = Visit {
                 program: self,
                 point,
-                noted: record_in(&noted),
+                noted: noted.as_ref(),
                 is_next_noted,
             };
             visit.point_rules(points, shown, &kept, &mut same, &mut found)?;
-            points.kept.pass(self, &points.log, point, &mut kept);
+            let still_read = ReadPoints {
+                program: self,
+                points: &*points,
+            };
+            still_read.pass(point, &mut kept);
         }
         Ok(())
     }
@@ -154,30 +183,17 @@ impl<'a> Program<'a, '_> {
         Ok(slots.is_same(&nothing.slots(self.slots)))
     }
 
-    /// The rules on the state of the thread's entry.
-    fn entry_rules(&self, points: &Points<'_>) -> Result<(), Refusal>
-        requires read { IsRead self.now.space.image.now (thread_of self.now) self.now.slots.now points.now.log points.now.kept }
-        ensures { Answers (first_broken (entry_rules self.now.space.image.now (thread_of self.now)
-            (noted self.now.space.image.now (thread_of self.now) self.now.space.thread.now.header.entry))) result }
-    {
-        let entry = self.space.thread.header().entry;
-        let at = self.at(entry);
-        match points.kept.at(self, &points.log, entry) {
-            Kept::Known(known) => {
-                let has_slots = self.has_listed_slots(&points.log, known.part)?;
-                entered(self.space.thread, at, &known, has_slots)
-            }
-            Kept::Missing | Kept::Unmeasured => Err(Refusal::RangeNotKept(at)),
-        }
-    }
-
     /// The rules on the program: at its entry, and then at its points in their order.
     #[tactic(auto, unfolding(model::specs::Acceptance::PointRules::rules_of_program))]
     pub(crate) fn check(&self) -> Result<(), Refusal>
         ensures { Answers (first_broken (rules_of_program self.now.space.image.now (thread_of self.now))) result }
     {
         let (mut points, mut shown) = Points::of(self)?;
-        self.entry_rules(&points)?;
+        let read = ReadPoints {
+            program: self,
+            points: &points,
+        };
+        read.entry_rules()?;
         self.points_rules(&mut points, &mut shown)
     }
 }

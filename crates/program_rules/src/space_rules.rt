@@ -10,6 +10,7 @@ ghost use Rattle.program_rules.specs.Programs.{thread_of};
 ghost use Rattle.typestate.specs.Calls.{known_with};
 ghost use Rattle.typestate.specs.Differences.{slots_of};
 
+use crate::notes::record_in;
 use crate::visits::VisitedSlots;
 use model::Refusal;
 use ranges::Bounds;
@@ -43,7 +44,7 @@ impl VisitedSlots<'_, '_, '_, '_, '_> {
             lists_stray: program.lists_stray,
             is_clean: self.is_clean,
         };
-        told.has_stray_slots(self.visit.noted)
+        told.has_stray_slots(record_in(self.visit.noted))
     }
 
     /// What the system call at the point leaves. Memory may be refused.

@@ -15,9 +15,9 @@ ghost use Rattle.typestate.specs.Logs.{Shows};
 ghost use Rattle.typestate.specs.Strays.{NoneStray};
 
 use crate::kept::Known;
+use crate::notes::PlacedRecord;
 use crate::points::Points;
 use crate::programs::Program;
-use image_reading::RecordRef;
 use model::Instr;
 use typestate::{NotedSlots, Part, ShownPart};
 
@@ -27,7 +27,7 @@ pub(crate) struct Visit<'p, 'n, 'a, 's> {
     pub(crate) program: &'p Program<'a, 's>,
     pub(crate) point: u32,
     /// The record of the point, if it has one.
-    pub(crate) noted: Option<&'n RecordRef<'a>>,
+    pub(crate) noted: Option<&'n PlacedRecord<'a>>,
     /// Whether the next point has a record.
     pub(crate) is_next_noted: bool,
     ghost within: { point < program.now.space.thread.now.header.words },

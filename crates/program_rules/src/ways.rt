@@ -25,6 +25,7 @@ use crate::kept::{Kept, Known};
 use crate::point_rules::{Way, kept_at, left_calls_are_kept, left_states_are_kept};
 use crate::points::Points;
 use crate::programs::Program;
+use crate::read_points::ReadPoints;
 use crate::same_parts::SameParts;
 use crate::visits::{PlainPoint, Seen, Visit};
 use measure::{AfterInstruction, Step};
@@ -76,9 +77,12 @@ impl Seen<'_, '_, '_, '_, '_> {
         ensures noted { noted_by self.now.program.now.slots.now self.now.points.now.log result ≡ noted_at self.now.program.now.space.image.now (thread_of self.now.program.now) address }
         ensures held { HasPart self.now.points.now.log result }
     {
-        let points = self.points;
+        let read = ReadPoints {
+            program: self.program,
+            points: self.points,
+        };
         match self.program.point_at(address) {
-            Some(point) => points.kept.at(self.program, &points.log, point),
+            Some(point) => read.at(point),
             None => Kept::Missing,
         }
     }

@@ -23,13 +23,16 @@ note_own-requires c =
       | Some r ↦ λ is. let fits = record-fits own point r.now program.fits (sym is) in (fits.terms, fits.constant)
     ] c.args.visit.now.listed
 
-pub look-requires-clause-sound : goal.look-requires-clause-sound
-look-requires-clause-sound c = c.in_ok-note_own.ensures.sound c.args.visit.now.point c.requires.read.sound
+pub look-requires : goal.look-requires
+look-requires c = record {
+  sound = c.in_ok-note_own.ensures.sound c.args.visit.now.point c.requires.read.sound;
+  shows = c.in_ok-show.ensures.own;
+  clean = c.in_ok-note_own.ensures.clean c.args.visit.now.program.now.space.image.now c.args.visit.now.program.now.space.thread.now
+      c.args.visit.now.program.now.slots.now c.requires.read.clean;
+}
 
-pub look-requires-clause-clean : goal.look-requires-clause-clean
-look-requires-clause-clean c =
-    c.in_ok-note_own.ensures.clean c.args.visit.now.program.now.space.image.now c.args.visit.now.program.now.space.thread.now
-    c.args.visit.now.program.now.slots.now c.requires.read.clean
+pub pass-requires : goal.pass-requires
+pass-requires c = record { sound = c.look.ensures.sound; shows = c.look.ensures.shown; clean = c.look.ensures.clean }
 
 pub show-requires-clause-held : goal.show-requires-clause-held
 show-requires-clause-held c = has-part c.note_own.new.log c.args.visit.now.point c.note_own.new.derived

@@ -23,11 +23,6 @@ notes-init c =
       c.new-shown.ensures.shown log,
     )
 
-pub note-requires-clause-noted : goal.note-requires-clause-noted
-note-requires-clause-noted c =
-    c.take-noted.ensures.record
-    ∙ sym (next-record c.args.program.now.space.thread.now c.notes.point c.notes.records c.notes.invariant.1).0
-
 pub invariant_of-visit : goal.invariant_of-visit
 invariant_of-visit c =
     let own = c.args.program.now.space.thread.now in
@@ -35,7 +30,7 @@ invariant_of-visit c =
     let count = c.word_count-point-end.ensures.value in
     record {
       within = omega (arith, least, count);
-      listed = c.record_in.ensures ∙ c.take-noted.ensures.record ∙ sym (next-record own c.notes.point c.notes.records c.notes.invariant.1).0;
+      listed = c.as_ref.ensures.value ∙ c.take-noted.ensures.record ∙ sym (next-record own c.notes.point c.notes.records c.notes.invariant.1).0;
       next = is-next own c.notes.point c.notes.records c.take-noted.new.self c.is_next-is_next_noted.result c.notes.invariant.1
           c.take-noted.ensures.left
           c.is_next-is_next_noted.ensures;

@@ -21,8 +21,8 @@ rules-init c =
       λ less. c.at-kept.ensures,
     )
 
-pub at-kept-requires-clause-within : goal.at-kept-requires-clause-within
-at-kept-requires-clause-within c = let entry = c.args.self.now.entry in omega (arith, entry)
+pub at-kept-requires : goal.at-kept-requires
+at-kept-requires c = let entry = c.args.self.now.entry in omega (arith, entry)
 
 pub point_rules-requires-clause-kept : goal.point_rules-requires-clause-kept
 point_rules-requires-clause-kept c =
@@ -30,8 +30,8 @@ point_rules-requires-clause-kept c =
     let count = c.word_count-point-end.ensures.value in
     c.rules.invariant.6 (omega (arith, least, count))
 
-pub pass-requires-clause-kept : goal.pass-requires-clause-kept
-pass-requires-clause-kept c =
+pub pass-requires : goal.pass-requires
+pass-requires c =
     let least = c.rules-test.true in
     let count = c.word_count-point-end.ensures.value in
     grown-at c.args.self.now.space.image.now (thread_of c.args.self.now) c.args.self.now.slots.now c.rules.points.log c.point_rules.new.points.log c.rules.point
@@ -45,7 +45,7 @@ invariant_of-visit c =
     let count = c.word_count-point-end.ensures.value in
     record {
       within = omega (arith, least, count);
-      listed = c.record_in.ensures ∙ c.take-noted.ensures.record ∙ sym (next-record own c.rules.point c.rules.records c.rules.invariant.1).0;
+      listed = c.as_ref.ensures.value ∙ c.take-noted.ensures.record ∙ sym (next-record own c.rules.point c.rules.records c.rules.invariant.1).0;
       next = is-next own c.rules.point c.rules.records c.take-noted.new.self c.is_next-is_next_noted.result c.rules.invariant.1
           c.take-noted.ensures.left
           c.is_next-is_next_noted.ensures;

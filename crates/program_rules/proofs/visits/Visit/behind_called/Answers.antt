@@ -18,7 +18,7 @@ invariant_of-here c = record {
   image = c.slots-slots.ensures.image;
   clean = λ is.
       subst (λ (all : List NotedSlot). NoneStray c.args.self.now.program.now.space.image.now c.args.self.now.program.now.space.thread.now all)
-      (sym (c.slots-slots.ensures.slots ∙ c.requires.shown.same c.args.self.now.program.now.slots.now c.args.self.now.program.now.rising
+      (sym (c.slots-slots.ensures.slots ∙ c.requires.shows.same c.args.self.now.program.now.slots.now c.args.self.now.program.now.rising
       c.args.self.now.program.now.unlinked))
       (c.requires.clean is);
 }
@@ -35,7 +35,7 @@ returns-in_ok-part-in-Leaves-clause-same c =
     (c.in_ok-part-in-Leaves.ensures.same slots c.args.self.now.program.now.rising ∙ ap (replayed (replayed slots part)) c.deref.ensures.value)
     ∙ ap (follows_call own m) (sym (call-any c.args.self.now.program.now.space.image.now (thread_of c.args.self.now.program.now) c.args.self.now.point
     c.args.known.now.bounds m (slots_of c.slots-slots.result) (replayed slots part) c.in_ok-called.field-0
-    (c.slots-slots.ensures.slots ∙ c.requires.shown.same slots c.args.self.now.program.now.rising c.args.self.now.program.now.unlinked)
+    (c.slots-slots.ensures.slots ∙ c.requires.shows.same slots c.args.self.now.program.now.rising c.args.self.now.program.now.unlinked)
     (c.in_ok-called.ensures.left m)
     ∙ ap (call_of (replayed slots part)) c.in-Leaves.is))
 
@@ -54,7 +54,7 @@ returns-in_ok-part-in-Leaves-clause-clean c =
     c.behind_call.ensures.clean image t.thread slots c.follow.new.self
     (clean-made image t.thread (slots_of c.slots-slots.result) (replayed slots part) c.in_ok-called.field-0 c.in-Leaves.behind c.in-Leaves.made
     (replayed slots (part_of c.follow.new.self c.in_ok-part-in-Leaves.part))
-    (c.slots-slots.ensures.slots ∙ c.requires.shown.same slots c.args.self.now.program.now.rising c.args.self.now.program.now.unlinked)
+    (c.slots-slots.ensures.slots ∙ c.requires.shows.same slots c.args.self.now.program.now.rising c.args.self.now.program.now.unlinked)
     c.in-Leaves.is c.in_ok-called.ensures.clean
     (c.in_ok-part-in-Leaves.ensures.same slots c.args.self.now.program.now.rising ∙ ap (replayed (replayed slots part)) c.deref.ensures.value))
 
@@ -66,7 +66,7 @@ returns-in-Stray-clause-same c =
     let all = replayed slots (part_of c.args.log.now c.args.known.now.part) in
     ap (follows_call own m) (sym (call-any c.args.self.now.program.now.space.image.now (thread_of c.args.self.now.program.now) c.args.self.now.point
     c.args.known.now.bounds m (slots_of c.slots-slots.result) all c.in_ok-called.field-0
-    (c.slots-slots.ensures.slots ∙ c.requires.shown.same slots c.args.self.now.program.now.rising c.args.self.now.program.now.unlinked)
+    (c.slots-slots.ensures.slots ∙ c.requires.shows.same slots c.args.self.now.program.now.rising c.args.self.now.program.now.unlinked)
     (c.in_ok-called.ensures.left m)
     ∙ ap (call_of all) c.in-Stray.is))
 
@@ -78,6 +78,6 @@ returns-in-Refused-clause-same c =
     let all = replayed slots (part_of c.args.log.now c.args.known.now.part) in
     ap (follows_call own m) (sym (call-any c.args.self.now.program.now.space.image.now (thread_of c.args.self.now.program.now) c.args.self.now.point
     c.args.known.now.bounds m (slots_of c.slots-slots.result) all c.in_ok-called.field-0
-    (c.slots-slots.ensures.slots ∙ c.requires.shown.same slots c.args.self.now.program.now.rising c.args.self.now.program.now.unlinked)
+    (c.slots-slots.ensures.slots ∙ c.requires.shows.same slots c.args.self.now.program.now.rising c.args.self.now.program.now.unlinked)
     (c.in_ok-called.ensures.left m)
     ∙ ap (call_of all) c.in-Refused.is))

@@ -18,7 +18,7 @@ returns c = λ is.
     let bounds = c.args.known.now.bounds in
     let nothing : Measure = record { constant = pos 0; terms = [] } in
     subst (NoneStray image t.thread) (c.slots-slots.ensures.slots
-    ∙ c.requires.shown.same c.args.self.now.program.now.slots.now c.args.self.now.program.now.rising c.args.self.now.program.now.unlinked)
+    ∙ c.requires.shows.same c.args.self.now.program.now.slots.now c.args.self.now.program.now.rising c.args.self.now.program.now.unlinked)
     (c.points_without_stray_slots_have_none.ensures image t.thread c.args.self.now.point (known_with bounds (slots_of c.slots-slots.result) nothing)
     (sym (c.has_stray_slots.ensures bounds nothing) ∙ is-false c.has_stray_slots.result is))
 

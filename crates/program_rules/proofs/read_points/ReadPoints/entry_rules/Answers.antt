@@ -8,7 +8,7 @@ use Rattle.model.specs.declared.refusals.Refusal.TheVariants.{RangeNotKept}
 use Rattle.program_rules.proofs.EachPoint.{has-part}
 use Rattle.program_rules.proofs.Outcomes.{told}
 use Rattle.program_rules.proofs.PointLists.{at-entry}
-use Rattle.program_rules.proofs.programs.Program.entry_rules.Goals as goal
+use Rattle.program_rules.proofs.read_points.ReadPoints.entry_rules.Goals as goal
 use Rattle.program_rules.specs.Kept.{HasPart, noted_by}
 use Rattle.program_rules.specs.Programs.{thread_of}
 use Rattle.program_rules.specs.declared.kept.Kept.{Kept}
@@ -17,15 +17,15 @@ use Rattle.typestate.specs.Replays.{replayed}
 
 pub has_listed_slots-requires : goal.has_listed_slots-requires
 has_listed_slots-requires c =
-    let log = c.args.points.now.log in
+    let log = c.args.self.now.points.now.log in
     subst (λ (k : Kept). HasPart log k) c.in-Known.is (has-part log c.header-entry.result.entry c.at.result c.at.ensures.sound)
 
 pub returns-in_ok-has_slots-in-Known : goal.returns-in_ok-has_slots-in-Known
 returns-in_ok-has_slots-in-Known c =
-    let image = c.args.self.now.space.image.now in
-    let t = thread_of c.args.self.now in
-    let slots = c.args.self.now.slots.now in
-    let log = c.args.points.now.log in
+    let image = c.args.self.now.program.now.space.image.now in
+    let t = thread_of c.args.self.now.program.now in
+    let slots = c.args.self.now.program.now.slots.now in
+    let log = c.args.self.now.points.now.log in
     let entry = ap (λ h. h.entry) c.header-entry.ensures in
     told _ c.entered.result
     (c.entered.ensures image t (replayed slots (part_of log c.in-Known.known.part)) refl
@@ -35,10 +35,10 @@ returns-in_ok-has_slots-in-Known c =
 
 pub returns-in-Missing : goal.returns-in-Missing
 returns-in-Missing c =
-    let image = c.args.self.now.space.image.now in
-    let t = thread_of c.args.self.now in
-    let slots = c.args.self.now.slots.now in
-    let log = c.args.points.now.log in
+    let image = c.args.self.now.program.now.space.image.now in
+    let t = thread_of c.args.self.now.program.now in
+    let slots = c.args.self.now.program.now.slots.now in
+    let log = c.args.self.now.points.now.log in
     let entry = ap (λ h. h.entry) c.header-entry.ensures in
     let at = at-entry t c.header-entry.result.entry c.at-at.result entry c.at-at.ensures in
     let same = c.at.ensures.same ∙ ap (noted image t) entry in

@@ -1,26 +1,26 @@
 -- From the last point that does not follow from the one before it on, each follows.
 use Rattle.std.proofs.Common.{ℕ, ◌≡◌, ◌<◌, length, subst, arith}
-use Rattle.program_rules.proofs.kept_points.KeptPoints.at.Goals as goal
+use Rattle.program_rules.proofs.read_points.ReadPoints.at.Goals as goal
 use Rattle.program_rules.specs.Kept.{IsKeptAt}
 use Rattle.program_rules.specs.Programs.{thread_of}
 
 pub steps-init : goal.steps-init
 steps-init c =
-    let within = c.requires.within in
-    let count = c.requires.count in
+    let within = c.requires in
+    let count = c.args.self.now.read.count in
     let near = c.first_of-first.ensures.near in
-    let less : c.first_of-first.result < length c.args.self.now.places.items = omega (arith, within, count, near) in (
-      c.first-kept.ensures c.args.program.now.space.image.now (thread_of c.args.program.now) c.args.program.now.slots.now c.args.log.now c.requires.kept less
+    let less : c.first_of-first.result < length c.args.self.now.points.now.kept.places.items = omega (arith, within, count, near) in (
+      c.first-kept.ensures c.args.self.now.program.now.space.image.now (thread_of c.args.self.now.program.now) c.args.self.now.program.now.slots.now c.args.self.now.points.now.log c.args.self.now.read.noted less
           c.first_of-first.ensures.first,
       near,
     )
 
-pub pass-requires-clause-kept : goal.pass-requires-clause-kept
-pass-requires-clause-kept c = c.steps.invariant.0
+pub pass-requires : goal.pass-requires
+pass-requires c = c.steps.invariant.0
 
 pub steps-preserved : goal.steps-preserved
 steps-preserved c =
-    let within = c.requires.within in
+    let within = c.requires in
     let near = c.steps-test.true in (
       c.pass.ensures (omega (arith, within, near)),
       omega (arith, near),
@@ -31,5 +31,5 @@ returns c =
     let near = c.steps.invariant.1 in
     let done = c.steps-test.false in
     let same : c.steps.before ≡ c.args.point = omega (arith, near, done) in
-    subst (λ (n : ℕ). IsKeptAt c.args.program.now.space.image.now (thread_of c.args.program.now) c.args.program.now.slots.now c.args.log.now n c.steps.kept)
+    subst (λ (n : ℕ). IsKeptAt c.args.self.now.program.now.space.image.now (thread_of c.args.self.now.program.now) c.args.self.now.program.now.slots.now c.args.self.now.points.now.log n c.steps.kept)
     same c.steps.invariant.0
