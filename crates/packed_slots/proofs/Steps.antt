@@ -10,6 +10,12 @@ back_step previous depths n m limit slot size le =
     ap (λ k. back_above previous depths k limit (Some slot)) size
     ∙ ap (λ b. if b then Some slot else back_above previous depths m limit (previous slot)) (le-ltb (depths slot) limit le)
 
+pub back_found : (previous : Links) (depths : ℕ → ℕ) (n m limit slot : ℕ) → n ≡ suc m → depths slot < limit
+    → back_above previous depths n limit (Some slot) ≡ Some slot
+back_found previous depths n m limit slot size less =
+    ap (λ k. back_above previous depths k limit (Some slot)) size
+    ∙ ap (λ b. if b then Some slot else back_above previous depths m limit (previous slot)) (lt-ltb (depths slot) limit less)
+
 pub lower_step : (depth n m slot : ℕ) (memory : List ℕ) → n ≡ suc m → depth < depth_in (word_of memory slot 2)
     → lowered_memory depth n (Some slot) memory
     ≡ lowered_memory depth m (next_in (word_of memory slot 2)) (with_link memory slot (next_in (word_of memory slot 2)) (depth_in (word_of memory slot 2) - 1))

@@ -1,9 +1,10 @@
 //! Capability slots packed into the memory of the machine: 16 bytes a slot, and one list of all full slots in preorder.
-//! Each change and each read is a function over memory, the open slots and the first full slot, which [`PackedSlots`] owns.
+//! Reads are methods of [`PackedSlots`], whose invariant says what is packed; changes are put together from functions over
+//! the memory alone.
 #![tactic(auto)]
 
 mod cached_slots;
-mod changes;
+mod capability_words;
 mod handlers;
 mod indexed;
 mod links;
@@ -14,7 +15,6 @@ mod reads;
 mod roots;
 mod store;
 mod words;
-mod writes;
 
 pub use cached_slots::{
     CachedSlots, WalkStore, leaves_stay_where_entries_do, one_leaf_more_is_kept,

@@ -2,15 +2,14 @@
 
 ghost use Rattle.std.specs.Prelude.{ℕ, ◌≡◌, ◌+◌, ◌*◌, ◌%◌, ◌^◌, ◌<◌, ◌≤◌, length};
 ghost use Rattle.std.specs.Option.{ForSome};
-ghost use Rattle.packed_slots.specs.Words.{linked_behind, linked_first, lowered_memory, next_in, previous_in, unlinked, with_back_at, with_next_at, word_of, words_in};
+ghost use Rattle.packed_slots.specs.Words.{first_without, linked_behind, linked_first, lowered_memory, next_in, previous_in, unlinked, with_back_at, with_next_at, word_of, words_in};
 ghost use Rattle.slots.specs.preorder.Chains.{back_above};
 
-use crate::words::{blank, depth, next, previous, put_back, put_link};
+use crate::words::{SlotMemory, blank, depth, next, previous, put_back, put_link};
 use model::Slot;
-use pmem::Mem;
 
 /// Writes the previous slot of a slot, if there is a slot.
-fn put_back_at(memory: &mut Mem, slot: &Option<Slot>, previous: &Option<Slot>)
+fn put_back_at(memory: &mut SlotMemory, slot: &Option<Slot>, previous: &Option<Slot>)
     requires inside { ForSome slot.now (λ s. 16 * (s + 1) ≤ length memory.old) }
     ensures bytes { memory.new ≡ with_back_at memory.old slot.now previous.now }
     ensures size { length memory.new ≡ length memory.old }
@@ -21,8 +20,7 @@ fn put_back_at(memory: &mut Mem, slot: &Option<Slot>, previous: &Option<Slot>)
 }
 
 /// Writes the next slot of a slot, if there is a slot.
-fn put_next_at(memory: &mut Mem, slot: &Option<Slot>, next: &Option<Slot>)
-    requires whole { length memory.old % 16 ≡ 0 }
+fn put_next_at(memory: &mut SlotMemory, slot: &Option<Slot>, next: &Option<Slot>)
     requires inside { ForSome slot.now (λ s. 16 * (s + 1) ≤ length memory.old) }
     ensures bytes { memory.new ≡ with_next_at memory.old slot.now next.now }
     ensures size { length memory.new ≡ length memory.old }
@@ -34,8 +32,7 @@ fn put_next_at(memory: &mut Mem, slot: &Option<Slot>, next: &Option<Slot>)
 }
 
 /// Links a slot after another, at a depth.
-pub(crate) fn link_behind(memory: &mut Mem, at: Slot, slot: Slot, own_depth: u32)
-    requires whole { length memory.old % 16 ≡ 0 }
+pub(crate) fn link_behind(memory: &mut SlotMemory, at: Slot, slot: Slot, own_depth: u32)
     requires inside { 16 * (slot + 1) ≤ length memory.old }
     requires beside { 16 * (at + 1) ≤ length memory.old }
     requires behind { ForSome (next_in (word_of memory.old at 2)) (λ s. 16 * (s + 1) ≤ length memory.old) }
@@ -52,7 +49,7 @@ pub(crate) fn link_behind(memory: &mut Mem, at: Slot, slot: Slot, own_depth: u32
 }
 
 /// Links a slot in front of the first one, at depth 0.
-pub(crate) fn link_first(memory: &mut Mem, first: &Option<Slot>, slot: Slot)
+pub(crate) fn link_first(memory: &mut SlotMemory, first: &Option<Slot>, slot: Slot)
     requires inside { 16 * (slot + 1) ≤ length memory.old }
     requires behind { ForSome first.now (λ s. 16 * (s + 1) ≤ length memory.old) }
     ensures bytes { memory.new ≡ linked_first memory.old first.now slot }
@@ -63,27 +60,28 @@ pub(crate) fn link_first(memory: &mut Mem, first: &Option<Slot>, slot: Slot)
     put_back(memory, slot, &None);
 }
 
-/// Takes a slot out from between its neighbours, and zeroes its bytes.
-pub(crate) fn unlink(memory: &mut Mem, slot: Slot)
-    requires whole { length memory.old % 16 ≡ 0 }
-    requires few { length memory.old ≤ 2 ^ 24 }
+/// Takes a slot out from between its neighbours, zeroes its bytes, and answers the first one of those that are left.
+pub(crate) fn take_out(memory: &mut SlotMemory, first: &Option<Slot>, slot: Slot) -> Option<Slot>
     requires inside { 16 * (slot + 1) ≤ length memory.old }
     requires behind { ForSome (next_in (word_of memory.old slot 2)) (λ s. 16 * (s + 1) ≤ length memory.old) }
     requires before { ForSome (previous_in (word_of memory.old slot 3)) (λ s. 16 * (s + 1) ≤ length memory.old) }
     ensures bytes { memory.new ≡ unlinked memory.old slot }
-    ensures size { length memory.new ≡ length memory.old }
+    ensures first { result ≡ first_without (previous_in (word_of memory.old slot 3)) (next_in (word_of memory.old slot 2)) first.now }
 {
     let after = next(memory, slot);
     let before = previous(memory, slot);
     put_next_at(memory, &before, &after);
     put_back_at(memory, &after, &before);
     blank(memory, slot, 1);
+    match before {
+        None => after,
+        Some(_) => *first,
+    }
 }
 
 /// Makes the slots from one on one less deep, as long as they are deeper than a depth.
-#[tactic(auto, using(crate::proofs::WordsBehind::deep_inside), unfolding(crate::specs::Words::lowered_memory))]
-pub(crate) fn lower(memory: &mut Mem, count: u32, first: Option<Slot>, root_depth: u32)
-    requires { length memory.old % 16 ≡ 0 }
+#[tactic(auto, unfolding(crate::specs::Words::lowered_memory))]
+pub(crate) fn lower(memory: &mut SlotMemory, count: u32, first: Option<Slot>, root_depth: u32)
     ensures bytes { memory.new ≡ lowered_memory root_depth count first memory.old }
     ensures size { length memory.new ≡ length memory.old }
 {
@@ -103,8 +101,12 @@ pub(crate) fn lower(memory: &mut Mem, count: u32, first: Option<Slot>, root_dept
 }
 
 /// The first slot from one on, back along so many slots, that is less deep than a depth.
-pub(crate) fn back_above(memory: &Mem, count: u32, limit: u32, last: Option<Slot>) -> Option<Slot>
-    requires { length memory.now % 16 ≡ 0 }
+pub(crate) fn back_above(
+    memory: &SlotMemory,
+    count: u32,
+    limit: u32,
+    last: Option<Slot>,
+) -> Option<Slot>
     ensures { result ≡ back_above (words_in memory.now).previous (words_in memory.now).depth count limit last }
 {
     let mut at = last;

@@ -1,16 +1,14 @@
 //! A store of slots that are packed into the bytes of the machine.
 
-ghost use Rattle.std.specs.Prelude.{ℕ, ◌≡◌, ◌^◌, ◌≤◌, None, IfOk, IfSome, IsTrue, true, false, replicate};
-ghost use Rattle.std.specs.Option.{ForSome};
-ghost use Rattle.model.specs.Capabilities.Orders.{IsOrderOf, next_in};
-ghost use Rattle.model.specs.Capabilities.Slots.{IsFull};
+ghost use Rattle.std.specs.Prelude.{ℕ, ◌≡◌, ◌^◌, ◌≤◌, None, IfOk, replicate};
 ghost use Rattle.packed_slots.specs.Packing.{packed_order, packed_slots};
-ghost use Rattle.packed_slots.specs.Sharing.{IsOther};
-ghost use Rattle.slots.specs.Listed.{is_naming, naming};
 
+use crate::capability_words::{copy_capability, put_capability};
+use crate::links::{link_behind, link_first, lower, take_out};
 use crate::open_slots::OpenSlots;
+use crate::reads::root_in;
 use crate::roots::RootStore;
-use crate::{changes, neighbours, reads, writes};
+use crate::words::{SlotMemory, blank, depth, is_slot, next, word};
 use model::{Cap, Slot};
 use pmem::Mem;
 use slots::{SlotMap, SlotStore};
@@ -21,9 +19,9 @@ use std::marker::Model;
 /// A clause sees the bytes of the machine, which slots are open, and the first full slot.
 #[derive(Drop)]
 pub struct PackedSlots {
-    memory: Mem,
-    open_slots: OpenSlots,
-    first: Option<Slot>,
+    pub(crate) memory: SlotMemory,
+    pub(crate) open_slots: OpenSlots,
+    pub(crate) first: Option<Slot>,
 }
 
 impl Model for PackedSlots {
@@ -48,9 +46,10 @@ impl PackedSlots {
         ensures bytes { IfOk result (λ store. store.memory ≡ replicate (2 ^ bits) 0) }
         ensures slots { IfOk result (λ store. (s : ℕ) → packed_slots store s ≡ None) }
     {
-        let memory = Mem::new(alloc, bits)?;
-        let count = memory.len() / 16;
+        let bytes = Mem::new(alloc, bits)?;
+        let count = bytes.len() / 16;
         let open_slots = OpenSlots::closed(alloc, count)?;
+        let memory = SlotMemory { bytes };
         Ok(PackedSlots {
             memory,
             open_slots,
@@ -59,51 +58,19 @@ impl PackedSlots {
     }
 }
 
-impl PackedSlots {
-    /// The slot after `previous` in the store's order that names an object, or the first one: some slot is known that
-    /// names it, if one does.
-    pub(crate) fn next_alike(
-        &self,
-        object: u32,
-        previous: Option<Slot>,
-        known: Option<Slot>,
-    ) -> Option<Slot>
-        requires names { ForSome previous (λ slot. IsTrue (is_naming (packed_slots self.now) object slot)) }
-        requires some { ForSome known (λ slot. IsTrue (is_naming (packed_slots self.now) object slot)) }
-        requires none { known ≡ None → (slot : ℕ) → is_naming (packed_slots self.now) object slot ≡ false }
-        ensures next { result ≡ next_in (naming (packed_order self.now) (packed_slots self.now) object) previous }
-        ensures lists { IsOrderOf (packed_order self.now) (packed_slots self.now) }
-        ensures found_full { IfSome result (IsFull (packed_slots self.now)) }
-        ensures found_known { IfSome result (λ slot. IsTrue (is_naming (packed_slots self.now) object slot)) }
-    {
-        neighbours::next_alike(
-            &self.memory,
-            &self.open_slots,
-            &self.first,
-            object,
-            previous,
-            known,
-        )
-    }
-
-    /// Another slot that names the object which a slot names, if one does.
-    pub(crate) fn other_alike(&self, object: u32, slot: Slot) -> Option<Slot>
-        requires { is_naming (packed_slots self.now) object slot ≡ true }
-        ensures { IsOther (packed_slots self.now) object slot result }
-    {
-        neighbours::beside_naming(&self.memory, &self.open_slots, &self.first, object, slot)
-    }
-}
-
 impl SlotMap for PackedSlots {
     ghost slots = { packed_slots };
 
     fn capability(&self, slot: Slot) -> Cap {
-        reads::capability(&self.memory, &self.open_slots, &self.first, slot)
+        if self.open_slots.contains(slot) {
+            self.held(slot)
+        } else {
+            Cap::Empty
+        }
     }
 
     fn get(&self, slot: Slot) -> (Cap, Option<Slot>) {
-        reads::get(&self.memory, &self.open_slots, &self.first, slot)
+        (self.held(slot), self.parent(slot))
     }
 }
 
@@ -113,7 +80,7 @@ impl SlotStore for PackedSlots {
     ghost order = { packed_order };
 
     fn mem(&self) -> &Mem {
-        &self.memory
+        &self.memory.bytes
     }
 
     fn count(&self) -> u32 {
@@ -125,132 +92,126 @@ impl SlotStore for PackedSlots {
     }
 
     fn depth(&self, slot: Slot) -> u32 {
-        reads::depth_above(&self.memory, &self.open_slots, &self.first, slot)
+        self.noted_depth(slot)
     }
 
+    /// The slot that is linked after another.
     fn next_full(&self, previous: Option<Slot>) -> Option<Slot> {
-        reads::next_full(&self.memory, &self.open_slots, &self.first, previous)
+        match previous {
+            None => self.first,
+            Some(slot) => self.linked_after(slot),
+        }
     }
 
+    /// Whether the first slot back that is as deep as the root, or less deep, is the root.
     fn descends(&self, root: Slot, slot: Slot) -> bool {
-        reads::descends(&self.memory, &self.open_slots, &self.first, root, slot)
-    }
-
-    fn next_below(&self, root: Slot, previous: Option<Slot>) -> Option<Slot> {
-        reads::next_below(&self.memory, &self.open_slots, &self.first, root, previous)
-    }
-
-    fn is_shared(&self, slot: Slot) -> bool {
-        neighbours::is_shared(&self.memory, &self.open_slots, &self.first, slot)
-    }
-
-    fn is_shared_beside(&self, root: Slot, last: Slot, slot: Slot) -> bool {
-        neighbours::is_shared_beside(
-            &self.memory,
-            &self.open_slots,
-            &self.first,
+        let root_depth = self.noted_depth(root);
+        if self.noted_depth(slot) <= root_depth {
+            return false;
+        }
+        is_slot(
+            self.back_above(root_depth + 1, self.linked_before(slot)),
             root,
-            last,
-            slot,
         )
     }
 
+    fn next_below(&self, root: Slot, previous: Option<Slot>) -> Option<Slot> {
+        self.linked_below(root, previous)
+    }
+
+    fn is_shared(&self, slot: Slot) -> bool {
+        prove!(self.is_packed());
+        self.has_like_neighbour(slot)
+    }
+
+    fn is_shared_beside(&self, root: Slot, last: Slot, slot: Slot) -> bool {
+        prove!(self.is_packed());
+        self.has_like_edge(root, last, slot)
+    }
+
+    /// The slot before one, if it is less deep, and the slot after this one is less deep too.
     fn childless_without(&self, slot: Slot) -> Option<Slot> {
-        neighbours::childless_without(&self.memory, &self.open_slots, &self.first, slot)
+        let own_depth = self.noted_depth(slot);
+        let Some(before) = self.linked_before(slot) else {
+            return None;
+        };
+        if self.is_as_deep(own_depth, Some(before)) {
+            return None;
+        }
+        if self.is_as_deep(own_depth, self.linked_after(slot)) {
+            return None;
+        }
+        Some(before)
     }
 
     fn open_range(&mut self, first: Slot, count: u32) {
-        changes::open(
-            &mut self.memory,
-            &mut self.open_slots,
-            &self.first,
-            first,
-            count,
-        );
+        blank(&mut self.memory, first, count);
+        self.open_slots.set(first, count, true);
     }
 
     fn close_range(&mut self, first: Slot, count: u32) {
-        changes::close(
-            &self.memory,
-            &mut self.open_slots,
-            &self.first,
-            first,
-            count,
-        );
+        self.open_slots.set(first, count, false);
     }
 
     fn set_cap(&mut self, slot: Slot, capability: Cap) {
-        changes::recap(
-            &mut self.memory,
-            &self.open_slots,
-            &self.first,
-            slot,
-            capability,
-        );
+        put_capability(&mut self.memory, slot, capability);
     }
 
+    /// Right after the slot that it is derived from, or in front of all.
     fn insert(&mut self, slot: Slot, capability: Cap, parent: Option<Slot>) {
-        self.first = changes::insert(
-            &mut self.memory,
-            &self.open_slots,
-            &self.first,
-            slot,
-            capability,
-            parent,
-        );
+        put_capability(&mut self.memory, slot, capability);
+        match parent {
+            Some(above) => {
+                let parent_depth = depth(&self.memory, above);
+                link_behind(&mut self.memory, above, slot, parent_depth + 1);
+            }
+            None => {
+                link_first(&mut self.memory, &self.first, slot);
+                self.first = Some(slot);
+            }
+        }
     }
 
+    /// The slot's descendants become one less deep, and it is taken out of the list.
     fn splice_out(&mut self, slot: Slot) {
-        self.first = changes::splice(&mut self.memory, &self.open_slots, &self.first, slot);
+        let own_depth = depth(&self.memory, slot);
+        let after = next(&self.memory, slot);
+        lower(&mut self.memory, self.open_slots.len(), after, own_depth);
+        self.first = take_out(&mut self.memory, &self.first, slot);
     }
 
+    /// The new slot is linked after the old one, which is then taken out.
     fn relocate(&mut self, from: Slot, to: Slot) {
-        self.first = changes::relocate(&mut self.memory, &self.open_slots, &self.first, from, to);
+        let own_depth = depth(&self.memory, from);
+        copy_capability(&mut self.memory, from, to);
+        link_behind(&mut self.memory, from, to, own_depth);
+        self.first = take_out(&mut self.memory, &self.first, from);
     }
 
     fn write8(&mut self, offset: u32, byte: u8) {
-        writes::write8(
-            &mut self.memory,
-            &self.open_slots,
-            &self.first,
-            offset,
-            byte,
-        );
+        self.memory.write8(offset, byte);
     }
 
     fn write32(&mut self, offset: u32, word: u32) {
-        writes::write32(
-            &mut self.memory,
-            &self.open_slots,
-            &self.first,
-            offset,
-            word,
-        );
+        self.memory.write32(offset, word);
     }
 
     fn write_words(&mut self, offset: u32, words: &[u32]) {
-        writes::write_words(
-            &mut self.memory,
-            &self.open_slots,
-            &self.first,
-            offset,
-            words,
-        );
+        self.memory.write_words(offset, words);
     }
 
     fn zero(&mut self, offset: u32, count: u32) {
-        writes::zero(
-            &mut self.memory,
-            &self.open_slots,
-            &self.first,
-            offset,
-            count,
-        );
+        self.memory.zero(offset, count);
     }
 }
 
 impl RootStore for PackedSlots {
+    /// One word gives it.
     fn root_table(&self, slot: Slot) -> Option<u32> {
-        reads::root_table(&self.memory, &self.open_slots, &self.first, slot)
+        if self.open_slots.contains(slot) {
+            root_in(word(&self.memory, slot, 0))
+        } else {
+            None
+        }
     }
 }

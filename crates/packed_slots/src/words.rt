@@ -1,10 +1,13 @@
 //! The words of a slot.
 
-ghost use Rattle.std.specs.Prelude.{ℕ, ◌≡◌, ◌+◌, ◌*◌, ◌%◌, ◌^◌, ◌<◌, ◌≤◌, length};
+ghost use Rattle.std.specs.Prelude.{ℕ, ◌≡◌, ◌+◌, ◌*◌, ◌%◌, ◌^◌, ◌<◌, ◌≤◌, [], ◌∷◌, length, replicate};
+ghost use Rattle.model.specs.Shared.Bytes.{word_bytes, written};
+ghost use Rattle.pmem.specs.Words.{words_bytes};
 ghost use Rattle.packed_slots.specs.Words.{back_word, blanked, depth_in, is_one, link_word, next_in, previous_in, with_back, with_back_at, with_link, with_next_at, with_word, word_of};
 
 use model::Slot;
 use pmem::Mem;
+use std::marker::Model;
 
 /// Bytes of a slot.
 pub(crate) const SLOT_SIZE: u32 = 16;
@@ -21,23 +24,37 @@ const HAS_NEXT: u32 = 0x1000_0000;
 /// The bit that is set where there is a previous slot, one above the field of its number.
 const HAS_PREVIOUS: u32 = 0x10_0000;
 
+/// The bytes of the machine: those of whole slots.
+#[derive(Drop)]
+pub(crate) struct SlotMemory {
+    pub(crate) bytes: Mem,
+}
+
+impl Model for SlotMemory {
+    ghost use Rattle.std.specs.Prelude.{ℕ, ◌≡◌, ◌%◌, List, length};
+
+    ghost Value = { List ℕ };
+
+    ghost view = { λ memory. memory.bytes };
+
+    ghost invariant = { λ memory. length memory.bytes % 16 ≡ 0 };
+}
+
 /// One of the four words of a slot: 0 beyond the end of memory.
 #[tactic(auto, using(crate::proofs::WordsBehind::word_past))]
-pub(crate) fn word(memory: &Mem, slot: Slot, number: u32) -> u32
-    requires whole { length memory.now % 16 ≡ 0 }
-    requires small { number < 4 }
+pub(crate) fn word(memory: &SlotMemory, slot: Slot, number: u32) -> u32
+    requires { number < 4 }
     ensures { result ≡ word_of memory.now slot number }
 {
     let place = SLOT_SIZE * slot.number() + 4 * number;
-    if place >= memory.len() {
+    if place >= memory.bytes.len() {
         return 0;
     }
-    memory.read32(place)
+    memory.bytes.read32(place)
 }
 
 /// The slot after another.
-pub(crate) fn next(memory: &Mem, slot: Slot) -> Option<Slot>
-    requires { length memory.now % 16 ≡ 0 }
+pub(crate) fn next(memory: &SlotMemory, slot: Slot) -> Option<Slot>
     ensures { result ≡ next_in (word_of memory.now slot 2) }
 {
     let word = word(memory, slot, 2);
@@ -48,18 +65,18 @@ pub(crate) fn next(memory: &Mem, slot: Slot) -> Option<Slot>
     }
 }
 
-/// The depth of a slot.
-pub(crate) fn depth(memory: &Mem, slot: Slot) -> u32
-    requires { length memory.now % 16 ≡ 0 }
+/// The depth of a slot: 0 beyond the end of memory.
+pub(crate) fn depth(memory: &SlotMemory, slot: Slot) -> u32
     ensures value { result ≡ depth_in (word_of memory.now slot 2) }
     ensures small { result < 256 }
+    ensures inside { 0 < result → 16 * (slot + 1) ≤ length memory.now }
 {
+    let _ = &memory.bytes;
     word(memory, slot, 2) / DEPTH % DEPTHS
 }
 
 /// The slot before another.
-pub(crate) fn previous(memory: &Mem, slot: Slot) -> Option<Slot>
-    requires { length memory.now % 16 ≡ 0 }
+pub(crate) fn previous(memory: &SlotMemory, slot: Slot) -> Option<Slot>
     ensures { result ≡ previous_in (word_of memory.now slot 3) }
 {
     let word = word(memory, slot, 3);
@@ -71,13 +88,15 @@ pub(crate) fn previous(memory: &Mem, slot: Slot) -> Option<Slot>
 }
 
 /// Writes one of the four words of a slot.
-pub(crate) fn put_word(memory: &mut Mem, slot: Slot, number: u32, word: u32)
+pub(crate) fn put_word(memory: &mut SlotMemory, slot: Slot, number: u32, word: u32)
     requires inside { 16 * (slot + 1) ≤ length memory.old }
     requires small { number < 4 }
     ensures bytes { memory.new ≡ with_word memory.old slot number word }
     ensures size { length memory.new ≡ length memory.old }
 {
-    memory.write32(SLOT_SIZE * slot.number() + 4 * number, word);
+    memory
+        .bytes
+        .write32(SLOT_SIZE * slot.number() + 4 * number, word);
 }
 
 /// Word 2, of the next slot and the depth.
@@ -102,7 +121,7 @@ fn back_word(previous: &Option<Slot>) -> u32
 }
 
 /// Writes the next slot and the depth of a slot.
-pub(crate) fn put_link(memory: &mut Mem, slot: Slot, next: &Option<Slot>, depth: u32)
+pub(crate) fn put_link(memory: &mut SlotMemory, slot: Slot, next: &Option<Slot>, depth: u32)
     requires inside { 16 * (slot + 1) ≤ length memory.old }
     requires small { depth < 256 }
     ensures bytes { memory.new ≡ with_link memory.old slot next.now depth }
@@ -112,7 +131,7 @@ pub(crate) fn put_link(memory: &mut Mem, slot: Slot, next: &Option<Slot>, depth:
 }
 
 /// Writes the previous slot of a slot.
-pub(crate) fn put_back(memory: &mut Mem, slot: Slot, previous: &Option<Slot>)
+pub(crate) fn put_back(memory: &mut SlotMemory, slot: Slot, previous: &Option<Slot>)
     requires inside { 16 * (slot + 1) ≤ length memory.old }
     ensures bytes { memory.new ≡ with_back memory.old slot previous.now }
     ensures size { length memory.new ≡ length memory.old }
@@ -121,13 +140,15 @@ pub(crate) fn put_back(memory: &mut Mem, slot: Slot, previous: &Option<Slot>)
 }
 
 /// Writes zero into the bytes of so many slots.
-pub(crate) fn blank(memory: &mut Mem, slot: Slot, count: u32)
-    requires inside { 16 * (slot + count) ≤ length memory.old }
-    requires few { length memory.old ≤ 2 ^ 24 }
+pub(crate) fn blank(memory: &mut SlotMemory, slot: Slot, count: u32)
+    requires { 16 * (slot + count) ≤ length memory.old }
     ensures bytes { memory.new ≡ blanked memory.old slot count }
     ensures size { length memory.new ≡ length memory.old }
 {
-    memory.zero(SLOT_SIZE * slot.number(), SLOT_SIZE * count);
+    prove!(count <= memory.bytes.len());
+    memory
+        .bytes
+        .zero(SLOT_SIZE * slot.number(), SLOT_SIZE * count);
 }
 
 /// Whether there is a slot, and it is this one.
@@ -137,5 +158,39 @@ pub(crate) fn is_slot(found: Option<Slot>, slot: Slot) -> bool
     match found {
         Some(other) => other.number() == slot.number(),
         None => false,
+    }
+}
+
+impl SlotMemory {
+    /// Writes one byte.
+    pub(crate) fn write8(&mut self, offset: u32, byte: u8)
+        requires { offset < length self.old }
+        ensures { self.new ≡ written self.old offset (byte ∷ []) }
+    {
+        self.bytes.write8(offset, byte);
+    }
+
+    /// Writes a number into four bytes, the lowest first.
+    pub(crate) fn write32(&mut self, offset: u32, word: u32)
+        requires { offset + 4 ≤ length self.old }
+        ensures { self.new ≡ written self.old offset (word_bytes word) }
+    {
+        self.bytes.write32(offset, word);
+    }
+
+    /// Writes numbers into four bytes each, one after the other, the lowest byte of each first.
+    pub(crate) fn write_words(&mut self, offset: u32, words: &[u32])
+        requires { offset + 4 * length words.now ≤ length self.old }
+        ensures { self.new ≡ written self.old offset (words_bytes words.now) }
+    {
+        self.bytes.write_words(offset, words);
+    }
+
+    /// Writes zero into `count` bytes.
+    pub(crate) fn zero(&mut self, offset: u32, count: u32)
+        requires { offset + count ≤ length self.old }
+        ensures { self.new ≡ written self.old offset (replicate count 0) }
+    {
+        self.bytes.zero(offset, count);
     }
 }

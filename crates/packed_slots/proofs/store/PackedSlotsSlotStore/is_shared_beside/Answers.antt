@@ -1,10 +1,16 @@
--- The store is what its parts are.
-use Rattle.std.proofs.Common.{◌≡◌, Some, None, sym, subst}
-use Rattle.model.specs.Capabilities.Orders.{descendants, next_in}
-use Rattle.packed_slots.specs.Packing.{Packed, packed_order, packed_slots}
+-- The root shows it, or the slot after its descendants.
+use Rattle.std.proofs.Common.{◌∙◌, sym}
+use Rattle.packed_slots.proofs.Edges.{beside-so, none-beside}
 use Rattle.packed_slots.proofs.store.PackedSlotsSlotStore.is_shared_beside.Goals as goal
 
-pub is_shared_beside-requires-clause-none_behind : goal.is_shared_beside-requires-clause-none_behind
-is_shared_beside-requires-clause-none_behind c =
-    subst (λ (p : Packed). next_in (descendants (packed_order p) (packed_slots p) c.args.root) (Some c.args.last) ≡ None) (sym c.self.view_is)
-    c.requires.none_behind
+pub returns-clause-shared : goal.returns-clause-shared
+returns-clause-shared c =
+    let p = c.args.self.now in
+    λ is. beside-so p c.args.root c.args.last c.args.slot c.is_packed.ensures.packed c.requires.below c.requires.last_below c.requires.none_behind
+    (sym c.has_like_edge.ensures ∙ is)
+
+pub returns-clause-alone : goal.returns-clause-alone
+returns-clause-alone c =
+    let p = c.args.self.now in
+    λ is. none-beside p c.args.root c.args.last c.args.slot c.is_packed.ensures.packed c.requires.below c.requires.last_below c.requires.none_behind
+    (sym c.has_like_edge.ensures ∙ is)

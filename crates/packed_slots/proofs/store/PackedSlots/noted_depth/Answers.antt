@@ -1,0 +1,11 @@
+-- The store is what its parts are.
+use Rattle.std.proofs.Common.{◌∙◌, ap, subst}
+use Rattle.packed_slots.specs.Packing.{IsPacked, Packed}
+use Rattle.packed_slots.specs.Words.{words_in}
+use Rattle.packed_slots.proofs.store.PackedSlots.noted_depth.Goals as goal
+
+pub returns-clause-value : goal.returns-clause-value
+returns-clause-value c = c.depth.ensures.value ∙ ap (λ (p : Packed). (words_in p.memory).depth c.args.slot) c.self.view_is
+
+pub returns-clause-packed : goal.returns-clause-packed
+returns-clause-packed c = subst IsPacked c.self.view_is c.self.invariant
