@@ -18,7 +18,7 @@ use image_reading::{ImageRef, ThreadRef, read};
 use model::{Refusal, TermEntry};
 use ranges::Bounds;
 use std::alloc::Global;
-use thread_spaces::{given_space, offsets_of, reached_of, slots_of, windows_of};
+use thread_spaces::{PlacedImage, given_space, offsets_of, reached_of, slots_of, windows_of};
 use typestate::NotedSlot;
 use wellformed::well_formed;
 
@@ -410,8 +410,9 @@ fn certificate_of(
     let Ok(cnodes) = reached_of(alloc, image, &thread) else {
         return Err(Fault::OutOfMemory);
     };
-    let windows = windows_of(alloc, image, &thread, offsets, &cnodes)?;
-    let slots = slots_of(alloc, image, &thread, offsets, &cnodes)?;
+    let placed = PlacedImage { image, offsets };
+    let windows = windows_of(alloc, &placed, &thread, &cnodes)?;
+    let slots = slots_of(alloc, &placed, &thread, &cnodes)?;
     let space = given_space(image, &thread, offsets, &windows);
     let lists_stray = space.lists_stray(&slots);
     let given = Given {

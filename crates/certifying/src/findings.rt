@@ -15,7 +15,7 @@ use crate::{Effort, Fault, Reason};
 use image_reading::{ImageRef, read};
 use ranges::Bounds;
 use std::alloc::Global;
-use thread_spaces::{given_space, offsets_of, reached_of, slots_of, windows_of};
+use thread_spaces::{PlacedImage, given_space, offsets_of, reached_of, slots_of, windows_of};
 use wellformed::well_formed;
 
 /// What is wrong at a point of a program.
@@ -307,8 +307,9 @@ fn findings_of(
     let Ok(cnodes) = reached_of(alloc, image, &thread) else {
         return Err(Fault::OutOfMemory);
     };
-    let windows = windows_of(alloc, image, &thread, offsets, &cnodes)?;
-    let slots = slots_of(alloc, image, &thread, offsets, &cnodes)?;
+    let placed = PlacedImage { image, offsets };
+    let windows = windows_of(alloc, &placed, &thread, &cnodes)?;
+    let slots = slots_of(alloc, &placed, &thread, &cnodes)?;
     let space = given_space(image, &thread, offsets, &windows);
     let lists_stray = space.lists_stray(&slots);
     let given = Given {

@@ -10,7 +10,7 @@ use rv32_isa::decode;
 use source_gaps::Text;
 use source_texts::SourceText;
 use std::alloc::{AllocError, Global};
-use thread_spaces::{given_space, offsets_of, reached_of, slots_of, windows_of};
+use thread_spaces::{PlacedImage, given_space, offsets_of, reached_of, slots_of, windows_of};
 
 /// The point that a refusal names, if it is one of programs.
 pub fn point_of(refusal: Refusal) -> Option<Point> {
@@ -246,8 +246,12 @@ pub(crate) fn report_thread(
     let Ok(cnodes) = reached_of(alloc, image, &thread) else {
         return Err(ExplainFault::OutOfMemory);
     };
-    let windows = windows_of(alloc, image, &thread, &offsets, &cnodes)?;
-    let slots = slots_of(alloc, image, &thread, &offsets, &cnodes)?;
+    let placed = PlacedImage {
+        image,
+        offsets: &offsets,
+    };
+    let windows = windows_of(alloc, &placed, &thread, &cnodes)?;
+    let slots = slots_of(alloc, &placed, &thread, &cnodes)?;
     let space = given_space(image, &thread, &offsets, &windows);
     let scene = Scene {
         space,

@@ -14,7 +14,8 @@ use image_reading::{ImageRef, ThreadRef};
 use model::{Access, Refusal};
 use std::alloc::Global;
 use thread_spaces::{
-    given_space, offsets_of, programs_have_their_places, reached_of, slots_of, windows_of,
+    PlacedImage, given_space, offsets_of, programs_have_their_places, reached_of, slots_of,
+    windows_of,
 };
 
 /// The rules on a thread's program.
@@ -34,8 +35,9 @@ fn check_program(
     certificates_that_fit_keep_their_limits();
     programs_have_their_places();
     let cnodes = reached_of(alloc, image, thread)?;
-    let windows = windows_of(alloc, image, thread, offsets, &cnodes)?;
-    let slots = slots_of(alloc, image, thread, offsets, &cnodes)?;
+    let placed = PlacedImage { image, offsets };
+    let windows = windows_of(alloc, &placed, thread, &cnodes)?;
+    let slots = slots_of(alloc, &placed, thread, &cnodes)?;
     let space = given_space(image, thread, offsets, &windows);
     let loads = runs_of(alloc, image, thread, Access::Load)?;
     let stores = runs_of(alloc, image, thread, Access::Store)?;

@@ -2,15 +2,15 @@
 
 ghost use Rattle.std.specs.Prelude.{◌≡◌, ◌≤◌, true};
 ghost use Rattle.std.specs.Option.{option_map_or};
-ghost use Rattle.model.specs.Acceptance.Accepted.{IsWellFormed};
 ghost use Rattle.model.specs.Acceptance.NotedStates.{listed_slot};
 ghost use Rattle.model.specs.Capabilities.CapabilityWords.{IsCapability};
 ghost use Rattle.model.specs.Images.Described.{limited, listed_capability};
 ghost use Rattle.model.specs.Images.Image.{size_fits};
 ghost use Rattle.model.specs.Kernel.Retype.{first_capability, type_of};
 ghost use Rattle.model.specs.declared.capabilities.Cap.TheVariants.{Empty};
-ghost use Rattle.thread_spaces.specs.Given.{AreOffsets, IsEntry};
+ghost use Rattle.thread_spaces.specs.Given.{IsEntry};
 
+use crate::offsets::PlacedImage;
 use image_reading::{ImageRef, header_of, object_of};
 use model::{Cap, CapabilityEntry, ObjectEntry, ObjectType, Rights};
 use typestate::{NotedSlot, SlotKey};
@@ -74,43 +74,32 @@ fn handler(image: &ImageRef<'_>, entry: CapabilityEntry) -> Cap
 }
 
 /// The capability that an entry lists.
-pub(crate) fn listed_capability(
-    image: &ImageRef<'_>,
-    offsets: &[u32],
-    entry: CapabilityEntry,
-) -> Cap
-    requires formed { IsWellFormed image.now }
-    requires offsets { AreOffsets image.now image.now.header.objects offsets.now }
-    requires listed { IsEntry image.now entry }
-    ensures value { result ≡ listed_capability image.now entry }
+pub(crate) fn listed_capability(placed: &PlacedImage<'_, '_>, entry: CapabilityEntry) -> Cap
+    requires listed { IsEntry placed.now.image.now entry }
+    ensures value { result ≡ listed_capability placed.now.image.now entry }
     ensures valid { IsCapability result }
 {
+    let image = placed.image;
     if image.header().objects <= entry.source {
         return handler(image, entry);
     }
     let object = object_of(image, entry.source);
-    let offset = offsets[entry.source as usize];
+    let offset = placed.offsets[entry.source as usize];
     let capability = first_capability(object, offset);
     limited(capability, entry.rights, entry.payload)
 }
 
 /// The slot that an entry fills.
-pub(crate) fn listed_slot(
-    image: &ImageRef<'_>,
-    offsets: &[u32],
-    entry: CapabilityEntry,
-) -> NotedSlot
-    requires formed { IsWellFormed image.now }
-    requires offsets { AreOffsets image.now image.now.header.objects offsets.now }
-    requires listed { IsEntry image.now entry }
-    ensures { result ≡ listed_slot image.now entry }
+pub(crate) fn listed_slot(placed: &PlacedImage<'_, '_>, entry: CapabilityEntry) -> NotedSlot
+    requires listed { IsEntry placed.now.image.now entry }
+    ensures { result ≡ listed_slot placed.now.image.now entry }
 {
     NotedSlot {
         key: SlotKey {
             cnode: entry.cnode,
             index: entry.index,
         },
-        capability: listed_capability(image, offsets, entry),
+        capability: listed_capability(placed, entry),
         parent: None,
     }
 }

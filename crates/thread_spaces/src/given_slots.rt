@@ -1,14 +1,14 @@
 //! What an image puts into a thread's CNodes.
 
 ghost use Rattle.std.specs.Prelude.{◌≡◌, ◌++◌, [], ◌∷◌, IfOk, if◌then◌else◌};
-ghost use Rattle.model.specs.Acceptance.Accepted.{IsWellFormed};
 ghost use Rattle.model.specs.Acceptance.NotedStates.{image_slots, listed_slot};
 ghost use Rattle.model.specs.Acceptance.ThreadRules.{is_member, reached};
-ghost use Rattle.thread_spaces.specs.Given.{AreOffsets, IsEntry};
+ghost use Rattle.thread_spaces.specs.Given.{IsEntry};
 ghost use Rattle.typestate.specs.Orders.{Rise};
 
 use crate::capabilities::listed_slot;
-use image_reading::{ImageRef, ThreadRef, capability_of, header_of};
+use crate::offsets::PlacedImage;
+use image_reading::{ThreadRef, capability_of, header_of};
 use model::CapabilityEntry;
 use std::alloc::{AllocError, Global};
 use typestate::NotedSlot;
@@ -17,20 +17,17 @@ use wellformed::NumberSet;
 /// Appends the slot that an entry fills, if it lies in one of these CNodes.
 fn note_listed(
     slots: &mut Vec<NotedSlot>,
-    image: &ImageRef<'_>,
-    offsets: &[u32],
+    placed: &PlacedImage<'_, '_>,
     cnodes: &NumberSet,
     entry: CapabilityEntry,
 ) -> Result<(), AllocError>
-    requires formed { IsWellFormed image.now }
-    requires offsets { AreOffsets image.now image.now.header.objects offsets.now }
-    requires listed { IsEntry image.now entry }
-    ensures { IfOk result (λ _. slots.new.items ≡ slots.old.items ++ (if is_member entry.cnode cnodes.now then listed_slot image.now entry ∷ [] else [])) }
+    requires listed { IsEntry placed.now.image.now entry }
+    ensures { IfOk result (λ _. slots.new.items ≡ slots.old.items ++ (if is_member entry.cnode cnodes.now then listed_slot placed.now.image.now entry ∷ [] else [])) }
 {
     if !cnodes.contains(entry.cnode) {
         return Ok(());
     }
-    slots.push(listed_slot(image, offsets, entry))?;
+    slots.push(listed_slot(placed, entry))?;
     Ok(())
 }
 
@@ -41,26 +38,18 @@ fn note_listed(
 /// Memory may be refused.
 pub fn slots_of(
     alloc: Global,
-    image: &ImageRef<'_>,
+    placed: &PlacedImage<'_, '_>,
     thread: &ThreadRef<'_>,
-    offsets: &[u32],
     cnodes: &NumberSet,
 ) -> Result<Vec<NotedSlot>, AllocError>
-    requires formed { IsWellFormed image.now }
-    requires offsets { AreOffsets image.now image.now.header.objects offsets.now }
-    requires cnodes { cnodes.now ≡ reached image.now thread.now }
-    ensures slots { IfOk result (λ slots. slots.items ≡ image_slots image.now thread.now) }
+    requires cnodes { cnodes.now ≡ reached placed.now.image.now thread.now }
+    ensures slots { IfOk result (λ slots. slots.items ≡ image_slots placed.now.image.now thread.now) }
     ensures rise { IfOk result (λ slots. Rise slots.items) }
 {
+    let image = placed.image;
     let mut slots = Vec::new(alloc);
     for number in 0..header_of(image).capabilities {
-        note_listed(
-            &mut slots,
-            image,
-            offsets,
-            cnodes,
-            capability_of(image, number),
-        )?;
+        note_listed(&mut slots, placed, cnodes, capability_of(image, number))?;
     }
     Ok(slots)
 }

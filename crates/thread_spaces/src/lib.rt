@@ -11,7 +11,7 @@ mod spaces;
 mod windows;
 
 pub use given_slots::slots_of;
-pub use offsets::offsets_of;
+pub use offsets::{PlacedImage, offsets_of};
 pub use own_slots::slots_are_own;
 pub use reach::reached_of;
 pub use space_laws::{

@@ -25,3 +25,13 @@ pub fn offsets_of(alloc: Global, image: &ImageRef<'_>) -> Result<Vec<u32>, Alloc
     }
     Ok(offsets)
 }
+
+/// A well-formed image, and where its objects lie in memory.
+#[derive(Clone, Copy)]
+pub struct PlacedImage<'i, 'a> {
+    pub image: &'i ImageRef<'a>,
+    /// The offset of each object from the start of physical memory.
+    pub offsets: &'i [u32],
+    ghost formed: { IsWellFormed image.now },
+    ghost placed: { AreOffsets image.now image.now.header.objects offsets.now },
+}

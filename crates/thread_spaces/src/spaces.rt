@@ -9,6 +9,7 @@ ghost use Rattle.model.specs.Images.Places.{offset_of};
 ghost use Rattle.thread_spaces.specs.Given.{AreOffsets, IsListed};
 ghost use Rattle.typestate.specs.Spaces.{AreWindows, IsSpace};
 
+use crate::offsets::PlacedImage;
 use crate::space_laws::{mappings_are_listed, threads_stand_apart};
 use image_reading::{ImageRef, ThreadRef};
 use model::Cap;
@@ -16,33 +17,32 @@ use typestate::{Space, Windows};
 use wellformed::{radix_of, type_at};
 
 /// The root of a thread's capability space: its CNode, with its guard word.
-fn root_of(image: &ImageRef<'_>, thread: &ThreadRef<'_>, offsets: &[u32]) -> Cap
-    requires formed { IsWellFormed image.now }
-    requires listed { IsListed image.now thread.now }
-    requires offsets { AreOffsets image.now image.now.header.objects offsets.now }
-    ensures value { result ≡ noted_root image.now thread.now }
+fn root_of(placed: &PlacedImage<'_, '_>, thread: &ThreadRef<'_>) -> Cap
+    requires listed { IsListed placed.now.image.now thread.now }
+    ensures value { result ≡ noted_root placed.now.image.now thread.now }
     ensures valid { IsCapability result }
 {
+    let image = placed.image;
     let _ = image.header();
     let header = thread.header();
     let Some(radix) = radix_of(type_at(image, header.cnode)) else {
         unreachable!()
     };
     Cap::CNode {
-        offset: offsets[header.cnode as usize],
+        offset: placed.offsets[header.cnode as usize],
         radix,
         guard: header.guard,
     }
 }
 
 /// The offset of a thread's root table.
-fn table_of(image: &ImageRef<'_>, thread: &ThreadRef<'_>, offsets: &[u32]) -> u32
-    requires listed { IsListed image.now thread.now }
-    requires offsets { AreOffsets image.now image.now.header.objects offsets.now }
-    ensures { result ≡ offset_of image.now thread.now.header.root }
+fn table_of(placed: &PlacedImage<'_, '_>, thread: &ThreadRef<'_>) -> u32
+    requires listed { IsListed placed.now.image.now thread.now }
+    ensures { result ≡ offset_of placed.now.image.now thread.now.header.root }
 {
+    let image = placed.image;
     let _ = image.header();
-    offsets[thread.header().root as usize]
+    placed.offsets[thread.header().root as usize]
 }
 
 /// A thread of a well-formed image with the CNodes that it reaches.
@@ -64,11 +64,12 @@ pub fn given_space<'a, 's>(
     let _ = image.header();
     threads_stand_apart();
     mappings_are_listed();
+    let placed = PlacedImage { image, offsets };
     Space {
         image,
         thread,
         windows,
-        root: root_of(image, thread, offsets),
-        table: table_of(image, thread, offsets),
+        root: root_of(&placed, thread),
+        table: table_of(&placed, thread),
     }
 }

@@ -1,29 +1,29 @@
 //! Where the CNodes of a thread lie.
 
 ghost use Rattle.std.specs.Prelude.{◌≡◌, IfOk};
-ghost use Rattle.model.specs.Acceptance.Accepted.{IsWellFormed};
 ghost use Rattle.model.specs.Acceptance.ThreadRules.{reached};
-ghost use Rattle.thread_spaces.specs.Given.{AreOffsets, IsCNode, IsListed};
+ghost use Rattle.thread_spaces.specs.Given.{IsCNode, IsListed};
 ghost use Rattle.typestate.specs.Spaces.{AreWindows, IsWindow};
 
+use crate::offsets::PlacedImage;
 use crate::space_laws::threads_stand_apart;
-use image_reading::{ImageRef, ThreadRef};
+use image_reading::ThreadRef;
 use std::alloc::{AllocError, Global};
 use typestate::{Window, Windows};
 use wellformed::{NumberSet, radix_of, type_at};
 
 /// Where a CNode lies.
-fn window_of(image: &ImageRef<'_>, offsets: &[u32], cnode: u32) -> Window
-    requires offsets { AreOffsets image.now image.now.header.objects offsets.now }
-    requires cnode { IsCNode image.now cnode }
-    ensures { IsWindow image.now cnode result }
+fn window_of(placed: &PlacedImage<'_, '_>, cnode: u32) -> Window
+    requires cnode { IsCNode placed.now.image.now cnode }
+    ensures { IsWindow placed.now.image.now cnode result }
 {
+    let image = placed.image;
     let Some(radix) = radix_of(type_at(image, cnode)) else {
         unreachable!()
     };
     Window {
         cnode,
-        offset: offsets[cnode as usize],
+        offset: placed.offsets[cnode as usize],
         radix,
     }
 }
@@ -35,22 +35,20 @@ fn window_of(image: &ImageRef<'_>, offsets: &[u32], cnode: u32) -> Window
 /// Memory may be refused.
 pub fn windows_of(
     alloc: Global,
-    image: &ImageRef<'_>,
+    placed: &PlacedImage<'_, '_>,
     thread: &ThreadRef<'_>,
-    offsets: &[u32],
     cnodes: &NumberSet,
 ) -> Result<Windows, AllocError>
-    requires formed { IsWellFormed image.now }
-    requires listed { IsListed image.now thread.now }
-    requires offsets { AreOffsets image.now image.now.header.objects offsets.now }
-    requires cnodes { cnodes.now ≡ reached image.now thread.now }
-    ensures { IfOk result (λ windows. AreWindows image.now (reached image.now thread.now) windows) }
+    requires listed { IsListed placed.now.image.now thread.now }
+    requires cnodes { cnodes.now ≡ reached placed.now.image.now thread.now }
+    ensures { IfOk result (λ windows. AreWindows placed.now.image.now (reached placed.now.image.now thread.now) windows) }
 {
+    let image = placed.image;
     let _ = image.header();
     threads_stand_apart();
     let mut windows = Vec::new(alloc);
     'cnodes: for place in 0..cnodes.len() {
-        windows.push(window_of(image, offsets, cnodes.at(place)))?;
+        windows.push(window_of(placed, cnodes.at(place)))?;
     }
     Windows::new(alloc, windows)
 }

@@ -7,22 +7,22 @@ use Rattle.thread_spaces.proofs.GivenCNodes.{cnode-at}
 use Rattle.thread_spaces.proofs.WindowLists.{windows-made, windows-more}
 use Rattle.thread_spaces.proofs.windows.windows_of.Goals as goal
 
-pub window_of-requires-clause-cnode : goal.window_of-requires-clause-cnode
-window_of-requires-clause-cnode c =
-    cnode-at c.args.image.now c.args.thread.now c.cnodes.place c.at.result c.args.cnodes.now c.header.ensures.fits c.requires.formed c.requires.listed
-    c.requires.cnodes c.at.ensures
+pub window_of-requires : goal.window_of-requires
+window_of-requires c = record {
+  cnode = cnode-at c.args.placed.now.image.now c.args.thread.now c.cnodes.place c.at.result c.args.cnodes.now c.header.ensures.fits c.args.placed.now.formed c.requires.listed c.requires.cnodes c.at.ensures;
+}
 
 pub cnodes-preserved : goal.cnodes-preserved
 cnodes-preserved c =
-    subst (AreWindows c.args.image.now (take (c.cnodes.place + 1) c.args.cnodes.now)) (sym c.in_ok-push.ensures.items)
-    (windows-more c.args.image.now c.args.cnodes.now c.cnodes.windows.items c.cnodes.place c.at.result c.window_of.result c.at.ensures c.cnodes.invariant
+    subst (AreWindows c.args.placed.now.image.now (take (c.cnodes.place + 1) c.args.cnodes.now)) (sym c.in_ok-push.ensures.items)
+    (windows-more c.args.placed.now.image.now c.args.cnodes.now c.cnodes.windows.items c.cnodes.place c.at.result c.window_of.result c.at.ensures c.cnodes.invariant
     c.window_of.ensures)
 
 pub new-requires : goal.new-requires
 new-requires c =
-    let image = c.args.image.now in
+    let image = c.args.placed.now.image.now in
     let t = c.args.thread.now in
-    let apart = c.threads_stand_apart.ensures image t c.header.ensures.fits c.requires.formed c.requires.listed in
+    let apart = c.threads_stand_apart.ensures image t c.header.ensures.fits c.args.placed.now.formed c.requires.listed in
     let windows = c.cnodes.windows.items in
     let place = c.cnodes.place in
     let all : length c.args.cnodes.now ≤ place = subst (λ (n : ℕ). n ≤ place) c.len-place-end.ensures c.cnodes-test.false in
@@ -31,7 +31,7 @@ new-requires c =
 
 pub returns : goal.returns
 returns c =
-    let image = c.args.image.now in
+    let image = c.args.placed.now.image.now in
     let windows = c.cnodes.windows.items in
     let place = c.cnodes.place in
     let all : length c.args.cnodes.now ≤ place = subst (λ (n : ℕ). n ≤ place) c.len-place-end.ensures c.cnodes-test.false in
