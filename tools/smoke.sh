@@ -93,6 +93,10 @@ compiles_c() {
     cc -O1 -shared -fPIC -o "$room/refuse.so" tools/memory/refuse_nth.c -ldl
 }
 
+same_calls() {
+    tools/manual_rows.py >"$room/calls" && grep '^    ("' crates/kernel_tests/src/store/manual_rows.rt | diff - "$room/calls"
+}
+
 same_rows() {
     python3 tools/rv32i_table.py >"$room/table.rt" && grep '|' "$room/table.rt" >"$room/rows" &&
         grep '|' crates/kernel_tests/src/machine/table.rt | diff - "$room/rows"
@@ -106,6 +110,7 @@ part_with python3 "tools, read" scripts_say_nothing
 part_with python3 "tools/checks/below.py" copies_are_whole
 part_with python3 "tools/checks/texts.py --premises" tools/checks/texts.py --premises
 part_with python3 "tools/checks/proved_table.py" tools/checks/proved_table.py --check
+part_with python3 "tools/manual_rows.py" same_calls
 part_with python3 "tools/traces/reckon.py" python3 tools/traces/reckon.py compare samples/{bell,solo,worker,client_server} \
     samples/gallery/controller
 part_with python3 "tools/damage/reckon.py" reckons_damage

@@ -4,6 +4,7 @@ ghost use Rattle.std.specs.Prelude.{ℕ, ◌≡◌, ◌+◌, ◌-◌, ◌≤◌,
 ghost use Rattle.std.specs.List.{range_with_len};
 ghost use Rattle.bootstrap.specs.Limits.{CapabilityFits, FrameFits, InterruptFits, TableFits, ThreadFits};
 ghost use Rattle.bootstrap.specs.Loading.{called, first_thread_calls, progress_of, register_call};
+ghost use Rattle.invoke.specs.Methods.{label_of};
 ghost use Rattle.model.specs.Kernel.Outcomes.{GivesState};
 ghost use Rattle.model.specs.Images.BootCalls.{capability_call, frame_calls, interrupt_call, loader_call, object_call, signal_calls, table_call, thread_calls};
 ghost use Rattle.model.specs.Images.Described.{numbered};
@@ -16,10 +17,7 @@ use crate::boot_slots::{
 };
 use crate::entry_addresses::start_of;
 use image_reading::ThreadRef;
-use invoke::{
-    CONFIGURE, COPY, GET_HANDLER, MAP_FRAME, MAP_TABLE, MINT, MOVE, RESUME, RETYPE,
-    SET_NOTIFICATION, SET_PRIORITY, SET_REGISTER,
-};
+use invoke::Method;
 use kernel_machine::Machine;
 use model::{BootFault, CapabilityEntry, FrameEntry, InterruptEntry, TableEntry, ThreadHeader};
 use wellformed::{is_untyped, source_type};
@@ -48,12 +46,12 @@ pub(crate) struct Loader {
 
 impl Loader {
     /// Makes a call. A refusal is reported by its number.
-    pub(crate) fn call(&mut self, cap: u32, label: u32, words: &[u32]) -> Result<(), BootFault>
+    pub(crate) fn call(&mut self, cap: u32, method: Method, words: &[u32]) -> Result<(), BootFault>
         requires { self.old.calls ≤ 2 ^ 30 }
-        ensures outcome { GivesState (called (progress_of self.old) (loader_call cap label words.now ∷ [])) result (progress_of self.new) }
+        ensures outcome { GivesState (called (progress_of self.old) (loader_call cap (label_of method) words.now ∷ [])) result (progress_of self.new) }
         ensures counted { self.new.calls ≤ self.old.calls + 1 }
     {
-        match self.machine.call(cap, label, words) {
+        match self.machine.call(cap, method.label(), words) {
             Ok(()) => {
                 self.calls += 1;
                 Ok(())
@@ -84,7 +82,7 @@ impl Loader {
         let object = image.read.object(number);
         let slot = original_slot(image, number);
         let words = [object.kind, object.size, 0, 0, slot, 1];
-        self.call(object.untyped, RETYPE, &words)
+        self.call(object.untyped, Method::Retype, &words)
     }
 
     /// Takes the handler of each interrupt's line.
@@ -113,7 +111,7 @@ impl Loader {
         ensures counted { self.new.calls ≤ self.old.calls + 1 }
     {
         let words = [entry.line, handler_slot(image, number), DEPTH];
-        self.call(control_slot(image), GET_HANDLER, &words)
+        self.call(control_slot(image), Method::GetHandler, &words)
     }
 
     /// Puts the listed capabilities into their slots.
@@ -145,7 +143,7 @@ impl Loader {
         let source = source_boot_slot(image, entry.source);
         if is_untyped(source_type(image.read, entry.source)) {
             let words = [entry.index, cnode.size, source, DEPTH];
-            self.call(slot, MOVE, &words)
+            self.call(slot, Method::Move, &words)
         } else {
             let words = [
                 entry.index,
@@ -155,7 +153,7 @@ impl Loader {
                 entry.rights,
                 entry.payload,
             ];
-            self.call(slot, MINT, &words)
+            self.call(slot, Method::Mint, &words)
         }
     }
 
@@ -180,7 +178,7 @@ impl Loader {
         ensures counted { self.new.calls ≤ self.old.calls + 1 }
     {
         let words = [original_slot(image, entry.root), DEPTH, entry.address];
-        self.call(original_slot(image, entry.table), MAP_TABLE, &words)
+        self.call(original_slot(image, entry.table), Method::MapTable, &words)
     }
 
     /// Maps the frames, each by a copy of its capability.
@@ -213,11 +211,15 @@ impl Loader {
         let original = original_slot(image, entry.frame);
         self.call(
             BOOT_CNODE,
-            COPY,
+            Method::Copy,
             &[copy, DEPTH, original, DEPTH, ALL_FRAME_RIGHTS],
         )?;
         let root = original_slot(image, entry.root);
-        self.call(copy, MAP_FRAME, &[root, DEPTH, entry.address, entry.rights])
+        self.call(
+            copy,
+            Method::MapFrame,
+            &[root, DEPTH, entry.address, entry.rights],
+        )
     }
 
     /// Binds each interrupt's line to its notification, by a copy with the badge.
@@ -256,10 +258,10 @@ impl Loader {
             ALL_ENDPOINT_RIGHTS,
             entry.badge,
         ];
-        self.call(BOOT_CNODE, MINT, &words)?;
+        self.call(BOOT_CNODE, Method::Mint, &words)?;
         self.call(
             handler_slot(image, number),
-            SET_NOTIFICATION,
+            Method::SetNotification,
             &[copy, DEPTH],
         )
     }
@@ -308,9 +310,9 @@ impl Loader {
         ensures counted { self.new.calls ≤ self.old.calls + 3 }
     {
         let words = [header.fault, cspace, DEPTH, vspace, DEPTH, header.guard];
-        self.call(tcb, CONFIGURE, &words)?;
-        self.call(tcb, SET_PRIORITY, &[header.priority])?;
-        self.call(tcb, SET_REGISTER, &[PC, start_of(header)])
+        self.call(tcb, Method::Configure, &words)?;
+        self.call(tcb, Method::SetPriority, &[header.priority])?;
+        self.call(tcb, Method::SetRegister, &[PC, start_of(header)])
     }
 
     /// Sets the registers that a thread lists, and lets it run.
@@ -321,7 +323,7 @@ impl Loader {
         ensures counted { self.new.calls ≤ self.old.calls + 32 }
     {
         self.set_registers(tcb, thread)?;
-        self.call(tcb, RESUME, &[])
+        self.call(tcb, Method::Resume, &[])
     }
 
     /// Sets the registers that a thread lists.
@@ -332,7 +334,7 @@ impl Loader {
         ensures counted { self.new.calls ≤ self.old.calls + 31 }
     {
         for entry in thread.registers() {
-            self.call(tcb, SET_REGISTER, &[entry.register, entry.value])?;
+            self.call(tcb, Method::SetRegister, &[entry.register, entry.value])?;
         }
         Ok(())
     }

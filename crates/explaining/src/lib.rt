@@ -24,7 +24,6 @@ mod system_calls;
 mod texts;
 mod ways;
 
-pub use call_words::error_name;
 pub use explanations::{explain, report_refused};
 pub use faults::{ExplainFault, Explanation};
 pub use programs::point_of;

@@ -1,11 +1,11 @@
 //! System calls that the rules refuse.
 
-use crate::call_words::{call_name, check_words, error_name, label_name};
+use crate::call_words::{call_name, check_words, push_method};
 use crate::point_words::{push_number, push_range};
 use crate::scenes::Scene;
 use crate::states::State;
 use cspace::called_slot;
-use invoke::listed_words;
+use invoke::{Method, listed_words};
 use model::{Cap, KError, Register, Rights};
 use slots::SlotMap;
 use std::alloc::AllocError;
@@ -42,10 +42,11 @@ fn push_lacking(to: &mut String, wanted: Rights, there: Rights) -> Result<(), Al
 
 /// Puts what is asked by a label.
 fn push_label(to: &mut String, label: u32) -> Result<(), AllocError> {
-    match label_name(label) {
-        Some(asked) => write!(to, "{asked} (label {label}), by "),
-        None => write!(to, "label {label}, by "),
-    }
+    let Some(method) = Method::of_label(label) else {
+        return write!(to, "label {label}, by ");
+    };
+    push_method(to, method)?;
+    write!(to, " (label {label}), by ")
 }
 
 /// Puts an error, and which check fails.
@@ -55,9 +56,9 @@ fn push_error(
     label: u32,
     error: KError,
 ) -> Result<(), AllocError> {
-    let (name, code) = (error_name(error), error.number());
+    let code = error.number();
     let check = check_words(capability, label, error);
-    write!(to, ": error {code}, {name}\n  {check}\n")
+    write!(to, ": error {code}, {error:?}\n  {check}\n")
 }
 
 /// The capability in a slot that was found.

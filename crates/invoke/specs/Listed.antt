@@ -2,11 +2,7 @@
 use Rattle.std.specs.Prelude.{ℕ, Option, List}
 use Rattle.std.specs.Option.{option_map}
 use Rattle.model.specs.Kernel.CallForms.{CallForm}
-use Rattle.invoke.specs.declared.calls.ListedCall.{ListedCall}
+use Rattle.model.specs.declared.invocations.Invocation.{Invocation}
 
--- how many words a form lists, and the call that it makes of words
-abbrev pub listed : List ℕ → CallForm → ListedCall
-listed words form = record { count = form.count; call = form.call words }
-
-abbrev pub listed_call : List ℕ → Option CallForm → Option ListedCall
-listed_call words form = option_map (listed words) form
+abbrev pub listed_call : List ℕ → Option CallForm → Option Invocation
+listed_call words form = option_map (λ form. form.call words) form

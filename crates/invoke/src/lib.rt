@@ -4,12 +4,8 @@
 
 mod calls;
 mod decoding;
-mod labels;
+mod methods;
 mod words;
 
 pub use decoding::{decode_call, listed_words};
-pub use labels::{
-    ACKNOWLEDGE, CLEAR, CONFIGURE, COPY, DELETE, GET_HANDLER, MAP_FRAME, MAP_TABLE, MINT, MOVE,
-    MUTATE, RESUME, RETYPE, REVOKE, SET_NOTIFICATION, SET_PRIORITY, SET_REGISTER, SUSPEND,
-    UNMAP_FRAME, UNMAP_TABLE,
-};
+pub use methods::Method;

@@ -13,7 +13,7 @@ ghost use Rattle.soundness.specs.Calls.{IsCall};
 use crate::perform_calls::{KernelCall, configure_with_guard, invoke};
 use cnode_ops::Kernel;
 use cspace::called_slot;
-use invoke::CONFIGURE;
+use invoke::Method;
 use model::{Cap, KError, Slot};
 use slots::SlotStore;
 
@@ -75,7 +75,7 @@ fn perform<S: SlotStore>(
         (state_in S.slots S.memory kernel.new) }
     ensures unchanged { OnErr result (kernel.new ≡ kernel.old) }
 {
-    if label == CONFIGURE {
+    if label == Method::Configure.label() {
         configure_with_guard(kernel, call, words)
     } else {
         invoke(kernel, call, label, 0, words)
