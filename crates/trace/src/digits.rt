@@ -69,13 +69,3 @@ pub(crate) fn push_hex_byte(to: &mut Line, byte: u8)
     let digits = hex_byte(u32::from(byte));
     push_text(to, &digits);
 }
-
-/// Appends a word as eight hexadecimal digits.
-pub(crate) fn push_hex_word(to: &mut Line, word: u32)
-    requires { array_vec_len to.old + 8 ≤ 32 }
-    ensures text { to.new.items ≡ to.old.items ++ hex_word word }
-    ensures long { array_vec_len to.new ≡ array_vec_len to.old + 8 }
-{
-    let digits = hex_word(word);
-    push_text(to, &digits);
-}

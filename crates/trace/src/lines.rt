@@ -2,9 +2,9 @@
 
 ghost use Rattle.std.specs.Prelude.{◌≡◌, ◌+◌, ◌≤◌, ◌++◌, ◌∷◌, []};
 ghost use Rattle.arrayvec.specs.ArrayVec.{array_vec_len};
-ghost use Rattle.model.specs.Shared.Trace.{line_of, text_of_outcome};
+ghost use Rattle.model.specs.Shared.Trace.{hex_word, line_of, text_of_outcome};
 
-use crate::digits::{Line, hex_word, push_decimal, push_hex_byte, push_hex_word, push_text};
+use crate::digits::{Line, hex_word, push_decimal, push_hex_byte, push_text};
 use arrayvec::ArrayVec;
 use model::{Label, Outcome};
 
@@ -32,6 +32,18 @@ fn push_outcome(to: &mut Line, outcome: Outcome)
     }
 }
 
+/// What the line of an instruction begins with: the thread that ran it, and where.
+fn front(thread: u32, pc: u32) -> [u8; 18]
+    ensures { result ≡ hex_word thread ++ 0x20 ∷ (hex_word pc ++ 0x20 ∷ []) }
+{
+    let who = hex_word(thread);
+    let at = hex_word(pc);
+    [
+        who[0], who[1], who[2], who[3], who[4], who[5], who[6], who[7], b' ', at[0], at[1], at[2],
+        at[3], at[4], at[5], at[6], at[7], b' ',
+    ]
+}
+
 /// The line that a trace has for `label`, without a line feed.
 pub fn line(label: Label) -> ArrayVec<u8, 32>
     ensures { result.items ≡ line_of label }
@@ -49,10 +61,7 @@ pub fn line(label: Label) -> ArrayVec<u8, 32>
             pc,
             outcome,
         } => {
-            push_hex_word(&mut text, thread);
-            push_text(&mut text, b" ");
-            push_hex_word(&mut text, pc);
-            push_text(&mut text, b" ");
+            push_text(&mut text, &front(thread, pc));
             push_outcome(&mut text, outcome);
         }
     }
