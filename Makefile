@@ -1,8 +1,8 @@
 # The gate, the demonstration and the program. Each needs the toolchain alone.
 .PHONY: demo test build tool
 
-# Verifies and runs the samples, and compares what is printed with their traces. The toolchain runs the program before it
-# is proved here, and its last lines say so.
+# Verifies and runs the samples, and compares what is printed with their traces. The toolchain runs the program before
+# it is proved here, and its last lines say so.
 demo:
 	samples/demo.sh
 
@@ -21,7 +21,7 @@ build:
 	tools/checks/libraries.py microsys
 	cd crates/microsys && ../../tools/checks/libraries.py rt run --backend $(BACKEND) -- verify ../../samples/bell.img
 
-# The same for the tool of makers: crates/microsys_tool/out/microsys_tool. What stands below both is proved once.
+# The same for the tool of makers: crates/microsys_tool/out/microsys_tool. What both use is proved once.
 tool:
 	tools/checks/libraries.py microsys_tool
 	cd crates/microsys_tool && ../../tools/checks/libraries.py rt run --backend $(BACKEND) -- certify ../../samples/bell.txt /dev/null
