@@ -73,6 +73,10 @@ pub(crate) fn blocks_of(alloc: Global, text: &str) -> Result<Vec<Block>, AllocEr
 }
 
 /// Whether a certificate is to be found for a thread of a text: it has no record, or its budget is `auto`.
+///
+/// # Errors
+///
+/// Memory is refused.
 pub fn wants_certificates(alloc: Global, text: &str) -> Result<bool, AllocError> {
     for block in blocks_of(alloc, text)? {
         if block.wants_certificate() {

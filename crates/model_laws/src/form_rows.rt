@@ -64,7 +64,7 @@ pub fn threads_fit()
     ensures other_root { first_in (phases with_other_root) ≡ Some (SharedVSpace 0) }
 {}
 
-/// Untyped memory is given once, and a page table stands in one region: the later entry is the one that is refused.
+/// Untyped memory is given once, and a page table is in one region: the later entry is the one that is refused.
 #[tactic(auto, unfolding(crate::proofs::Opened::opened))]
 pub fn memory_and_tables_are_given_once()
     ensures pool { first_in (phases two_pools) ≡ Some (BadCap 4) }

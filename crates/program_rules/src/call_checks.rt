@@ -1,4 +1,4 @@
-//! The rules on a point's system call, and on the way on behind it.
+//! The rules on a point's system call, and on the way on after it.
 
 ghost use Rattle.std.specs.Prelude.{◌≡◌, ◌+◌, ◌<◌, IfOk, Some};
 ghost use Rattle.measure.specs.Measures.{measure_of};
@@ -26,7 +26,7 @@ use model::Refusal;
 use typestate::{Behind, LogEntry, ShownPart};
 
 impl Seen<'_, '_, '_, '_, '_> {
-    /// Whether the way on behind a system call at a point that leaves this, and these slots, keeps its rules: an `Err` names the first
+    /// Whether the way on after a system call at a point that leaves this, and these slots, keeps its rules: an `Err` names the first
     /// that it breaks, or says that memory was refused.
     fn way_behind(&self, point: u32, known: &Known, behind: &Behind) -> Result<(), Refusal>
         requires { point < self.now.program.now.space.thread.now.header.words }
@@ -52,7 +52,7 @@ impl Seen<'_, '_, '_, '_, '_> {
 }
 
 impl<'a> Visit<'_, '_, 'a, '_> {
-    /// Whether the way on behind a system call that leaves this, and makes these changes of slots, keeps its rules. What is shown goes on
+    /// Whether the way on after a system call that leaves this, and makes these changes of slots, keeps its rules. What is shown goes on
     /// to the slots that it leaves.
     fn behind_rules(
         &self,

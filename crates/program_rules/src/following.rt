@@ -48,7 +48,7 @@ fn keep(left: Left, part: Part, is_clean: bool) -> Kept
 }
 
 impl Known {
-    /// Goes on behind an instruction that is no system call: slots stay.
+    /// Goes on after an instruction that is no system call: slots stay.
     fn pass(&mut self, pc: u32, instr: Instr) -> Passed
         requires instr { IsInstr instr }
         requires measure { negsuc (2 ^ 63 - 2) ≤ℤ (measure_of self.old.measure).constant }
@@ -81,7 +81,7 @@ impl Kept {
     }
 }
 
-/// What is kept of the point behind a system call that leaves the slots of this part.
+/// What is kept of the point after a system call that leaves the slots of this part.
 fn behind_call(budget: u64, measure: &Measure, behind: &Behind, part: Part) -> Kept
     requires budget { budget ≤ 2 ^ 62 }
     requires measure { negsuc (2 ^ 63 - 2) ≤ℤ (measure_of measure.now).constant }
@@ -102,7 +102,7 @@ impl Program<'_, '_> {
         self.space.thread.header().base + 4 * point
     }
 
-    /// Makes of what is kept of a point that has no system call what is kept of the one behind it, where no record notes that.
+    /// Makes of what is kept of a point that has no system call what is kept of the one after it, where no record notes that.
     pub(crate) fn pass_plain(&self, point: u32, kept: &mut Kept, log: &SlotLog)
         requires within { point < self.now.space.thread.now.header.words }
         requires plain { instruction_at self.now.space.thread.now point ≢ Some Ecall }
@@ -145,7 +145,7 @@ impl Visit<'_, '_, '_, '_> {
         !here.has_stray_slots()
     }
 
-    /// Adds to what is kept of the point what a look at its slots tells, where nothing is known of them.
+    /// Adds to what is kept of the point what a look at its slots shows, where nothing is known of them.
     pub(crate) fn look(&self, kept: &mut Kept, log: &SlotLog, shown: &ShownPart)
         requires { IsLookedAt self.now.program.now.space.image.now self.now.program.now.space.thread.now self.now.program.now.slots.now log.now self.now.point shown.now kept.old }
         ensures same { noted_by self.now.program.now.slots.now log.now kept.new ≡ noted_by self.now.program.now.slots.now log.now kept.old }
@@ -159,7 +159,7 @@ impl Visit<'_, '_, '_, '_> {
         }
     }
 
-    /// What is kept of the point behind a system call in this state.
+    /// What is kept of the point after a system call in this state.
     fn behind_called(
         &self,
         known: &Known,

@@ -1,6 +1,6 @@
 //! What becomes of a state.
 
-/// What becomes of a state behind an instruction.
+/// What becomes of a state after an instruction.
 #[derive(Clone, Copy)]
 pub(crate) enum Passed {
     /// It is the state there.

@@ -24,7 +24,7 @@ pub(crate) struct Program<'a, 's> {
     pub(crate) number: u32,
     /// The slots that the image lists in the thread's CNodes.
     pub(crate) slots: &'s [NotedSlot],
-    /// Whether these hold what the thread may not have. They are the same at each point, so this is told once.
+    /// Whether these hold what the thread may not have. They are the same at each point, so this is asked once.
     pub(crate) lists_stray: bool,
     /// The pages that the image maps for loads, and those for stores. They are the same at each point too.
     pub(crate) loads: &'s [PageRun],

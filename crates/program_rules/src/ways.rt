@@ -44,7 +44,7 @@ fn before<'b>(instr: Instr, bounds: &'b Bounds, edge: &'b Edge) -> &'b Bounds
     }
 }
 
-/// Whether an instruction goes on behind itself alone, or not at all.
+/// Whether an instruction goes on after itself alone, or not at all.
 #[tactic(auto, unfolding(model::specs::Acceptance::Edges::after))]
 fn takes_no_way(instr: Instr) -> bool
     ensures { (pc : ℕ) (ranges : List Range) → result ≡ true → (after pc instr ranges).taken ≡ None }

@@ -63,6 +63,10 @@ fn source_place(line: &str) -> Option<&str> {
 
 /// Puts where a line is, by its number, from 1: the line of C that it comes from, if its comment says so, and then the line
 /// itself.
+///
+/// # Errors
+///
+/// Memory is refused.
 pub fn push_place(to: &mut String, text: &Text<'_, '_>, number: u64) -> Result<(), AllocError> {
     if let Some(place) = source_place(text.line(number)) {
         write!(to, "{place}: ")?;

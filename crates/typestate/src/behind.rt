@@ -1,4 +1,4 @@
-//! What is known of the registers behind a system call.
+//! What is known of the registers after a system call.
 
 ghost use Rattle.std.specs.Prelude.{◌≡◌, List, true};
 ghost use Rattle.model.specs.Acceptance.Measures.{Measure};
@@ -31,7 +31,7 @@ pub enum Written {
     Message,
 }
 
-/// What is known of the registers behind a system call, and whether instructions are counted anew from it.
+/// What is known of the registers after a system call, and whether instructions are counted anew from it.
 #[derive(Clone, Copy)]
 pub struct Behind {
     pub bounds: Bounds,
@@ -41,7 +41,7 @@ pub struct Behind {
     pub is_tidy: bool,
 }
 
-/// Registers behind a message: this badge, and any info and words.
+/// Registers after a message: this badge, and any info and words.
 #[tactic(auto, unfolding(model::specs::Kernel::Messages::word_registers))]
 pub(crate) fn with_message(bounds: &Bounds, badge: Range) -> Bounds
     requires { IsOrdered badge }
@@ -61,7 +61,7 @@ pub(crate) fn with_message(bounds: &Bounds, badge: Range) -> Bounds
     bounds
 }
 
-/// Registers behind a call that succeeded.
+/// Registers after a call that succeeded.
 pub(crate) fn with_answer(bounds: &Bounds) -> Bounds
     ensures { result ≡ with_answer bounds.now }
 {

@@ -1,4 +1,4 @@
-//! What is known behind the system call at a point.
+//! What is known after the system call at a point.
 //! seL4 Reference Manual, "System Calls"; which of them are accepted is this project's own.
 
 ghost use Rattle.std.specs.Prelude.{◌≡◌, [], IfOk};
@@ -18,7 +18,7 @@ use ranges::Bounds;
 use std::alloc::AllocError;
 
 impl HeldSlot<'_, '_, '_, '_> {
-    /// What is known behind a call on what the slot holds, or why it is refused. The slots that it changes are put into the list,
+    /// What is known after a call on what the slot holds, or why it is refused. The slots that it changes are put into the list,
     /// which is empty. Memory may be refused.
     fn behind(
         &self,

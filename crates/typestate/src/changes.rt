@@ -131,7 +131,7 @@ impl Changes {
         self.families.has_none(self.names.name(parent.number()))
     }
 
-    /// Puts a change among the others, and answers the one to the same slot in whose place it stands. Memory may be refused.
+    /// Puts a change among the others, and answers the one to the same slot in whose place it is. Memory may be refused.
     pub(crate) fn put(&mut self, change: NotedSlot) -> Result<Option<NotedSlot>, AllocError>
         ensures before { IfOk result (λ before. before ≡ slot_at self.old change.key) }
         ensures rising { IfOk result (λ _. Rise self.new) }

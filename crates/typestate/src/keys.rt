@@ -40,7 +40,7 @@ impl SlotKey {
 }
 
 /// A slot of a thread's CNodes with the capability that it holds, and the slot that this one was derived from: one
-/// of the thread's, or none where it stands in the boot CNode. A clause sees the definitions' noted slot.
+/// of the thread's, or none where it is in the boot CNode. A clause sees the definitions' noted slot.
 #[derive(Clone, Copy)]
 pub struct NotedSlot {
     pub key: SlotKey,

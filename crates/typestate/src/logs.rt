@@ -126,7 +126,7 @@ impl SlotLog {
         })
     }
 
-    /// Appends the entries of a part with others behind them, as a part of their own. Memory may be refused.
+    /// Appends the entries of a part with others after them, as a part of their own. Memory may be refused.
     fn repeat(&mut self, part: Part, made: &[LogEntry]) -> Result<Part, AllocError>
         requires { Holds self.old part }
         ensures held { IfOk result (Holds self.new) }

@@ -58,7 +58,7 @@ impl MappedPages {
         }
     }
 
-    /// Names the slot of a change with the page that it maps behind it. Memory may be refused.
+    /// Names the slot of a change with the page that it maps after it. Memory may be refused.
     pub(crate) fn add(&mut self, change: NotedSlot) -> Result<(), AllocError>
         ensures added { IfOk result (λ _. HasPage self.new.slots.keys change) }
         ensures kept { KeepsLinks self.old.slots.keys self.new.slots.keys }
@@ -69,7 +69,7 @@ impl MappedPages {
         Ok(())
     }
 
-    /// Names the slot of a change no longer with the page that it mapped before, in place of which another change to it stands,
+    /// Names the slot of a change no longer with the page that it mapped before, in whose place another change to it is,
     /// unless that maps the same page.
     pub(crate) fn replace(&mut self, before: NotedSlot, change: NotedSlot)
         ensures others { (page slot : ℕ) → (slot == number_of before.key) ≡ false → has_link self.old.slots.keys page slot ≡ true → has_link self.new.slots.keys page slot ≡ true }

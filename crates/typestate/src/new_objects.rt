@@ -10,7 +10,7 @@ use crate::SlotKey;
 use crate::pool_calls::Makeable;
 use crate::slot_runs::SlotRun;
 
-/// Objects of a type, one behind another in memory from an offset on, a slot for each of them, and the slot of the pool.
+/// Objects of a type, one after another in memory from an offset on, a slot for each of them, and the slot of the pool.
 #[derive(Clone, Copy)]
 pub(crate) struct NewObjects {
     pub(crate) kind: Makeable,

@@ -1,4 +1,4 @@
-//! Messages and signals: what each asks of the capability, and what is known behind it.
+//! Messages and signals: what each asks of the capability, and what is known after it.
 
 ghost use Rattle.std.specs.Prelude.{◌≡◌, List};
 ghost use Rattle.model.specs.Acceptance.CallRules.{receive_rule, sends_message, sends_signal};

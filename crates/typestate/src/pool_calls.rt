@@ -41,7 +41,7 @@ pub(crate) enum Makeable {
     Frame,
 }
 
-/// Where new objects stand: the first in memory, the pool's watermark behind them, and the slot of the first capability.
+/// Where new objects are: the first in memory, the pool's watermark after them, and the slot of the first capability.
 #[derive(Clone, Copy)]
 struct NewPlace {
     offset: u32,
@@ -222,7 +222,7 @@ impl ThreadSlots<'_, '_, '_> {
 }
 
 impl Pool<'_, '_, '_, '_> {
-    /// Where new objects stand in the pool, and its watermark behind them, or the kernel's error.
+    /// Where new objects are in the pool, and its watermark after them, or the kernel's error.
     fn room_in(
         &self,
         window: Window,

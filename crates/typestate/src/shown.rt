@@ -64,7 +64,7 @@ impl ShownChanges {
         Ok(())
     }
 
-    /// Makes an entry of a log behind these changes. Memory may be refused.
+    /// Makes an entry of a log after these changes. Memory may be refused.
     fn make(&mut self, entry: LogEntry) -> Result<(), AllocError>
         requires { Rise self.old }
         ensures rising { IfOk result (λ _. Rise self.new) }
@@ -82,7 +82,7 @@ impl ShownChanges {
         }
     }
 
-    /// Makes entries of a log one after another behind these changes. Memory may be refused.
+    /// Makes entries of a log one after another after these changes. Memory may be refused.
     pub(crate) fn make_all(&mut self, made: &[LogEntry]) -> Result<(), AllocError>
         requires { Rise self.old }
         ensures rising { IfOk result (λ _. Rise self.new) }

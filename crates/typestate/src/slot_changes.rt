@@ -53,18 +53,18 @@ pub enum SlotChange {
     Nothing,
     /// A slot holds this.
     Puts(NotedSlot),
-    /// What a slot held stands in another one, and what was derived from it is derived from there.
+    /// What a slot held is in another one, and what was derived from it is derived from there.
     Moves { from: SlotKey, to: NotedSlot },
     /// Slots are emptied.
     Removes(Removed),
 }
 
-/// What is known behind a call is what is known of the slots.
+/// What is known after a call is what is known of the slots.
 pub fn slots_decide_calls()
     ensures { (image : Image) (t : Thread) (at : Point) (state : PointState) (call : Call) (c : Invocation) (answers : Bool) → invoked image t at state call c answers ≡ leaves state answers (slots_after image t at state.slots call c) }
 {}
 
-/// The same of a call on a CNode, wherever its capability stands.
+/// The same of a call on a CNode, wherever its capability is.
 pub fn slots_decide_cnode_calls()
     ensures { (image : Image) (t : Thread) (at : Point) (state : PointState) (slot : ℕ) (capability : Cap) (call : CNodeCall) (answers : Bool) → invoked image t at state (call_on image t slot capability) (OnCNode call) answers ≡ leaves state answers (cnode_after image t at state.slots capability call) }
 {}

@@ -1,4 +1,4 @@
-//! Slots of a CNode, one behind another.
+//! Slots of a CNode, one after another.
 
 ghost use Rattle.std.specs.Prelude.{◌≡◌, ◌+◌, ◌<◌, ◌^◌};
 
@@ -13,7 +13,7 @@ pub(crate) struct SlotRun {
 }
 
 impl SlotRun {
-    /// The slot so far behind the first.
+    /// The slot so far after the first.
     pub(crate) fn key(&self, i: u32) -> SlotKey
         requires { i < self.now.count }
         ensures { result ≡ record { cnode = self.now.first.cnode; index = self.now.first.index + i } }

@@ -31,7 +31,7 @@ impl NotedSlots<'_> {
 }
 
 impl Space<'_, '_> {
-    /// Whether a slot of this key stands in one of the thread's CNodes.
+    /// Whether a slot of this key is in one of the thread's CNodes.
     pub fn is_own(&self, key: SlotKey) -> bool
         ensures { result ≡ is_own self.now.image.now (cnodes_of self.now) key }
     {
@@ -133,7 +133,7 @@ impl Space<'_, '_> {
 
 impl ToldSlots<'_, '_, '_> {
     /// Whether a slot that the image lists is one that the thread may not have. Where none is by itself, none is beside others
-    /// either: what was told of them once is not asked again.
+    /// either: what was said of them once is not asked again.
     fn keeps_stray(&self) -> bool
         ensures { (result || list_any (λ k. is_stray_at self.now.space (slots_of self.now.slots) k.key) self.now.slots.changes.now) ≡ list_any (is_stray_in self.now.space (slots_of self.now.slots)) (slots_of self.now.slots) }
     {

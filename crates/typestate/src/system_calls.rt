@@ -1,4 +1,4 @@
-//! System calls: what has to be known of each, and what is known behind those that are no calls on capabilities.
+//! System calls: what has to be known of each, and what is known after those that are no calls on capabilities.
 //! seL4 Reference Manual, "System Calls"; which of them are accepted is this project's own.
 
 ghost use Rattle.std.specs.Prelude.{◌≡◌, IfOk, List, Some};
@@ -85,7 +85,7 @@ pub(crate) fn known(at: Point, bounds: &Bounds, register: Register) -> Result<u3
     }
 }
 
-/// What a send by this capability is, which stands in this slot.
+/// What a send by this capability is, which is in this slot.
 fn sends(
     at: Point,
     bounds: &Bounds,

@@ -6,7 +6,7 @@ ghost use Rattle.typestate.specs.Spaces.{AreOwn, NothingLeadsOutside};
 
 use crate::{NotedSlots, Space};
 
-/// The slots at a point of a thread's program: each is full and stands in one of the thread's CNodes, as does what it was derived
+/// The slots at a point of a thread's program: each is full and is in one of the thread's CNodes, as is what it was derived
 /// from, if that does not stand in the boot CNode; and none leads outside of them.
 #[derive(Clone, Copy)]
 pub struct ThreadSlots<'a, 's, 'n> {

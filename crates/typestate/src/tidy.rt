@@ -1,4 +1,4 @@
-//! Changes of slots that leave none that a thread may not have, where there was none: this is told by the change alone, and
+//! Changes of slots that leave none that a thread may not have, where there was none: the change alone shows this, and
 //! none of the other slots is asked.
 //! seL4 Reference Manual, "Capability Derivation Tree".
 

@@ -1,4 +1,4 @@
-//! The slots at a point, with what was told of them before.
+//! The slots at a point, with what was said of them before.
 
 ghost use Rattle.std.specs.Prelude.{◌≡◌, [], true};
 ghost use Rattle.std.specs.List.{list_any};
@@ -13,7 +13,7 @@ pub struct ToldSlots<'a, 's, 'n> {
     pub space: Space<'a, 's>,
     pub slots: NotedSlots<'n>,
     /// Whether one of those that the image lists is such a slot where no other one is full. They are the same at each point, so
-    /// this is told once.
+    /// this is asked once.
     pub lists_stray: bool,
     /// Whether none is known to be such a slot.
     pub is_clean: bool,

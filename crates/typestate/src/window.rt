@@ -1,4 +1,4 @@
-//! A thread's CNode, and where it stands.
+//! A thread's CNode, and where it is.
 
 ghost use Rattle.std.specs.Prelude.{◌≤◌};
 

@@ -17,7 +17,7 @@ struct Place {
     place: usize,
 }
 
-/// A thread's CNodes in the order in which they were found. No slot stands in two of them. A clause sees their list.
+/// A thread's CNodes in the order in which they were found. No slot is in two of them. A clause sees their list.
 ///
 /// The places in rising order of their numbers only propose a CNode: it is looked at, and where it is not the one, all of them
 /// are. No program that is accepted asks for a CNode that is not there.
@@ -58,7 +58,7 @@ impl Window {
         self.offset / 16
     }
 
-    /// Whether a slot stands in the CNode.
+    /// Whether a slot is in the CNode.
     fn has(&self, slot: u32) -> bool
         ensures { result ≡ stands_within slot self.now }
     {
@@ -66,7 +66,7 @@ impl Window {
         first <= slot && slot < first + self.slot_count()
     }
 
-    /// The key of a slot that stands in the CNode.
+    /// The key of a slot that is in the CNode.
     fn key(&self, slot: u32) -> SlotKey
         ensures { result ≡ key_within slot self.now }
     {
@@ -76,7 +76,7 @@ impl Window {
         }
     }
 
-    /// Whether a slot of this key stands in the CNode.
+    /// Whether a slot of this key is in the CNode.
     fn has_key(&self, key: SlotKey) -> bool
         ensures { result ≡ has_key key self.now }
     {
@@ -91,7 +91,7 @@ impl Window {
     }
 }
 
-/// Whether a slot of this key stands in one of these CNodes.
+/// Whether a slot of this key is in one of these CNodes.
 fn have_key(windows: &[Window], key: SlotKey) -> bool
     ensures { result ≡ list_any (has_key key) windows.now }
 {
@@ -110,7 +110,7 @@ fn window_at(windows: &[Window], offset: u32, radix: u8) -> Option<Window>
     None
 }
 
-/// The CNode and the index of a slot, if it stands in one of these.
+/// The CNode and the index of a slot, if it is in one of these.
 fn key_in(windows: &[Window], slot: u32) -> Option<SlotKey>
     ensures { result ≡ key_in windows.now slot }
 {
@@ -172,7 +172,7 @@ impl Windows {
         self.at_place(self.by_cnode[found].place)
     }
 
-    /// A CNode that may be the one of this slot: the last one that does not begin behind it.
+    /// A CNode that may be the one of this slot: the last one that does not begin after it.
     fn near(&self, slot: u32) -> Option<Window>
         ensures { IfSome result (IsThere self.now) }
     {
@@ -181,7 +181,7 @@ impl Windows {
         self.at_place(last.place)
     }
 
-    /// Whether a slot of this key stands in one of the CNodes.
+    /// Whether a slot of this key is in one of the CNodes.
     pub(crate) fn have_key(&self, key: SlotKey) -> bool
         ensures { result ≡ list_any (has_key key) self.now }
     {
@@ -207,7 +207,7 @@ impl Windows {
         window_at(all, offset, radix)
     }
 
-    /// The CNode and the index of a slot, if it stands in one of the CNodes.
+    /// The CNode and the index of a slot, if it is in one of the CNodes.
     pub fn key(&self, slot: u32) -> Option<SlotKey>
         ensures { result ≡ key_in self.now slot }
     {

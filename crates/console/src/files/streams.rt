@@ -97,6 +97,10 @@ fn text_of(
 }
 
 /// The text of a file, or of standard input where `-` is its name.
+///
+/// # Errors
+///
+/// It cannot be read, and why; it is not UTF-8, and from which line on; or memory is refused.
 pub fn read_stream<'a, R: Files + Input + AllocGlobal>(
     rt: &R,
     name: &'a str,
@@ -113,6 +117,10 @@ pub fn read_stream<'a, R: Files + Input + AllocGlobal>(
 }
 
 /// All bytes of a file.
+///
+/// # Errors
+///
+/// It cannot be read, and why; or memory is refused.
 pub fn read_file<'a, R: Files + AllocGlobal>(
     rt: &R,
     name: &'a str,
@@ -124,6 +132,10 @@ pub fn read_file<'a, R: Files + AllocGlobal>(
 }
 
 /// Writes a file anew.
+///
+/// # Errors
+///
+/// It cannot be written, and why; or memory is refused.
 pub fn write_file<'a, R: Files + AllocGlobal>(
     rt: &R,
     name: &'a str,

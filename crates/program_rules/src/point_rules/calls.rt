@@ -55,7 +55,7 @@ fn has_one(measure: &Measure, registers: &[Register]) -> bool
         .any(|register| measure.has_term(u32::from(register.0)))
 }
 
-/// What a system call leaves for the next point: the budget is there anew behind a wait, and else one instruction less is left
+/// What a system call leaves for the next point: the budget is there anew after a wait, and else one instruction less is left
 /// to run.
 pub fn follows_call(budget: u64, measure: &Measure, behind: &Behind) -> Left
     requires budget { budget ≤ 2 ^ 62 }

@@ -37,7 +37,7 @@ fn writes_term(instr: Instr, measure: &Measure) -> bool
     }
 }
 
-/// What is left with these ranges behind the instruction: one instruction less is left to run.
+/// What is left with these ranges after the instruction: one instruction less is left to run.
 fn behind(instr: Instr, measure: &Measure, bounds: Bounds) -> Left
     requires { negsuc (2 ^ 63 - 2) ≤ℤ (measure_of measure.now).constant }
     ensures { (slots : List NotedSlot) → left_with slots result ≡ (if option_map_or (λ rd. has_term (measure_of measure.now) rd.0) (destination instr) false then Unmeasured

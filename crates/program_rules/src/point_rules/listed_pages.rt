@@ -47,7 +47,7 @@ pub(crate) fn is_listed(
     }
 }
 
-/// The last run with a page more: where that stands apart from it, the run goes to the others, and the page begins the next one.
+/// The last run with a page more: where that is apart from it, the run goes to the others, and the page begins the next one.
 /// Memory may be refused.
 fn with_page(runs: &mut Vec<PageRun>, last: PageRun, page: u32) -> Result<PageRun, AllocError>
     requires { page < 2 ^ 20 }

@@ -53,7 +53,7 @@ fn size_of_store(op: StoreOp) -> AccessSize
     }
 }
 
-/// The whole number that is so far behind an address.
+/// The whole number that is so far after an address.
 fn moved(address: u32, offset: i32) -> i64
     ensures value { result ≡ pos address +ℤ offset }
     ensures range { result ≤ℤ pos (2 ^ 40) }
@@ -171,7 +171,7 @@ impl Pages<'_, '_> {
         self.are_mapped(access, least as u32, last as u32, found)
     }
 
-    /// Whether an access from an address in this range and this offset behind it meets only mapped pages.
+    /// Whether an access from an address in this range and this offset after it meets only mapped pages.
     fn reaches(
         &self,
         access: Access,

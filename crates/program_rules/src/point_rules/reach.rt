@@ -16,7 +16,7 @@ use typestate::NotedSlots;
 pub struct Pages<'p, 'i> {
     pub image: &'p ImageRef<'i>,
     pub thread: &'p ThreadRef<'i>,
-    /// Where the thread's root table stands.
+    /// Where the thread's root table is.
     pub root: u32,
     pub slots: NotedSlots<'p>,
     /// The pages that the image maps for loads, and those for stores.
