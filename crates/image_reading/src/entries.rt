@@ -61,6 +61,10 @@ pub trait Entry: Listed + Sized + Drop {
         ensures { (counts : Counts) (least : ℕ) → HasSize result (Self.format counts least) (Self.format counts 0) };
 
     /// The entry at `at` and the offset after it. Its key is not below `least`.
+    ///
+    /// # Errors
+    ///
+    /// The bytes end within it, or hold no such entry.
     fn read(bytes: &[u8], at: usize, counts: Counts, least: u64) -> Result<(Self, usize), Refusal>
         ensures reads { result ≡ (Self.format counts least).reads bytes.now at }
         ensures bounded { IfOk result (λ x. Self.next x.0 < 2 ^ 64) };

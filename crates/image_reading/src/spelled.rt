@@ -12,11 +12,19 @@ pub trait Spelled {
     ghost spelling: { Self → List ℕ };
 
     /// Puts its bytes after those that are there.
+    ///
+    /// # Errors
+    ///
+    /// Memory is refused.
     fn append(&self, bytes: &mut Vec<u8>) -> Result<(), AllocError>
         ensures { IfOk result (λ _. bytes.new.items ≡ bytes.old.items ++ spelling self.now) };
 }
 
 /// Puts the bytes of all of these after those that are there, in their order.
+///
+/// # Errors
+///
+/// Memory is refused.
 pub fn append_all<E: Spelled>(bytes: &mut Vec<u8>, entries: &[E]) -> Result<(), AllocError>
     ensures { IfOk result (λ _. bytes.new.items ≡ bytes.old.items ++ flat_map E.spelling entries.now) }
 {

@@ -20,7 +20,11 @@ pub trait Sink {
     /// count stays.
     ghost failures: { Self → ℕ };
 
-    /// Takes some bytes from the front of a piece, and answers how many. An `Err` takes nothing.
+    /// Takes some bytes from the front of a piece, and answers how many.
+    ///
+    /// # Errors
+    ///
+    /// It takes nothing.
     fn put(&mut self, piece: &[u8]) -> Result<usize, SinkFault>
         ensures taken { TakesSome (contents self.old) (contents self.new) piece.now result }
         ensures counted { failures self.new ≡ failures_after piece.now result (failures self.old) };

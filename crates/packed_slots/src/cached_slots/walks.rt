@@ -18,6 +18,10 @@ pub trait WalkStore: RootStore {
 
     /// The offset in memory of the byte that a virtual address names for an access, under the root table at the offset
     /// `root`, as [`sv32::walk`] has it.
+    ///
+    /// # Errors
+    ///
+    /// No page is mapped there that allows the access.
     fn walk(&self, root: u32, address: u32, access: Access) -> Result<u32, PageFault>
         requires { LeavesAgree (Self.slots self.now) (Self.memory self.now) root }
         ensures { result ≡ ok_or (walk (Self.memory self.now) root address access) page_fault };
