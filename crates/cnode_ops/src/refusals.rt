@@ -3,11 +3,10 @@
 
 ghost use Rattle.std.specs.Prelude.{ℕ, ◌≡◌, ◌+◌, ◌^◌, ◌<◌, ◌≤◌, ◌/◌, ◌&&◌, Some, None, true, false, length};
 ghost use Rattle.cnode_ops.specs.Marked.{is_marked, is_unmarked};
-ghost use Rattle.cnode_ops.specs.Refusals.{AreNear, goes, is_named_beside, is_some_left_filled, own_slots, slots_named, some_own, some_slot};
-ghost use Rattle.cnode_ops.specs.Sets.{listed_in, set_of};
+ghost use Rattle.cnode_ops.specs.Refusals.{IsLast, goes, is_named_beside, is_some_left_filled, own_slots, slots_named, some_own, some_slot};
+ghost use Rattle.cnode_ops.specs.Sets.{set_of};
 ghost use Rattle.model.specs.Capabilities.CapabilityKinds.{object_of};
 ghost use Rattle.model.specs.Capabilities.CapabilityWords.{IsCapability};
-ghost use Rattle.model.specs.Capabilities.Orders.{next_in};
 ghost use Rattle.model.specs.Capabilities.Slots.{capability_at, is_full};
 ghost use Rattle.model.specs.Kernel.Removal.{wants_revoke_first, with_bindings};
 ghost use Rattle.model.specs.Kernel.Soundness.{IsSound};
@@ -36,8 +35,7 @@ fn are_same(own: OwnSlots, other: OwnSlots) -> bool
 /// The last slot that goes, from one on.
 fn last_removed<S: SlotStore>(store: &S, set: &Removed, first: Slot) -> Slot
     requires { goes (S.slots store.now) set.now first ≡ true }
-    ensures goes { goes (S.slots store.now) set.now result ≡ true }
-    ensures last { next_in (listed_in (S.order store.now) (S.slots store.now) set.now) (Some result) ≡ None }
+    ensures { IsLast (S.order store.now) (S.slots store.now) set.now result }
 {
     let mut last = first;
     'slots: while let Some(slot) = next_removed(store, set, Some(last)) {
@@ -48,13 +46,13 @@ fn last_removed<S: SlotStore>(store: &S, set: &Removed, first: Slot) -> Slot
 
 /// Whether a slot that stays names the object which a slot names that goes. `last` is the last one that goes.
 fn is_named_beside<S: SlotStore>(store: &S, set: &Removed, last: Slot, slot: Slot) -> bool
-    requires near { AreNear (S.slots store.now) (S.memory store.now) }
     requires goes { goes (S.slots store.now) set.now slot ≡ true }
-    requires last_goes { goes (S.slots store.now) set.now last ≡ true }
-    requires last { next_in (listed_in (S.order store.now) (S.slots store.now) set.now) (Some last) ≡ None }
+    requires last { IsLast (S.order store.now) (S.slots store.now) set.now last }
     ensures { (offset : ℕ) → object_of (capability_at (S.slots store.now) slot) ≡ Some offset
         → result ≡ is_named_beside (S.slots store.now) (length (S.memory store.now) / 16) set.now offset }
 {
+    // No slot after these is open.
+    let _count = store.count();
     match *set {
         Removed::One(only) => store.is_shared(only),
         Removed::Below(root) => store.is_shared_beside(root, last, slot),
@@ -75,10 +73,8 @@ fn slots_named(capability: Cap) -> u32
 
 /// The slots of the object which a slot names that goes: none, where a slot that stays names it too.
 fn own_slots<S: SlotStore>(store: &S, set: &Removed, last: Slot, slot: Slot) -> OwnSlots
-    requires near { AreNear (S.slots store.now) (S.memory store.now) }
     requires goes { goes (S.slots store.now) set.now slot ≡ true }
-    requires last_goes { goes (S.slots store.now) set.now last ≡ true }
-    requires last { next_in (listed_in (S.order store.now) (S.slots store.now) set.now) (Some last) ≡ None }
+    requires last { IsLast (S.order store.now) (S.slots store.now) set.now last }
     ensures value { result ≡ own_slots (S.slots store.now) (length (S.memory store.now) / 16) set.now (capability_at (S.slots store.now) slot) }
     ensures inside { result.first + result.count ≤ 2 ^ 20 }
     ensures near { result.first < 2 ^ 20 }
@@ -110,9 +106,7 @@ fn any_full_own<S: SlotStore>(store: &S, own: OwnSlots, passed: OwnSlots) -> boo
 
 /// Whether an object that ends has a full slot. `last` is the last slot that goes.
 fn any_ends_full<S: SlotStore>(store: &S, set: &Removed, last: Slot) -> bool
-    requires near { AreNear (S.slots store.now) (S.memory store.now) }
-    requires last_goes { goes (S.slots store.now) set.now last ≡ true }
-    requires last { next_in (listed_in (S.order store.now) (S.slots store.now) set.now) (Some last) ≡ None }
+    requires { IsLast (S.order store.now) (S.slots store.now) set.now last }
     ensures { result ≡ false → (slot : ℕ) → goes (S.slots store.now) set.now slot ≡ true
         → some_own (own_slots (S.slots store.now) (length (S.memory store.now) / 16) set.now (capability_at (S.slots store.now) slot)) (is_full (S.slots store.now)) ≡ false }
 {
@@ -180,12 +174,12 @@ fn any_unmarked_own<S: SlotStore>(store: &S, marks: &Marks, own: OwnSlots, passe
 
 /// Whether an object that ends has a full slot which is not marked. `last` is the last slot that goes.
 fn any_ends_unmarked<S: SlotStore>(store: &S, set: &Removed, last: Slot, marks: &Marks) -> bool
-    requires near { AreNear (S.slots store.now) (S.memory store.now) }
-    requires last_goes { goes (S.slots store.now) set.now last ≡ true }
-    requires last { next_in (listed_in (S.order store.now) (S.slots store.now) set.now) (Some last) ≡ None }
+    requires { IsLast (S.order store.now) (S.slots store.now) set.now last }
     ensures { result ≡ some_slot 0 (length (S.memory store.now) / 16) (λ slot. goes (S.slots store.now) set.now slot
         && some_own (own_slots (S.slots store.now) (length (S.memory store.now) / 16) set.now (capability_at (S.slots store.now) slot)) (is_unmarked (S.slots store.now) marks.now)) }
 {
+    // No slot after these is open.
+    let _count = store.count();
     let mut passed = OwnSlots { first: 0, count: 0 };
     let mut at = None;
     'slots: loop {
@@ -203,9 +197,7 @@ fn any_ends_unmarked<S: SlotStore>(store: &S, set: &Removed, last: Slot, marks: 
 
 /// Whether an object that ends has a full slot which stays. `last` is the last slot that goes.
 fn any_ends_filled<S: SlotStore>(store: &S, set: &Removed, last: Slot) -> bool
-    requires near { AreNear (S.slots store.now) (S.memory store.now) }
-    requires last_goes { goes (S.slots store.now) set.now last ≡ true }
-    requires last { next_in (listed_in (S.order store.now) (S.slots store.now) set.now) (Some last) ≡ None }
+    requires { IsLast (S.order store.now) (S.slots store.now) set.now last }
     ensures { result ≡ is_some_left_filled (S.slots store.now) (length (S.memory store.now) / 16) set.now }
 {
     let mut marks = Marks::none();
@@ -216,10 +208,11 @@ fn any_ends_filled<S: SlotStore>(store: &S, set: &Removed, last: Slot) -> bool
 /// Whether these slots may not go yet: with them would go the last capability to a CNode or a thread that
 /// still holds a capability which stays.
 pub(crate) fn wants_revoke_first<S: SlotStore>(store: &S, set: Removed) -> bool
-    requires near { AreNear (S.slots store.now) (S.memory store.now) }
     ensures { (s : State) → s.slots ≡ S.slots store.now → IsSound s → 2 ^ s.memory_bits ≡ length (S.memory store.now)
         → result ≡ wants_revoke_first s (with_bindings s (set_of s.slots set)) }
 {
+    // No slot after these is open.
+    let _count = store.count();
     let Some(first) = next_removed(store, &set, None) else {
         return false;
     };

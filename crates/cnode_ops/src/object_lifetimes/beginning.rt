@@ -13,7 +13,7 @@ ghost use Rattle.model.specs.Kernel.Retype.{is_small_enough, object_bits, with_n
 ghost use Rattle.objects.specs.Standing.{Standing};
 ghost use Rattle.objects.specs.Tables.{state_of};
 
-use crate::object_lifetimes::making::make_one;
+use crate::object_lifetimes::making::{ObjectPlace, make_one};
 use crate::{Begins, NewRange, Placing};
 use model::{Cap, ObjectType, Slot};
 use objects::Objects;
@@ -59,14 +59,11 @@ fn make_all<S: SlotStore>(objects: &mut Objects, store: &mut S, new: NewRange, a
     let window = at.window.number();
     let mut place = new.first;
     'objects: for index in 0..new.count {
-        make_one(
-            objects,
-            store,
-            new.kind,
+        let one = ObjectPlace {
+            kind: new.kind,
             place,
-            Slot::new(window + index),
-            at.parent,
-        );
+        };
+        make_one(objects, store, one, Slot::new(window + index), at.parent);
         place += size;
     }
 }

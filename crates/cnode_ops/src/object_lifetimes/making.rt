@@ -20,6 +20,17 @@ use slots::SlotStore;
 /// How many bytes a page has.
 const PAGE_SIZE: u32 = 4096;
 
+/// Where an object of a type is to begin: at a multiple of its size, which the type may have, in the largest memory.
+#[derive(Clone, Copy)]
+pub(crate) struct ObjectPlace {
+    pub(crate) kind: ObjectType,
+    pub(crate) place: u32,
+    ghost near: { place < 2 ^ 24 },
+    ghost aligned: { place % 2 ^ object_bits (new_type kind) ≡ 0 },
+    ghost large: { is_large_enough (new_type kind) ≡ true },
+    ghost small: { is_small_enough (new_type kind) ≡ true },
+}
+
 /// Opens the slots of a new object.
 fn open_slots<S: SlotStore>(store: &mut S, place: u32, count: u32)
     requires aligned { place % 16 ≡ 0 }
@@ -61,70 +72,59 @@ fn make_object_room<S: SlotStore>(store: &mut S, kind: ObjectKind, place: u32)
 }
 
 /// The same of whatever Retype makes: untyped memory needs none.
-fn make_room<S: SlotStore>(store: &mut S, kind: ObjectType, place: u32)
-    requires aligned { place % 16 ≡ 0 }
-    requires near { place < 2 ^ 24 }
-    requires within { place + 2 ^ object_bits (new_type kind) ≤ length (S.memory store.old) }
-    requires small { is_small_enough (new_type kind) ≡ true }
-    requires closed { OutsideSlots (S.slots store.old) place (2 ^ object_bits (new_type kind)) }
-    ensures { RoomMade (S.slots store.old) (S.slots store.new) (S.memory store.old) (S.memory store.new) (new_type kind) place }
+fn make_room<S: SlotStore>(store: &mut S, new: ObjectPlace)
+    requires within { new.place + 2 ^ object_bits (new_type new.kind) ≤ length (S.memory store.old) }
+    requires closed { OutsideSlots (S.slots store.old) new.place (2 ^ object_bits (new_type new.kind)) }
+    ensures { RoomMade (S.slots store.old) (S.slots store.new) (S.memory store.old) (S.memory store.new) (new_type new.kind) new.place }
 {
-    match kind {
+    match new.kind {
         ObjectType::Untyped { .. } => {}
-        ObjectType::Object(kind) => make_object_room(store, kind, place),
+        ObjectType::Object(kind) => make_object_room(store, kind, new.place),
     }
 }
 
 /// The object begins in the tables; untyped memory is no object.
-fn begin_object<S: SlotStore>(objects: &mut Objects, store: &mut S, kind: ObjectType, place: u32)
-    requires free { (state_of objects.old (S.slots store.old) (S.memory store.old)).objects place ≡ None }
-    requires near { place < 2 ^ (state_of objects.old (S.slots store.old) (S.memory store.old)).memory_bits }
-    requires aligned { place % 2 ^ object_bits (new_type kind) ≡ 0 }
-    requires large { is_large_enough (new_type kind) ≡ true }
-    requires small { is_small_enough (new_type kind) ≡ true }
-    requires room { IsRoom (state_of objects.old (S.slots store.old) (S.memory store.old)) (new_type kind) place }
+fn begin_object<S: SlotStore>(objects: &mut Objects, store: &mut S, new: ObjectPlace)
+    requires free { (state_of objects.old (S.slots store.old) (S.memory store.old)).objects new.place ≡ None }
+    requires near { new.place < 2 ^ (state_of objects.old (S.slots store.old) (S.memory store.old)).memory_bits }
+    requires room { IsRoom (state_of objects.old (S.slots store.old) (S.memory store.old)) (new_type new.kind) new.place }
     requires stands { Standing objects.old (S.slots store.old) (S.memory store.old) }
     ensures state { state_of objects.new (S.slots store.new) (S.memory store.new)
-        ≡ with_begun (state_of objects.old (S.slots store.old) (S.memory store.old)) (S.memory store.old) kind place }
+        ≡ with_begun (state_of objects.old (S.slots store.old) (S.memory store.old)) (S.memory store.old) new.kind new.place }
     ensures slots { S.slots store.new ≡ S.slots store.old }
     ensures bytes { SameBesideObjects (state_of objects.new (S.slots store.new) (S.memory store.new)) (S.memory store.old) (S.memory store.new) }
     ensures stands { Standing objects.new (S.slots store.new) (S.memory store.new) }
 {
-    if let ObjectType::Object(kind) = kind {
-        objects.begin(store, place, kind);
+    if let ObjectType::Object(kind) = new.kind {
+        objects.begin(store, new.place, kind);
     }
 }
 
-/// Makes one object at a place where nothing is, with its first capability in an empty slot, derived
-/// from `parent`.
+/// Makes one object where nothing is, with its first capability in an empty slot, derived from `parent`.
 pub(crate) fn make_one<S: SlotStore>(
     objects: &mut Objects,
     store: &mut S,
-    kind: ObjectType,
-    place: u32,
+    new: ObjectPlace,
     slot: Slot,
     parent: Slot,
 )
-    requires growing { Growing (state_of objects.old (S.slots store.old) (S.memory store.old)) (S.memory store.old) place
-        (place + 2 ^ object_bits (new_type kind)) }
-    requires near { place < 2 ^ 24 }
-    requires aligned { place % 2 ^ object_bits (new_type kind) ≡ 0 }
-    requires large { is_large_enough (new_type kind) ≡ true }
-    requires small { is_small_enough (new_type kind) ≡ true }
-    requires unnamed { NoneNamed (S.slots store.old) place (place + 2 ^ object_bits (new_type kind)) }
+    requires growing { Growing (state_of objects.old (S.slots store.old) (S.memory store.old)) (S.memory store.old) new.place
+        (new.place + 2 ^ object_bits (new_type new.kind)) }
+    requires unnamed { NoneNamed (S.slots store.old) new.place (new.place + 2 ^ object_bits (new_type new.kind)) }
     requires empty { S.slots store.old slot ≡ Some empty_entry }
     requires full { IsFull (S.slots store.old) parent }
     requires nameless { object_at (S.slots store.old) parent ≡ None }
     requires room { depth_of (S.slots store.old) parent < 255 }
     requires stands { Standing objects.old (S.slots store.old) (S.memory store.old) }
     ensures state { state_of objects.new (S.slots store.new) (S.memory store.new)
-        ≡ one_placed (state_of objects.old (S.slots store.old) (S.memory store.old)) (new_type kind) place slot parent }
-    ensures growing { (to : ℕ) → Growing (state_of objects.old (S.slots store.old) (S.memory store.old)) (S.memory store.old) place to
-        → place + 2 ^ object_bits (new_type kind) ≤ to
-        → Growing (state_of objects.new (S.slots store.new) (S.memory store.new)) (S.memory store.new) (place + 2 ^ object_bits (new_type kind)) to }
+        ≡ one_placed (state_of objects.old (S.slots store.old) (S.memory store.old)) (new_type new.kind) new.place slot parent }
+    ensures growing { (to : ℕ) → Growing (state_of objects.old (S.slots store.old) (S.memory store.old)) (S.memory store.old) new.place to
+        → new.place + 2 ^ object_bits (new_type new.kind) ≤ to
+        → Growing (state_of objects.new (S.slots store.new) (S.memory store.new)) (S.memory store.new)
+        (new.place + 2 ^ object_bits (new_type new.kind)) to }
     ensures stands { Standing objects.new (S.slots store.new) (S.memory store.new) }
 {
-    make_room(store, kind, place);
-    begin_object(objects, store, kind, place);
-    store.insert(slot, kind.first_capability(place), Some(parent));
+    make_room(store, new);
+    begin_object(objects, store, new);
+    store.insert(slot, new.kind.first_capability(new.place), Some(parent));
 }

@@ -18,5 +18,5 @@ slots-preserved g c =
     found-member (listed_in (g.S.SlotStore.order c.args.store.now) slots c.args.set.now) (goes slots c.args.set.now) c.next_removed.ensures.lists
     (Some c.slots.last) c.in-Some.slot (sym c.in-Some.is ∙ c.next_removed.ensures.next)
 
-pub returns-clause-last : goal.returns-clause-last
-returns-clause-last g c = sym c.next_removed.ensures.next ∙ c.in_default.is
+pub returns : goal.returns
+returns g c = record { goes_too = c.slots.invariant; none_after = sym c.next_removed.ensures.next ∙ c.in_default.is }

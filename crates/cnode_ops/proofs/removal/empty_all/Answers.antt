@@ -1,7 +1,7 @@
 -- Each slot that is emptied leaves one fewer.
 use Rattle.std.proofs.Common.{ℕ, ◌≡◌, ◌∙◌, ◌<◌, false, true, Option, IfSome, refl, sym, ap, subst}
 use Rattle.cnode_ops.specs.Sets.{set_of}
-use Rattle.model.specs.Capabilities.Slots.{IsDerivation, IsFull, IsOpen, Slots, capability_at}
+use Rattle.model.specs.Capabilities.Slots.{IsFull, IsOpen, Slots, capability_at}
 use Rattle.model.specs.Kernel.Removal.{emptied}
 use Rattle.model.specs.Kernel.State.{State}
 use Rattle.removal_laws.specs.Steps.{alone, joined, unmapped_at}
@@ -81,11 +81,6 @@ slots-preserved g c =
           ∙ ap (λ (n : Slots). set_of n c.args.set.now c.parent_removed-near.result) has
           ∙ c.parent_removed-near.ensures;
     }
-
-pub parent_removed-near-requires-clause-tree : goal.parent_removed-near-requires-clause-tree
-parent_removed-near-requires-clause-tree g c =
-    subst (λ (n : Slots). IsDerivation n) (g.met.E.Ends.of_slots c.slots.ends (g.S.SlotMap.slots c.slots.store) (g.S.SlotStore.memory c.slots.store))
-    c.slots.invariant.left.ready.derivation
 
 pub returns-in_default-clause-taken : goal.returns-in_default-clause-taken
 returns-in_default-clause-taken g c = λ more opens.

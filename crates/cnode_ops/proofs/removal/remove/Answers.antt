@@ -8,15 +8,8 @@ use Rattle.model.specs.Kernel.State.{State}
 use Rattle.removal_laws.proofs.Laws.{refused, sound-ready}
 use Rattle.cnode_ops.proofs.LinesTaken.{lines-told}
 use Rattle.cnode_ops.proofs.Unsettling.{sound-lie}
-use Rattle.cnode_ops.proofs.RemovedSets.{LoopsRan, loops-cover, loops-may-settle, loops-remove, near-open}
+use Rattle.cnode_ops.proofs.RemovedSets.{LoopsRan, loops-cover, loops-may-settle, loops-remove}
 use Rattle.cnode_ops.proofs.removal.remove.Goals as goal
-
-pub wants_revoke_first-requires : goal.wants_revoke_first-requires
-wants_revoke_first-requires g c =
-    record {
-      near = near-open (g.E.Ends.state c.args.ends.now (g.S.SlotMap.slots c.args.store.now) (g.S.SlotStore.memory c.args.store.now)) _ _
-          (g.met.E.Ends.of_slots _ _ _) c.requires.sound (g.met.E.Ends.of_memory _ _ _ c.requires.agree);
-    }
 
 pub returns-then-wants_revoke_first-clause-outcome : goal.returns-then-wants_revoke_first-clause-outcome
 returns-then-wants_revoke_first-clause-outcome g c =

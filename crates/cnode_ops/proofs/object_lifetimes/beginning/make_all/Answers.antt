@@ -1,9 +1,9 @@
 -- One more each time, in the room that is left.
-use Rattle.std.proofs.Common.{ℕ, ◌∙◌, ◌+◌, ◌%◌, ◌^◌, ap, sym, subst}
+use Rattle.std.proofs.Common.{ℕ, ◌∙◌, ◌+◌, ◌%◌, ◌^◌, ◌<◌, ap, sym, subst}
 use Rattle.kernel_invariant.specs.Growing.{Growing}
 use Rattle.cnode_ops.specs.Placed.{new_objects}
 use Rattle.model.specs.Kernel.ObjectTypes.{new_type}
-use Rattle.cnode_ops.proofs.object_lifetimes.OneAfterAnother.{made-at, next-place, one-aligned, one-empty, one-unnamed, room-for_one}
+use Rattle.cnode_ops.proofs.object_lifetimes.OneAfterAnother.{made-at, next-place, one-aligned, one-empty, one-near, one-unnamed, room-for_one}
 use Rattle.cnode_ops.specs.object_lifetimes.Beginnings.{NoneNamed}
 use Rattle.cnode_ops.proofs.object_lifetimes.beginning.make_all.Goals as goal
 use Rattle.model.specs.Kernel.Retype.{object_bits}
@@ -16,10 +16,16 @@ make_one-requires-clause-growing g c =
     (room-for_one _ now _ (new_objects c.args.new) c.args.at.window c.args.at.parent c.objects.index c.objects.invariant.made c.requires.laid
     c.objects-test.true)
 
-pub make_one-requires-clause-aligned : goal.make_one-requires-clause-aligned
-make_one-requires-clause-aligned g c =
-    ap (λ (p : ℕ). p % 2 ^ object_bits (new_type c.args.new.kind)) c.objects.invariant.place
-    ∙ one-aligned _ _ _ (new_objects c.args.new) c.args.at.window c.args.at.parent c.objects.index c.objects.invariant.made c.requires.laid c.objects-test.true
+pub invariant_of-one : goal.invariant_of-one
+invariant_of-one g c = record {
+  near = subst (λ (p : ℕ). p < 2 ^ 24) (sym c.objects.invariant.place)
+      (one-near _ _ _ (new_objects c.args.new) c.args.at.window c.args.at.parent c.objects.index c.objects.invariant.made c.requires.laid c.objects-test.true);
+  aligned =
+      ap (λ (p : ℕ). p % 2 ^ object_bits (new_type c.args.new.kind)) c.objects.invariant.place
+      ∙ one-aligned _ _ _ (new_objects c.args.new) c.args.at.window c.args.at.parent c.objects.index c.objects.invariant.made c.requires.laid c.objects-test.true;
+  large = c.requires.laid.large;
+  small = c.requires.laid.small;
+}
 
 pub make_one-requires-clause-empty : goal.make_one-requires-clause-empty
 unfolding state_of

@@ -10,13 +10,13 @@ use Rattle.objects.specs.Tables.{state_of}
 
 pub begin-requires-clause-fits : goal.begin-requires-clause-fits
 begin-requires-clause-fits g c =
-    may-stand c.in-Object.kind c.args.place _
-    (ap (λ (k : ObjectType). c.args.place % 2 ^ object_bits (new_type k)) (sym c.in-Object.is) ∙ c.requires.aligned) c.requires.near
-    (ap (λ (k : ObjectType). is_large_enough (new_type k)) (sym c.in-Object.is) ∙ c.requires.large)
-    (ap (λ (k : ObjectType). is_small_enough (new_type k)) (sym c.in-Object.is) ∙ c.requires.small)
+    may-stand c.in-Object.kind c.args.new.place _
+    (ap (λ (k : ObjectType). c.args.new.place % 2 ^ object_bits (new_type k)) (sym c.in-Object.is) ∙ c.args.new.aligned) c.requires.near
+    (ap (λ (k : ObjectType). is_large_enough (new_type k)) (sym c.in-Object.is) ∙ c.args.new.large)
+    (ap (λ (k : ObjectType). is_small_enough (new_type k)) (sym c.in-Object.is) ∙ c.args.new.small)
 
 pub begin-requires-clause-room : goal.begin-requires-clause-room
 begin-requires-clause-room g c =
     subst (λ (k : ObjectType). IsRoom (state_of c.args.objects.now (g.S.SlotMap.slots c.args.store.now) (g.S.SlotStore.memory c.args.store.now)) (new_type k)
-    c.args.place) c.in-Object.is
+    c.args.new.place) c.in-Object.is
     c.requires.room
