@@ -6,7 +6,8 @@ use Rattle.std.proofs.Math.Pow.{mod-mod-pow, pow_mono}
 use Rattle.std.proofs.lemmas.Bool.{cases_lt, leb-true}
 use Rattle.std.proofs.lemmas.Nat.{pow-add}
 use Rattle.cnode_ops.specs.Placed.{IsPlaced}
-use Rattle.cnode_ops.specs.RetypeChecks.{asked_type, behind_offset, places}
+use Rattle.untyped.specs.NewTypes.{asked_type}
+use Rattle.cnode_ops.specs.RetypeChecks.{behind_offset, places}
 use Rattle.cnode_ops.specs.declared.beginnings.Placing.{Placing}
 use Rattle.model.specs.Capabilities.CapabilityWords.{IsCapability}
 use Rattle.model.specs.Capabilities.Placement.{align, place_of_object, placement}

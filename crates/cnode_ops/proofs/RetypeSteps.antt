@@ -3,7 +3,8 @@ use Rattle.std.proofs.Common.{ℕ, ◌≡◌, ◌∙◌, ◌==◌, ◌+◌, ◌<
 use Rattle.std.specs.Prelude.{nat_lt}
 use Rattle.std.proofs.lemmas.Bool.{ltb-true}
 use Rattle.cnode_ops.specs.Placed.{used_to, with_placed}
-use Rattle.cnode_ops.specs.RetypeChecks.{asked_type, behind_offset, has_slots, named_node, places, window}
+use Rattle.untyped.specs.NewTypes.{asked_type}
+use Rattle.cnode_ops.specs.RetypeChecks.{behind_offset, has_slots, named_node, places, window}
 use Rattle.model.specs.Capabilities.CapabilityKinds.{Node, cnode_of}
 use Rattle.model.specs.Capabilities.Placement.{placement}
 use Rattle.model.specs.Capabilities.Slots.{Slots, capability_at, depth_of, recapped}

@@ -1,37 +1,17 @@
 -- The checks of Retype, in their order.
 -- seL4 Reference Manual, "Kernel Memory Allocation", seL4_Untyped_Retype.
-use Rattle.std.specs.Prelude.{ℕ, ◌==◌, ◌+◌, ◌^◌, ◌&&◌, Bool, not, nat_le, if◌then◌else◌, Option, Result, Ok, Err}
+use Rattle.std.specs.Prelude.{ℕ, ◌==◌, ◌+◌, ◌^◌, ◌&&◌, Bool, not, nat_le, if◌then◌else◌, Option, Result, Ok}
 use Rattle.model.specs.Capabilities.CapabilityKinds.{cnode_of}
 use Rattle.model.specs.Capabilities.Placement.{placement}
 use Rattle.model.specs.Capabilities.Slots.{Slots, capability_at}
 use Rattle.model.specs.Kernel.Arguments.{◌>>=◌, argument_slot, check, wanted}
-use Rattle.model.specs.Kernel.Retype.{NewObject, any_full, is_large_enough, is_small_enough, object_bits, type_of}
+use Rattle.model.specs.Kernel.Retype.{NewObject, any_full, object_bits}
 use Rattle.model.specs.Kernel.State.{slot_of}
 use Rattle.model.specs.declared.capabilities.Cap.{Cap}
 use Rattle.model.specs.declared.errors.KError.{KError}
-use Rattle.model.specs.declared.errors.KError.TheVariants.{DeleteFirst, FailedLookup, InvalidArgument, NotEnoughMemory, RangeError}
+use Rattle.model.specs.declared.errors.KError.TheVariants.{DeleteFirst, FailedLookup, NotEnoughMemory, RangeError}
 use Rattle.model.specs.declared.invocations.SlotName.{SlotName}
 use Rattle.model.specs.declared.invocations.UntypedMemory.{UntypedMemory}
-
--- what there is, in other words
-abbrev pub in_words : {A B : Type 0} → (A → B) → Result A KError → Result B KError
-in_words f (Ok x) = Ok (f x)
-in_words f (Err error) = Err error
-
--- a size within its limits
-abbrev pub sized : ℕ → ℕ → ℕ → Result ℕ KError
-sized size least most = do
-  _ ← check (nat_le least size) InvalidArgument
-  _ ← check (nat_le size most) RangeError
-  Ok size
-
--- the type of a number, of a size that it may have
-abbrev pub asked_type : ℕ → ℕ → Result NewObject KError
-asked_type kind size = do
-  new ← wanted (type_of kind size) InvalidArgument
-  _ ← check (is_large_enough new) InvalidArgument
-  _ ← check (is_small_enough new) RangeError
-  Ok new
 
 -- the capability that a CNode is named by: depth 0 names the root itself
 abbrev pub named_node : Slots → Cap → SlotName → Result Cap KError
