@@ -44,27 +44,19 @@ fn misplaces_table(image: &ImageRef<'_>, item: u32, entry: TableEntry, mapped: &
         || mapped.contains(entry.table)
 }
 
-/// The tables, in their order. The page tables that are mapped so far are put into a set of none.
-fn check_each_table(image: &ImageRef<'_>, mapped: &mut NumberSet) -> Result<(), Refusal>
-    requires { mapped.old ≡ [] }
+/// The tables, in their order.
+fn check_tables(alloc: Global, image: &ImageRef<'_>) -> Result<(), Refusal>
     ensures { Answers (first_broken (map (λ t. refuse_if (misplaces_table image.now t) (BadMapping t.0)) (numbered image.now.tables))) result }
 {
+    let mut mapped = NumberSet::new(alloc);
     for item in 0..header_of(image).tables {
         let entry = image.table(item);
-        if misplaces_table(image, item, entry, mapped) {
+        if misplaces_table(image, item, entry, &mapped) {
             return Err(Refusal::BadMapping { item });
         }
         mapped.insert(entry.table)?;
     }
     Ok(())
-}
-
-/// The same, where no table is mapped yet.
-fn check_tables(alloc: Global, image: &ImageRef<'_>) -> Result<(), Refusal>
-    ensures { Answers (first_broken (map (λ t. refuse_if (misplaces_table image.now t) (BadMapping t.0)) (numbered image.now.tables))) result }
-{
-    let mut mapped = NumberSet::new(alloc);
-    check_each_table(image, &mut mapped)
 }
 
 /// Whether some table covers the page of a mapping.
@@ -97,13 +89,17 @@ pub(crate) fn executes(entry: FrameEntry) -> bool
 
 /// What names frames besides the one mapping at hand.
 #[derive(Drop)]
-struct FrameNames {
-    /// Frames that are mapped.
-    once: NumberSet,
+struct FrameNames<'n, 'i, 'a> {
+    image: &'i ImageRef<'a>,
+    /// What capabilities name as sources.
+    sources: &'n NumberSet,
     /// Frames that are mapped more than once.
     twice: NumberSet,
     /// Frames that contents fill.
     filled: NumberSet,
+    ghost listed: { AreNamed (λ c. c.source) image.now.capabilities sources.now },
+    ghost mapped: { AreTwice (λ f. f.frame) image.now.frames twice },
+    ghost contents: { AreNamed (λ c. c.header.frame) image.now.contents filled },
 }
 
 /// Puts one more mapped frame into the set of those that are mapped, or that are mapped more than once.
@@ -118,109 +114,79 @@ fn note_mapping(frame: u32, once: &mut NumberSet, twice: &mut NumberSet) -> Resu
     once.insert(frame)
 }
 
-/// Puts all frames that are mapped into a set of no frames, and those that are mapped more than once into another.
-fn note_mappings(
-    image: &ImageRef<'_>,
-    once: &mut NumberSet,
-    twice: &mut NumberSet,
-) -> Result<(), Refusal>
-    requires once { once.old ≡ [] }
-    requires twice { twice.old ≡ [] }
-    ensures twice { OnOk result (AreTwice (λ f. f.frame) image.now.frames twice.new) }
+/// The frames that are mapped more than once.
+fn mapped_twice(alloc: Global, image: &ImageRef<'_>) -> Result<NumberSet, Refusal>
+    ensures twice { IfOk result (AreTwice (λ f. f.frame) image.now.frames) }
     ensures memory { IfErr result (λ refusal. refusal ≡ OutOfMemory) }
 {
+    let mut once = NumberSet::new(alloc);
+    let mut twice = NumberSet::new(alloc);
     for item in 0..header_of(image).frames {
-        note_mapping(image.frame(item).frame, once, twice)?;
+        note_mapping(image.frame(item).frame, &mut once, &mut twice)?;
     }
-    Ok(())
+    Ok(twice)
 }
 
-/// Puts all frames that contents fill into a set of no frames.
-fn note_fills(image: &ImageRef<'_>, filled: &mut NumberSet) -> Result<(), Refusal>
-    requires { filled.old ≡ [] }
-    ensures filled { OnOk result (AreNamed (λ c. c.header.frame) image.now.contents filled.new) }
+/// The frames that contents fill.
+fn filled_frames(alloc: Global, image: &ImageRef<'_>) -> Result<NumberSet, Refusal>
+    ensures filled { IfOk result (AreNamed (λ c. c.header.frame) image.now.contents) }
     ensures memory { IfErr result (λ refusal. refusal ≡ OutOfMemory) }
 {
+    let mut filled = NumberSet::new(alloc);
     for content in image.contents() {
         filled.insert(content.header().frame)?;
     }
-    Ok(())
+    Ok(filled)
 }
 
-/// Whether a mapping is of code that can be written, or that something else than its mapping reaches.
-#[tactic(auto, unfolding(model::specs::Acceptance::WellFormed::has_writable_code))]
-fn has_writable_code(
-    image: &ImageRef<'_>,
-    item: u32,
-    entry: FrameEntry,
-    sources: &NumberSet,
-    names: &FrameNames,
-) -> bool
-    requires sources { is_member entry.frame sources.now ≡ list_any (λ c. c.source == entry.frame) image.now.capabilities }
-    requires twice { is_member entry.frame names.now.twice ≡ is_mapped_twice image.now item entry.frame }
-    requires filled { is_member entry.frame names.now.filled ≡ list_any (λ c. c.header.frame == entry.frame) image.now.contents }
-    ensures { result ≡ has_writable_code image.now (item, entry) }
-{
-    entry.rights == 7
-        || (executes(entry)
-            && (names.twice.contains(entry.frame)
-                || sources.contains(entry.frame)
-                || names.filled.contains(entry.frame)))
-}
-
-/// The mappings of frames, in their order, numbered on after the tables, by what else names frames.
-fn check_each_frame(
-    image: &ImageRef<'_>,
-    sources: &NumberSet,
-    names: &FrameNames,
-) -> Result<(), Refusal>
-    requires sources { AreNamed (λ c. c.source) image.now.capabilities sources.now }
-    requires twice { AreTwice (λ f. f.frame) image.now.frames names.now.twice }
-    requires filled { AreNamed (λ c. c.header.frame) image.now.contents names.now.filled }
-    ensures { Answers (first_broken (flat_map (frame_rules image.now) (numbered image.now.frames))) result }
-{
-    let header = header_of(image);
-    for number in 0..header.frames {
-        let item = header.tables + number;
-        let entry = image.frame(number);
-        if misplaces_frame(image, entry) {
-            return Err(Refusal::BadMapping { item });
-        }
-        if has_writable_code(image, number, entry, sources, names) {
-            return Err(Refusal::WritableCode { item });
-        }
+impl FrameNames<'_, '_, '_> {
+    /// Whether a mapping is of code that can be written, or that something else than its mapping reaches.
+    #[tactic(auto, unfolding(model::specs::Acceptance::WellFormed::has_writable_code))]
+    fn has_writable_code(&self, item: u32, entry: FrameEntry) -> bool
+        requires { is_member entry.frame self.now.twice ≡ is_mapped_twice self.now.image.now item entry.frame }
+        ensures { result ≡ has_writable_code self.now.image.now (item, entry) }
+    {
+        entry.rights == 7
+            || (executes(entry)
+                && (self.twice.contains(entry.frame)
+                    || self.sources.contains(entry.frame)
+                    || self.filled.contains(entry.frame)))
     }
-    Ok(())
+
+    /// The mappings of frames, in their order, numbered on after the tables.
+    fn check_frames(&self) -> Result<(), Refusal>
+        ensures { Answers (first_broken (flat_map (frame_rules self.now.image.now) (numbered self.now.image.now.frames))) result }
+    {
+        let image = self.image;
+        let header = header_of(image);
+        for number in 0..header.frames {
+            let item = header.tables + number;
+            let entry = image.frame(number);
+            if misplaces_frame(image, entry) {
+                return Err(Refusal::BadMapping { item });
+            }
+            if self.has_writable_code(number, entry) {
+                return Err(Refusal::WritableCode { item });
+            }
+        }
+        Ok(())
+    }
 }
 
-/// The same, once it is noted what else names frames.
-fn check_noted(
-    image: &ImageRef<'_>,
-    sources: &NumberSet,
-    names: &mut FrameNames,
-) -> Result<(), Refusal>
-    requires sources { AreNamed (λ c. c.source) image.now.capabilities sources.now }
-    requires once { names.old.once ≡ [] }
-    requires twice { names.old.twice ≡ [] }
-    requires filled { names.old.filled ≡ [] }
-    ensures { Answers (first_broken (flat_map (frame_rules image.now) (numbered image.now.frames))) result }
-{
-    note_mappings(image, &mut names.once, &mut names.twice)?;
-    note_fills(image, &mut names.filled)?;
-    check_each_frame(image, sources, names)
-}
-
-/// The same, where nothing is noted yet.
+/// The mappings of frames, in their order, by what else names frames.
 fn check_frames(alloc: Global, image: &ImageRef<'_>, sources: &NumberSet) -> Result<(), Refusal>
     requires { AreNamed (λ c. c.source) image.now.capabilities sources.now }
     ensures { Answers (first_broken (flat_map (frame_rules image.now) (numbered image.now.frames))) result }
 {
-    let mut names = FrameNames {
-        once: NumberSet::new(alloc),
-        twice: NumberSet::new(alloc),
-        filled: NumberSet::new(alloc),
+    let twice = mapped_twice(alloc, image)?;
+    let filled = filled_frames(alloc, image)?;
+    let names = FrameNames {
+        image,
+        sources,
+        twice,
+        filled,
     };
-    check_noted(image, sources, &mut names)
+    names.check_frames()
 }
 
 /// Whether a content is of no frame.

@@ -2,7 +2,7 @@
 use Rattle.std.proofs.Common.{◌∙◌, ap}
 use Rattle.wellformed.proofs.Named.{left-next}
 use Rattle.wellformed.specs.Answering.{with_number}
-use Rattle.wellformed.proofs.mappings.note_fills.Goals as goal
+use Rattle.wellformed.proofs.mappings.filled_frames.Goals as goal
 
 pub loop-content-preserved : goal.loop-content-preserved
 loop-content-preserved c =

@@ -4,7 +4,7 @@ use Rattle.model.specs.declared.refusals.Refusal.TheVariants.{BadMapping}
 use Rattle.model.specs.Acceptance.WellFormed.{misplaces_table}
 use Rattle.wellformed.proofs.Named.{named-next}
 use Rattle.wellformed.proofs.RulesLeft.{next_broken, next_kept}
-use Rattle.wellformed.proofs.mappings.check_each_table.Goals as goal
+use Rattle.wellformed.proofs.mappings.check_tables.Goals as goal
 
 pub misplaces_table-requires : goal.misplaces_table-requires
 misplaces_table-requires c = c.loop-item.invariant.mapped.is c.table-entry.result.table

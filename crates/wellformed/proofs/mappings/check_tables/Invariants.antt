@@ -6,7 +6,7 @@ use Rattle.model.specs.Acceptance.Rules.{first_broken, refuse_if}
 use Rattle.model.specs.Acceptance.WellFormed.{misplaces_table}
 use Rattle.model.specs.Images.Described.{numbered}
 use Rattle.wellformed.specs.Answering.{AreNamed}
-use Rattle.wellformed.proofs.mappings.check_each_table.Given as goal
+use Rattle.wellformed.proofs.mappings.check_tables.Given as goal
 
 abbrev pub invariant-loop-item : goal.invariant-loop-item
 invariant-loop-item l = record {

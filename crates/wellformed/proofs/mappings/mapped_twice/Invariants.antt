@@ -1,7 +1,7 @@
 -- The sets have what is mapped so far, and what is mapped more than once.
 use Rattle.std.proofs.Common.{take}
 use Rattle.wellformed.specs.Answering.{AreNamed, AreTwice}
-use Rattle.wellformed.proofs.mappings.note_mappings.Given as goal
+use Rattle.wellformed.proofs.mappings.mapped_twice.Given as goal
 
 abbrev pub invariant-loop-item : goal.invariant-loop-item
 invariant-loop-item l = record {

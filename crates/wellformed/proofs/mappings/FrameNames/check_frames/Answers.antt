@@ -6,18 +6,18 @@ use Rattle.model.specs.declared.refusals.Refusal.TheVariants.{BadMapping, Writab
 use Rattle.model.specs.Acceptance.WellFormed.{frame_rules, has_writable_code, misplaces_frame}
 use Rattle.wellformed.proofs.Named.{mapped-twice}
 use Rattle.wellformed.proofs.RulesLeft.{all_kept, first_of_two, none_of_two, one_broken, second_of_two}
-use Rattle.wellformed.proofs.mappings.check_each_frame.Goals as goal
+use Rattle.wellformed.proofs.mappings.FrameNames.check_frames.Goals as goal
 
-pub has_writable_code-requires-clause-twice : goal.has_writable_code-requires-clause-twice
-has_writable_code-requires-clause-twice c =
+pub has_writable_code-requires : goal.has_writable_code-requires
+has_writable_code-requires c =
     let frame = c.frame-entry.result.frame in
-    c.requires.twice.is frame
-    ∙ sym (mapped-twice (λ f. f.frame == frame) c.loop-number.number c.args.image.now.frames c.frame-entry.result c.frame-entry.ensures
+    c.args.self.now.mapped.is frame
+    ∙ sym (mapped-twice (λ f. f.frame == frame) c.loop-number.number c.args.self.now.image.now.frames c.frame-entry.result c.frame-entry.ensures
     (eq-eqb frame frame refl))
 
 pub returns-then-misplaces_frame : goal.returns-then-misplaces_frame
 returns-then-misplaces_frame c =
-    let image = c.args.image.now in
+    let image = c.args.self.now.image.now in
     let n = c.loop-number.number in
     let e = c.frame-entry.result in
     let item = image.header.tables + n in
@@ -28,7 +28,7 @@ returns-then-misplaces_frame c =
 
 pub returns-then-has_writable_code : goal.returns-then-has_writable_code
 returns-then-has_writable_code c =
-    let image = c.args.image.now in
+    let image = c.args.self.now.image.now in
     let n = c.loop-number.number in
     let e = c.frame-entry.result in
     let item = image.header.tables + n in
@@ -40,7 +40,7 @@ returns-then-has_writable_code c =
 
 pub loop-number-preserved : goal.loop-number-preserved
 loop-number-preserved c =
-    let image = c.args.image.now in
+    let image = c.args.self.now.image.now in
     let n = c.loop-number.number in
     let e = c.frame-entry.result in
     let item = image.header.tables + n in

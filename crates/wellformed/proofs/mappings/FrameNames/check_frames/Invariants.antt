@@ -5,9 +5,9 @@ use Rattle.std.specs.List.{enumerate_from}
 use Rattle.model.specs.Acceptance.Rules.{first_broken}
 use Rattle.model.specs.Acceptance.WellFormed.{frame_rules}
 use Rattle.model.specs.Images.Described.{numbered}
-use Rattle.wellformed.proofs.mappings.check_each_frame.Given as goal
+use Rattle.wellformed.proofs.mappings.FrameNames.check_frames.Given as goal
 
 abbrev pub invariant-loop-number : goal.invariant-loop-number
 invariant-loop-number l =
-    first_broken (flat_map (frame_rules l.fn.image) (enumerate_from l.number (drop l.number l.fn.image.frames)))
-    ≡ first_broken (flat_map (frame_rules l.fn.image) (numbered l.fn.image.frames))
+    first_broken (flat_map (frame_rules l.fn.self.image.now) (enumerate_from l.number (drop l.number l.fn.self.image.now.frames)))
+    ≡ first_broken (flat_map (frame_rules l.fn.self.image.now) (numbered l.fn.self.image.now.frames))

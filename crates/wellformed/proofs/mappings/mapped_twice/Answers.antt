@@ -2,12 +2,12 @@
 use Rattle.std.proofs.Common.{◌≡◌, ap, arith}
 use Rattle.model.specs.declared.entries.ImageHeader.{ImageHeader}
 use Rattle.wellformed.proofs.Named.{named-next, named-none, twice-all, twice-next, twice-none}
-use Rattle.wellformed.proofs.mappings.note_mappings.Goals as goal
+use Rattle.wellformed.proofs.mappings.mapped_twice.Goals as goal
 
 pub loop-item-init : goal.loop-item-init
 loop-item-init c = record {
-  once = named-none (λ f. f.frame) c.args.image.now.frames c.args.once.now c.requires.once;
-  twice = twice-none (λ f. f.frame) c.args.image.now.frames c.args.twice.now c.requires.twice;
+  once = named-none (λ f. f.frame) c.args.image.now.frames c.new-once.result c.new-once.ensures;
+  twice = twice-none (λ f. f.frame) c.args.image.now.frames c.new-twice.result c.new-twice.ensures;
 }
 
 pub loop-item-preserved : goal.loop-item-preserved
