@@ -1,6 +1,6 @@
 //! The list of all full slots, linked in both directions.
 
-ghost use Rattle.std.specs.Prelude.{ℕ, ◌≡◌, ◌+◌, ◌*◌, ◌%◌, ◌^◌, ◌<◌, ◌≤◌, length};
+ghost use Rattle.std.specs.Prelude.{◌≡◌, ◌+◌, ◌*◌, ◌<◌, ◌≤◌, length};
 ghost use Rattle.std.specs.Option.{ForSome};
 ghost use Rattle.packed_slots.specs.Words.{first_without, linked_behind, linked_first, lowered_memory, next_in, previous_in, unlinked, with_back_at, with_next_at, word_of, words_in};
 ghost use Rattle.slots.specs.preorder.Chains.{back_above};

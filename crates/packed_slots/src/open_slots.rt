@@ -1,6 +1,6 @@
 //! Which slots are open.
 
-ghost use Rattle.std.specs.Prelude.{ℕ, ◌≡◌, ◌≢◌, ◌==◌, ◌+◌, ◌*◌, ◌^◌, ◌<◌, ◌≤◌, Bool, false, IfOk, length, replicate, if◌then◌else◌};
+ghost use Rattle.std.specs.Prelude.{ℕ, ◌≡◌, ◌≢◌, ◌==◌, ◌+◌, ◌*◌, ◌%◌, ◌^◌, ◌<◌, ◌≤◌, Bool, false, IfOk, length, replicate, if◌then◌else◌};
 ghost use Rattle.std.specs.Int.{bit_at};
 ghost use Rattle.model.specs.Capabilities.Slots.{is_within};
 ghost use Rattle.packed_slots.specs.Bits.{is_bit};
@@ -67,24 +67,22 @@ impl OpenSlots {
     }
 }
 
-/// Whether a bit of a word is 1.
+/// Whether a bit of a word is 1, counted modulo 64.
 fn has_bit(word: u64, bit: u32) -> bool
-    requires { bit < 64 }
-    ensures { result ≡ (bit_at word bit == 1) }
+    ensures { result ≡ (bit_at word (bit % 64) == 1) }
 {
-    word >> bit & 1 == 1
+    word >> (bit % WORD_SLOTS) & 1 == 1
 }
 
-/// A word with another value of one bit.
+/// A word with another value of one bit, counted modulo 64.
 fn with_bit(word: u64, bit: u32, value: bool) -> u64
-    requires { bit < 64 }
-    ensures own { (bit_at result bit == 1) ≡ value }
-    ensures others { (i : ℕ) → i < 64 → i ≢ bit → bit_at result i ≡ bit_at word i }
+    ensures own { (bit_at result (bit % 64) == 1) ≡ value }
+    ensures others { (i : ℕ) → i < 64 → i ≢ bit % 64 → bit_at result i ≡ bit_at word i }
 {
     if value {
-        word | 1 << bit
+        word | 1 << (bit % WORD_SLOTS)
     } else {
-        word & !(1 << bit)
+        word & !(1 << (bit % WORD_SLOTS))
     }
 }
 
@@ -93,7 +91,7 @@ fn is_set(words: &[u64], place: u32) -> bool
     requires { place < 64 * length words.now }
     ensures { result ≡ is_bit words.now place }
 {
-    has_bit(words[(place / WORD_SLOTS) as usize], place % WORD_SLOTS)
+    has_bit(words[(place / WORD_SLOTS) as usize], place)
 }
 
 /// Gives one of the bits of a slice another value.
@@ -103,7 +101,7 @@ fn set_one(words: &mut [u64], place: u32, value: bool)
     ensures others { (s : ℕ) → s ≢ place → is_bit words.new s ≡ is_bit words.old s }
 {
     let at = (place / WORD_SLOTS) as usize;
-    words[at] = with_bit(words[at], place % WORD_SLOTS, value);
+    words[at] = with_bit(words[at], place, value);
 }
 
 /// Gives a range of the bits of a slice one value.

@@ -82,7 +82,8 @@ invariant_of-self c =
     ∙ ap (λ m. linked_behind m c.args.from c.args.to c.depth-own_depth.result) c.copy_capability.ensures.bytes
     ∙ ap (λ d. linked_behind (with_cap p.memory c.args.to ((words_in p.memory).head c.args.from) ((words_in p.memory).tail c.args.from)) c.args.from c.args.to
     d) c.depth-own_depth.ensures.value in
-    let is = moved-is p c.args.from c.args.to c.link_behind.new.memory c.take_out-self-inside.new.memory c.take_out-self-inside.result behind c.take_out-self-inside.ensures.bytes
+    let is = moved-is p c.args.from c.args.to c.link_behind.new.memory c.take_out-self-inside.new.memory c.take_out-self-inside.result behind
+    c.take_out-self-inside.ensures.bytes
     c.take_out-self-inside.ensures.first in
     let changed = subst (λ (q : Packed). IsChanged p q (relocated (packed_slots p) c.args.from c.args.to)) (sym is)
     (moved p c.args.from c.args.to c.self.invariant full empty c.copy_capability.ensures.head c.copy_capability.ensures.tail) in
@@ -100,7 +101,8 @@ returns-clause-slots c =
     ∙ ap (λ m. linked_behind m c.args.from c.args.to c.depth-own_depth.result) c.copy_capability.ensures.bytes
     ∙ ap (λ d. linked_behind (with_cap p.memory c.args.to ((words_in p.memory).head c.args.from) ((words_in p.memory).tail c.args.from)) c.args.from c.args.to
     d) c.depth-own_depth.ensures.value in
-    let is = moved-is p c.args.from c.args.to c.link_behind.new.memory c.take_out-self-inside.new.memory c.take_out-self-inside.result behind c.take_out-self-inside.ensures.bytes
+    let is = moved-is p c.args.from c.args.to c.link_behind.new.memory c.take_out-self-inside.new.memory c.take_out-self-inside.result behind
+    c.take_out-self-inside.ensures.bytes
     c.take_out-self-inside.ensures.first in
     let changed = subst (λ (q : Packed). IsChanged p q (relocated (packed_slots p) c.args.from c.args.to)) (sym is)
     (moved p c.args.from c.args.to c.self.invariant full empty c.copy_capability.ensures.head c.copy_capability.ensures.tail) in
@@ -115,7 +117,8 @@ returns-clause-bytes c =
     ∙ ap (λ m. linked_behind m c.args.from c.args.to c.depth-own_depth.result) c.copy_capability.ensures.bytes
     ∙ ap (λ d. linked_behind (with_cap p.memory c.args.to ((words_in p.memory).head c.args.from) ((words_in p.memory).tail c.args.from)) c.args.from c.args.to
     d) c.depth-own_depth.ensures.value in
-    let is = moved-is p c.args.from c.args.to c.link_behind.new.memory c.take_out-self-inside.new.memory c.take_out-self-inside.result behind c.take_out-self-inside.ensures.bytes
+    let is = moved-is p c.args.from c.args.to c.link_behind.new.memory c.take_out-self-inside.new.memory c.take_out-self-inside.result behind
+    c.take_out-self-inside.ensures.bytes
     c.take_out-self-inside.ensures.first in
     let changed = subst (λ (q : Packed). IsChanged p q (relocated (packed_slots p) c.args.from c.args.to)) (sym is)
     (moved p c.args.from c.args.to c.self.invariant full empty c.copy_capability.ensures.head c.copy_capability.ensures.tail) in

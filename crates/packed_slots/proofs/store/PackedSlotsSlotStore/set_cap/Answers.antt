@@ -10,7 +10,8 @@ use Rattle.packed_slots.proofs.store.PackedSlotsSlotStore.set_cap.Goals as goal
 pub put_capability-requires-clause-inside : goal.put_capability-requires-clause-inside
 put_capability-requires-clause-inside c =
     let p : Packed = packing c.self.inside.memory c.self.inside.open_slots c.self.inside.first in
-    inside p c.args.slot c.self.invariant (full-open p c.args.slot (subst (λ (q : Packed). IsFull (packed_slots q) c.args.slot) (sym c.self.view_is) c.requires.full))
+    inside p c.args.slot c.self.invariant
+    (full-open p c.args.slot (subst (λ (q : Packed). IsFull (packed_slots q) c.args.slot) (sym c.self.view_is) c.requires.full))
 
 pub put_capability-requires-clause-valid : goal.put_capability-requires-clause-valid
 put_capability-requires-clause-valid c = c.requires.valid

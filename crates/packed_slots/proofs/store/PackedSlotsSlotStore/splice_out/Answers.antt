@@ -41,7 +41,8 @@ invariant_of-self c =
     ∙ ap (λ d. lowered_memory d c.len.result c.next-after.result p.memory) c.depth-own_depth.ensures.value
     ∙ ap (λ n. lowered_memory ((words_in p.memory).depth c.args.slot) n c.next-after.result p.memory) c.len.ensures.value
     ∙ ap (λ o. lowered_memory ((words_in p.memory).depth c.args.slot) (length p.open_slots) o p.memory) c.next-after.ensures in
-    let is = spliced-is p c.args.slot c.lower.new.memory c.take_out-self-inside.new.memory c.take_out-self-inside.result c.self.invariant lowered c.take_out-self-inside.ensures.bytes
+    let is = spliced-is p c.args.slot c.lower.new.memory c.take_out-self-inside.new.memory c.take_out-self-inside.result c.self.invariant lowered
+    c.take_out-self-inside.ensures.bytes
     c.take_out-self-inside.ensures.first in
     let changed = subst (λ (q : Packed). IsChanged p q (spliced (packed_slots p) c.args.slot)) (sym is) (spliced_out p c.args.slot c.self.invariant full) in
     changed.packed
@@ -57,7 +58,8 @@ returns-clause-slots c =
     ∙ ap (λ d. lowered_memory d c.len.result c.next-after.result p.memory) c.depth-own_depth.ensures.value
     ∙ ap (λ n. lowered_memory ((words_in p.memory).depth c.args.slot) n c.next-after.result p.memory) c.len.ensures.value
     ∙ ap (λ o. lowered_memory ((words_in p.memory).depth c.args.slot) (length p.open_slots) o p.memory) c.next-after.ensures in
-    let is = spliced-is p c.args.slot c.lower.new.memory c.take_out-self-inside.new.memory c.take_out-self-inside.result c.self.invariant lowered c.take_out-self-inside.ensures.bytes
+    let is = spliced-is p c.args.slot c.lower.new.memory c.take_out-self-inside.new.memory c.take_out-self-inside.result c.self.invariant lowered
+    c.take_out-self-inside.ensures.bytes
     c.take_out-self-inside.ensures.first in
     let changed = subst (λ (q : Packed). IsChanged p q (spliced (packed_slots p) c.args.slot)) (sym is) (spliced_out p c.args.slot c.self.invariant full) in
     changed.holds ∙ ap (λ (q : Packed). spliced (packed_slots q) c.args.slot) c.self.view_is
@@ -70,7 +72,8 @@ returns-clause-bytes c =
     ∙ ap (λ d. lowered_memory d c.len.result c.next-after.result p.memory) c.depth-own_depth.ensures.value
     ∙ ap (λ n. lowered_memory ((words_in p.memory).depth c.args.slot) n c.next-after.result p.memory) c.len.ensures.value
     ∙ ap (λ o. lowered_memory ((words_in p.memory).depth c.args.slot) (length p.open_slots) o p.memory) c.next-after.ensures in
-    let is = spliced-is p c.args.slot c.lower.new.memory c.take_out-self-inside.new.memory c.take_out-self-inside.result c.self.invariant lowered c.take_out-self-inside.ensures.bytes
+    let is = spliced-is p c.args.slot c.lower.new.memory c.take_out-self-inside.new.memory c.take_out-self-inside.result c.self.invariant lowered
+    c.take_out-self-inside.ensures.bytes
     c.take_out-self-inside.ensures.first in
     let changed = subst (λ (q : Packed). IsChanged p q (spliced (packed_slots p) c.args.slot)) (sym is) (spliced_out p c.args.slot c.self.invariant full) in
     subst (λ (q : Packed). SameOutside (packed_slots q) q.memory c.take_out-self-inside.new.memory) c.self.view_is changed.bytes
@@ -83,7 +86,8 @@ returns-clause-order c =
     ∙ ap (λ d. lowered_memory d c.len.result c.next-after.result p.memory) c.depth-own_depth.ensures.value
     ∙ ap (λ n. lowered_memory ((words_in p.memory).depth c.args.slot) n c.next-after.result p.memory) c.len.ensures.value
     ∙ ap (λ o. lowered_memory ((words_in p.memory).depth c.args.slot) (length p.open_slots) o p.memory) c.next-after.ensures in
-    let is = spliced-is p c.args.slot c.lower.new.memory c.take_out-self-inside.new.memory c.take_out-self-inside.result c.self.invariant lowered c.take_out-self-inside.ensures.bytes
+    let is = spliced-is p c.args.slot c.lower.new.memory c.take_out-self-inside.new.memory c.take_out-self-inside.result c.self.invariant lowered
+    c.take_out-self-inside.ensures.bytes
     c.take_out-self-inside.ensures.first in
     let changed = subst (λ (q : Packed). IsChanged p q (spliced (packed_slots p) c.args.slot)) (sym is) (spliced_out p c.args.slot c.self.invariant full) in
     ap packed_order is ∙ spliced_order p c.args.slot c.self.invariant full ∙ ap (λ (q : Packed). without c.args.slot (packed_order q)) c.self.view_is
