@@ -359,3 +359,16 @@ pub fn a_line_changes_by_its_handler()
     ensures nothing { (image : Image) (t : Thread) (s after : State) (number : ℕ) (failure : LookupFailure) → named_slot s (self_of image t) ≡ Err failure
         → s.masked number ≢ after.masked number → WithinAuthority image t s after → ⊥ }
 {}
+
+/// No slot outside of the thread's own CNodes is emptied or filled, comes to hold another capability, or comes to hang elsewhere. It checks that
+/// slots change only in these (`slots`).
+pub fn a_slot_of_a_neighbour_stays()
+    ensures emptied { (image : Image) (t : Thread) (s after : State) (slot : ℕ) → (IsOwnSlot image t slot → ⊥)
+        → capability_at s.slots slot ≢ Empty → capability_at after.slots slot ≡ Empty → WithinAuthority image t s after → ⊥ }
+    ensures filled { (image : Image) (t : Thread) (s after : State) (slot : ℕ) → (IsOwnSlot image t slot → ⊥)
+        → capability_at s.slots slot ≡ Empty → capability_at after.slots slot ≢ Empty → WithinAuthority image t s after → ⊥ }
+    ensures changed { (image : Image) (t : Thread) (s after : State) (slot : ℕ) → (IsOwnSlot image t slot → ⊥)
+        → capability_at s.slots slot ≢ capability_at after.slots slot → WithinAuthority image t s after → ⊥ }
+    ensures hung { (image : Image) (t : Thread) (s after : State) (slot : ℕ) → (IsOwnSlot image t slot → ⊥)
+        → parent_at s.slots slot ≢ parent_at after.slots slot → WithinAuthority image t s after → ⊥ }
+{}

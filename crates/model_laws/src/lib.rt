@@ -45,6 +45,7 @@ pub use authority_laws::a_receiver_leaves_the_queue_with_its_message;
 pub use authority_laws::a_reply_is_granted_by_the_capability;
 pub use authority_laws::a_right_to_reply_comes_with_a_call;
 pub use authority_laws::a_sender_that_joins_is_the_caller;
+pub use authority_laws::a_slot_of_a_neighbour_stays;
 pub use authority_laws::a_thread_keeps_its_priority_and_its_handler;
 pub use authority_laws::a_thread_runs_on_for_its_slice;
 pub use authority_laws::a_tick_loses_nobody;
