@@ -12,9 +12,12 @@ mod Searched
 mod NumberedChanges
 mod Replayed
 mod SwappedNames
+mod ChangedParents
 mod Compared
 mod SomeHeld
 mod TidyChanges
+mod TidyPools
+mod VacantSlots
 mod OwnChanges
 mod SlotsLeft
 mod Linked
@@ -22,6 +25,7 @@ mod Appended
 mod LinkedChanges
 mod LastLinks
 mod SingleLevel
+mod PackedWords
 mod PagedChanges
 mod LevelByLevel
 mod Descents

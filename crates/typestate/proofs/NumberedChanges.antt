@@ -1,10 +1,10 @@
 -- A map from numbers to packed changes, as the list of its changes.
-use Rattle.std.proofs.Common.{ℕ, ◌≡◌, ◌∙◌, ◌==◌, ◌*◌, ◌+◌, ◌/◌, ◌%◌, ◌<◌, ◌^◌, inl, inr, ◌&&◌, Bool, true, false, cond, if◌then◌else◌, nat_lt, Option, Some}
+use Rattle.std.proofs.Common.{ℕ, ◌≡◌, ◌∙◌, ◌==◌, ◌*◌, ◌+◌, ◌/◌, ◌%◌, ◌<◌, ◌≤◌, ◌^◌, inl, inr, ◌&&◌, Bool, true, false, not, cond, if◌then◌else◌, nat_lt, Option, Some}
 use Rattle.std.proofs.Common.{None, option_map, List, [], ◌∷◌, map, refl, sym, ap, subst, arith}
-use Rattle.std.specs.List.{list_all}
+use Rattle.std.specs.List.{filter, list_all}
 use Rattle.std.specs.Map.{keys_of}
 use Rattle.std.specs.Option.{option_map_or}
-use Rattle.std.specs.Ordering.{is_eq, nat_cmp}
+use Rattle.std.specs.Ordering.{is_eq, is_le, nat_cmp}
 use Rattle.std.proofs.lemmas.Bool.{eq-eqb, eqb-true}
 use Rattle.std.proofs.lemmas.Bool.Decides.{eqb_tells, nat_tests}
 use Rattle.model.specs.Acceptance.NotedStates.{NotedSlot, SlotKey, number_of}
@@ -16,7 +16,7 @@ use Rattle.typestate.specs.Names.{AreInverse, renamed, turned_number}
 use Rattle.typestate.specs.Orders.{is_narrow}
 use Rattle.typestate.specs.PackedChanges.{AreLinked, cap_of, has_name, is_named, numbered_key, packed_at, unpacked_change, unpacked_entry}
 use Rattle.typestate.specs.Replays.{exchanged, turned}
-use Rattle.typestate.specs.declared.packed_changes.PackedChange.{PackedChange}
+use Rattle.typestate.specs.declared.packed_change.PackedChange.{PackedChange}
 
 -- ---- keys and numbers
 
@@ -39,6 +39,27 @@ key-back key low =
 
 eq-test : (a b : ℕ) → is_eq (nat_cmp a b) ≡ (b == a)
 eq-test a b = grind (arith, nat_tests)
+
+-- ---- numbers between two bounds
+
+abbrev is_between : ℕ → ℕ → ℕ → Bool
+is_between first end k = is_le (nat_cmp first k) && not (is_le (nat_cmp end k))
+
+outside : (first end n k : ℕ) → first ≤ n → n < end → is_between first end k ≡ false → (k == n) ≡ false
+outside first end n k from before out = grind (arith, nat_tests)
+
+-- where none is between two bounds, none is at a number there
+pub none-between : (first end n : ℕ) → first ≤ n → n < end → (es : List (ℕ × PackedChange)) →
+    filter (λ (e : ℕ × PackedChange). is_between first end e.0) es ≡ [] → packed_at es n ≡ None
+none-between first end n from before [] none = refl
+none-between first end n from before (e ∷ es) none =
+    let rest = filter (λ (e : ℕ × PackedChange). is_between first end e.0) es in
+    elim (is_between first end e.0) as (λ b. is_between first end e.0 ≡ b → (if b then e ∷ rest else rest) ≡ [] → packed_at (e ∷ es) n ≡ None) [
+      | true ↦ λ _ some. absurd (let clash : e ∷ rest ≡ [] = some in cc)
+      | false ↦ λ out later.
+          ap (λ b. cond b (Some e.1) (packed_at es n)) (eq-test n e.0 ∙ outside first end n e.0 from before out)
+          ∙ none-between first end n from before es later
+    ] refl none
 
 module _ (slots : List (ℕ × ℕ)) where
   -- ---- look-ups

@@ -117,7 +117,7 @@ module _ (image : Image) (t : Thread) (stand : StandsApart image t) (slots : Lis
   abbrev all : Slots
   all = noted_slots image t slots
 
-  key-own : (index : ℕ) → index < 2 ^ w.radix → is_own image (reached image t) (record { cnode = w.cnode; index = index }) ≡ true
+  pub key-own : (index : ℕ) → index < 2 ^ w.radix → is_own image (reached image t) (record { cnode = w.cnode; index = index }) ≡ true
   key-own index less =
       let small : nat_lt index (2 ^ w.radix) ≡ true = grind (arith, nat_tests, less) in
       ap (λ b. b && has_slot image w.cnode index) own.mine ∙ ap (λ (o : Option ℕ). option_map_or (λ radix. nat_lt index (2 ^ radix)) o false) own.is.size
@@ -172,8 +172,9 @@ room-same image t stand slots are held memory call new cnode w own offset radix 
     ∙ ap (λ d. check (fits_node w.radix call.index call.count) RangeError >>= λ _.
     check (not (any_full all (slot_of w.offset call.index) call.count)) DeleteFirst >>= λ _. behind d) (depth-is image t stand slots are 256 held.key own)
 
-pub record IsRoom (memory : UntypedMemory) (w : Window) (bits index count : ℕ) (p : ℕ × ℕ) : Type 0 where
+pub record IsRoom (image : Image) (t : Thread) (slots : List NotedSlot) (memory : UntypedMemory) (w : Window) (bits index count : ℕ) (p : ℕ × ℕ) : Type 0 where
   pub fits : fits_node w.radix index count ≡ true
+  pub vacant : any_full (noted_slots image t slots) (slot_of w.offset index) count ≡ false
   pub place : placement memory.bits memory.watermark bits count ≡ Some p
 
 abbrev Places : Type 0
@@ -186,21 +187,22 @@ abbrev failed : KError → Places
 failed e = Err e
 
 pub room-parts : (image : Image) (t : Thread) (slots : List NotedSlot) (k : SlotKey) (memory : UntypedMemory) (w : Window) (bits index count : ℕ) (p : ℕ × ℕ)
-    → room_in image t slots k memory w bits index count ≡ Ok p → IsRoom memory w bits index count p
+    → room_in image t slots k memory w bits index count ≡ Ok p → IsRoom image t slots memory w bits index count p
 room-parts image t slots k memory w bits index count p is =
-    by-tests (fits_node w.radix index count) (not (any_full (noted_slots image t slots) (slot_of w.offset index) count)) (nat_lt (noted_depth 256 slots k) 255)
-    (placement memory.bits memory.watermark bits count) refl refl is
+    by-tests (fits_node w.radix index count) (any_full (noted_slots image t slots) (slot_of w.offset index) count) (nat_lt (noted_depth 256 slots k) 255)
+    (placement memory.bits memory.watermark bits count) refl refl refl is
   where
-    by-tests : (a b d : Bool) (o : Option (ℕ × ℕ)) → fits_node w.radix index count ≡ a → placement memory.bits memory.watermark bits count ≡ o
-        → (check a RangeError >>= λ _. check b DeleteFirst >>= λ _. check d IllegalOperation >>= λ _. wanted o NotEnoughMemory) ≡ placed p →
-        IsRoom memory w bits index count p
-    by-tests false b d o fits place so = absurd (let no : failed RangeError ≡ placed p = so in cc)
-    by-tests true false d o fits place so = absurd (let no : failed DeleteFirst ≡ placed p = so in cc)
-    by-tests true true false o fits place so = absurd (let no : failed IllegalOperation ≡ placed p = so in cc)
-    by-tests true true true None fits place so = absurd (let no : failed NotEnoughMemory ≡ placed p = so in cc)
-    by-tests true true true (Some q) fits place so =
+    by-tests : (a b d : Bool) (o : Option (ℕ × ℕ)) → fits_node w.radix index count ≡ a → any_full (noted_slots image t slots) (slot_of w.offset index) count ≡ b
+        → placement memory.bits memory.watermark bits count ≡ o
+        → (check a RangeError >>= λ _. check (not b) DeleteFirst >>= λ _. check d IllegalOperation >>= λ _. wanted o NotEnoughMemory) ≡ placed p →
+        IsRoom image t slots memory w bits index count p
+    by-tests false b d o fits free place so = absurd (let no : failed RangeError ≡ placed p = so in cc)
+    by-tests true true d o fits free place so = absurd (let no : failed DeleteFirst ≡ placed p = so in cc)
+    by-tests true false false o fits free place so = absurd (let no : failed IllegalOperation ≡ placed p = so in cc)
+    by-tests true false true None fits free place so = absurd (let no : failed NotEnoughMemory ≡ placed p = so in cc)
+    by-tests true false true (Some q) fits free place so =
         let same : q ≡ p = (let both : placed q ≡ placed p = so in cc) in
-        record { fits = fits; place = place ∙ ap (λ (x : ℕ × ℕ). Some x) same }
+        record { fits = fits; vacant = free; place = place ∙ ap (λ (x : ℕ × ℕ). Some x) same }
 
 -- ---- the type
 
@@ -308,7 +310,7 @@ module _ (image : Image) (t : Thread) (stand : StandsApart image t) (slots : Lis
   room-found = room-same image t stand slots are held memory call placed.new placed.cnode placed.w (found-own image t slots held.key held are is).key
       placed.offset placed.radix ∙ placed.room
 
-  pub room-is : IsRoom memory placed.w (object_bits placed.new) call.index call.count found
+  pub room-is : IsRoom image t slots memory placed.w (object_bits placed.new) call.index call.count found
   room-is = room-parts image t slots held.key memory placed.w (object_bits placed.new) call.index call.count found placed.room
 
   pub placing : Placing memory.bits memory.watermark (object_bits placed.new) call.count placed.place p.watermark

@@ -119,7 +119,7 @@ same-words : (words : List ℕ) → pointwise nat_eq words words ≡ true
 same-words [] = refl
 same-words (w ∷ rest) = ap (λ b. b && pointwise nat_eq rest rest) (eq-eqb w w refl) ∙ same-words rest
 
-same-parent : (parent : Option SlotKey) → is_same_parent parent parent ≡ true
+pub same-parent : (parent : Option SlotKey) → is_same_parent parent parent ≡ true
 same-parent None = refl
 same-parent (Some key) = eq-eqb (number_of key) (number_of key) refl
 

@@ -1,5 +1,5 @@
 -- Lines of parents, step by step.
-use Rattle.std.proofs.Common.{ℕ, zero, suc, ◌≡◌, ◌∙◌, ◌+◌, ◌-◌, ◌<◌, Bool, true, false, nat_lt, if◌then◌else◌, Option, Some, None, List, refl, ap, arith}
+use Rattle.std.proofs.Common.{ℕ, zero, suc, ◌≡◌, ◌∙◌, ◌+◌, ◌-◌, ◌<◌, Bool, true, false, nat_lt, if◌then◌else◌, Option, Some, None, option_and_then, List, refl, sym, ap, arith}
 use Rattle.std.specs.Option.{option_map_or}
 use Rattle.std.proofs.lemmas.Bool.Decides.{nat_tests}
 use Rattle.model.specs.Acceptance.NotedStates.{NotedSlot, SlotKey, slot_at}
@@ -35,6 +35,16 @@ depth-more m i whole slots place parent s below found above is =
     one-more : (a b : ℕ) → a + (b + 1) ≡ a + 1 + b
     one-more a b = omega arith
 
+-- the same by what the slot was derived from
+pub depth-above : (m i whole : ℕ) (slots : List NotedSlot) (place parent : SlotKey) → i < m → noted_parent slots place ≡ Some parent
+    → whole ≡ i + noted_depth (m - i) slots place → whole ≡ i + 1 + noted_depth (m - (i + 1)) slots parent
+depth-above m i whole slots place parent below above is =
+    elim (slot_at slots place) as (λ o. slot_at slots place ≡ o → option_and_then (λ (s : NotedSlot). s.parent) o ≡ Some parent →
+    whole ≡ i + 1 + noted_depth (m - (i + 1)) slots parent) [
+      | None ↦ λ _ none. absurd (let clash : None ≡ Some parent = none in cc)
+      | Some s ↦ λ found from. depth-more m i whole slots place parent s below found from is
+    ] refl above
+
 pub depth-nothing : (m i whole : ℕ) (slots : List NotedSlot) (place : SlotKey) → i < m → slot_at slots place ≡ None →
     whole ≡ i + noted_depth (m - i) slots place → whole ≡ i
 depth-nothing m i whole slots place below none is =
@@ -57,7 +67,7 @@ top-test (suc n) i capability all = elim (is_untyped capability) as (λ b. nat_l
   | false ↦ refl
 ]
 
-pub depth-top : (i whole : ℕ) (slots : List NotedSlot) (place : SlotKey) (s : NotedSlot) → i < 256 → slot_at slots place ≡ Some s → s.parent ≡ None
+depth-top : (i whole : ℕ) (slots : List NotedSlot) (place : SlotKey) (s : NotedSlot) → i < 256 → slot_at slots place ≡ Some s → s.parent ≡ None
     → whole ≡ i + noted_depth (256 - i) slots place → nat_lt whole 255 ≡ nat_lt (i + (if is_untyped s.capability then 1 else 2)) 255
 depth-top i whole slots place s below found none is =
     let n = 256 - (i + 1) in
@@ -65,6 +75,18 @@ depth-top i whole slots place s below found none is =
     depth-found 256 i whole slots place below is ∙ ap (λ (o : Option NotedSlot). i + depth_found n slots o) found
     ∙ ap (λ (p : Option SlotKey). i + (option_map_or (noted_depth n slots) p (boot_depth n s.capability) + 1)) none in
     ap (λ d. nat_lt d 255) whole_is ∙ top-test n i s.capability (omega (arith, below))
+
+-- the slot without a parent, and what stands above it
+pub depth-ends : (i whole : ℕ) (slots : List NotedSlot) (place : SlotKey) → i < 256 → noted_parent slots place ≡ None
+    → whole ≡ i + noted_depth (256 - i) slots place
+    → nat_lt (i + option_map_or (λ s. if is_untyped s.capability then 1 else 2) (slot_at slots place) 0) 255 ≡ nat_lt whole 255
+depth-ends i whole slots place below above is =
+    elim (slot_at slots place) as (λ o. slot_at slots place ≡ o → option_and_then (λ (s : NotedSlot). s.parent) o ≡ None →
+    nat_lt (i + option_map_or (λ (s : NotedSlot). if is_untyped s.capability then 1 else 2) o 0) 255 ≡ nat_lt whole 255) [
+      | None ↦ λ none _.
+          ap (λ d. nat_lt d 255) (let e : i + 0 ≡ i = omega arith in e) ∙ sym (ap (λ d. nat_lt d 255) (depth-nothing 256 i whole slots place below none is))
+      | Some s ↦ λ found from. sym (depth-top i whole slots place s below found from is)
+    ] refl above
 
 -- a line that is longer
 pub depth-end : (m i whole : ℕ) (slots : List NotedSlot) (place : SlotKey) → i ≡ m → whole ≡ i + noted_depth (m - i) slots place → whole ≡ m

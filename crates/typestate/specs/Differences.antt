@@ -19,6 +19,10 @@ is_same_held None (Some b) = false
 is_same_held (Some a) None = false
 is_same_held (Some a) (Some b) = is_same_slot a b
 
+-- whether look-ups at the keys of these changes give what they leave
+abbrev pub are_left_at : List NotedSlot → List NotedSlot → Bool
+are_left_at slots changes = list_all (λ c. is_same_held (left_by c) (slot_at slots c.key)) changes
+
 -- whether look-ups of these keys give the same
 abbrev pub are_same_at : List NotedSlot → List NotedSlot → List NotedSlot → Bool
 are_same_at slots others keys = list_all (λ k. is_same_held (slot_at slots k.key) (slot_at others k.key)) keys

@@ -9,7 +9,7 @@ use Rattle.model.specs.declared.capabilities.Cap.{Cap}
 use Rattle.model.specs.declared.capabilities.Cap.TheVariants.{Empty}
 use Rattle.typestate.specs.Families.{has_link}
 use Rattle.typestate.specs.Names.{renamed}
-use Rattle.typestate.specs.declared.packed_changes.PackedChange.{PackedChange}
+use Rattle.typestate.specs.declared.packed_change.PackedChange.{PackedChange}
 
 -- the key of a number
 abbrev pub numbered_key : ℕ → SlotKey

@@ -1,15 +1,18 @@
 //! Changes to slots, each found by the number of its slot, and by what that was derived from.
 
-ghost use Rattle.std.specs.Prelude.{◌≡◌, [], IfErr, IfOk, Some, filter_map, if◌then◌else◌, length, map, true, ◌<◌, ◌^◌};
+ghost use Rattle.std.specs.Prelude.{ℕ, ◌≡◌, ◌≤◌, ◌+◌, [], IfErr, IfOk, None, Some, filter_map, if◌then◌else◌, length, map, option_and_then, true, ◌<◌, ◌^◌};
 ghost use Rattle.std.specs.Iterator.{YieldsFirst, item_count};
-ghost use Rattle.model.specs.Acceptance.NotedStates.{NotedSlot, SlotKey, is_same_key, slot_at};
+ghost use Rattle.model.specs.Acceptance.NotedStates.{NotedSlot, SlotKey, is_same_key, number_of, slot_at};
 ghost use Rattle.typestate.specs.Families.{child_at, children_of, found};
+ghost use Rattle.typestate.specs.Left.{parent_left};
 ghost use Rattle.typestate.specs.Orders.{AreNarrow, Rise};
 ghost use Rattle.typestate.specs.Replays.{exchanged};
 
 use crate::families::Families;
 use crate::names::Names;
-use crate::packed_changes::{PackedChange, low};
+use crate::packed_change::PackedChange;
+use crate::packed_changes::low;
+use crate::slot_runs::SlotRun;
 use crate::{NotedSlot, SlotKey};
 use std::alloc::{AllocError, Global};
 use std::collections::btree_map::{BTreeMap, Iter};
@@ -109,11 +112,34 @@ impl Changes {
         }
     }
 
+    /// Whether no change is to one of some slots of a CNode.
+    pub(crate) fn has_none_of(&self, run: &SlotRun) -> bool
+        ensures { result ≡ true → (n : ℕ) → number_of run.now.first ≤ n → n < number_of run.now.first + run.now.count → found self.now n ≡ None }
+    {
+        let first = run.first.number();
+        let end = run.end();
+        let mut between = self.packed.range(first..end);
+        match between.next() {
+            Some(_) => false,
+            None => true,
+        }
+    }
+
     /// The change to the slot of a key.
     pub(crate) fn at(&self, key: SlotKey) -> Option<NotedSlot>
         ensures { result ≡ slot_at self.now key }
     {
         self.numbered(key.number())
+    }
+
+    /// What the slot of a key is derived from that a change leaves there, if there is one.
+    pub(crate) fn parent_left(&self, key: SlotKey) -> Option<SlotKey>
+        ensures { result ≡ option_and_then parent_left (slot_at self.now key) }
+    {
+        match self.packed.get(&key.number()) {
+            Some(packed) => packed.parent_left(&self.names),
+            None => None,
+        }
     }
 
     /// Links to the changes whose slots were derived from the slot of this key, in the order of their keys.

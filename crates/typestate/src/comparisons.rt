@@ -4,8 +4,9 @@ ghost use Rattle.std.specs.Prelude.{◌≡◌};
 ghost use Rattle.model.specs.Acceptance.NotedStates.{are_same_slots, is_same_parent, is_same_slot};
 ghost use Rattle.model.specs.Capabilities.CapabilityFields.{same_words};
 ghost use Rattle.model.specs.Capabilities.CapabilityWords.{words_of};
-ghost use Rattle.typestate.specs.Differences.{are_same_at, is_same_held, slots_of};
+ghost use Rattle.typestate.specs.Differences.{are_left_at, is_same_held, slots_of};
 
+use crate::noted::left;
 use crate::{Changes, NotedSlot, NotedSlots, SlotKey};
 use capwords::pack;
 
@@ -55,12 +56,12 @@ fn is_same_held(a: Option<NotedSlot>, b: Option<NotedSlot>) -> bool
 }
 
 impl NotedSlots<'_> {
-    /// Whether both hold the same at the keys of these changes.
-    fn agrees_at(&self, other: &NotedSlots<'_>, keys: &Changes) -> bool
-        ensures { result ≡ are_same_at (slots_of self.now) (slots_of other.now) keys.now }
+    /// Whether the slots hold what changes leave, at the keys of these.
+    fn agrees_with(&self, changes: &Changes) -> bool
+        ensures { result ≡ are_left_at (slots_of self.now) changes.now }
     {
-        for slot in keys.iter() {
-            if !is_same_held(self.at(slot.key), other.at(slot.key)) {
+        for change in changes.iter() {
+            if !is_same_held(left(change), self.at(change.key)) {
                 return false;
             }
         }
@@ -72,8 +73,8 @@ impl NotedSlots<'_> {
         requires { other.now.image.now ≡ self.now.image.now }
         ensures { result ≡ are_same_slots (slots_of self.now) (slots_of other.now) }
     {
-        let mine = self.agrees_at(other, self.changes);
-        let theirs = self.agrees_at(other, other.changes);
+        let mine = other.agrees_with(self.changes);
+        let theirs = self.agrees_with(other.changes);
         mine && theirs
     }
 }

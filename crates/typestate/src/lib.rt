@@ -24,6 +24,7 @@ mod names;
 mod new_objects;
 mod noted;
 mod own_slots;
+mod packed_change;
 mod packed_changes;
 mod plain_calls;
 mod points;

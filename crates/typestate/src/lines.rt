@@ -1,7 +1,9 @@
 //! Lines of parents among the slots at a point.
 //! seL4 Reference Manual, "Capability Derivation Tree".
 
-ghost use Rattle.std.specs.Prelude.{◌≡◌, nat_lt, if◌then◌else◌};
+ghost use Rattle.std.specs.Prelude.{◌≡◌, ◌≤◌, nat_lt, if◌then◌else◌};
+ghost use Rattle.std.specs.Option.{option_map_or};
+ghost use Rattle.model.specs.Acceptance.NotedStates.{slot_at};
 ghost use Rattle.model.specs.Capabilities.CapabilityKinds.{is_untyped};
 ghost use Rattle.typestate.specs.Differences.{slots_of};
 ghost use Rattle.typestate.specs.SlotChanges.{noted_depth, noted_parent};
@@ -15,7 +17,8 @@ const MOST: u32 = 256;
 /// How many slots stand above one that was derived from none of the thread's: the untyped memory that a pool was
 /// made in, and one more for all else.
 fn depth_below_boot(capability: Cap) -> u32
-    ensures { result ≡ (if is_untyped capability then 1 else 2) }
+    ensures value { result ≡ (if is_untyped capability then 1 else 2) }
+    ensures few { result ≤ 2 }
 {
     match capability {
         Cap::Untyped { .. } => 1,
@@ -24,13 +27,21 @@ fn depth_below_boot(capability: Cap) -> u32
 }
 
 impl NotedSlots<'_> {
-    /// The slot that the slot of this key was derived from, if it is one of the thread's.
+    /// The slot that the slot of this key was derived from, if it is one of the thread's. What the image lists was derived from none.
     pub(crate) fn parent(&self, key: SlotKey) -> Option<SlotKey>
         ensures { result ≡ noted_parent (slots_of self.now) key }
     {
+        self.changes.parent_left(key)
+    }
+
+    /// How many slots stand above the slot of this key and itself, where it was derived from none of the thread's.
+    fn depth_at_top(&self, key: SlotKey) -> u32
+        ensures value { result ≡ option_map_or (λ s. if is_untyped s.capability then 1 else 2) (slot_at (slots_of self.now) key) 0 }
+        ensures few { result ≤ 2 }
+    {
         match self.at(key) {
-            Some(slot) => slot.parent,
-            None => None,
+            Some(slot) => depth_below_boot(slot.capability),
+            None => 0,
         }
     }
 
@@ -40,13 +51,9 @@ impl NotedSlots<'_> {
     {
         let mut place = key;
         for above in 0..MOST {
-            let slot = match self.at(place) {
-                Some(slot) => slot,
-                None => return above < 255,
-            };
-            match slot.parent {
+            match self.parent(place) {
                 Some(parent) => place = parent,
-                None => return above + depth_below_boot(slot.capability) < 255,
+                None => return above + self.depth_at_top(place) < 255,
             }
         }
         false

@@ -1,22 +1,17 @@
 //! Changes to slots in few bytes.
 
-ghost use Rattle.std.specs.Prelude.{◌≡◌, ◌^◌, nat_lt, option_map, true};
+ghost use Rattle.std.specs.Prelude.{ℕ, ◌≡◌, ◌^◌, nat_lt, option_map, true};
 ghost use Rattle.model.specs.Acceptance.NotedStates.{number_of};
+ghost use Rattle.model.specs.Capabilities.Slots.{is_empty};
+ghost use Rattle.typestate.specs.Left.{parent_left};
 ghost use Rattle.typestate.specs.Names.{AreInverse, renamed};
-ghost use Rattle.typestate.specs.PackedChanges.{numbered_key, unpacked_change};
+ghost use Rattle.typestate.specs.PackedChanges.{cap_of, numbered_key, unpacked_change};
 
 use crate::names::Names;
+use crate::packed_change::PackedChange;
 use crate::records::capability_of;
 use crate::{NotedSlot, SlotKey};
 use capwords::pack;
-
-/// What a change leaves in its slot: the words of the capability, and the name of what that was derived from.
-#[derive(Clone, Copy)]
-pub struct PackedChange {
-    head: u32,
-    word: u32,
-    pub(crate) parent: Option<u64>,
-}
 
 /// The key of a number.
 pub(crate) fn numbered_key(number: u64) -> SlotKey
@@ -62,6 +57,24 @@ impl Names {
 }
 
 impl PackedChange {
+    /// Whether the change empties its slot.
+    fn is_empty(&self) -> bool
+        ensures { result ≡ is_empty (cap_of self.now.head self.now.word) }
+    {
+        self.head == 0
+    }
+
+    /// What the slot is derived from that the change leaves, where slots stand for names: none if it empties the slot.
+    pub(crate) fn parent_left(&self, names: &Names) -> Option<SlotKey>
+        ensures { (number : ℕ) → result ≡ parent_left (unpacked_change names.now.slots.entries number self.now) }
+    {
+        if self.is_empty() {
+            None
+        } else {
+            names.named_parent(self.parent)
+        }
+    }
+
     /// What a change leaves, where names stand for slots.
     pub(crate) fn of(change: NotedSlot, names: &Names) -> Self
         requires { AreInverse names.now.slots.entries names.now.names.entries }

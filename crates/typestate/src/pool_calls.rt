@@ -23,6 +23,7 @@ ghost use Rattle.typestate.specs.declared.log_entries.LogEntry.TheVariants.{Sets
 
 use crate::log_entries::note_sets;
 use crate::new_objects::NewObjects;
+use crate::noted::listed;
 use crate::pools::Pool;
 use crate::roots::OwnRoot;
 use crate::slot_runs::SlotRun;
@@ -169,8 +170,20 @@ impl NewObjects {
 }
 
 impl NotedSlots<'_> {
-    /// Whether one of some slots of a CNode is full.
-    fn is_any_full(&self, run: &SlotRun) -> bool
+    /// Whether the image lists one of some slots of a CNode.
+    fn lists_any(&self, run: &SlotRun) -> bool
+        ensures { result ≡ some_full self.now.image.now run.now.first run.now.count }
+    {
+        for i in 0..run.count {
+            if listed(self.image, run.key(i)).is_some() {
+                return true;
+            }
+        }
+        false
+    }
+
+    /// Whether one of some slots of a CNode is full, by each of them.
+    fn holds_any(&self, run: &SlotRun) -> bool
         ensures { result ≡ some_full (slots_of self.now) run.now.first run.now.count }
     {
         for i in 0..run.count {
@@ -179,6 +192,17 @@ impl NotedSlots<'_> {
             }
         }
         false
+    }
+
+    /// Whether one of some slots of a CNode is full. Changes are not asked for each of them where none is to any of them.
+    fn is_any_full(&self, run: &SlotRun) -> bool
+        ensures { result ≡ some_full (slots_of self.now) run.now.first run.now.count }
+    {
+        if self.changes.has_none_of(run) {
+            self.lists_any(run)
+        } else {
+            self.holds_any(run)
+        }
     }
 }
 
@@ -282,8 +306,8 @@ impl Pool<'_, '_, '_, '_> {
         }
     }
 
-    /// Retype: the slots that it changes are put into the list, which is empty, and the answer is whether they are known to
-    /// leave no stray slot where there was none. Memory may be refused.
+    /// Retype: the slots that it changes are put into the list, which is empty. They leave no stray slot where there was none: all are
+    /// empty slots of the thread's, below a pool that it holds. Memory may be refused.
     fn note_objects(
         &self,
         at: Point,
@@ -322,7 +346,7 @@ impl Pool<'_, '_, '_, '_> {
             pool: held.key,
         };
         objects.note(made)?;
-        Ok(Ok(self.own.space.are_tidy_puts(&self.own.slots, made)))
+        Ok(Ok(true))
     }
 
     /// Retype: what it makes of the slots is put into the list, which is empty, and the answer is whether it is known to leave no stray

@@ -1,6 +1,7 @@
 //! Slots of a CNode, one after another.
 
 ghost use Rattle.std.specs.Prelude.{◌≡◌, ◌+◌, ◌<◌, ◌^◌};
+ghost use Rattle.model.specs.Acceptance.NotedStates.{number_of};
 
 use crate::SlotKey;
 
@@ -13,6 +14,13 @@ pub(crate) struct SlotRun {
 }
 
 impl SlotRun {
+    /// The number after that of the last slot.
+    pub(crate) fn end(&self) -> u64
+        ensures { result ≡ number_of self.now.first + self.now.count }
+    {
+        self.first.number() + u64::from(self.count)
+    }
+
     /// The slot so far after the first.
     pub(crate) fn key(&self, i: u32) -> SlotKey
         requires { i < self.now.count }

@@ -4,7 +4,6 @@
 
 ghost use Rattle.std.specs.Prelude.{◌≡◌, is_some, true};
 ghost use Rattle.std.specs.Option.{option_map_or};
-ghost use Rattle.std.specs.List.{list_all};
 ghost use Rattle.model.specs.Acceptance.NotedStates.{slot_at};
 ghost use Rattle.model.specs.Capabilities.Slots.{is_empty};
 ghost use Rattle.typestate.specs.Differences.{slots_of};
@@ -83,17 +82,5 @@ impl Space<'_, '_> {
             SlotChange::Puts(slot) => self.is_tidy_put(slots, *slot),
             SlotChange::Moves { from, to } => self.is_tidy_move(slots, *from, *to),
         }
-    }
-
-    /// Whether slots that are put one after another leave no stray slot where there was none.
-    pub(crate) fn are_tidy_puts(&self, slots: &NotedSlots<'_>, made: &[NotedSlot]) -> bool
-        ensures { result ≡ list_all (is_tidy_put self.now (slots_of slots.now)) made.now }
-    {
-        for slot in made {
-            if !self.is_tidy_put(slots, *slot) {
-                return false;
-            }
-        }
-        true
     }
 }

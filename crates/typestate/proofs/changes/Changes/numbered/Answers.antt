@@ -4,7 +4,7 @@ use Rattle.std.specs.Option.{option_copied}
 use Rattle.model.specs.Acceptance.NotedStates.{NotedSlot}
 use Rattle.typestate.specs.Families.{found}
 use Rattle.typestate.specs.PackedChanges.{unpacked_change}
-use Rattle.typestate.specs.declared.packed_changes.PackedChange.{PackedChange}
+use Rattle.typestate.specs.declared.packed_change.PackedChange.{PackedChange}
 use Rattle.typestate.proofs.NumberedChanges.{unpacked-found}
 use Rattle.typestate.proofs.changes.Changes.numbered.Goals as goal
 

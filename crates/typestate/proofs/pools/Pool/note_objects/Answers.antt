@@ -12,6 +12,7 @@ use Rattle.typestate.proofs.PoolPlaces.{fits-node, made-all, never-made, places-
 use Rattle.typestate.proofs.PutPlaces.{rise-of}
 use Rattle.typestate.proofs.Replayed.{sets-made}
 use Rattle.typestate.proofs.Rising.{changes-rise, from-first}
+use Rattle.typestate.proofs.TidyPools.{all-tidy}
 use Rattle.typestate.proofs.pools.Pool.note_objects.Goals as goal
 
 pub returns-in-Err-clause-made : goal.returns-in-Err-clause-made
@@ -75,8 +76,22 @@ returns-clause-made c =
 pub returns-clause-tidy : goal.returns-clause-tidy
 returns-clause-tidy c = λ tidy none.
     let slots = slots_of c.args.self.now.own.slots in
+    let memory = c.args.self.now.memory in
+    let new = c.in-Ok.new in
     let rises = changes-rise c.args.self.now.own.slots.image.now c.args.self.now.own.slots.changes.now
     (from-first c.args.self.now.own.slots.image.now c.args.self.now.own.slots.rising) in
+    let made : SlotKey → List NotedSlot = λ k. slots_made new.slot k (new_of c.in-Some.kind) new.offset c.args.call.count in
+    let listed : NotedSlot → List NotedSlot = λ h. pool_used h memory new.watermark ∷ made h.key in
+    let first : NotedSlot = record {
+      key = c.held.inside.key;
+      capability = Untyped memory.offset memory.bits new.watermark;
+      parent = c.held.inside.parent;
+    } in
+    let items = c.in_ok-note.ensures ∙ ap (λ (l : List NotedSlot). l ++ made c.held.inside.key)
+    (c.in_ok-push.ensures.items ∙ ap (λ (l : List NotedSlot). l ++ first ∷ []) c.requires.none) in
     subst (NoneStray c.args.self.now.own.space.image.now c.args.self.now.own.space.thread.now) (sym (sets-made c.note.new.made.items slots))
     (c.tidy_puts_leave_no_stray_slot.ensures c.args.self.now.own.space slots c.note.new.made.items (rise-of slots 0 rises) none
-    (ap (list_all (is_tidy_put c.args.self.now.own.space slots)) (sym c.deref.ensures.value) ∙ sym c.are_tidy_puts.ensures ∙ tidy))
+    (ap (list_all (is_tidy_put c.args.self.now.own.space slots)) (items ∙ ap listed c.held.view_is)
+    ∙ all-tidy c.args.self.now.own.space (apart-of c.args.self.now.own.space) slots c.args.self.now.own.own c.args.self.now.held.now memory c.args.call new
+    c.args.self.now.there c.args.self.now.pool c.in-Ok.ensures (test-decides (Untyped memory.offset memory.bits memory.watermark) c.args.self.now.valid)
+    c.in-Some.kind (c.in-Some.ensures c.args.call.size)))

@@ -4,7 +4,7 @@ use Rattle.std.specs.List.{list_any, range_with_len}
 use Rattle.model.specs.Acceptance.NotedStates.{slot_at}
 use Rattle.typestate.specs.Differences.{slots_of}
 use Rattle.typestate.specs.Pools.{some_full}
-use Rattle.typestate.proofs.points.NotedSlots.is_any_full.Given as goal
+use Rattle.typestate.proofs.points.NotedSlots.holds_any.Given as goal
 
 abbrev pub invariant-loop-i : goal.invariant-loop-i
 invariant-loop-i l = record {

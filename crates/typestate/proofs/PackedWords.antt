@@ -1,0 +1,45 @@
+-- Words of capabilities: the first one tells whether there is none.
+use Rattle.std.proofs.Common.{ℕ, ◌≡◌, ◌∙◌, ◌==◌, ◌≤◌, true, false, is_some, Option, Some, None, List, get_or, refl, sym, ap, arith}
+use Rattle.std.specs.Option.{option_map_or}
+use Rattle.std.proofs.lemmas.Bool.Decides.{nat_tests}
+use Rattle.image_reading.proofs.Laws.{words-back, words-only}
+use Rattle.model.specs.Capabilities.CapabilityFields.{unpacked}
+use Rattle.model.specs.Capabilities.CapabilityWords.{IsCapability, head_word, words_of}
+use Rattle.model.specs.Capabilities.Slots.{is_empty}
+use Rattle.model.specs.declared.capabilities.Cap.{Cap}
+use Rattle.model.specs.declared.capabilities.Cap.TheVariants.{Empty, Untyped, Endpoint, Notification, CNode, Frame, PageTable, Tcb, RootTable, InterruptControl}
+use Rattle.model.specs.declared.capabilities.Cap.TheVariants.{InterruptHandler}
+use Rattle.typestate.specs.PackedChanges.{cap_of}
+
+more-than-none : (n : ℕ) → 1 ≤ n → (n == 0) ≡ false
+more-than-none n more = grind (arith, nat_tests)
+
+some-head : (kind detail rights offset : ℕ) → 1 ≤ kind → (head_word kind detail rights offset == 0) ≡ false
+some-head kind detail rights offset more = more-than-none (head_word kind detail rights offset) (omega (arith, more))
+
+first-word : (c : Cap) → (get_or (words_of c) 0 0 == 0) ≡ is_empty c
+first-word Empty = refl
+first-word (Untyped offset bits watermark) = some-head 1 bits 0 offset (omega arith)
+first-word (Tcb offset) = some-head 2 0 0 offset (omega arith)
+first-word (Endpoint offset rights badge) = some-head 3 rights.0 0 offset (omega arith)
+first-word (Notification offset rights badge) = some-head 4 rights.0 0 offset (omega arith)
+first-word (CNode offset radix guard) = some-head 5 radix 0 offset (omega arith)
+first-word (Frame offset rights None) = some-head 6 rights.0 0 offset (omega arith)
+first-word (Frame offset rights (Some m)) = some-head 6 rights.0 m.rights.0 offset (omega arith)
+first-word (PageTable offset None) = some-head 7 0 0 offset (omega arith)
+first-word (PageTable offset (Some m)) = some-head 7 0 0 offset (omega arith)
+first-word (RootTable offset) = some-head 8 0 0 offset (omega arith)
+first-word InterruptControl = refl
+first-word (InterruptHandler line) = refl
+
+pub empty-told : (head word : ℕ) → is_some (unpacked head word) ≡ true → (head == 0) ≡ is_empty (cap_of head word)
+empty-told head word some =
+    elim (unpacked head word) as (λ o. unpacked head word ≡ o → is_some o ≡ true → (head == 0) ≡ is_empty (option_map_or (λ (c : Cap). c) o Empty)) [
+      | None ↦ λ _ none. absurd (let clash : false ≡ true = none in cc)
+      | Some c ↦ λ is _. ap (λ (l : List ℕ). get_or l 0 0 == 0) (sym (words-only head word c is).1) ∙ first-word c
+    ] refl some
+
+pub spelled-so : (capability : Cap) (words : List ℕ) → words ≡ words_of capability → IsCapability capability →
+    is_some (unpacked (get_or words 0 0) (get_or words 1 0)) ≡ true
+spelled-so capability words are valid =
+    ap (λ (l : List ℕ). is_some (unpacked (get_or l 0 0) (get_or l 1 0))) are ∙ ap (λ (o : Option Cap). is_some o) (words-back capability valid)
