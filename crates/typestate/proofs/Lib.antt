@@ -18,6 +18,7 @@ mod SomeHeld
 mod TidyChanges
 mod TidyPools
 mod VacantSlots
+mod AllGone
 mod OwnChanges
 mod SlotsLeft
 mod Linked

@@ -109,6 +109,7 @@ impl NotedSlots<'_> {
             which,
             below: &affected.below,
             touched: affected.touched(),
+            is_all: affected.all_go(),
         };
         let mut removed = Vec::new(alloc);
         removal.note_all(&mut removed)?;

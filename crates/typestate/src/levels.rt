@@ -1,7 +1,7 @@
 //! What descends from a slot, level by level: what the next level adds are the children of the newest one.
 //! seL4 Reference Manual, "Capability Derivation Tree".
 
-ghost use Rattle.std.specs.Prelude.{ℕ, ◌≡◌, ◌==◌, ◌+◌, ◌++◌, ◌||◌, [], IfOk, IfSome, flat_map};
+ghost use Rattle.std.specs.Prelude.{ℕ, ◌≡◌, ◌==◌, ◌+◌, ◌++◌, ◌||◌, [], IfOk, IfSome, flat_map, true};
 ghost use Rattle.std.specs.List.{filter_map, list_any};
 ghost use Rattle.std.specs.List.Sorted.{IsStrictlySortedBy};
 ghost use Rattle.std.specs.Ordering.{nat_cmp};
@@ -34,6 +34,16 @@ impl Affected {
         match &self.others {
             Some(touched) => touched,
             None => &self.below,
+        }
+    }
+
+    /// Whether these are the changes whose slots descend, all of which go.
+    pub(crate) fn all_go(&self) -> bool
+        ensures { result ≡ true → touched_of self.now ≡ self.now.below.items }
+    {
+        match self.others {
+            Some(_) => false,
+            None => true,
         }
     }
 }

@@ -1,7 +1,7 @@
 //! Slots that go.
 //! seL4 Reference Manual, "Deletion, Revocation, and Recycling".
 
-ghost use Rattle.std.specs.Prelude.{◌≡◌};
+ghost use Rattle.std.specs.Prelude.{◌≡◌, true};
 ghost use Rattle.typestate.specs.Levels.{all_below, touched_by};
 ghost use Rattle.typestate.specs.Orders.{Rise};
 
@@ -15,7 +15,10 @@ pub(crate) struct Removal<'s, 'b> {
     pub(crate) which: Removed,
     pub(crate) below: &'b [NotedSlot],
     pub(crate) touched: &'b [NotedSlot],
+    /// Whether all that is touched goes.
+    pub(crate) is_all: bool,
     ghost listed: { below.now ≡ all_below slots which },
     ghost told: { touched.now ≡ touched_by slots which },
     ghost ordered: { Rise below.now },
+    ghost all: { is_all ≡ true → touched.now ≡ below.now },
 }

@@ -1,7 +1,7 @@
 //! What becomes of the slots at a point where some go.
 //! seL4 Reference Manual, "Deletion, Revocation, and Recycling".
 
-ghost use Rattle.std.specs.Prelude.{◌≡◌, ◌&&◌, ◌||◌, ◌++◌, [], IfOk, false, flat_map, true};
+ghost use Rattle.std.specs.Prelude.{◌≡◌, ◌&&◌, ◌||◌, ◌++◌, [], ◌∷◌, IfOk, false, flat_map, true};
 ghost use Rattle.std.specs.List.{list_any};
 ghost use Rattle.std.specs.Option.{option_map_or};
 ghost use Rattle.model.specs.Capabilities.CapabilityKinds.{is_untyped};
@@ -9,8 +9,8 @@ ghost use Rattle.model.specs.Capabilities.CapabilityWords.{IsCapability};
 ghost use Rattle.typestate.specs.ChangeLists.{kept_child, named_by, removal_change, removal_changes, told_at, told_of};
 ghost use Rattle.typestate.specs.Differences.{left_by, slots_of};
 ghost use Rattle.typestate.specs.Families.{child_at, children_of};
-ghost use Rattle.typestate.specs.Removals.{gone_by, is_root, may_lose};
-ghost use Rattle.typestate.specs.SlotChanges.{cap_left, is_parent, loses_children, noted_outside, slot_left};
+ghost use Rattle.typestate.specs.Removals.{emptied_by, gone_by, is_root, may_lose};
+ghost use Rattle.typestate.specs.SlotChanges.{cap_left, emptied, is_parent, loses_children, noted_outside, slot_left};
 ghost use Rattle.typestate.specs.declared.slot_changes.Removed.TheVariants.{One};
 
 use crate::change_lists::{emptied, is_parent};
@@ -23,6 +23,19 @@ use std::alloc::AllocError;
 
 /// How many slots of a line of parents are looked at: none of the kernel's is longer.
 const MOST: u32 = 256;
+
+/// Appends that a slot is emptied, if it holds something.
+fn note_gone(held: Option<NotedSlot>, made: &mut Vec<NotedSlot>) -> Result<(), AllocError>
+    ensures { IfOk result (λ _. made.new.items ≡ made.old.items ++ option_map_or (λ s. emptied s.key ∷ []) held []) }
+{
+    match held {
+        Some(slot) => {
+            made.push(emptied(slot.key))?;
+            Ok(())
+        }
+        None => Ok(()),
+    }
+}
 
 impl Removal<'_, '_> {
     /// Whether the slot of this key is one of those that go.
@@ -135,12 +148,23 @@ impl Removal<'_, '_> {
         }
     }
 
+    /// Whether what one of the changes leaves that are touched stays, and is then a child of the slot of this key: none where all go.
+    fn one_touched_stays(&self, key: SlotKey) -> bool
+        ensures { result ≡ list_any (λ c. option_map_or (kept_child (slots_of self.now.slots) self.now.which key) (left_by c) false) self.now.touched.now }
+    {
+        if self.is_all {
+            false
+        } else {
+            self.one_stays(self.touched, key)
+        }
+    }
+
     /// Whether a child of the slot of this key stays. What the image lists is no child. All children of a slot of which all descendants
     /// go are among the changes that are touched.
     fn has_kept(&self, key: SlotKey) -> bool
         ensures { result ≡ list_any (kept_child (slots_of self.now.slots) self.now.which key) (slots_of self.now.slots) }
     {
-        let touched = self.one_stays(self.touched, key);
+        let touched = self.one_touched_stays(key);
         if self.is_root(key) {
             return touched;
         }
@@ -288,11 +312,33 @@ impl Removal<'_, '_> {
         Ok(())
     }
 
+    /// Appends that the slots are emptied that go, of those that descend from the one that is named.
+    fn note_emptied(&self, made: &mut Vec<NotedSlot>) -> Result<(), AllocError>
+        ensures { IfOk result (λ _. made.new.items ≡ made.old.items ++ flat_map emptied_by self.now.below.now) }
+    {
+        for change in self.below {
+            let held = left(*change);
+            note_gone(held, made)?;
+        }
+        Ok(())
+    }
+
+    /// Appends what becomes of what was derived from a slot that goes or is named: where all of it goes, nothing else is asked.
+    fn note_touched(&self, made: &mut Vec<NotedSlot>) -> Result<(), AllocError>
+        ensures { IfOk result (λ _. made.new.items ≡ made.old.items ++ flat_map (told_of (removal_change (gone_by self.now) (slots_of self.now.slots))) self.now.touched.now) }
+    {
+        if self.is_all {
+            self.note_emptied(made)
+        } else {
+            self.note_removals(made)
+        }
+    }
+
     /// Appends what a call makes of the slots that takes these away.
     pub(crate) fn note_all(&self, made: &mut Vec<NotedSlot>) -> Result<(), AllocError>
         ensures { IfOk result (λ _. made.new.items ≡ made.old.items ++ removal_changes self.now.slots self.now.which) }
     {
         self.note_named(made)?;
-        self.note_removals(made)
+        self.note_touched(made)
     }
 }

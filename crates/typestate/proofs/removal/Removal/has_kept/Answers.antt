@@ -43,16 +43,16 @@ alone n which key touched first told root one =
 pub returns-then-is_root : goal.returns-then-is_root
 returns-then-is_root c =
     let r = c.args.self.now in
-    alone r.slots r.which c.args.key r.touched.now _ r.told (sym c.is_root.ensures ∙ c.if-is_root.true) c.one_stays-touched.ensures
+    alone r.slots r.which c.args.key r.touched.now _ r.told (sym c.is_root.ensures ∙ c.if-is_root.true) c.one_touched_stays-touched.ensures
 
 pub returns-then-touched : goal.returns-then-touched
 returns-then-touched c =
     let r = c.args.self.now in
-    first-of c.one_stays-touched.result c.one_child_stays-children.result _
-    (either r.slots r.which c.args.key r.touched.now _ _ r.told c.one_stays-touched.ensures c.one_child_stays-children.ensures) c.if-touched.true
+    first-of c.one_touched_stays-touched.result c.one_child_stays-children.result _
+    (either r.slots r.which c.args.key r.touched.now _ _ r.told c.one_touched_stays-touched.ensures c.one_child_stays-children.ensures) c.if-touched.true
 
 pub returns-else-touched : goal.returns-else-touched
 returns-else-touched c =
     let r = c.args.self.now in
-    second-of c.one_stays-touched.result c.one_child_stays-children.result _
-    (either r.slots r.which c.args.key r.touched.now _ _ r.told c.one_stays-touched.ensures c.one_child_stays-children.ensures) c.if-touched.false
+    second-of c.one_touched_stays-touched.result c.one_child_stays-children.result _
+    (either r.slots r.which c.args.key r.touched.now _ _ r.told c.one_touched_stays-touched.ensures c.one_child_stays-children.ensures) c.if-touched.false
