@@ -86,7 +86,12 @@ returns-then-any_unmarked_own g c =
     let member = found-member list (goes slots c.args.set.now) c.next_removed.ensures.lists c.slots.at c.in-Some.slot
     (sym c.in-Some.is ∙ c.next_removed.ensures.next) in
     let full : is_full slots c.in-Some.slot ≡ true = (both (is_full slots c.in-Some.slot) _ member).0 in
-    let near : c.in-Some.slot < 0 + size = omega (arith, counted-near slots _ c.count-count.result c.count-count.ensures.value c.count-count.ensures.near c.in-Some.slot (full-open slots c.in-Some.slot full)) in
+    let near : c.in-Some.slot < 0 + size =
+    omega (
+      arith,
+      counted-near slots _ c.count-count.result c.count-count.ensures.value c.count-count.ensures.near c.in-Some.slot
+          (full-open slots c.in-Some.slot full),
+    ) in
     let passes : filled slots size c.args.set.now test c.in-Some.slot ≡ true =
     ap (λ (own : OwnSlots). some_own own test) (sym c.own_slots-own.ensures.value) ∙ sym c.any_unmarked_own.ensures ∙ c.if-any_unmarked_own.true in
     sym (some-at 0 size c.in-Some.slot (λ slot. goes slots c.args.set.now slot && filled slots size c.args.set.now test slot) (omega arith) near

@@ -7,19 +7,22 @@ use Rattle.model.specs.Capabilities.Slots.{Slots}
 
 pub is_shared-requires : goal.is_shared-requires
 is_shared-requires g c =
-    only-full (g.S.SlotMap.slots c.args.store.now) (length (g.S.SlotStore.memory c.args.store.now) / 16) (counted-near _ _ c.count-count.result c.count-count.ensures.value c.count-count.ensures.near) c.args.set.now c.in-One.only
+    only-full (g.S.SlotMap.slots c.args.store.now) (length (g.S.SlotStore.memory c.args.store.now) / 16)
+    (counted-near _ _ c.count-count.result c.count-count.ensures.value c.count-count.ensures.near) c.args.set.now c.in-One.only
     c.args.slot c.in-One.is c.requires.goes
 
 pub returns-in-One : goal.returns-in-One
 returns-in-One g c = λ offset names.
     let slots : Slots = g.S.SlotMap.slots c.args.store.now in
     let size : ℕ = length (g.S.SlotStore.memory c.args.store.now) / 16 in
-    one-beside slots size (counted-near _ _ c.count-count.result c.count-count.ensures.value c.count-count.ensures.near) c.args.set.now c.in-One.only c.args.slot offset _ c.in-One.is c.requires.goes names c.is_shared.ensures.shared
+    one-beside slots size (counted-near _ _ c.count-count.result c.count-count.ensures.value c.count-count.ensures.near) c.args.set.now c.in-One.only
+    c.args.slot offset _ c.in-One.is c.requires.goes names c.is_shared.ensures.shared
     c.is_shared.ensures.alone
 
 pub returns-in-Below : goal.returns-in-Below
 returns-in-Below g c = λ offset names.
     let slots : Slots = g.S.SlotMap.slots c.args.store.now in
     let size : ℕ = length (g.S.SlotStore.memory c.args.store.now) / 16 in
-    below-beside slots size (counted-near _ _ c.count-count.result c.count-count.ensures.value c.count-count.ensures.near) c.args.set.now c.in-Below.root c.args.slot offset _ c.in-Below.is names c.is_shared_beside.ensures.shared
+    below-beside slots size (counted-near _ _ c.count-count.result c.count-count.ensures.value c.count-count.ensures.near) c.args.set.now c.in-Below.root
+    c.args.slot offset _ c.in-Below.is names c.is_shared_beside.ensures.shared
     c.is_shared_beside.ensures.alone

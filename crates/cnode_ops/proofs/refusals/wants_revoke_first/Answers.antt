@@ -24,8 +24,11 @@ pub returns-then-not-any_ends_full : goal.returns-then-not-any_ends_full
 returns-then-not-any_ends_full g c = λ s.
     let slots : Slots = g.S.SlotMap.slots c.args.store.now in
     let bytes : ℕ = length (g.S.SlotStore.memory c.args.store.now) in
-    refused-answer s c.args.set slots bytes _ (counted-near _ _ c.count-count.result c.count-count.ensures.value c.count-count.ensures.near) (none-refused slots (bytes / 16) c.args.set (c.any_ends_full.ensures c.if-not-any_ends_full.true))
+    refused-answer s c.args.set slots bytes _ (counted-near _ _ c.count-count.result c.count-count.ensures.value c.count-count.ensures.near)
+    (none-refused slots (bytes / 16) c.args.set (c.any_ends_full.ensures c.if-not-any_ends_full.true))
 
 pub returns : goal.returns
-returns g c = λ s. refused-answer s c.args.set (g.S.SlotMap.slots c.args.store.now) (length (g.S.SlotStore.memory c.args.store.now)) _ (counted-near _ _ c.count-count.result c.count-count.ensures.value c.count-count.ensures.near)
+returns g c = λ s.
+    refused-answer s c.args.set (g.S.SlotMap.slots c.args.store.now) (length (g.S.SlotStore.memory c.args.store.now)) _
+    (counted-near _ _ c.count-count.result c.count-count.ensures.value c.count-count.ensures.near)
     (sym c.any_ends_filled.ensures)

@@ -22,7 +22,8 @@ invariant_of-one g c = record {
       (one-near _ _ _ (new_objects c.args.new) c.args.at.window c.args.at.parent c.objects.index c.objects.invariant.made c.requires.laid c.objects-test.true);
   aligned =
       ap (λ (p : ℕ). p % 2 ^ object_bits (new_type c.args.new.kind)) c.objects.invariant.place
-      ∙ one-aligned _ _ _ (new_objects c.args.new) c.args.at.window c.args.at.parent c.objects.index c.objects.invariant.made c.requires.laid c.objects-test.true;
+      ∙ one-aligned _ _ _ (new_objects c.args.new) c.args.at.window c.args.at.parent c.objects.index c.objects.invariant.made c.requires.laid
+      c.objects-test.true;
   large = c.requires.laid.large;
   small = c.requires.laid.small;
 }

@@ -84,7 +84,8 @@ insert-requires-clause-room g c = λ x is.
 pub insert-requires-clause-kin : goal.insert-requires-clause-kin
 unfolding state_of
 insert-requires-clause-kin g c =
-    kin-made (g.S.SlotMap.slots c.args.store.now) (g.S.SlotMap.slots c.make_room.new.store) (g.S.SlotMap.slots c.begin_object.new.store) (new_type c.args.new.kind)
+    kin-made (g.S.SlotMap.slots c.args.store.now) (g.S.SlotMap.slots c.make_room.new.store) (g.S.SlotMap.slots c.begin_object.new.store)
+    (new_type c.args.new.kind)
     c.args.new.place c.args.parent
     c.first_capability.result c.requires.unnamed c.requires.nameless c.make_room.ensures.slots c.begin_object.ensures.slots c.first_capability.ensures
 
