@@ -15,7 +15,7 @@ use sched::{choose, tick};
 use slots::SlotStore;
 
 /// Where physical memory begins.
-const MEMORY_BASE: u32 = 0x8000_0000;
+pub(crate) const MEMORY_BASE: u32 = 0x8000_0000;
 
 /// The thread that runs goes on by an instruction.
 fn run_thread<S: WalkStore>(kernel: &mut Kernel<S>, thread: u32) -> Label

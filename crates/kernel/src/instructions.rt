@@ -2,11 +2,11 @@
 
 ghost use Rattle.std.specs.Prelude.{ℕ, ◌≡◌};
 ghost use Rattle.model.specs.Kernel.AddressSpaces.{vspace_of};
-ghost use Rattle.model.specs.Kernel.Steps.{runs, runs_decoded, runs_instruction};
-ghost use Rattle.model.specs.Machine.Decoding.{decoded};
+ghost use Rattle.model.specs.Kernel.Steps.{runs, runs_instruction};
 ghost use Rattle.model.specs.Machine.Instructions.{IsInstr};
 ghost use Rattle.objects.specs.Lives.{state_in};
 ghost use Rattle.soundness.specs.Running.{IsRunning};
+ghost use Rattle.user_memory.specs.Runs.{comes_of};
 
 use crate::failures::{miss, trap};
 use crate::system_calls::system_call;
@@ -41,25 +41,6 @@ fn execute<S: WalkStore>(
     }
 }
 
-/// The thread that runs executes a word, if that is an instruction.
-fn execute_word<S: WalkStore>(
-    kernel: &mut Kernel<S>,
-    thread: u32,
-    root: Option<u32>,
-    word: u32,
-) -> Outcome
-    requires root { root ≡ vspace_of (state_in S.slots S.memory kernel.old) thread }
-    requires runs { IsRunning (state_in S.slots S.memory kernel.old) thread }
-    ensures state { state_in S.slots S.memory kernel.new
-        ≡ (runs_decoded (state_in S.slots S.memory kernel.old) thread (decoded word)).0 }
-    ensures outcome { result ≡ (runs_decoded (state_in S.slots S.memory kernel.old) thread (decoded word)).1 }
-{
-    match decode(word) {
-        Some(instruction) => execute(kernel, thread, root, instruction),
-        None => trap(kernel, thread, Cause::Illegal),
-    }
-}
-
 /// The thread that runs executes the instruction at its pc.
 #[tactic(auto, unfolding(model::specs::Kernel::Steps::runs))]
 pub(crate) fn run<S: WalkStore>(kernel: &mut Kernel<S>, thread: u32) -> Outcome
@@ -70,7 +51,28 @@ pub(crate) fn run<S: WalkStore>(kernel: &mut Kernel<S>, thread: u32) -> Outcome
 {
     let root = root_of(kernel, thread);
     match fetch(kernel, thread, root) {
-        Ok(word) => execute_word(kernel, thread, root, word),
+        Ok(word) => match decode(word) {
+            Some(instruction) => execute(kernel, thread, root, instruction),
+            None => trap(kernel, thread, Cause::Illegal),
+        },
         Err(fault) => miss(kernel, thread, fault),
+    }
+}
+
+/// The thread that runs meets an instruction that is no plain one, of which it is known what comes.
+pub(crate) fn go_on<S: WalkStore>(kernel: &mut Kernel<S>, thread: u32, effect: Exec) -> Outcome
+    requires { IsRunning (state_in S.slots S.memory kernel.old) thread }
+    ensures state { state_in S.slots S.memory kernel.new
+        ≡ (comes_of (state_in S.slots S.memory kernel.old) thread effect).0 }
+    ensures outcome { result ≡ (comes_of (state_in S.slots S.memory kernel.old) thread effect).1 }
+{
+    match effect {
+        Exec::Next => Outcome::Plain,
+        Exec::Ecall => system_call(kernel, thread),
+        Exec::Trap(cause) => trap(kernel, thread, cause),
+        Exec::Memory(address, access) => {
+            let fault = MemoryFault { address, access };
+            miss(kernel, thread, fault)
+        }
     }
 }

@@ -1,27 +1,59 @@
 //! Many steps in one call.
 
-ghost use Rattle.std.specs.Prelude.{◌≡◌, ◌≤◌, ◌++◌, flat_map, replicate, true};
-ghost use Rattle.model.specs.Kernel.Steps.{state_after, trace};
+ghost use Rattle.std.specs.Prelude.{◌≡◌, ◌≤◌, ◌++◌, IfSome, flat_map, replicate, true};
+ghost use Rattle.model.specs.Kernel.Steps.{state_after, step, trace};
 ghost use Rattle.objects.specs.Lives.{state_in};
+ghost use Rattle.user_memory.specs.Runs.{IsNext};
 
-use crate::events::step;
+use crate::events::{MEMORY_BASE, step};
+use crate::instructions::go_on;
 use cnode_ops::Kernel;
-use model::Event;
+use model::{Event, Label};
 use packed_slots::WalkStore;
 use sched::choose;
-use user_memory::{Labels, run_plain};
+use user_memory::{Labels, PlainRun, run_plain};
 
 /// Plain instructions of the current thread, if there is one.
-fn run_current<S: WalkStore, L: Labels>(kernel: &mut Kernel<S>, most: u32, labels: &mut L) -> u32
-    ensures few { result ≤ most }
+fn run_current<S: WalkStore, L: Labels>(
+    kernel: &mut Kernel<S>,
+    most: u32,
+    labels: &mut L,
+) -> PlainRun
+    ensures few { result.done ≤ most }
     ensures state { state_in S.slots S.memory kernel.new
-        ≡ state_after (state_in S.slots S.memory kernel.old) (replicate result Event.Step) }
+        ≡ state_after (state_in S.slots S.memory kernel.old) (replicate result.done Event.Step) }
     ensures labels { L.seen labels.new
-        ≡ L.seen labels.old ++ flat_map L.kept (trace (state_in S.slots S.memory kernel.old) (replicate result Event.Step)) }
+        ≡ L.seen labels.old ++ flat_map L.kept (trace (state_in S.slots S.memory kernel.old) (replicate result.done Event.Step)) }
+    ensures next { IfSome result.effect (IsNext (state_in S.slots S.memory kernel.new) result.thread result.pc) }
 {
     match choose(&kernel.live) {
         Some(thread) => run_plain(kernel, thread, most, labels),
-        None => 0,
+        None => PlainRun {
+            thread: 0,
+            done: 0,
+            pc: 0,
+            effect: None,
+        },
+    }
+}
+
+/// One step after plain instructions, of which it may be known already what comes.
+fn step_after<S: WalkStore>(kernel: &mut Kernel<S>, run: PlainRun) -> Label
+    requires { IfSome run.effect (IsNext (state_in S.slots S.memory kernel.old) run.thread run.pc) }
+    ensures state { state_in S.slots S.memory kernel.new
+        ≡ (step (state_in S.slots S.memory kernel.old) Event.Step).0 }
+    ensures label { result ≡ (step (state_in S.slots S.memory kernel.old) Event.Step).1 }
+{
+    match run.effect {
+        Some(effect) => {
+            let outcome = go_on(kernel, run.thread, effect);
+            Label::Ran {
+                thread: MEMORY_BASE + run.thread,
+                pc: run.pc,
+                outcome,
+            }
+        }
+        None => step(kernel, Event::Step),
     }
 }
 
@@ -37,14 +69,15 @@ pub(crate) fn run<S: WalkStore, L: Labels>(kernel: &mut Kernel<S>, most: u32, la
 {
     let mut done = 0;
     'runs: while done < most {
-        done += run_current(kernel, most - done, labels);
+        let run = run_current(kernel, most - done, labels);
+        done += run.done;
         if done == most {
             return done;
         }
         if !labels.wants_more() {
             return done;
         }
-        labels.put(step(kernel, Event::Step));
+        labels.put(step_after(kernel, run));
         done += 1;
     }
     done

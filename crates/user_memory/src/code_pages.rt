@@ -84,7 +84,7 @@ fn base_of<S: WalkStore>(
     }
 }
 
-/// The word that a thread runs next, by the page that is kept. Another page is kept where the word is in another.
+/// The word that a thread runs next, by the page that is kept. Where it is in another page, that one is kept, if its leaf is.
 pub(crate) fn fetch_paged<S: WalkStore>(
     kernel: &mut Kernel<S>,
     thread: u32,
@@ -100,13 +100,16 @@ pub(crate) fn fetch_paged<S: WalkStore>(
         return Ok(word);
     }
     let root = code.root;
-    let fetched = fetch_at(kernel, thread, root, address);
-    if let Some(base) = base_of(kernel, thread, root, address) {
-        *code = Code {
-            root,
-            number: address / PAGE_SIZE,
-            base,
-        };
+    let Some(base) = base_of(kernel, thread, root, address) else {
+        return fetch_at(kernel, thread, root, address);
+    };
+    *code = Code {
+        root,
+        number: address / PAGE_SIZE,
+        base,
+    };
+    match page_word(kernel, thread, *code, address) {
+        Some(word) => Ok(word),
+        None => fetch_at(kernel, thread, root, address),
     }
-    fetched
 }

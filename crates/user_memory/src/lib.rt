@@ -16,5 +16,5 @@ mod view;
 pub use execution::{execute, fetch};
 pub use filling::fill;
 pub use labels::Labels;
-pub use plain_runs::run_plain;
+pub use plain_runs::{PlainRun, run_plain};
 pub use roots::root_of;

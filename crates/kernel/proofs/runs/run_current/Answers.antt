@@ -12,4 +12,5 @@ returns-in-None g c =
       few = omega arith;
       state = sym (no-steps s);
       labels = none-seen g.L.Labels.kept s seen;
+      next = tt;
     }
