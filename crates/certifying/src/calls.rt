@@ -72,12 +72,11 @@ impl Given<'_, '_> {
         if let Some(called) = shared.called(point, &state.bounds, state.changes) {
             return Ok(called);
         }
-        let mut made = Vec::new(self.alloc);
         let at = Point {
             thread: self.number,
             point,
         };
-        let behind = shared.asked(at, state, &mut made)?;
+        let (behind, made) = shared.asked(at, state)?;
         shared.note(self.alloc, point, state, &behind, &made)
     }
 

@@ -123,16 +123,13 @@ impl<'a, 's> Looked<'a, 's> {
         self.stretch = stretch;
     }
 
-    /// What the system call at a point leaves of the registers. The slots that it changes are put into the list, which is empty, and
-    /// among those that are shown.
+    /// What the system call at a point leaves of the registers, and the slots that it changes. These are put among those that are shown.
     pub(crate) fn called(
         &mut self,
         at: Point,
         bounds: &Bounds,
-        made: &mut Vec<LogEntry>,
-    ) -> Result<Behind, Fault>
-        requires known { self.old ≡ true }
-        requires none { made.old.items ≡ [] }
+    ) -> Result<(Behind, Vec<LogEntry>), Fault>
+        requires { self.old ≡ true }
     {
         points_without_stray_slots_have_none();
         let slots = self.shown.slots(self.given.slots);
@@ -151,15 +148,16 @@ impl<'a, 's> Looked<'a, 's> {
             space: self.given.space,
             slots,
         };
-        let behind = match own.after_call(at, bounds, made)? {
+        let mut made = Vec::new(self.given.alloc);
+        let behind = match own.after_call(at, bounds, &mut made)? {
             Ok(behind) => behind,
             Err(refusal) => return Err(Fault::refused(at.point, refusal)),
         };
         self.is_known = false;
         self.is_clean = false;
-        self.part = followed(&mut self.log, self.part, &mut self.shown, made)?;
+        self.part = followed(&mut self.log, self.part, &mut self.shown, &made)?;
         self.is_known = true;
         self.is_clean = behind.is_tidy;
-        Ok(behind)
+        Ok((behind, made))
     }
 }

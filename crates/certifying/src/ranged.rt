@@ -5,24 +5,18 @@ ghost use Rattle.ranges.specs.Orders.{IsOrdered};
 use model::{Range, Register};
 use ranges::Bounds;
 
-/// The least range around two.
-fn hull(first: Range, second: Range) -> Range
-    requires first { IsOrdered first }
-    requires second { IsOrdered second }
-    ensures { IsOrdered result }
-{
-    Range {
-        low: first.low.min(second.low),
-        high: first.high.max(second.high),
-    }
-}
-
-/// The ranges that hold on both ways.
+/// The ranges that hold on both ways: the least range around two, for each register.
 pub(crate) fn joined(first: &Bounds, second: &Bounds) -> Bounds {
     let mut both = *first;
     'registers: for number in 1..32u8 {
         let register = Register(number);
-        both.set(register, hull(first.get(register), second.get(register)));
+        let one = first.get(register);
+        let other = second.get(register);
+        let hull = Range {
+            low: one.low.min(other.low),
+            high: one.high.max(other.high),
+        };
+        both.set(register, hull);
     }
     both
 }

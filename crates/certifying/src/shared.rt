@@ -133,18 +133,14 @@ impl<'a, 's> Shared<'a, 's> {
         part_of(&self.changes, stretch)
     }
 
-    /// What the system call at a point leaves of the registers in a state. The slots that it changes are put into the list, which is
-    /// empty. What the state shares with the one that was looked at last is not gone through again.
+    /// What the system call at a point leaves of the registers in a state, and the slots that it changes. What the state shares with the one that was looked at last is not gone through again.
     pub(crate) fn asked(
         &mut self,
         at: Point,
         state: &State,
-        made: &mut Vec<LogEntry>,
-    ) -> Result<Behind, Fault>
-        requires { made.old.items ≡ [] }
-    {
+    ) -> Result<(Behind, Vec<LogEntry>), Fault> {
         self.looked.go_on(&self.changes, state.changes)?;
-        self.looked.called(at, &state.bounds, made)
+        self.looked.called(at, &state.bounds)
     }
 
     /// The system call at a point as it was looked at last.

@@ -143,23 +143,6 @@ impl Given<'_, '_> {
         })
     }
 
-    /// The way along an edge, if there is one.
-    fn perhaps_along(
-        &self,
-        from: u32,
-        instr: Instr,
-        bounds: &Bounds,
-        edge: Option<Edge>,
-        is_jump: bool,
-    ) -> Result<Option<Way>, Fault>
-        requires { IsInstr instr }
-    {
-        match edge {
-            Some(edge) => Ok(Some(self.way_along(from, instr, bounds, &edge, is_jump)?)),
-            None => Ok(None),
-        }
-    }
-
     /// The ways on from an instruction: to the next point, and the one that is taken.
     fn ways_along(
         &self,
@@ -170,8 +153,14 @@ impl Given<'_, '_> {
         requires { IsInstr instr }
     {
         let edges = after(self.address(point), instr, bounds);
-        let next = self.perhaps_along(point, instr, bounds, edges.fall_through, false)?;
-        let taken = self.perhaps_along(point, instr, bounds, edges.taken, true)?;
+        let next = match &edges.fall_through {
+            Some(edge) => Some(self.way_along(point, instr, bounds, edge, false)?),
+            None => None,
+        };
+        let taken = match &edges.taken {
+            Some(edge) => Some(self.way_along(point, instr, bounds, edge, true)?),
+            None => None,
+        };
         Ok((next, taken))
     }
 

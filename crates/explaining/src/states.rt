@@ -213,9 +213,8 @@ impl<'a> Scene<'a, '_, '_, '_, '_, '_, '_> {
     ) -> Result<Result<Called, Refusal>, AllocError> {
         let mut log = SlotLog::new(self.alloc);
         let part = log.note_changes(&state.changes)?;
-        let mut made = Vec::new(self.alloc);
-        match self.answered_in(point, &state.bounds, &log, part, &mut made)? {
-            Ok(behind) => {
+        match self.answered_in(point, &state.bounds, &log, part)? {
+            Ok((behind, made)) => {
                 let changes = self.changes_after(&mut log, part, &made)?;
                 Ok(Ok(Called { behind, changes }))
             }
@@ -223,25 +222,22 @@ impl<'a> Scene<'a, '_, '_, '_, '_, '_, '_> {
         }
     }
 
-    /// What the system call at a point leaves of the registers, where a part of a log changes the slots. Those that it changes are
-    /// put into the list, which is empty.
+    /// What the system call at a point leaves of the registers, and the slots that it changes, where a part of a log changes the slots.
     fn answered_in(
         &self,
         point: u32,
         bounds: &Bounds,
         log: &SlotLog,
         part: Part,
-        made: &mut Vec<LogEntry>,
-    ) -> Result<Result<Behind, Refusal>, AllocError>
+    ) -> Result<Result<(Behind, Vec<LogEntry>), Refusal>, AllocError>
         requires held { Holds log.now part }
-        requires none { made.old.items ≡ [] }
     {
         let at = Point {
             thread: self.number,
             point,
         };
         let before = log.shown(part)?;
-        self.answered(at, bounds, &before.slots(self.slots), made)
+        self.answered(at, bounds, &before.slots(self.slots))
     }
 
     /// What a part of a log changes of the image's slots, and changes that follow it.
@@ -280,16 +276,14 @@ impl<'a> Scene<'a, '_, '_, '_, '_, '_, '_> {
         Ok(self.have_stray_slot(point, &here.slots(self.slots)))
     }
 
-    /// What the system call at a point leaves of the registers. The slots that it changes are put into the list, which is empty.
+    /// What the system call at a point leaves of the registers, and the slots that it changes.
     fn answered(
         &self,
         at: Point,
         bounds: &Bounds,
         slots: &NotedSlots<'_>,
-        made: &mut Vec<LogEntry>,
-    ) -> Result<Result<Behind, Refusal>, AllocError>
+    ) -> Result<Result<(Behind, Vec<LogEntry>), Refusal>, AllocError>
         requires image { slots.now.image.now ≡ self.now.slots.now }
-        requires none { made.old.items ≡ [] }
     {
         if self.have_stray_slot(at.point, slots) {
             return Ok(Err(Refusal::CapNotThere(at)));
@@ -300,6 +294,10 @@ impl<'a> Scene<'a, '_, '_, '_, '_, '_, '_> {
             space: self.space,
             slots: *slots,
         };
-        own.after_call(at, bounds, made)
+        let mut made = Vec::new(self.alloc);
+        match own.after_call(at, bounds, &mut made)? {
+            Ok(behind) => Ok(Ok((behind, made))),
+            Err(refusal) => Ok(Err(refusal)),
+        }
     }
 }
