@@ -7,7 +7,7 @@ use source_texts::{
     CapabilityLine, FrameLine, Source, SourceText, TableLine, UntypedLine, word_at,
 };
 use std::alloc::{AllocError, Global};
-use wellformed::{is_frame, is_page_table, is_root_table, is_thread, is_untyped};
+use wellformed::{UsedMemory, is_frame, is_page_table, is_root_table, is_thread, is_untyped};
 
 /// A text, the image that it makes, and what the text declares.
 #[derive(Clone, Copy, Drop)]
@@ -236,15 +236,17 @@ impl Items<'_, '_, '_, '_, '_, '_> {
         }
     }
 
-    /// How much of untyped memory the objects before one use.
-    fn used_before(&self, item: usize, untyped: usize) -> u64 {
-        let mut used = 0u64;
-        for (number, other) in self.source.objects.iter().enumerate() {
-            if number < item && other.untyped == untyped {
-                used = behind(used, other.kind.bits());
+    /// Where an object begins, in bytes from the start of physical memory.
+    fn offset_of(&self, item: u32) -> u64 {
+        let image = self.image;
+        let mut used = UsedMemory::none();
+        for number in 0..image.header().objects {
+            let place = used.place(image, number);
+            if number == item {
+                return place.offset;
             }
         }
-        used
+        0
     }
 
     /// Reports which object does not fit into its untyped memory.
@@ -256,9 +258,10 @@ impl Items<'_, '_, '_, '_, '_, '_> {
             return Ok(());
         };
         self.push_line(to, object.line)?;
-        let bits = object.kind.bits();
-        let used = self.used_before(item as usize, object.untyped);
-        report_room(to, untyped, power(bits), behind(used, bits))
+        let size = power(object.kind.bits());
+        let offset = self.offset_of(item);
+        let start = offset.saturating_sub(u64::from(untyped.offset));
+        report_room(to, untyped, size, start.saturating_add(size))
     }
 
     /// How many slots the boot CNode needs.
@@ -673,11 +676,4 @@ pub fn report_item(
         image,
     };
     items.report(to, refusal)
-}
-
-/// How much of untyped memory is used after one more object of so many bits.
-fn behind(used: u64, bits: u32) -> u64 {
-    let size = power(bits);
-    let last = used.saturating_add(size.saturating_sub(1));
-    last.saturating_sub(last % size.max(1)).saturating_add(size)
 }
