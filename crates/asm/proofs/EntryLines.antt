@@ -8,15 +8,16 @@ use Rattle.model.specs.declared.entries.CapabilityEntry.{CapabilityEntry}
 use Rattle.model.specs.declared.entries.FrameEntry.{FrameEntry}
 use Rattle.model.specs.declared.entries.InterruptEntry.{InterruptEntry}
 use Rattle.model.specs.declared.entries.ObjectEntry.{ObjectEntry}
+use Rattle.model.specs.declared.entries.PromisedWord.{PromisedWord}
 use Rattle.model.specs.declared.entries.TableEntry.{TableEntry}
 use Rattle.model.specs.declared.entries.UntypedEntry.{UntypedEntry}
 use Rattle.model.specs.Images.Format.{field, many_fit}
-use Rattle.model.specs.Images.Image.{Image, ImageContent, anything, below, between, capability_format, content_format, frame_format, interrupt_format}
-use Rattle.model.specs.Images.Image.{object_format, pair_key, size_fits, table_format, untyped_format}
-use Rattle.model.specs.Images.Listing.{untyped_line, object_line, interrupt_line, capability_line, table_line, frame_line, content_line}
-use Rattle.asm_line.specs.Listed.{Lists, untyped, object, interrupt, capability, table, frame, content, IsWord}
+use Rattle.model.specs.Images.Image.{Image, ImageContent, ImagePromise, anything, below, between, capability_format, content_format, frame_format, interrupt_format}
+use Rattle.model.specs.Images.Image.{object_format, pair_key, promise_format, promised_word_format, size_fits, table_format, untyped_format}
+use Rattle.model.specs.Images.Listing.{untyped_line, object_line, interrupt_line, capability_line, table_line, frame_line, content_line, promise_line}
+use Rattle.asm_line.specs.Listed.{Lists, untyped, object, interrupt, capability, table, frame, content, promise, IsPromisedWord, IsWord}
 use Rattle.format_laws.proofs.Laws.{field-between, field-parts, many-length}
-use Rattle.asm.proofs.Said.{untyped_said, object_said, interrupt_said, capability_said, table_said, frame_said, content_said}
+use Rattle.asm.proofs.Said.{untyped_said, object_said, interrupt_said, capability_said, table_said, frame_said, content_said, promise_said}
 
 pub untyped-lists : (k : ℕ) (u : UntypedEntry) → k < 2 ^ 32 → untyped_format.fits u ≡ true → Lists (untyped_said (k, u)) (untyped_line (k, u))
 unfolding untyped_format
@@ -172,3 +173,59 @@ content-lists objects least c few is =
     let p = content-parts objects least c is in
     let inside = p.frame in
     content c (omega (arith, few, inside)) p.some p.words
+
+-- ---- promises
+
+promised-word : (word : PromisedWord) → promised_word_format.fits word ≡ true → IsPromisedWord word
+unfolding promised_word_format
+promised-word word is =
+    let a = and_parts _ _ is in
+    let high = field-parts (nat_le word.low) word.high a.1 in
+    ((field-parts anything word.low a.0).0, high.0, high.1)
+
+promised-fit : (least count : ℕ) (words : List PromisedWord) → many_fit (λ _. promised_word_format) (λ _. 0) least count words ≡ true
+    → AllByRecursion IsPromisedWord words
+unfolding many_fit
+promised-fit least zero [] is = tt
+promised-fit least zero (word ∷ words) is = absurd (let clash : false ≡ true = is in cc)
+promised-fit least (suc k) [] is = tt
+promised-fit least (suc k) (word ∷ words) is =
+    let both = and_parts (promised_word_format.fits word) (many_fit (λ _. promised_word_format) (λ _. 0) 0 k words) is in
+    (promised-word word both.0, promised-fit 0 k words both.1)
+
+pub record PromiseLineFits (objects least : ℕ) (p : ImagePromise) : Type 0 where
+  pub behind : least ≤ p.header.endpoint
+  pub endpoint : p.header.endpoint < objects
+  pub rises : nat_le p.header.badge_low p.header.badge_high ≡ true
+  pub small : nat_lt p.header.badge_high (2 ^ 28) ≡ true
+  pub few : length p.words ≤ 8
+  pub long : length p.words ≡ p.header.words
+  pub words : AllByRecursion IsPromisedWord p.words
+
+pub promise-parts : (objects least : ℕ) (p : ImagePromise) → (promise_format objects least).fits p ≡ true → PromiseLineFits objects least p
+unfolding promise_format
+promise-parts objects least p is =
+    let a = and_parts _ _ is in
+    let b = and_parts _ _ a.1 in
+    let c = and_parts _ _ b.1 in
+    let d = and_parts _ _ c.1 in
+    let endpoint = and_parts _ _ (field-parts (λ n. nat_le least n && nat_lt n objects) p.header.endpoint a.0).1 in
+    let high = and_parts _ _ (field-parts (λ n. nat_le p.header.badge_low n && nat_lt n (2 ^ 28)) p.header.badge_high c.0).1 in
+    let count = (field-between 0 8 p.header.words d.0).1 in
+    let long = many-length (λ _. promised_word_format) (λ _. 0) 0 p.header.words p.words d.1 in
+    record {
+      behind = leb-true least p.header.endpoint endpoint.0;
+      endpoint = ltb-true p.header.endpoint objects endpoint.1;
+      rises = high.0;
+      small = high.1;
+      few = rw long count;
+      long = long;
+      words = promised-fit 0 p.header.words p.words d.1;
+    }
+
+pub promise-lists : (objects least : ℕ) (p : ImagePromise) → objects ≤ 2 ^ 32 → (promise_format objects least).fits p ≡ true →
+    Lists (promise_said p) (promise_line p)
+promise-lists objects least p few is =
+    let parts = promise-parts objects least p is in
+    let inside = parts.endpoint in
+    promise p (omega (arith, few, inside)) parts.rises parts.small parts.few parts.words

@@ -1,19 +1,18 @@
 -- Behind the last line of a listing, what is read is the image.
 use Rattle.std.specs.Prelude.{map, slice_get, slice_index_or, if◌then◌else◌}
-use Rattle.std.proofs.Common.{◌≡◌, ℕ, suc, ◌+◌, ◌-◌, ◌<◌, ◌≤◌, Bool, true, false, List, [], ◌∷◌, length, Some, refl, sym, ap, subst, ◌∙◌, arith, eq-eqb, ne_eqb}
-use Rattle.std.specs.List.{All, position_or_len}
+use Rattle.std.proofs.Common.{◌≡◌, ℕ, suc, ◌+◌, ◌-◌, ◌<◌, ◌≤◌, Bool, true, false, List, [], ◌∷◌, length, Some, refl, sym, ap, ◌∙◌, arith, eq-eqb, ne_eqb}
+use Rattle.std.specs.List.{position_or_len}
 use Rattle.std.proofs.lemmas.Bool.{leb-true}
-use Rattle.std.proofs.lemmas.List.Elements.{All-map}
 use Rattle.std.proofs.lemmas.Option.{slice_get-get_or, same_Some}
 use Rattle.std.proofs.lemmas.List.Sums.{position_or_len_is}
 use Rattle.model.specs.declared.entries.CapabilityEntry.{CapabilityEntry}
 use Rattle.model.specs.declared.entries.InterruptEntry.{InterruptEntry}
-use Rattle.model.specs.Images.Image.{Image, content_format, has_promises, whole_image}
+use Rattle.model.specs.Images.Image.{Image, content_format, whole_image}
+use Rattle.model.specs.Images.Listing.{version_listed}
 use Rattle.model.specs.Images.Places.{is_handler, interrupt_of}
 use Rattle.format_laws.specs.Fitting.{IsFitting}
 use Rattle.format_laws.proofs.Laws.{is-fitting, many-length}
 use Rattle.asm.specs.declared.assembly.Memory.{Memory}
-use Rattle.asm.specs.declared.declarations.Capability.{Capability}
 use Rattle.asm.specs.declared.names.Source.{Source}
 use Rattle.asm.specs.declared.names.Source.TheVariants.{Object, Handler}
 use Rattle.asm.specs.Drafts.{Draft, assembled, capability_of, counted_header, declared_of, draft_of, line_of_interrupt, source_said}
@@ -68,10 +67,6 @@ capabilities-again image fits = map-back (capability_of image) (entry_of (declar
 
 -- ---- the whole
 
-none-there : {A : Type 0} (xs : List A) → length xs ≡ 0 → [] ≡ xs
-none-there [] none = refl
-none-there (x ∷ xs) none = absurd (omega (arith, none))
-
 same-header : (image : Image) → IsFitting image → SectionsFit image
     → counted_header (record { bits = image.header.memory_bits; boot_radix = image.header.boot_radix }) (declared_of image) image.capabilities image.threads
     ≡ image.header
@@ -88,22 +83,19 @@ same-header image limits fits =
       tables = limits.tables i;
       frames = limits.frames i;
       contents = contents i;
-      promises = sym (limits.header.no_promises (ap has_promises fits.version)) i;
+      promises = limits.promises i;
       threads = limits.threads i;
     }
 
 -- what stands behind the last line of an image's listing is put together to that image
-pub is-listed : (image : Image) → whole_image.fits image ≡ true → (draft : Draft) → draft ≡ draft_of image → (m : Memory) → draft.memory ≡ Some m
+pub is-listed : (image : Image) → whole_image.fits image ≡ true → image.header.version ≡ version_listed image.promises → (draft : Draft) → draft ≡ draft_of image → (m : Memory) → draft.memory ≡ Some m
     → (cs : List CapabilityEntry) → cs ≡ map (entry_of draft.declared) draft.declared.capabilities → assembled m draft.declared cs draft.threads ≡ image
-is-listed image is draft same m here cs told =
+is-listed image is version draft same m here cs told =
     let limits = is-fitting image is in
     let memory : m ≡ record { bits = image.header.memory_bits; boot_radix = image.header.boot_radix } =
     same_Some m (record { bits = image.header.memory_bits; boot_radix = image.header.boot_radix }) (sym here ∙ ap (λ (d : Draft). d.memory) same) in
     let entries : cs ≡ image.capabilities =
     told ∙ ap (λ (d : Draft). map (entry_of d.declared) d.declared.capabilities) same ∙ capabilities-again image limits in
-    let fits = sections-fit image is in
-    let count = limits.promises in
-    let none = limits.header.no_promises (ap has_promises fits.version) in
-    let promises = none-there image.promises (omega (arith, count, none)) in
+    let fits = sections-fit image is version in
     (λ i. assembled (memory i) (same i).declared (entries i) (same i).threads)
-    ∙ (λ i. record image { header = same-header image limits fits i; promises = promises i })
+    ∙ (λ i. record image { header = same-header image limits fits i })

@@ -3,14 +3,15 @@ use Rattle.std.proofs.Common.{◌+◌, ◌∷◌, ◌++◌, arith}
 use Rattle.std.specs.Prelude.{map, flat_map}
 use Rattle.model.specs.Images.Described.{numbered}
 use Rattle.model.specs.Images.Image.{Image, capability_format, content_format, frame_format, interrupt_format, object_format, pair_key, table_format}
-use Rattle.model.specs.Images.Image.{untyped_format}
+use Rattle.model.specs.Images.Image.{promise_format, untyped_format}
 use Rattle.model.specs.Images.Listing.{capability_line, content_line, frame_line, interrupt_line, listing_lines, memory_line, object_line, table_line}
-use Rattle.model.specs.Images.Listing.{thread_lines, untyped_line}
+use Rattle.model.specs.Images.Listing.{promise_line, thread_lines, untyped_line}
 use Rattle.asm_line.specs.Listed.{memory}
 use Rattle.format_laws.specs.Fitting.{IsFitting}
 use Rattle.asm.proofs.Said.{capability_said, content_said, frame_said, interrupt_said, listed_lines, memory_said, object_said, table_said, thread_said}
-use Rattle.asm.proofs.Said.{untyped_said}
-use Rattle.asm.proofs.EntryLines.{capability-lists, content-lists, frame-lists, interrupt-lists, object-lists, table-lists, untyped-lists}
+use Rattle.asm.proofs.Said.{promise_said, untyped_said}
+use Rattle.asm.proofs.EntryLines.{capability-lists, content-lists, frame-lists, interrupt-lists, object-lists, promise-lists, table-lists}
+use Rattle.asm.proofs.EntryLines.{untyped-lists}
 use Rattle.asm.proofs.ListedSections.{AreListed, entries-listed, listed-append, numbered-listed, threads-listed}
 use Rattle.asm.proofs.SectionFits.{SectionsFit}
 
@@ -42,6 +43,8 @@ image-listed i fits limits =
     (λ l e low is. frame-lists h.objects l e (omega (arith, few)) is) 0 h.frames i.frames (omega arith) fits.frames in
     let contents = entries-listed 0 (content_format h.objects) (λ c. c.header.frame + 1) content_said content_line (λ e. omega arith)
     (λ l e low is. content-lists h.objects l e (omega (arith, few)) is) 0 h.contents i.contents (omega arith) fits.contents in
+    let promises = entries-listed 0 (promise_format h.objects) (λ p. p.header.endpoint + 1) promise_said promise_line (λ e. omega arith)
+    (λ l e low is. promise-lists h.objects l e (omega (arith, few)) is) 0 h.promises i.promises (omega arith) fits.promises in
     let said_a = memory_said i ∷ map untyped_said (numbered i.untypeds) in
     let text_a = memory_line i ∷ map untyped_line (numbered i.untypeds) in
     let said_b = said_a ++ map object_said (numbered i.objects) in
@@ -62,7 +65,10 @@ image-listed i fits limits =
     capabilities in
     let e : AreListed said_e text_e = listed-append said_d text_d (map table_said i.tables) (map table_line i.tables) d tables in
     let f : AreListed said_f text_f = listed-append said_e text_e (map frame_said i.frames) (map frame_line i.frames) e frames in
-    listed-append (said_f ++ map content_said i.contents) (text_f ++ map content_line i.contents) (flat_map thread_said i.threads)
+    let said_g = said_f ++ map content_said i.contents in
+    let text_g = text_f ++ map content_line i.contents in
+    let g : AreListed said_g text_g = listed-append said_f text_f (map content_said i.contents) (map content_line i.contents) f contents in
+    listed-append (said_g ++ map promise_said i.promises) (text_g ++ map promise_line i.promises) (flat_map thread_said i.threads)
     (flat_map thread_lines i.threads)
-    (listed-append said_f text_f (map content_said i.contents) (map content_line i.contents) f contents)
+    (listed-append said_g text_g (map promise_said i.promises) (map promise_line i.promises) g promises)
     (threads-listed h.objects 0 h.threads i.threads (omega (arith, few)) fits.threads)

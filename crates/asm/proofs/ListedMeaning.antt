@@ -1,14 +1,14 @@
 -- What the listing of an image means is that image.
 use Rattle.std.specs.Prelude.{MatchOption, not, is_some, max, Result, ◌&&◌, if◌then◌else◌}
-use Rattle.std.proofs.Common.{◌≡◌, ℕ, ◌<◌, Bool, true, false, List, [], ◌∷◌, ◌++◌, length, Option, Some, None, Ok, Err, refl, sym, ap, subst, ◌∙◌}
+use Rattle.std.proofs.Common.{◌≡◌, ℕ, ◌<◌, Bool, true, false, List, [], ◌∷◌, length, Option, Some, None, Ok, Err, refl, sym, ap, subst, ◌∙◌}
 use Rattle.std.specs.List.{All, AllZip}
 use Rattle.std.specs.Option.{option_map_or}
 use Rattle.std.specs.Str.Lines.{lines}
 use Rattle.model.specs.declared.entries.FrameEntry.{FrameEntry}
 use Rattle.model.specs.declared.entries.InterruptEntry.{InterruptEntry}
 use Rattle.model.specs.declared.entries.TableEntry.{TableEntry}
-use Rattle.model.specs.Images.Image.{Image, ImageContent, Thread, pair_key, whole_image}
-use Rattle.model.specs.Images.Listing.{Text, listing}
+use Rattle.model.specs.Images.Image.{Image, ImageContent, ImagePromise, Thread, pair_key, whole_image}
+use Rattle.model.specs.Images.Listing.{Text, listing, version_listed}
 use Rattle.asm_line.specs.declared.lines.Line.{Line}
 use Rattle.asm_line.specs.declared.lines.Line.TheVariants as line
 use Rattle.asm_line.specs.Listed.{Lists}
@@ -20,16 +20,16 @@ use Rattle.asm.specs.declared.declarations.Capability.{Capability}
 use Rattle.asm.specs.Drafts.{Draft, draft_of, nothing_read}
 use Rattle.asm.specs.Keys.{has_room, must, sorted_with}
 use Rattle.asm.specs.Labels.{FoundLabels, Searched, closed, in_open, labels_in, next_number, nothing_searched, searched_from, searched_line, with_label}
-use Rattle.asm.specs.Meaning.{add_line, all_read, and_then, declared_with, ended, finished, first_line, fitting, full_line, image_of, in_thread, inside, is_end}
-use Rattle.asm.specs.Meaning.{is_nil, is_thread, label_at_fault, labels_of, leaves_open, may_end, memory_known, on_line, other_line, outside, placed_with}
+use Rattle.asm.specs.Meaning.{add_line, all_read, and_then, declared_with, ended, finished, first_line, fitting, full_line, in_thread, inside, is_end}
+use Rattle.asm.specs.Meaning.{is_thread, label_at_fault, labels_of, leaves_open, may_end, memory_known, on_line, outside, placed_with, promised_said}
 use Rattle.asm.specs.Meaning.{read_line, searched_text, searched_texts, text_means, text_read, thread_begins, thread_opened, words_said}
 use Rattle.asm.specs.Names.{free, number_known, number_of, source_known}
 use Rattle.asm.specs.Reading.{AreInPlace, IsDeclaration, IsFirst, IsInPlace, IsThreadLine, labels_at, thread_behind, with_declaration, with_first, with_line}
 use Rattle.asm.specs.Reading.{with_lines, with_thread_line}
-use Rattle.asm.specs.Sections.{Declared, capability_said, content_said, frame_entry, interrupt_entry, is_in_order, table_entry}
+use Rattle.asm.specs.Sections.{Declared, capability_said, content_said, frame_entry, interrupt_entry, is_in_order, promise_said, table_entry}
 use Rattle.asm.specs.Threads.{OpenDraft}
 use Rattle.asm.proofs.Finished.{is-listed}
-use Rattle.asm.proofs.ListedSteps.{begins, ends, goes, inside-goes, known, passes, passes-not, roomy, sorted-behind, sourced, unused, words-all}
+use Rattle.asm.proofs.ListedSteps.{begins, ends, goes, inside-goes, known, passes, passes-not, promised-all, roomy, sorted-behind, sourced, unused, words-all}
 use Rattle.asm.proofs.ReadBack.{read-back}
 
 -- ---- lines outside threads
@@ -87,6 +87,13 @@ module _ (labels : List FoundLabels) (d : Draft) where
       (goes (number_known d.declared.names.objects frame) _ _ _ (known d.declared.names.objects frame h.named)
       (goes (words_said words) _ _ _ (words-all words h.numbers h.short)
       (goes (sorted_with key 4096 entry d.declared.contents) _ _ _ (sorted-behind key 4096 entry d.declared.contents h.behind h.room) refl))) refl
+  outside-goes (line.Promise endpoint low high words) h =
+      let key : ImagePromise → ℕ = λ (p : ImagePromise). p.header.endpoint in
+      let entry = promise_said d.declared endpoint low high words in
+      goes (placed_with d.declared (line.Promise endpoint low high words)) _ _ _
+      (goes (number_known d.declared.names.objects endpoint) _ _ _ (known d.declared.names.objects endpoint h.named)
+      (goes (promised_said words) _ _ _ (promised-all words h.few)
+      (goes (sorted_with key 4096 entry d.declared.promises) _ _ _ (sorted-behind key 4096 entry d.declared.promises h.behind h.room) refl))) refl
   outside-goes (line.Thread said) h =
       goes (thread_begins here d.declared.names said) _ _ _ (begins here d.declared.names said h.begins)
       (goes (has_room 64 d.threads) _ tt _ (roomy 64 d.threads h.room) refl)
@@ -111,6 +118,7 @@ first-goes d (line.Capability cnode index source rights payload) h = absurd h
 first-goes d (line.Table root address table) h = absurd h
 first-goes d (line.Frame root address frame rights) h = absurd h
 first-goes d (line.Content frame words) h = absurd h
+first-goes d (line.Promise endpoint low high words) h = absurd h
 first-goes d (line.Thread said) h = absurd h
 first-goes d (line.Register entry) h = absurd h
 first-goes d (line.Measure constant terms) h = absurd h
@@ -144,6 +152,7 @@ last-or-not labels number d o (line.Capability cnode index source rights payload
 last-or-not labels number d o (line.Table root address table) = more (λ e. let no : true ≡ false = sym (ap is-it-end e) in cc) refl refl refl
 last-or-not labels number d o (line.Frame root address frame rights) = more (λ e. let no : true ≡ false = sym (ap is-it-end e) in cc) refl refl refl
 last-or-not labels number d o (line.Content frame words) = more (λ e. let no : true ≡ false = sym (ap is-it-end e) in cc) refl refl refl
+last-or-not labels number d o (line.Promise endpoint low high words) = more (λ e. let no : true ≡ false = sym (ap is-it-end e) in cc) refl refl refl
 last-or-not labels number d o (line.Thread begun) = more (λ e. let no : true ≡ false = sym (ap is-it-end e) in cc) refl refl refl
 last-or-not labels number d o (line.Register entry) = more (λ e. let no : true ≡ false = sym (ap is-it-end e) in cc) refl refl refl
 last-or-not labels number d o (line.Measure constant terms) = more (λ e. let no : true ≡ false = sym (ap is-it-end e) in cc) refl refl refl
@@ -202,6 +211,8 @@ line-goes labels number d (line.Table root address table) h =
 line-goes labels number d (line.Frame root address frame rights) h =
     by-memory labels number d.declared d.threads (line.Frame root address frame rights) d.memory d.open_thread h
 line-goes labels number d (line.Content frame words) h = by-memory labels number d.declared d.threads (line.Content frame words) d.memory d.open_thread h
+line-goes labels number d (line.Promise endpoint low high words) h =
+    by-memory labels number d.declared d.threads (line.Promise endpoint low high words) d.memory d.open_thread h
 line-goes labels number d (line.Thread begun) h = by-memory labels number d.declared d.threads (line.Thread begun) d.memory d.open_thread h
 line-goes labels number d (line.Register entry) h = by-memory labels number d.declared d.threads (line.Register entry) d.memory d.open_thread h
 line-goes labels number d (line.Measure constant terms) h = by-memory labels number d.declared d.threads (line.Measure constant terms) d.memory d.open_thread h
@@ -229,6 +240,7 @@ module _ (labels : List FoundLabels) (number : ℕ) (declared : Declared) (threa
   first-closes memory thread (line.Table root address table) h e = absurd h
   first-closes memory thread (line.Frame root address frame rights) h e = absurd h
   first-closes memory thread (line.Content frame words) h e = absurd h
+  first-closes memory thread (line.Promise endpoint low high words) h e = absurd h
   first-closes memory thread (line.Thread begun) h e = absurd h
   first-closes memory thread (line.Register entry) h e = absurd h
   first-closes memory thread (line.Measure constant terms) h e = absurd h
@@ -249,6 +261,7 @@ module _ (labels : List FoundLabels) (number : ℕ) (declared : Declared) (threa
   outside-closes memory (line.Table root address table) e = refl
   outside-closes memory (line.Frame root address frame rights) e = refl
   outside-closes memory (line.Content frame words) e = refl
+  outside-closes memory (line.Promise endpoint low high words) e = refl
   outside-closes memory (line.Register entry) e = refl
   outside-closes memory (line.Measure constant terms) e = refl
   outside-closes memory (line.Range entry) e = refl
@@ -277,6 +290,7 @@ module _ (labels : List FoundLabels) (number : ℕ) (declared : Declared) (threa
       kept (line.Table root address table) e = e
       kept (line.Frame root address frame rights) e = e
       kept (line.Content frame words) e = e
+      kept (line.Promise endpoint low high words) e = e
       kept (line.Thread begun) e = e
       kept (line.Register entry) e = e
       kept (line.Measure constant terms) e = e
@@ -350,22 +364,22 @@ searches number s (said ∷ others) (text ∷ texts) zip =
 
 -- ---- the whole
 
-ends-so : (image : Image) → whole_image.fits image ≡ true → finished (draft_of image) ≡ Ok image
+ends-so : (image : Image) → whole_image.fits image ≡ true → image.header.version ≡ version_listed image.promises → finished (draft_of image) ≡ Ok image
 unfolding finished memory_known
-ends-so image is =
+ends-so image is version =
     let memory : Memory = record { bits = image.header.memory_bits; boot_radix = image.header.boot_radix } in
-    let whole = is-listed image is (draft_of image) refl memory refl _ refl in
+    let whole = is-listed image is version (draft_of image) refl memory refl _ refl in
     ap fitting whole ∙ ap (λ (b : Bool). if b then Ok image else Err 4) is
 
-pub listing-means : (image : Image) → whole_image.fits image ≡ true → All (λ (t : Thread). t.header.entry < t.header.words) image.threads →
-    text_means (listing image) ≡ Ok image
+pub listing-means : (image : Image) → whole_image.fits image ≡ true → image.header.version ≡ version_listed image.promises
+    → All (λ (t : Thread). t.header.entry < t.header.words) image.threads → text_means (listing image) ≡ Ok image
 unfolding text_means
-listing-means image is entered =
-    let back = read-back image is entered in
+listing-means image is version entered =
+    let back = read-back image is version entered in
     let texts = lines (listing image) in
     let labels : labels_of texts ≡ labels_in back.said = ap (λ (s : Searched). (closed s).threads) (searches 0 nothing_searched back.said texts back.listed) in
     let read = texts-go (labels_in back.said) 0 nothing_read back.said texts back.listed back.placed (ap (λ (d : Draft). d.open_thread) back.reads) in
     ap (λ (ls : List FoundLabels). and_then (all_read ls 0 nothing_read texts) (λ (r : ℕ × Draft). on_line (max r.0 1) (finished r.1))) labels
     ∙ (ap (λ (r : Result (ℕ × Draft) (ℕ × ℕ)). and_then r (λ (r : ℕ × Draft). on_line (max r.0 1) (finished r.1)))
     (read.reads ∙ ap (λ (d : Draft). Ok (read.end_number, d)) back.reads)
-    ∙ ap (on_line (max read.end_number 1)) (ends-so image is))
+    ∙ ap (on_line (max read.end_number 1)) (ends-so image is version))

@@ -14,7 +14,7 @@ use Rattle.asm_line.specs.declared.lines.Line.TheVariants as said
 use Rattle.asm_line.specs.declared.lines.Code.TheVariants as code
 use Rattle.asm_line.specs.Listed.{Lists, thread, measure, label, word, end, IsWord}
 use Rattle.format_laws.proofs.Laws.{many-length}
-use Rattle.asm.specs.Drafts.{assembled_version}
+use Rattle.asm.specs.Drafts.{thread_version}
 use Rattle.asm.proofs.Said.{label_said, point_said, record_said, slot_said, thread_line_said, thread_said}
 use Rattle.asm.proofs.EntryLines.{words-fit}
 use Rattle.asm.proofs.RecordLines.{terms-fit}
@@ -148,15 +148,15 @@ thread-listed objects t few fits =
     (end, tt)
 
 pub threads-listed : (objects least count : ℕ) (ts : List Thread) → objects ≤ 2 ^ 32
-    → many_fit (λ _. thread_format (slots_format objects) assembled_version objects) (λ _. 0) least count ts ≡ true →
+    → many_fit (λ _. thread_format (slots_format objects) thread_version objects) (λ _. 0) least count ts ≡ true →
     AreListed (flat_map thread_said ts) (flat_map thread_lines ts)
 unfolding many_fit
 threads-listed objects least zero [] few is = tt
 threads-listed objects least zero (t ∷ ts) few is = absurd (let clash : false ≡ true = is in cc)
 threads-listed objects least (suc n) [] few is = tt
 threads-listed objects least (suc n) (t ∷ ts) few is =
-    let both = and_parts ((thread_format (slots_format objects) assembled_version objects).fits t)
-    (many_fit (λ _. thread_format (slots_format objects) assembled_version objects) (λ _. 0) 0 n ts)
+    let both = and_parts ((thread_format (slots_format objects) thread_version objects).fits t)
+    (many_fit (λ _. thread_format (slots_format objects) thread_version objects) (λ _. 0) 0 n ts)
     is in
     listed-append (thread_said t) (thread_lines t) (flat_map thread_said ts) (flat_map thread_lines ts)
     (thread-listed objects t few (thread-parts objects t both.0)) (threads-listed objects 0 n ts few both.1)

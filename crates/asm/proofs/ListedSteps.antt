@@ -1,7 +1,7 @@
 -- Lines as listings have them: what each of them means is one entry, one word or one thread more.
 use Rattle.std.specs.Prelude.{◌==◌, MatchOption, map, not, is_some, nat_le, nat_lt, slice_get, Result, if◌then◌else◌}
-use Rattle.std.proofs.Common.{◌≡◌, ℕ, ◌+◌, ◌-◌, ◌<◌, ◌≤◌, zero, suc, Bool, true, false, List, [], ◌∷◌, ◌++◌, length, take, drop, Option, Some, None, Ok, Err, ℤ}
-use Rattle.std.proofs.Common.{refl, sym, ap, subst, ◌∙◌, arith, append_assoc, length-append, lt-ltb}
+use Rattle.std.proofs.Common.{◌≡◌, ℕ, ◌+◌, ◌-◌, ◌<◌, ◌≤◌, zero, suc, Bool, true, false, List, [], ◌∷◌, ◌++◌, length, Option, Some, None, Ok, Err, ℤ}
+use Rattle.std.proofs.Common.{refl, sym, ap, ◌∙◌, arith, append_assoc, length-append, lt-ltb}
 use Rattle.std.specs.List.{insert}
 use Rattle.std.specs.Option.{option_map_or}
 use Rattle.std.proofs.lemmas.Bool.{le-leb}
@@ -27,11 +27,11 @@ use Rattle.asm.specs.declared.names.Source.TheVariants.{Object, Handler}
 use Rattle.asm.specs.Keys.{has_key, has_room, is_before, is_behind, must, place_among, place_of, sorted_with}
 use Rattle.asm.specs.Labels.{FoundLabels, place_named, point_of}
 use Rattle.asm.specs.Meaning.{coded_with, inside, may_end, measured_with, noting, parent_known, point_known, ranges_with, record_said, slots_with, sorted_terms}
-use Rattle.asm.specs.Meaning.{terms_said, thread_begins, values_of, with_registers, word_added, word_at, words_said}
+use Rattle.asm.specs.Meaning.{terms_said, thread_begins, values_of, with_registers, word_added, word_at, promised_said, words_said}
 use Rattle.asm.specs.Names.{HasSource, IsNamed, KnownNames, free, is_taken, line_of_name, number_at, number_known, number_of, source_known, source_of}
 use Rattle.asm.specs.Reading.{IsThreadLine, thread_behind}
-use Rattle.asm.specs.Sections.{number_or_zero, value_of}
-use Rattle.asm.specs.Threads.{AreBehind, HasParent, HasRoomForRange, HasRoomForSlot, IsPlain, MayAddCode, MayAddMeasure, MayAddRange, MayAddRegister}
+use Rattle.asm.specs.Sections.{number_or_zero, promised_values, value_of}
+use Rattle.asm.specs.Threads.{AreBehind, HasParent, MayAddCode, MayAddMeasure, MayAddRange, MayAddRegister}
 use Rattle.asm.specs.Threads.{MayAddSlot, MayBegin, MayEnd, OpenDraft, parent_numbers, plain_word, slot_entry, term_key, term_or_zero, terms_of, thread_begun}
 use Rattle.asm.specs.Threads.{with_measure, with_range, with_register, with_slot, with_word}
 
@@ -128,6 +128,10 @@ words-all words said short =
     omega (arith, count, length-map words value_of, short) in
     goes (must (nat_le (length (values_of words)) 1024) 4) _ tt _ (passes _ 4 (le-leb _ _ few)) (ap (λ (xs : List ℕ). Ok xs) same)
 
+pub promised-all : (words : List Text) → length (promised_values words) ≤ 8 → promised_said words ≡ Ok (promised_values words)
+unfolding promised_said
+promised-all words few = goes (must (nat_le (length (promised_values words)) 8) 4) _ tt _ (passes _ 4 (le-leb _ _ few)) refl
+
 -- ---- the first line of a thread
 
 pub begins : (labels : FoundLabels) (names : KnownNames) (said : ThreadLine) → MayBegin names labels said →
@@ -222,6 +226,7 @@ inside-goes labels number names o (line.Capability cnode index source rights pay
 inside-goes labels number names o (line.Table root address table) h other = absurd h
 inside-goes labels number names o (line.Frame root address frame rights) h other = absurd h
 inside-goes labels number names o (line.Content frame words) h other = absurd h
+inside-goes labels number names o (line.Promise endpoint low high words) h other = absurd h
 inside-goes labels number names o (line.Thread begun) h other = absurd h
 inside-goes labels number names o (line.Register entry) h other = registered o entry h
 inside-goes labels number names o (line.Measure constant terms) h other = measured o constant terms h

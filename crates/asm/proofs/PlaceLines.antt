@@ -1,7 +1,7 @@
--- Lines of capabilities, tables, frames and contents: each declares one entry behind the others.
-use Rattle.std.proofs.Common.{ℕ, ◌≡◌, ◌+◌, ◌-◌, ◌^◌, ◌<◌, ◌≤◌, Bool, true, false, List, [], ◌∷◌, ◌++◌, length, Option, Some, None, Ok, refl, ap, sym, ◌∙◌}
+-- Lines of capabilities, tables, frames, contents and promises: each declares one entry behind the others.
+use Rattle.std.proofs.Common.{ℕ, ◌≡◌, ◌+◌, ◌-◌, ◌^◌, ◌<◌, ◌≤◌, Bool, true, false, List, [], ◌∷◌, ◌++◌, length, Option, Some, None, Ok, Err, refl, ap, sym, ◌∙◌}
 use Rattle.std.proofs.Common.{subst, arith, decimal}
-use Rattle.std.specs.Prelude.{map, nat_lt, slice_get, slice_index_or, option_map, if◌then◌else◌, MatchOption}
+use Rattle.std.specs.Prelude.{Result, flat_map, map, nat_lt, slice_get, slice_index_or, option_map, if◌then◌else◌, MatchOption}
 use Rattle.std.specs.List.{AllByRecursion}
 use Rattle.std.specs.Option.{option_map_or}
 use Rattle.std.specs.Map.{lookup}
@@ -12,13 +12,15 @@ use Rattle.std.proofs.lemmas.List.{map-append, length-map}
 use Rattle.std.proofs.lemmas.Option.{slice_get-map}
 use Rattle.model.specs.declared.entries.CapabilityEntry.{CapabilityEntry}
 use Rattle.model.specs.declared.entries.FrameEntry.{FrameEntry}
+use Rattle.model.specs.declared.entries.PromisedWord.{PromisedWord}
 use Rattle.model.specs.declared.entries.TableEntry.{TableEntry}
-use Rattle.model.specs.Images.Image.{Image, ImageContent, between, capability_format, content_format, frame_format, pair_key, table_format}
-use Rattle.model.specs.Images.Listing.{Text, interrupt_name, object_name, source_name}
+use Rattle.model.specs.Images.Image.{Image, ImageContent, ImagePromise, between, capability_format, content_format, frame_format, pair_key, promise_format}
+use Rattle.model.specs.Images.Image.{table_format}
+use Rattle.model.specs.Images.Listing.{Text, interrupt_name, object_name, promised_words, source_name}
 use Rattle.model.specs.Images.Places.{interrupt_of, is_handler}
-use Rattle.asm_line.specs.Listed.{IsWord}
+use Rattle.asm_line.specs.Listed.{IsPromisedWord, IsWord}
 use Rattle.asm_line.specs.Lines.{all_words}
-use Rattle.asm_line.proofs.Laws.{number-decimal}
+use Rattle.asm_line.proofs.Laws.{number-decimal, promised-says}
 use Rattle.format_laws.specs.Fitting.{IsFitting}
 use Rattle.asm.specs.declared.declarations.Capability.{Capability}
 use Rattle.asm.specs.declared.names.Source.{Source}
@@ -26,15 +28,15 @@ use Rattle.asm.specs.declared.names.Source.TheVariants.{Object, Handler}
 use Rattle.asm.specs.Drafts.{capability_of, line_of_interrupt, names_of, source_said}
 use Rattle.asm.specs.Labels.{FoundLabels}
 use Rattle.asm.specs.Names.{HasSource, IsNamed, number_of, source_of}
-use Rattle.asm.proofs.Said.{capability_said, content_said, frame_said, table_said}
-use Rattle.asm.specs.Sections.{value_of}
+use Rattle.asm.proofs.Said.{capability_said, content_said, frame_said, promise_said, table_said}
+use Rattle.asm.specs.Sections.{promise_with, promised_values, value_of}
 use Rattle.asm.specs.Keys.{is_behind}
-use Rattle.asm.proofs.EntryLines.{capability-parts, content-parts, frame-parts, table-parts}
+use Rattle.asm.proofs.EntryLines.{capability-parts, content-parts, frame-parts, promise-parts, table-parts}
 use Rattle.asm.proofs.Joins.{Adds}
 use Rattle.asm.proofs.NumberedNames.{interrupt-absent, interrupt-found, interrupts_from, is-named, number-named}
 use Rattle.asm.proofs.Orders.{is-behind, least_behind}
 use Rattle.asm.proofs.SectionFits.{SectionsFit, fits-at}
-use Rattle.asm.proofs.Stages.{declaring, front-shorter, with_capabilities, with_contents, with_frames, with_tables}
+use Rattle.asm.proofs.Stages.{declaring, front-shorter, with_capabilities, with_contents, with_frames, with_promises, with_tables}
 
 -- ---- what a capability is made from
 
@@ -107,6 +109,12 @@ values-words (n ∷ ns) h = ap (λ m. m ∷ map value_of (map decimal ns)) (valu
 all-words : (ns : List ℕ) → AllByRecursion IsWord ns → all_words (map decimal ns) ≡ Ok tt
 all-words [] h = refl
 all-words (n ∷ ns) h = rw (number-decimal n (let small : n < 2 ^ 32 = h.0 in omega (arith, small))) (rw (inside n h.0) (all-words ns h.1))
+
+promised-back : (ws : List PromisedWord) → AllByRecursion IsPromisedWord ws → promised_values (flat_map promised_words ws) ≡ ws
+promised-back [] h = refl
+promised-back (w ∷ ws) h =
+    ap (λ (r : Result PromisedWord ℕ). elim r [ Ok v ↦ v ∷ promised_values (flat_map promised_words ws) | Err e ↦ [] ]) (promised-says w h.0)
+    ∙ ap (λ vs. w ∷ vs) (promised-back ws h.1)
 
 -- ---- the last of a list that was made of another
 
@@ -250,5 +258,37 @@ module _ (image : Image) (labels : List FoundLabels) (fits : SectionsFit image) 
             (record (with_contents image []) {
               contents = front
                   ++ (record { header = record { frame = c.header.frame; words = k }; words = c.words }) ∷ [];
+            })) one.long);
+      }
+
+  pub promise-adds : (number : ℕ) (front : List ImagePromise) (p : ImagePromise) (rest : List ImagePromise) → image.promises ≡ front ++ p ∷ rest
+      → Adds labels number (declaring image (with_promises image front)) (promise_said p) (declaring image (with_promises image (front ++ p ∷ [])))
+  promise-adds number front p rest same =
+      let less = front-shorter image.promises front p rest same in
+      let most = limits.header.promises in
+      let long = limits.promises in
+      let one = promise-parts image.header.objects (least_behind (λ x. x.header.endpoint + 1) 0 front) p
+      (fits-at (promise_format image.header.objects) (λ x. x.header.endpoint + 1) 0 image.header.promises image.promises front p rest fits.promises same) in
+      let endpoint = object-number image limits p.header.endpoint one.endpoint in
+      let words = promised-back p.words one.words in
+      record {
+        placed = record {
+          named = object-named image limits p.header.endpoint one.endpoint;
+          few = subst (λ (ws : List PromisedWord). length ws ≤ 8) (sym words) one.few;
+          behind = ap (λ n. is_behind (λ (x : ImagePromise). x.header.endpoint) n front) endpoint
+              ∙ is-behind (λ (x : ImagePromise). x.header.endpoint) p.header.endpoint 0 front one.behind;
+          room = omega (arith, less, most, long);
+        };
+        reads = ap (λ n. declaring image (record (with_promises image []) {
+          promises = front ++ promise_with n p.header.badge_low p.header.badge_high (promised_values (flat_map promised_words p.words)) ∷ [];
+        })) endpoint
+            ∙ (ap (λ ws. declaring image (record (with_promises image []) {
+              promises = front ++ promise_with p.header.endpoint p.header.badge_low p.header.badge_high ws ∷ [];
+            })) words
+            ∙ ap (λ k. declaring image (record (with_promises image []) {
+              promises = front ++ (record {
+                header = record { endpoint = p.header.endpoint; badge_low = p.header.badge_low; badge_high = p.header.badge_high; words = k };
+                words = p.words;
+              }) ∷ [];
             })) one.long);
       }

@@ -5,7 +5,7 @@ use Rattle.std.specs.List.{All, AllByRecursion, AllZip}
 use Rattle.std.specs.Str.Lines.{lines}
 use Rattle.model.specs.Images.Described.{numbered}
 use Rattle.model.specs.Images.Image.{Image, Thread, content_format, whole_image}
-use Rattle.model.specs.Images.Listing.{listing, listing_lines}
+use Rattle.model.specs.Images.Listing.{listing, listing_lines, version_listed}
 use Rattle.asm_line.specs.declared.lines.Line.{Line}
 use Rattle.asm_line.specs.Listed.{Lists}
 use Rattle.format_laws.specs.Fitting.{IsFitting}
@@ -14,14 +14,15 @@ use Rattle.asm.specs.Drafts.{draft_of, nothing_read}
 use Rattle.asm.specs.Labels.{FoundLabels, closed, labels_in, next_number, nothing_searched, searched_from, searched_line}
 use Rattle.asm.specs.Reading.{AreInPlace, with_lines}
 use Rattle.asm.proofs.Said.{capability_said, content_said, frame_said, interrupt_said, listed_lines, memory_said, object_said, table_said, thread_said}
-use Rattle.asm.proofs.Said.{untyped_said}
+use Rattle.asm.proofs.Said.{promise_said, untyped_said}
 use Rattle.asm.proofs.Joins.{Goes, join, nothing-more, number_behind, one-more, plain-section, section}
 use Rattle.asm.proofs.LabelSearch.{all_labels, between_threads, searched-append, silent}
 use Rattle.asm.proofs.ListedImages.{image-listed}
 use Rattle.asm.proofs.NameLines.{interrupt-adds, object-adds, untyped-adds}
-use Rattle.asm.proofs.PlaceLines.{capability-adds, content-adds, frame-adds, table-adds}
+use Rattle.asm.proofs.PlaceLines.{capability-adds, content-adds, frame-adds, promise-adds, table-adds}
 use Rattle.asm.proofs.SectionFits.{SectionsFit, sections-fit}
-use Rattle.asm.proofs.Stages.{declaring, with_capabilities, with_contents, with_frames, with_interrupts, with_objects, with_tables, with_untypeds}
+use Rattle.asm.proofs.Stages.{declaring, with_capabilities, with_contents, with_frames, with_interrupts, with_objects, with_promises, with_tables}
+use Rattle.asm.proofs.Stages.{with_untypeds}
 use Rattle.asm.proofs.TextLines.{all-one-line, lines-back}
 use Rattle.asm.proofs.ThreadLines.{IsEntered, after, threads-found, threads-go}
 
@@ -45,8 +46,11 @@ tables_said i = capabilities_said i ++ map table_said i.tables
 abbrev frames_said : Image → List Line
 frames_said i = tables_said i ++ map frame_said i.frames
 
+abbrev contents_said : Image → List Line
+contents_said i = frames_said i ++ map content_said i.contents
+
 abbrev sections_said : Image → List Line
-sections_said i = frames_said i ++ map content_said i.contents
+sections_said i = contents_said i ++ map promise_said i.promises
 
 -- no label stands there
 quiet-append : {E : Type 0} (say : E → Line) → ((number : ℕ) (e : E) → searched_line nothing_searched number (say e) ≡ nothing_searched) →
@@ -58,13 +62,14 @@ quiet-append say quiet front xs before =
 
 sections-quiet : (i : Image) → searched_from 0 nothing_searched (sections_said i) ≡ nothing_searched
 sections-quiet i =
-    quiet-append content_said (λ n e. refl) (frames_said i) i.contents
+    quiet-append promise_said (λ n e. refl) (contents_said i) i.promises
+    (quiet-append content_said (λ n e. refl) (frames_said i) i.contents
     (quiet-append frame_said (λ n e. refl) (tables_said i) i.frames
     (quiet-append table_said (λ n e. refl) (capabilities_said i) i.tables
     (quiet-append (capability_said i) (λ n e. refl) (interrupts_said i) i.capabilities
     (quiet-append interrupt_said (λ n e. refl) (objects_said i) (numbered i.interrupts)
     (quiet-append object_said (λ n e. refl) (untypeds_said i) (numbered i.objects)
-    (silent untyped_said nothing_searched (λ n e. refl) (next_number 0) (numbered i.untypeds)))))))
+    (silent untyped_said nothing_searched (λ n e. refl) (next_number 0) (numbered i.untypeds))))))))
 
 -- ---- the sections
 
@@ -106,9 +111,14 @@ module _ (i : Image) (labels : List FoundLabels) (fits : SectionsFit i) (limits 
       (map frame_said i.frames)
       tables (plain-section labels frame_said (λ xs. declaring i (with_frames i xs)) i.frames (frame-adds i labels fits limits)
       (number_behind 0 (tables_said i))) in
-      join labels 0 nothing_read (declaring i (with_frames i i.frames)) (declaring i (with_contents i i.contents)) (frames_said i) (map content_said i.contents)
+      let contents = join labels 0 nothing_read (declaring i (with_frames i i.frames)) (declaring i (with_contents i i.contents)) (frames_said i)
+      (map content_said i.contents)
       frames (plain-section labels content_said (λ xs. declaring i (with_contents i xs)) i.contents (content-adds i labels fits limits few-contents)
-      (number_behind 0 (frames_said i)))
+      (number_behind 0 (frames_said i))) in
+      join labels 0 nothing_read (declaring i (with_contents i i.contents)) (declaring i (with_promises i i.promises)) (contents_said i)
+      (map promise_said i.promises)
+      contents (plain-section labels promise_said (λ xs. declaring i (with_promises i xs)) i.promises (promise-adds i labels fits limits)
+      (number_behind 0 (contents_said i)))
 
 -- ---- the whole
 
@@ -144,10 +154,10 @@ whole-goes i fits limits entered =
     (threads-go i labels limits 0 i.header.threads (number_behind 0 (sections_said i)) [] i.threads [] fits.threads (entered-each i.threads entered)
     (omega (arith, few, long)) refl (labels-found i fits entered))
 
-pub read-back : (image : Image) → whole_image.fits image ≡ true → All (λ (t : Thread). t.header.entry < t.header.words) image.threads → IsReadBack image
+pub read-back : (image : Image) → whole_image.fits image ≡ true → image.header.version ≡ version_listed image.promises → All (λ (t : Thread). t.header.entry < t.header.words) image.threads → IsReadBack image
 unfolding listing
-read-back image is entered =
-    let fits = sections-fit image is in
+read-back image is version entered =
+    let fits = sections-fit image is version in
     let limits = is-fitting image is in
     let listed = image-listed image fits limits in
     let goes = whole-goes image fits limits entered in

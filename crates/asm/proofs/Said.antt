@@ -11,8 +11,8 @@ use Rattle.model.specs.declared.entries.FrameEntry.{FrameEntry}
 use Rattle.model.specs.declared.entries.SlotEntry.{SlotEntry}
 use Rattle.model.specs.Acceptance.NotedStates.{record_of}
 use Rattle.model.specs.Images.Described.{numbered}
-use Rattle.model.specs.Images.Image.{Image, Thread, ImageContent, StateRecord}
-use Rattle.model.specs.Images.Listing.{untyped_name, object_name, interrupt_name, source_name, term_words}
+use Rattle.model.specs.Images.Image.{Image, Thread, ImageContent, ImagePromise, StateRecord}
+use Rattle.model.specs.Images.Listing.{untyped_name, object_name, interrupt_name, promised_words, source_name, term_words}
 use Rattle.asm_line.specs.declared.lines.Line.{Line}
 use Rattle.asm_line.specs.declared.lines.Line.TheVariants as line
 use Rattle.asm_line.specs.declared.lines.ThreadLine.{ThreadLine}
@@ -44,6 +44,9 @@ frame_said f = line.Frame (object_name f.root) f.address (object_name f.frame) f
 
 abbrev pub content_said : ImageContent → Line
 content_said c = line.Content (object_name c.header.frame) (map decimal c.words)
+
+abbrev pub promise_said : ImagePromise → Line
+promise_said p = line.Promise (object_name p.header.endpoint) p.header.badge_low p.header.badge_high (flat_map promised_words p.words)
 
 -- ---- threads
 
@@ -88,4 +91,4 @@ listed_lines image =
     (memory_said image ∷ map untyped_said (numbered image.untypeds)) ++ map object_said (numbered image.objects)
     ++ map interrupt_said (numbered image.interrupts) ++ map (capability_said image) image.capabilities
     ++ map table_said image.tables ++ map frame_said image.frames ++ map content_said image.contents
-    ++ flat_map thread_said image.threads
+    ++ map promise_said image.promises ++ flat_map thread_said image.threads

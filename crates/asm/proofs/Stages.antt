@@ -8,7 +8,7 @@ use Rattle.model.specs.declared.entries.InterruptEntry.{InterruptEntry}
 use Rattle.model.specs.declared.entries.ObjectEntry.{ObjectEntry}
 use Rattle.model.specs.declared.entries.TableEntry.{TableEntry}
 use Rattle.model.specs.declared.entries.UntypedEntry.{UntypedEntry}
-use Rattle.model.specs.Images.Image.{Image, ImageContent}
+use Rattle.model.specs.Images.Image.{Image, ImageContent, ImagePromise}
 use Rattle.asm.specs.Drafts.{Draft, capability_of}
 use Rattle.asm.specs.Sections.{Declared}
 use Rattle.asm.proofs.NumberedNames.{names_from, names-longer, interrupts_from}
@@ -32,6 +32,7 @@ with_untypeds us = record {
   tables = [];
   frames = [];
   contents = [];
+  promises = [];
 }
 
 abbrev pub with_objects : Image → List ObjectEntry → Declared
@@ -44,6 +45,7 @@ with_objects i os = record {
   tables = [];
   frames = [];
   contents = [];
+  promises = [];
 }
 
 abbrev pub with_interrupts : Image → List InterruptEntry → Declared
@@ -56,6 +58,7 @@ with_interrupts i xs = record {
   tables = [];
   frames = [];
   contents = [];
+  promises = [];
 }
 
 abbrev pub with_capabilities : Image → List CapabilityEntry → Declared
@@ -69,6 +72,9 @@ with_frames i fs = record (with_tables i i.tables) { frames = fs }
 
 abbrev pub with_contents : Image → List ImageContent → Declared
 with_contents i cs = record (with_frames i i.frames) { contents = cs }
+
+abbrev pub with_promises : Image → List ImagePromise → Declared
+with_promises i ps = record (with_contents i i.contents) { promises = ps }
 
 -- ---- one entry more
 

@@ -1,5 +1,5 @@
 -- Lines in no thread that declare no name, and outcomes that follow from others.
-use Rattle.std.specs.Prelude.{Result, MatchResult, Option, is_some, length, not, ◌==◌, if◌then◌else◌}
+use Rattle.std.specs.Prelude.{Result, Option, is_some, length, not, ◌==◌, if◌then◌else◌}
 use Rattle.std.proofs.Common.{◌≡◌, ◌⊎◌, inl, inr, ℕ, Bool, true, false, List, Some, None, Ok, Err, refl, sym, ap, subst, ◌∙◌, true≢false}
 use Rattle.std.specs.Result.{IsErr, IsErrAnd}
 use Rattle.model.specs.declared.entries.UntypedEntry.{UntypedEntry}
@@ -78,6 +78,7 @@ other-placed labels d (line.Capability cnode index source rights payload) other 
 other-placed labels d (line.Table root address table) other = refl
 other-placed labels d (line.Frame root address frame rights) other = refl
 other-placed labels d (line.Content frame words) other = refl
+other-placed labels d (line.Promise endpoint low high words) other = refl
 other-placed labels d (line.Thread begun) other = absurd (other.thread begun refl)
 other-placed labels d (line.Register entry) other = refl
 other-placed labels d (line.Measure constant terms) other = refl

@@ -10,7 +10,7 @@ use Rattle.model.specs.Images.Format.{field, many_fit}
 use Rattle.asm_line.specs.declared.lines.Line.TheVariants as line
 use Rattle.format_laws.specs.Fitting.{IsFitting}
 use Rattle.format_laws.proofs.Laws.{many-length}
-use Rattle.asm.specs.Drafts.{assembled_version, Draft, declared_of}
+use Rattle.asm.specs.Drafts.{Draft, declared_of, thread_version}
 use Rattle.asm.specs.Labels.{FoundLabels, is_first_on, next_number, place_named, point_of, searched_from}
 use Rattle.asm.specs.Reading.{labels_at}
 use Rattle.asm.proofs.Said.{point_said, thread_line_said, thread_said}
@@ -237,7 +237,7 @@ label-there (y ∷ ys) x rest (suc k) e = label-there ys x rest k (omega (arith,
 
 module _ (image : Image) (labels : List FoundLabels) (limits : IsFitting image) where
   pub threads-go : (least count number : ℕ) (ts rest : List Thread) (front : List FoundLabels) →
-      many_fit (λ _. thread_format (slots_format image.header.objects) assembled_version image.header.objects) (λ _. 0) least count rest ≡ true
+      many_fit (λ _. thread_format (slots_format image.header.objects) thread_version image.header.objects) (λ _. 0) least count rest ≡ true
       → AllByRecursion IsEntered rest → length ts + length rest ≤ 64 → length front ≡ length ts → labels ≡ front ++ all_labels number rest
       → Goes labels number (after image ts) (flat_map thread_said rest) (after image (ts ++ rest))
   unfolding many_fit
@@ -245,8 +245,8 @@ module _ (image : Image) (labels : List FoundLabels) (limits : IsFitting image) 
       nothing-more labels number (after image ts) (after image (ts ++ [])) (ap (after image) (sym (append-nil ts)))
   threads-go least zero number ts (t ∷ rest) front is inside_all few long same = absurd (let clash : false ≡ true = is in cc)
   threads-go least (suc n) number ts (t ∷ rest) front is inside_all few long same =
-      let both = and_parts ((thread_format (slots_format image.header.objects) assembled_version image.header.objects).fits t)
-      (many_fit (λ _. thread_format (slots_format image.header.objects) assembled_version image.header.objects) (λ _. 0) 0 n rest) is in
+      let both = and_parts ((thread_format (slots_format image.header.objects) thread_version image.header.objects).fits t)
+      (many_fit (λ _. thread_format (slots_format image.header.objects) thread_version image.header.objects) (λ _. 0) 0 n rest) is in
       let own = thread_labels t number in
       let others = all_labels (number_behind number (thread_said t)) rest in
       let count : length labels ≡ length front + length (own ∷ others) = ap length same ∙ length-append front (own ∷ others) in
@@ -264,14 +264,14 @@ module _ (image : Image) (labels : List FoundLabels) (limits : IsFitting image) 
       behind)
 
 pub threads-found : (objects least count number : ℕ) (ts : List Thread) (found : List FoundLabels) →
-    many_fit (λ _. thread_format (slots_format objects) assembled_version objects) (λ _. 0) least count ts ≡ true
+    many_fit (λ _. thread_format (slots_format objects) thread_version objects) (λ _. 0) least count ts ≡ true
     → AllByRecursion IsEntered ts → searched_from number (between_threads found) (flat_map thread_said ts) ≡ between_threads (found ++ all_labels number ts)
 unfolding many_fit
 threads-found objects least count number [] found is inside_all = ap between_threads (sym (append-nil found))
 threads-found objects least zero number (t ∷ ts) found is inside_all = absurd (let clash : false ≡ true = is in cc)
 threads-found objects least (suc n) number (t ∷ ts) found is inside_all =
-    let both = and_parts ((thread_format (slots_format objects) assembled_version objects).fits t)
-    (many_fit (λ _. thread_format (slots_format objects) assembled_version objects) (λ _. 0) 0 n ts)
+    let both = and_parts ((thread_format (slots_format objects) thread_version objects).fits t)
+    (many_fit (λ _. thread_format (slots_format objects) thread_version objects) (λ _. 0) 0 n ts)
     is in
     let fits = thread-parts objects t both.0 in
     searched-append number (between_threads found) (thread_said t) (flat_map thread_said ts)

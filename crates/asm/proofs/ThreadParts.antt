@@ -23,7 +23,7 @@ use Rattle.image_reading.proofs.Laws.{words-only}
 use Rattle.asm_line.specs.declared.lines.Line.TheVariants as line
 use Rattle.asm_line.specs.Listed.{Lists, range, register, slot, IsTerm, IsWord}
 use Rattle.format_laws.proofs.Laws.{between-bounds, field-between, field-parts}
-use Rattle.asm.specs.Drafts.{assembled_version}
+use Rattle.asm.specs.Drafts.{thread_version}
 use Rattle.asm.proofs.Said.{slot_said}
 use Rattle.asm.proofs.Orders.{least_behind}
 
@@ -49,7 +49,7 @@ pub record ThreadFits (objects : ℕ) (t : Thread) : Type 0 where
   pub words : many_fit (λ _. field anything) (λ _. 0) 0 t.header.words t.words ≡ true
   pub records : many_fit (record_format (slots_format objects) t.header.words) (λ r. r.header.point + 1) 0 t.header.records t.records ≡ true
 
-header-parts : (objects : ℕ) (h : ThreadHeader) → (thread_header_format assembled_version objects).fits h ≡ true → HeaderFits objects h
+header-parts : (objects : ℕ) (h : ThreadHeader) → (thread_header_format thread_version objects).fits h ≡ true → HeaderFits objects h
 unfolding thread_header_format
 header-parts objects h is =
     let a = and_parts ((field (below objects)).fits h.tcb) _ is in
@@ -80,7 +80,7 @@ header-parts objects h is =
       few_words = words.1;
     }
 
-pub thread-parts : (objects : ℕ) (t : Thread) → (thread_format (slots_format objects) assembled_version objects).fits t ≡ true → ThreadFits objects t
+pub thread-parts : (objects : ℕ) (t : Thread) → (thread_format (slots_format objects) thread_version objects).fits t ≡ true → ThreadFits objects t
 unfolding thread_format registers_format words_format records_format
 thread-parts objects t is =
     let a = and_parts _ _ is in

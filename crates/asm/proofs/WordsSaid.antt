@@ -1,16 +1,18 @@
--- The words of a `data` line and the terms of a `measure` line, as a loop reads them.
-use Rattle.std.specs.Prelude.{◌⊎◌, nat_le, nat_lt, Result, if◌then◌else◌}
-use Rattle.std.proofs.Common.{◌≡◌, ℕ, ◌<◌, ◌≤◌, ◌+◌, Bool, true, false, List, [], ◌∷◌, ◌++◌, length, Option, Some, None, Ok, Err, ℤ, refl, sym, ap, subst, ◌∙◌}
+-- The words of a `data` line, those of a `promise` line and the terms of a `measure` line, as a loop reads them.
+use Rattle.std.specs.Prelude.{nat_le, nat_lt, Result, if◌then◌else◌}
+use Rattle.std.proofs.Common.{◌≡◌, ℕ, ◌<◌, ◌≤◌, ◌+◌, Bool, true, false, List, [], ◌∷◌, ◌++◌, length, Option, Some, None, Ok, Err, ℤ, refl, sym, ap, ◌∙◌}
 use Rattle.std.proofs.Common.{arith, length-append, append_assoc}
 use Rattle.std.specs.Result.{result_ok}
 use Rattle.std.proofs.lemmas.Bool.{le-leb, lt-leb, ltb-true, ltb-false}
 use Rattle.std.proofs.lemmas.List.{append-nil}
+use Rattle.model.specs.declared.entries.PromisedWord.{PromisedWord}
 use Rattle.model.specs.declared.entries.TermEntry.{TermEntry}
 use Rattle.model.specs.Images.Listing.{Text}
 use Rattle.asm_line.specs.Words.{◌>>=◌, number_of}
-use Rattle.asm_line.specs.Lines.{term_first, term_of, word, word_first}
+use Rattle.asm_line.specs.Lines.{promised_first, promised_of, term_first, term_of, word, word_first}
 use Rattle.asm.specs.Keys.{has_room, must, sorted_with}
-use Rattle.asm.specs.Meaning.{sorted_terms, terms_said, values_of, words_said}
+use Rattle.asm.specs.Meaning.{promised_said, sorted_terms, terms_said, values_of, words_said}
+use Rattle.asm.specs.Sections.{promised_values}
 
 -- ---- room
 
@@ -89,6 +91,62 @@ values-done read words all now none =
     let count : length read ≡ length (values_of all) = ap length same in
     let short : nat_le (length (values_of all)) 1024 ≡ true = le-leb _ _ (omega (arith, count, now.few)) in
     ap (λ (b : Bool). must b 4 >>= λ short. Ok (values_of all)) short ∙ ap (λ (xs : List ℕ). Ok xs) (sym same)
+
+-- ---- promised words
+
+abbrev shown_promised : Option (PromisedWord × List Text) → List PromisedWord
+shown_promised (Some first) = first.0 ∷ promised_values first.1
+shown_promised None = []
+
+shown-pair : (r : Result PromisedWord ℕ) (ws : List Text) → elim r [ Ok word ↦ word ∷ promised_values ws | Err e ↦ [] ] ≡ shown_promised
+    (result_ok (r >>= λ promised. Ok (promised, ws)))
+shown-pair (Ok word) ws = refl
+shown-pair (Err e) ws = refl
+
+promised-shown : (words : List Text) → promised_values words ≡ shown_promised (result_ok (promised_first words))
+promised-shown [] = refl
+promised-shown (low ∷ []) = refl
+promised-shown (low ∷ high ∷ ws) = shown-pair (promised_of low high) ws
+
+no-promised : (words : List Text) → None ≡ result_ok (promised_first words) → promised_values words ≡ []
+no-promised words e = promised-shown words ∙ sym (ap shown_promised e)
+
+first-promised : (words : List Text) (w : PromisedWord) (rest : List Text) → Some (w, rest) ≡ result_ok (promised_first words) →
+    promised_values words ≡ w ∷ promised_values rest
+first-promised words w rest e = promised-shown words ∙ sym (ap shown_promised e)
+
+pub record PromisedLeft (read : List PromisedWord) (rest all : List Text) : Type 0 where
+  pub so_far : read ++ promised_values rest ≡ promised_values all
+  pub few : length read ≤ 8
+
+pub one-promised-more : (read grown : List PromisedWord) (words all : List Text) (w : PromisedWord) (rest : List Text) → PromisedLeft read words all →
+    Some (w, rest) ≡ result_ok (promised_first words)
+    → has_room 8 read ≡ Ok tt → grown ≡ read ++ w ∷ [] → PromisedLeft grown rest all
+one-promised-more read grown words all w rest now first room same = record {
+  so_far = ap (λ xs. xs ++ promised_values rest) same ∙ append_assoc read (w ∷ []) (promised_values rest)
+      ∙ ap (λ xs. read ++ xs) (sym (first-promised words w rest first)) ∙ now.so_far;
+  few = let long : length grown ≡ length read + 1 = ap length same ∙ length-append read (w ∷ []) in omega (arith, long, has-room 8 read room);
+}
+
+pub promised-full : (read : List PromisedWord) (words all : List Text) (w : PromisedWord) (rest : List Text) (kind : ℕ) → PromisedLeft read words all →
+    Some (w, rest) ≡ result_ok (promised_first words)
+    → has_room 8 read ≡ Err kind → promised_said all ≡ Err kind
+unfolding promised_said
+promised-full read words all w rest kind now first none =
+    let full = has-none 8 read kind none in
+    let long : length (promised_values all) ≡ length read + length (w ∷ promised_values rest) =
+    ap length (sym now.so_far ∙ ap (λ xs. read ++ xs) (first-promised words w rest first)) ∙ length-append read (w ∷ promised_values rest) in
+    let over : nat_le (length (promised_values all)) 8 ≡ false = lt-leb _ _ (omega (arith, long, full.full)) in
+    ap (λ (b : Bool). must b 4 >>= λ few. Ok (promised_values all)) over ∙ ap (λ (k : ℕ). Err k) (sym full.range)
+
+pub promised-done : (read : List PromisedWord) (words all : List Text) → PromisedLeft read words all → None ≡ result_ok (promised_first words) →
+    promised_said all ≡ Ok read
+unfolding promised_said
+promised-done read words all now none =
+    let same : read ≡ promised_values all = sym (append-nil read) ∙ ap (λ xs. read ++ xs) (sym (no-promised words none)) ∙ now.so_far in
+    let count : length read ≡ length (promised_values all) = ap length same in
+    let short : nat_le (length (promised_values all)) 8 ≡ true = le-leb _ _ (omega (arith, count, now.few)) in
+    ap (λ (b : Bool). must b 4 >>= λ few. Ok (promised_values all)) short ∙ ap (λ (xs : List PromisedWord). Ok xs) (sym same)
 
 -- ---- terms
 

@@ -6,7 +6,7 @@ use Rattle.model.specs.declared.entries.ImageHeader.{ImageHeader}
 use Rattle.model.specs.declared.entries.InterruptEntry.{InterruptEntry}
 use Rattle.model.specs.Images.Described.{numbered}
 use Rattle.model.specs.Images.Image.{Image, Thread}
-use Rattle.model.specs.Images.Listing.{untyped_name, object_name, interrupt_name}
+use Rattle.model.specs.Images.Listing.{untyped_name, object_name, interrupt_name, version_listed}
 use Rattle.model.specs.Images.Places.{is_handler, interrupt_of}
 use Rattle.asm.specs.declared.assembly.Memory.{Memory}
 use Rattle.asm.specs.declared.declarations.Capability.{Capability}
@@ -58,6 +58,7 @@ declared_of image = record {
   tables = image.tables;
   frames = image.frames;
   contents = image.contents;
+  promises = image.promises;
 }
 
 abbrev pub draft_of : Image → Draft
@@ -70,13 +71,13 @@ draft_of image = record {
 
 -- ---- what is put together behind the last line
 
--- the version of an image that is put together of lines, which has no promises and no buffers
-abbrev pub assembled_version : ℕ
-assembled_version = 1
+-- threads have no buffers in both versions that are put together of lines, and one format
+abbrev pub thread_version : ℕ
+thread_version = 1
 
 abbrev pub counted_header : Memory → Declared → List CapabilityEntry → List Thread → ImageHeader
 counted_header m d cs ts = record {
-  version = assembled_version;
+  version = version_listed d.promises;
   memory_bits = m.bits;
   boot_radix = m.boot_radix;
   untypeds = length d.untypeds;
@@ -86,7 +87,7 @@ counted_header m d cs ts = record {
   tables = length d.tables;
   frames = length d.frames;
   contents = length d.contents;
-  promises = 0;
+  promises = length d.promises;
   threads = length ts;
 }
 
@@ -100,6 +101,6 @@ assembled m d cs ts = record {
   tables = d.tables;
   frames = d.frames;
   contents = d.contents;
-  promises = [];
+  promises = d.promises;
   threads = ts;
 }

@@ -8,6 +8,7 @@ use Rattle.std.specs.Option.{option_map_or}
 use Rattle.std.specs.Str.Lines.{lines}
 use Rattle.model.specs.declared.entries.FrameEntry.{FrameEntry}
 use Rattle.model.specs.declared.entries.InterruptEntry.{InterruptEntry}
+use Rattle.model.specs.declared.entries.PromisedWord.{PromisedWord}
 use Rattle.model.specs.declared.entries.RangeEntry.{RangeEntry}
 use Rattle.model.specs.declared.entries.RegisterEntry.{RegisterEntry}
 use Rattle.model.specs.declared.entries.SlotEntry.{SlotEntry}
@@ -16,7 +17,7 @@ use Rattle.model.specs.declared.entries.TermEntry.{TermEntry}
 use Rattle.model.specs.declared.instructions.BranchOp.{BranchOp}
 use Rattle.model.specs.declared.instructions.Register.{Register}
 use Rattle.model.specs.declared.instructions.Instr.TheVariants.{Jal, Branch}
-use Rattle.model.specs.Images.Image.{Image, ImageContent, StateRecord, no_parent, pair_key, whole_image, no_buffer}
+use Rattle.model.specs.Images.Image.{Image, ImageContent, ImagePromise, StateRecord, no_parent, pair_key, whole_image, no_buffer}
 use Rattle.model.specs.Images.Listing.{Text}
 use Rattle.model.specs.Machine.Instructions.{bits, word_of}
 use Rattle.asm_line.specs.declared.lines.Line.{Line}
@@ -38,7 +39,7 @@ use Rattle.asm.specs.Keys.{has_room, must, sorted_with}
 use Rattle.asm.specs.Labels.{FoundLabels, Searched, closed, in_open, is_first_on, next_number, nothing_searched, place_named, searched_line, with_label}
 use Rattle.asm.specs.Names.{KnownNames, free, number_known, source_known, with_interrupt_name}
 use Rattle.asm.specs.Reading.{labels_at}
-use Rattle.asm.specs.Sections.{Declared, entry_of, is_in_order, with_object, with_untyped}
+use Rattle.asm.specs.Sections.{Declared, entry_of, is_in_order, promise_with, promised_values, with_object, with_untyped}
 use Rattle.asm.specs.Threads.{OpenDraft, with_word}
 
 -- ---- lines outside threads
@@ -55,7 +56,11 @@ words_said words = must (nat_le (length (values_of words)) 1024) 4 >>= λ short.
 abbrev pub content_with : ℕ → List ℕ → ImageContent
 content_with frame words = record { header = record { frame = frame; words = length words }; words = words }
 
--- what a slot, a page or a frame holds
+-- no more than a message has
+unfoldable pub promised_said : List Text → Result (List PromisedWord) ℕ
+promised_said words = must (nat_le (length (promised_values words)) 8) 4 >>= λ few. Ok (promised_values words)
+
+-- what a slot, a page or a frame holds, and what is promised at an endpoint
 unfoldable pub placed_with : Declared → Line → Result Declared ℕ
 placed_with d (line.Capability cnode index source rights payload) = do
   number ← number_known d.names.objects cnode
@@ -79,6 +84,11 @@ placed_with d (line.Content frame words) = do
   values ← words_said words
   contents ← sorted_with (λ (c : ImageContent). c.header.frame) 4096 (content_with number values) d.contents
   Ok (record d { contents = contents })
+placed_with d (line.Promise endpoint low high words) = do
+  number ← number_known d.names.objects endpoint
+  ranges ← promised_said words
+  promises ← sorted_with (λ (p : ImagePromise). p.header.endpoint) 4096 (promise_with number low high ranges) d.promises
+  Ok (record d { promises = promises })
 placed_with d _ = Err 1
 
 unfoldable pub declared_with : Declared → Line → Result Declared ℕ

@@ -9,7 +9,7 @@ use Rattle.asm.specs.Labels.{FoundLabels, no_labels, is_first_on, next_number}
 use Rattle.asm.specs.Names.{KnownNames}
 use Rattle.asm.specs.Sections.{MayAddUntyped, with_untyped, MayAddObject, object_entry, with_object, MayAddInterrupt, interrupt_entry, with_interrupt}
 use Rattle.asm.specs.Sections.{MayAddCapability, capability_said, with_capability, MayAddTable, table_entry, with_table, MayAddFrame, frame_entry, with_frame}
-use Rattle.asm.specs.Sections.{MayAddContent, content_said, with_content}
+use Rattle.asm.specs.Sections.{MayAddContent, MayAddPromise, content_said, promise_said, with_content, with_promise}
 use Rattle.asm.specs.Threads.{OpenDraft, MayBegin, thread_begun, MayAddRegister, with_register, MayAddMeasure, with_measure, MayAddRange, with_range}
 use Rattle.asm.specs.Threads.{MayAddSlot, slot_entry, with_slot, MayAddCode, with_word, plain_word, MayEnd}
 
@@ -40,6 +40,7 @@ IsPlacement d (line.Capability cnode index source rights payload) = MayAddCapabi
 IsPlacement d (line.Table root address table) = MayAddTable d.declared root address table
 IsPlacement d (line.Frame root address frame rights) = MayAddFrame d.declared root address frame
 IsPlacement d (line.Content frame words) = MayAddContent d.declared frame words
+IsPlacement d (line.Promise endpoint low high words) = MayAddPromise d.declared endpoint words
 IsPlacement d _ = ⊥
 
 abbrev pub with_placement : Draft → Line → Draft
@@ -49,6 +50,7 @@ with_placement d (line.Table root address table) = record d { declared = with_ta
 with_placement d (line.Frame root address frame rights) =
     record d { declared = with_frame d.declared (frame_entry d.declared root address frame rights) }
 with_placement d (line.Content frame words) = record d { declared = with_content d.declared (content_said d.declared frame words) }
+with_placement d (line.Promise endpoint low high words) = record d { declared = with_promise d.declared (promise_said d.declared endpoint low high words) }
 with_placement d _ = d
 
 abbrev pub IsDeclaration : List FoundLabels → Draft → Line → Type 0

@@ -7,12 +7,13 @@ use Rattle.model.specs.declared.entries.UntypedEntry.{UntypedEntry}
 use Rattle.model.specs.declared.entries.ObjectEntry.{ObjectEntry}
 use Rattle.model.specs.declared.entries.InterruptEntry.{InterruptEntry}
 use Rattle.model.specs.declared.entries.CapabilityEntry.{CapabilityEntry}
+use Rattle.model.specs.declared.entries.PromisedWord.{PromisedWord}
 use Rattle.model.specs.declared.entries.TableEntry.{TableEntry}
 use Rattle.model.specs.declared.entries.FrameEntry.{FrameEntry}
-use Rattle.model.specs.Images.Image.{ImageContent, pair_key}
+use Rattle.model.specs.Images.Image.{ImageContent, ImagePromise, pair_key}
 use Rattle.model.specs.Images.Listing.{Text}
 use Rattle.asm_line.specs.Words.{◌>>=◌, number_of as number_in}
-use Rattle.asm_line.specs.Lines.{word, all_words}
+use Rattle.asm_line.specs.Lines.{promised_of, word, all_words}
 use Rattle.asm.specs.declared.declarations.Capability.{Capability}
 use Rattle.asm.specs.declared.names.Source.{Source}
 use Rattle.asm.specs.declared.names.Source.TheVariants.{Object, Handler}
@@ -28,10 +29,11 @@ pub record Declared : Type 0 where
   pub tables : List TableEntry
   pub frames : List FrameEntry
   pub contents : List ImageContent
+  pub promises : List ImagePromise
 
 abbrev pub nothing_declared : Declared
 nothing_declared =
-    record { names = no_names; untypeds = []; objects = []; capabilities = []; interrupts = []; tables = []; frames = []; contents = [] }
+    record { names = no_names; untypeds = []; objects = []; capabilities = []; interrupts = []; tables = []; frames = []; contents = []; promises = [] }
 
 -- ---- untypeds, objects, interrupts
 
@@ -135,6 +137,32 @@ pub record MayAddContent (d : Declared) (frame : Text) (words : List Text) : Typ
 
 abbrev pub with_content : Declared → ImageContent → Declared
 with_content d content = record d { contents = d.contents ++ content ∷ [] }
+
+-- ---- promises
+
+-- the ranges that words say, two and two; on a line each of them says one
+abbrev pub promised_values : List Text → List PromisedWord
+promised_values [] = []
+promised_values (low ∷ []) = []
+promised_values (low ∷ high ∷ others) = elim (promised_of low high) [ Ok word ↦ word ∷ promised_values others | Err e ↦ [] ]
+
+abbrev pub promise_with : ℕ → ℕ → ℕ → List PromisedWord → ImagePromise
+promise_with endpoint low high words = record {
+  header = record { endpoint = endpoint; badge_low = low; badge_high = high; words = length words };
+  words = words;
+}
+
+pub record MayAddPromise (d : Declared) (endpoint : Text) (words : List Text) : Type 0 where
+  pub named : IsNamed d.names.objects endpoint
+  pub few : length (promised_values words) ≤ 8
+  pub behind : is_behind (λ (p : ImagePromise). p.header.endpoint) (number_of d.names.objects endpoint) d.promises ≡ true
+  pub room : length d.promises < 4096
+
+abbrev pub promise_said : Declared → Text → ℕ → ℕ → List Text → ImagePromise
+promise_said d endpoint low high words = promise_with (number_of d.names.objects endpoint) low high (promised_values words)
+
+abbrev pub with_promise : Declared → ImagePromise → Declared
+with_promise d promise = record d { promises = d.promises ++ promise ∷ [] }
 
 -- ---- behind the last line: the numbers of sources
 

@@ -5,7 +5,7 @@ ghost use Rattle.std.specs.List.{All};
 ghost use Rattle.std.specs.Str.Lines.{lines};
 ghost use Rattle.model.specs.Images.Image as described;
 ghost use Rattle.model.specs.Images.Image.{whole_image};
-ghost use Rattle.model.specs.Images.Listing.{listing};
+ghost use Rattle.model.specs.Images.Listing.{listing, version_listed};
 ghost use Rattle.asm.specs.Drafts.{nothing_read};
 ghost use Rattle.asm.specs.Meaning.{all_read, and_then, finished, on_line, text_means, text_read, waiting_read};
 ghost use Rattle.asm.specs.Outcomes.{Means, MeansText};
@@ -104,7 +104,8 @@ fn image_with<'a>(alloc: Global, text: &'a str, labels: &[Labels<'a>]) -> Result
 
 /// The image that a text describes, line by line. A line ends with a line feed, or a carriage return
 /// and a line feed; the last may end with the text. The listing of an image whose threads begin in
-/// their programs gives that image, unless it fails because it is out of memory.
+/// their programs, and whose version is the first that has fields for what it holds, gives that image, unless it fails
+/// because it is out of memory.
 ///
 /// # Errors
 ///
@@ -114,7 +115,7 @@ fn image_with<'a>(alloc: Global, text: &'a str, labels: &[Labels<'a>]) -> Result
 pub fn assemble(alloc: Global, text: &str) -> Result<Image, SourceFault>
     ensures image { IfOk result (λ image. whole_image.fits image ≡ true) }
     ensures fault { IfErr result (λ fault. (1 ≤ fault.line) × (1 ≤ fault.kind) × (fault.kind ≤ 5)) }
-    ensures listed { (listed : described.Image) → whole_image.fits listed ≡ true → All (λ (t : described.Thread). t.header.entry < t.header.words) listed.threads → text.now ≡ listing listed → MatchResult result (λ image. image ≡ listed) (λ fault. fault.kind ≡ 5) }
+    ensures listed { (listed : described.Image) → whole_image.fits listed ≡ true → listed.header.version ≡ version_listed listed.promises → All (λ (t : described.Thread). t.header.entry < t.header.words) listed.threads → text.now ≡ listing listed → MatchResult result (λ image. image ≡ listed) (λ fault. fault.kind ≡ 5) }
     ensures meant { MatchResult result (λ image. text_means text.now ≡ Ok image) (λ fault. (fault.kind ≡ 5) ⊎ (text_means text.now ≡ Err (fault.line, fault.kind))) }
 {
     let labels = labels_of(alloc, text)?;

@@ -5,6 +5,7 @@
 
 ghost use Rattle.std.specs.Prelude.{◌≡◌, ◌⊎◌, true, length, map, IfOk, MatchResult, Ok, Err, Some, None};
 ghost use Rattle.model.specs.Images.Image.{whole_image};
+ghost use Rattle.model.specs.Images.Listing.{version_listed};
 ghost use Rattle.asm_line.specs.declared.lines.Line.TheVariants as said;
 ghost use Rattle.asm.specs.declared.faults.Fault.{Fault};
 ghost use Rattle.asm.specs.Drafts.{assembled, nothing_read};
@@ -18,7 +19,7 @@ use crate::faults::Fault;
 use crate::labels::Labels;
 use crate::open_threads::OpenThread;
 use asm_line::{Line, ThreadLine};
-use image::{Image, Parts, ThreadParts};
+use image::{Image, Parts, Promise, ThreadParts};
 use model::CapabilityEntry;
 use std::alloc::Global;
 use std::marker::Model;
@@ -26,8 +27,15 @@ use std::marker::Model;
 /// How many threads an image has at most.
 const MOST_THREADS: usize = model::MOST_THREADS as usize;
 
-/// The version of the format of image files.
-const VERSION: u32 = 1;
+/// The version of an image with these promises: the first that has a field for them.
+fn version_with(promises: &[Promise]) -> u32
+    ensures { result ≡ version_listed promises.now }
+{
+    match promises {
+        [] => 1,
+        [_, ..] => 2,
+    }
+}
 
 /// What the line `memory` says.
 #[derive(Clone, Copy)]
@@ -200,7 +208,7 @@ impl<'a> Assembly<'a> {
         }
     }
 
-    /// Adds a line that says what a slot, a page or a frame holds.
+    /// Adds a line that says what a slot, a page or a frame holds, or what is promised at an endpoint.
     #[tactic(auto, unfolding(crate::specs::Meaning::placed_with))]
     fn place(&mut self, line: Line<'a>) -> Result<(), Fault>
         ensures { Means result (λ _. self.new) (with_declared self.old (placed_with self.old.declared line.entry)) }
@@ -227,6 +235,14 @@ impl<'a> Assembly<'a> {
                 rights,
             } => self.declared.add_frame(&root, address, &frame, rights),
             Line::Content { frame, words } => self.declared.add_content(self.alloc, &frame, words),
+            Line::Promise {
+                endpoint,
+                badge_low,
+                badge_high,
+                words,
+            } => self
+                .declared
+                .add_promise(self.alloc, &endpoint, badge_low, badge_high, words),
             _ => Err(Fault::Syntax),
         }
     }
@@ -304,7 +320,7 @@ impl<'a> Assembly<'a> {
         let declared = self.declared;
         drop(declared.names);
         Parts {
-            version: VERSION,
+            version: version_with(&declared.promises),
             memory_bits: memory.bits,
             boot_radix: memory.boot_radix,
             untypeds: declared.untypeds,
@@ -314,7 +330,7 @@ impl<'a> Assembly<'a> {
             tables: declared.tables,
             frames: declared.frames,
             contents: declared.contents,
-            promises: Vec::new(self.alloc),
+            promises: declared.promises,
             threads: self.threads,
         }
     }

@@ -5,7 +5,7 @@ ghost use Rattle.std.specs.List.{position_or_len};
 ghost use Rattle.asm_line.specs.declared.lines.Line.TheVariants as said;
 ghost use Rattle.asm.specs.declared.faults.Fault.{Fault};
 ghost use Rattle.asm.specs.Keys.{has_room};
-ghost use Rattle.asm.specs.Meaning.{declared_with, placed_with, words_said};
+ghost use Rattle.asm.specs.Meaning.{declared_with, placed_with, promised_said, words_said};
 ghost use Rattle.asm.specs.Outcomes.{Gives, Means};
 ghost use Rattle.asm.specs.Sections.{entry_of, is_in_order, nothing_declared, number_of_source, on_line};
 
@@ -13,8 +13,11 @@ use crate::faults::Fault;
 use crate::keys::insert;
 use crate::names::{Names, Source};
 use asm_line::{Name, Words};
-use image::Content;
-use model::{CapabilityEntry, FrameEntry, InterruptEntry, ObjectEntry, TableEntry, UntypedEntry};
+use image::{Content, Promise};
+use model::{
+    CapabilityEntry, FrameEntry, InterruptEntry, ObjectEntry, PromisedWord, TableEntry,
+    UntypedEntry,
+};
 use std::alloc::Global;
 use std::marker::Model;
 
@@ -33,8 +36,13 @@ const MOST_FRAMES: usize = model::MOST_FRAMES as usize;
 
 const MOST_CONTENTS: usize = model::MOST_CONTENTS as usize;
 
+const MOST_PROMISES: usize = model::MOST_PROMISES as usize;
+
 /// How many words a frame begins with at most.
 const MOST_CONTENT_WORDS: usize = model::MOST_CONTENT_WORDS as usize;
+
+/// How many words of a message are promised at most.
+const MOST_PROMISED_WORDS: usize = 8;
 
 /// A capability in a slot of a CNode, as it is declared.
 #[derive(Clone, Copy)]
@@ -57,6 +65,7 @@ pub(crate) struct Declarations<'a> {
     pub(crate) tables: Vec<TableEntry>,
     pub(crate) frames: Vec<FrameEntry>,
     pub(crate) contents: Vec<Content>,
+    pub(crate) promises: Vec<Promise>,
 }
 
 impl<'a> Model for Declarations<'a> {
@@ -73,6 +82,7 @@ impl<'a> Model for Declarations<'a> {
       tables = d.tables.items;
       frames = d.frames.items;
       contents = d.contents.items;
+      promises = d.promises.items;
     } };
 }
 
@@ -96,6 +106,19 @@ fn words_of(alloc: Global, words: Words<'_>) -> Result<Vec<u32>, Fault>
     let mut rest = words;
     'words: while let Some((word, words)) = rest.next_word() {
         append(&mut read, MOST_CONTENT_WORDS, word)?;
+        rest = words;
+    }
+    Ok(read)
+}
+
+/// The words' ranges of a `promise` line.
+fn promised_words_of(alloc: Global, words: Words<'_>) -> Result<Vec<PromisedWord>, Fault>
+    ensures { Means result (λ read. read.items) (promised_said words.entry) }
+{
+    let mut read = Vec::new(alloc);
+    let mut rest = words;
+    'words: while let Some((word, words)) = rest.next_promised_word() {
+        append(&mut read, MOST_PROMISED_WORDS, word)?;
         rest = words;
     }
     Ok(read)
@@ -152,6 +175,7 @@ impl<'a> Declarations<'a> {
             tables: Vec::new(alloc),
             frames: Vec::new(alloc),
             contents: Vec::new(alloc),
+            promises: Vec::new(alloc),
         }
     }
 
@@ -284,6 +308,28 @@ impl<'a> Declarations<'a> {
         let frame = self.names.object(frame)?;
         let words = words_of(alloc, words)?;
         insert(&mut self.contents, MOST_CONTENTS, Content { frame, words })
+    }
+
+    #[tactic(auto, unfolding(crate::specs::Meaning::placed_with))]
+    pub(crate) fn add_promise(
+        &mut self,
+        alloc: Global,
+        endpoint: &Name<'a>,
+        badge_low: u32,
+        badge_high: u32,
+        words: Words<'a>,
+    ) -> Result<(), Fault>
+        ensures { Means result (λ _. self.new) (placed_with self.old (said.Promise endpoint.now badge_low badge_high words.entry)) }
+    {
+        let endpoint = self.names.object(endpoint)?;
+        let words = promised_words_of(alloc, words)?;
+        let promise = Promise {
+            endpoint,
+            badge_low,
+            badge_high,
+            words,
+        };
+        insert(&mut self.promises, MOST_PROMISES, promise)
     }
 
     /// The number of a capability's source: that of the object, or the number of objects and that of

@@ -1,5 +1,5 @@
 -- What the crates above use of these proofs.
-pub use Rattle.asm_line.proofs.ListedLines.{Reads, next-term, terms-say}
+pub use Rattle.asm_line.proofs.ListedLines.{Reads, next-term, promised-says, terms-say}
 pub use Rattle.asm_line.proofs.ListedTexts.{reads}
 pub use Rattle.asm_line.proofs.NumberLaws.{number-decimal}
 pub use Rattle.asm_line.proofs.PlainWords.{is_plain, line-all}

@@ -1,6 +1,6 @@
 -- Each line of a listing is read as what it says.
 use Rattle.std.specs.Prelude.{◌==◌, nat_lt, nat_le}
-use Rattle.std.proofs.Common.{◌≡◌, ℕ, zero, suc, ◌-◌, ◌^◌, ◌<◌, Bool, true, false, not, ◌&&◌, List, [], ◌∷◌, ◌++◌, length, Some, None, Ok, ℤ, pos, negsuc, refl}
+use Rattle.std.proofs.Common.{◌≡◌, ℕ, zero, suc, ◌-◌, ◌^◌, ◌<◌, ◌≤◌, Bool, true, false, not, ◌&&◌, List, [], ◌∷◌, ◌++◌, length, Some, None, Ok, ℤ, pos, negsuc, refl}
 use Rattle.std.proofs.Common.{ap, ◌∙◌, arith, codes, min}
 use Rattle.std.specs.Fmt.{decimal}
 use Rattle.std.specs.List.{list_all}
@@ -17,6 +17,7 @@ use Rattle.asm_line.specs.declared.lines.Code.TheVariants as code
 use Rattle.asm_line.specs.Words.{◌>>=◌, within, name_of, name_first, object_first}
 use Rattle.asm_line.specs.Lines.{keyword_of, thread_keyword_of, memory_of, untyped_of, interrupt_of, table_of, frame_of, register_line_of, word, kind_of}
 use Rattle.asm_line.specs.Lines.{kind_first, size_first, last_kind, object_of, capability_of, content_of, all_numbers, all_words, some_numbers, thread_of}
+use Rattle.asm_line.specs.Lines.{few_promised, number_pairs, promise_of, promised_first, promised_of}
 use Rattle.asm_line.specs.Lines.{thread_words_of, thread_said, budget_of, range_of}
 use Rattle.asm_line.specs.Parsing.{line_of, line_for, plain_word_of, IsKnown}
 use Rattle.asm_line.specs.Listed.{IsWord}
@@ -25,12 +26,13 @@ use Rattle.asm_line.proofs.NumberLaws.{first-decimal, first-object, first-regist
 use Rattle.std.specs.Prelude.{flat_map}
 use Rattle.std.specs.Int.{w32}
 use Rattle.std.proofs.lemmas.Bool.{ltb-true}
+use Rattle.model.specs.declared.entries.PromisedWord.{PromisedWord}
 use Rattle.model.specs.declared.entries.TermEntry.{TermEntry}
 use Rattle.model.specs.Images.Format.{fits_signed}
 use Rattle.model.specs.Images.Image.{is_constant}
-use Rattle.model.specs.Images.Listing.{whole_number, term_words}
+use Rattle.model.specs.Images.Listing.{whole_number, promised_words, term_words}
 use Rattle.asm_line.specs.Lines.{all_pairs, all_terms, term_of, coefficient_of, constant_of, measure_of}
-use Rattle.asm_line.specs.Listed.{IsTerm}
+use Rattle.asm_line.specs.Listed.{IsPromisedWord, IsTerm}
 use Rattle.model.specs.declared.capabilities.Cap.{Cap}
 use Rattle.model.specs.Capabilities.CapabilityWords.{IsCapability, words_of as words_of_capability}
 use Rattle.model.specs.declared.entries.SlotEntry.{SlotEntry}
@@ -242,6 +244,38 @@ pub content-says : (frame : ℕ) (ns : List ℕ) → IsWord frame → 0 < length
 unfolding line_of keyword_of line_for content_of
 content-says frame ns a some h = rw (first-object 111 frame (map decimal ns) refl refl (wide frame a)) (rw (some-say ns some h) (rw (words-say ns h) refl))
 
+-- ---- promises
+
+pub record ArePromised (most : ℕ) (words : List Text) : Type 0 where
+  pub pairs : number_pairs words ≡ Ok tt
+  pub ranges : few_promised most words ≡ Ok tt
+  pub plain : AllPlain words
+
+pub promised-says : (w : PromisedWord) → IsPromisedWord w → promised_of (decimal w.low) (decimal w.high) ≡ Ok w
+unfolding promised_of
+promised-says w h =
+    rw (number-decimal w.low (wide w.low h.0)) (rw (number-decimal w.high (wide w.high h.1)) (rw (is-word w.low h.0) (rw (is-word w.high h.1) (rw h.2 refl))))
+
+pub promised-say : (most : ℕ) (ws : List PromisedWord) → length ws ≤ most → AllByRecursion IsPromisedWord ws → ArePromised most (flat_map promised_words ws)
+promised-say most [] few h = record { pairs = refl; ranges = refl; plain = tt }
+promised-say zero (w ∷ ws) few h = absurd (omega (arith, few))
+promised-say (suc most) (w ∷ ws) few h =
+    let rest = promised-say most ws (omega (arith, few)) h.1 in record {
+      pairs = rw (number-decimal w.low (wide w.low h.0.0)) (rw (number-decimal w.high (wide w.high h.0.1)) rest.pairs);
+      ranges = rw (promised-says w h.0) rest.ranges;
+      plain = (number-plain w.low h.0.0, (number-plain w.high h.0.1, rest.plain));
+    }
+
+pub promise-says : (endpoint low high : ℕ) (words : List Text) → IsWord endpoint → nat_le low high ≡ true → nat_lt high (2 ^ 28) ≡ true → IsWord low
+    → IsWord high → ArePromised 8 words
+    → line_of (codes "promise" ∷ object_name endpoint ∷ decimal low ∷ decimal high ∷ words)
+    ≡ Some (Ok (said.Promise (object_name endpoint) low high words))
+unfolding line_of keyword_of line_for promise_of promised_of
+promise-says endpoint low high words a rises small b d are =
+    rw (first-object 111 endpoint (decimal low ∷ decimal high ∷ words) refl refl (wide endpoint a))
+    (rw (number-decimal low (wide low b)) (rw (number-decimal high (wide high d)) (rw are.pairs
+    (rw (is-word low b) (rw (is-word high d) (rw rises (rw small (rw are.ranges refl))))))))
+
 -- ---- threads
 
 first-label : (words : List Text) → name_first (codes "l" ∷ words) ≡ Ok (codes "l", words)
@@ -432,3 +466,6 @@ next-number n words rest h e = ap word_first e ∙ (rw (number-decimal n (wide n
 
 pub next-term : (t : TermEntry) (words rest : List Text) → IsTerm t → words ≡ term_words t ++ rest → term_first words ≡ Ok (t, rest)
 next-term t words rest h e = ap term_first e ∙ (rw (term-says t h) refl)
+
+pub next-promised : (w : PromisedWord) (words rest : List Text) → IsPromisedWord w → words ≡ promised_words w ++ rest → promised_first words ≡ Ok (w, rest)
+next-promised w words rest h e = ap promised_first e ∙ (rw (promised-says w h) refl)

@@ -1,20 +1,21 @@
 -- The text of each line of a listing falls into the words that say it.
 use Rattle.std.specs.Prelude.{◌==◌, nat_lt, codes, map, flat_map}
-use Rattle.std.proofs.Common.{◌≡◌, ℕ, suc, ◌-◌, ◌^◌, ◌<◌, true, not, min, [], ◌∷◌, length, Some, None, Ok, refl, ap, ◌∙◌, arith}
+use Rattle.std.proofs.Common.{◌≡◌, ℕ, suc, ◌-◌, ◌^◌, ◌<◌, ◌≤◌, true, not, min, [], ◌∷◌, length, Some, None, Ok, refl, ap, ◌∙◌, arith}
 use Rattle.std.specs.Fmt.{decimal}
 use Rattle.std.specs.List.{list_all, position}
+use Rattle.std.proofs.lemmas.Bool.{leb-true, ltb-true}
 use Rattle.std.proofs.lemmas.Bool.Decides.{nat_tests}
 use Rattle.model.specs.Images.Image.{between, no_parent}
 use Rattle.model.specs.Images.Listing.{Text, untyped_name, object_name, interrupt_name, register_name, kind_name, source_name, whole_number, term_words}
-use Rattle.model.specs.Images.Listing.{size_words}
+use Rattle.model.specs.Images.Listing.{promised_words, size_words}
 use Rattle.asm_line.specs.declared.lines.Line.{Line}
 use Rattle.asm_line.specs.Words.{words_of}
 use Rattle.asm_line.specs.Parsing.{line_of}
-use Rattle.asm_line.specs.Listed.{Lists, memory, untyped, object, interrupt, capability, table, frame, content, thread, measure, range, slot, register, label}
+use Rattle.asm_line.specs.Listed.{Lists, memory, untyped, object, interrupt, capability, table, frame, content, promise, thread, measure, range, slot, register, label}
 use Rattle.asm_line.specs.Listed.{word, end, IsWord}
 use Rattle.asm_line.proofs.PlainWords.{IsPlainWord, is_plain, decimal-plain, words-line, line-all, none-there}
 use Rattle.asm_line.proofs.ListedLines.{Reads, named-plain, named-digits, number-plain, plain-literal, memory-says, untyped-says, object-says, size-says}
-use Rattle.asm_line.proofs.ListedLines.{interrupt-says, capability-says, table-says, frame-says, content-says, thread-says, measure-says, constant-plain}
+use Rattle.asm_line.proofs.ListedLines.{interrupt-says, capability-says, table-says, frame-says, content-says, promise-says, promised-say, thread-says, measure-says, constant-plain}
 use Rattle.asm_line.proofs.ListedLines.{terms-say, range-says, register-says, label-says, word-says, end-says, kind-says, source-says, plain-numbers}
 use Rattle.asm_line.proofs.ListedLines.{slot-reads}
 
@@ -117,6 +118,25 @@ reads _ _ (content c a some h) = record {
   known = tt;
   says = content-says c.header.frame c.words a some h;
 }
+reads _ _ (promise p a rises small few h) =
+    let x = p.header in
+    let words = promised-say 8 p.words few h in
+    let high : x.badge_high < 2 ^ 28 = ltb-true x.badge_high (2 ^ 28) small in
+    let low : x.badge_low ≤ x.badge_high = leb-true x.badge_low x.badge_high rises in
+    record {
+      words = codes "promise" ∷ object_name x.endpoint ∷ decimal x.badge_low ∷ decimal x.badge_high ∷ flat_map promised_words p.words;
+      spelled = refl;
+      plain = (
+        literal (codes "promise") (omega arith) refl,
+        (
+          named-plain 111 x.endpoint refl a,
+          (number-plain x.badge_low (omega (arith, low, high)), (number-plain x.badge_high (omega (arith, high)), words.plain)),
+        ),
+      );
+      known = tt;
+      says = promise-says x.endpoint x.badge_low x.badge_high (flat_map promised_words p.words) a rises small (omega (arith, low, high))
+          (omega (arith, high)) words;
+    }
 reads _ _ (thread t a b d e h k f g) = let x = t.header in record {
   words = codes "thread" ∷ object_name x.tcb ∷ object_name x.cnode ∷ decimal x.guard ∷ object_name x.root ∷ decimal x.priority ∷ decimal x.budget ∷ decimal
       x.fault ∷ codes "l" ∷ decimal x.base ∷ [];

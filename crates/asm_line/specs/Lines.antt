@@ -1,8 +1,9 @@
 -- What lines say, by their words. The grammar of a line comes first, and then the ranges of its own numbers.
-use Rattle.std.specs.Prelude.{ℕ, ◌-◌, ◌^◌, ◌==◌, Bool, ◌||◌, ◌&&◌, not, if◌then◌else◌, ℤ, pos, negsuc, codes, List, [], ◌∷◌, nat_lt, nat_le, min, Option, Some}
+use Rattle.std.specs.Prelude.{ℕ, zero, suc, ◌-◌, ◌^◌, ◌==◌, Bool, ◌||◌, ◌&&◌, not, if◌then◌else◌, ℤ, pos, negsuc, codes, List, [], ◌∷◌, nat_lt, nat_le, min, Option, Some}
 use Rattle.std.specs.Prelude.{None, Result, Ok, Err}
 use Rattle.std.specs.Str.{bytes_eq}
 use Rattle.std.specs.Int.{w32}
+use Rattle.model.specs.declared.entries.PromisedWord.{PromisedWord}
 use Rattle.model.specs.declared.entries.TermEntry.{TermEntry}
 use Rattle.model.specs.Images.Image.{size_fits, is_constant, not_zero}
 use Rattle.model.specs.Images.Format.{fits_signed}
@@ -39,6 +40,7 @@ keyword_of word =
     if bytes_eq word (codes "table") then Some keyword.Table else
     if bytes_eq word (codes "map") then Some keyword.Frame else
     if bytes_eq word (codes "data") then Some keyword.Content else
+    if bytes_eq word (codes "promise") then Some keyword.Promise else
     if bytes_eq word (codes "thread") then Some keyword.Thread else thread_keyword_of word
 
 unfoldable pub kind_of : Text → Result ℕ ℕ
@@ -162,6 +164,48 @@ content_of words = do
   grammar ← some_numbers frame.1
   ranges ← all_words frame.1
   Ok (line.Content frame.0 frame.1)
+
+-- numbers, two and two
+abbrev pub number_pairs : List Text → Result (Unit {0}) ℕ
+number_pairs [] = Ok tt
+number_pairs (low ∷ []) = Err 1
+number_pairs (low ∷ high ∷ words) = number_of low >>= λ _. number_of high >>= λ _. number_pairs words
+
+abbrev pub some_pairs : List Text → Result (Unit {0}) ℕ
+some_pairs [] = Err 1
+some_pairs (w ∷ ws) = number_pairs (w ∷ ws)
+
+-- a lowest and a highest value
+unfoldable pub promised_of : Text → Text → Result PromisedWord ℕ
+promised_of low high = do
+  lowest ← number_of low
+  highest ← number_of high
+  low_word ← word lowest
+  high_word ← word highest
+  rises ← checked (nat_le low_word high_word)
+  Ok (record { low = low_word; high = high_word })
+
+abbrev pub promised_first : List Text → Result (PromisedWord × List Text) ℕ
+promised_first [] = Err 1
+promised_first (low ∷ []) = Err 1
+promised_first (low ∷ high ∷ words) = promised_of low high >>= λ promised. Ok (promised, words)
+
+-- the ranges of so many words at most
+abbrev pub few_promised : ℕ → List Text → Result (Unit {0}) ℕ
+few_promised most [] = Ok tt
+few_promised most (low ∷ []) = Err 1
+few_promised zero (low ∷ high ∷ words) = Err 4
+few_promised (suc most) (low ∷ high ∷ words) = promised_of low high >>= λ _. few_promised most words
+
+-- the badges are the first range
+unfoldable pub promise_of : List Text → Result Line ℕ
+promise_of words = do
+  endpoint ← object_first words
+  grammar ← some_pairs endpoint.1
+  badges ← promised_first endpoint.1
+  small ← checked (nat_lt badges.0.high (2 ^ 28))
+  ranges ← few_promised 8 badges.1
+  Ok (line.Promise endpoint.0 badges.0.low badges.0.high badges.1)
 
 -- ---- the lines of threads
 

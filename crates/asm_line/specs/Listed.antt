@@ -1,5 +1,5 @@
 -- The lines of listings, and what each says.
-use Rattle.std.specs.Prelude.{◌≡◌, ℕ, ◌^◌, ◌<◌, true, None, ◌&&◌, ◌||◌, nat_lt, nat_le, codes, decimal, [], ◌∷◌, map, flat_map, length, min, ◌-◌}
+use Rattle.std.specs.Prelude.{◌≡◌, ℕ, ◌^◌, ◌<◌, ◌≤◌, true, None, ◌&&◌, ◌||◌, nat_lt, nat_le, codes, decimal, [], ◌∷◌, map, flat_map, length, min, ◌-◌}
 use Rattle.std.specs.List.{AllByRecursion}
 use Rattle.std.specs.Prelude.{◌==◌, if◌then◌else◌}
 use Rattle.asm_line.specs.declared.lines.Parent.{Parent}
@@ -12,16 +12,17 @@ use Rattle.model.specs.declared.entries.CapabilityEntry.{CapabilityEntry}
 use Rattle.model.specs.declared.entries.InterruptEntry.{InterruptEntry}
 use Rattle.model.specs.declared.entries.TableEntry.{TableEntry}
 use Rattle.model.specs.declared.entries.FrameEntry.{FrameEntry}
+use Rattle.model.specs.declared.entries.PromisedWord.{PromisedWord}
 use Rattle.model.specs.declared.entries.RegisterEntry.{RegisterEntry}
 use Rattle.model.specs.declared.entries.RangeEntry.{RangeEntry}
 use Rattle.model.specs.declared.entries.SlotEntry.{SlotEntry}
 use Rattle.model.specs.declared.entries.TermEntry.{TermEntry}
 use Rattle.model.specs.Capabilities.CapabilityWords.{IsCapability, words_of}
 use Rattle.model.specs.Images.Format.{fits_signed}
-use Rattle.model.specs.Images.Image.{Image, Thread, ImageContent, StateRecord, between, size_fits, not_zero, is_constant, no_parent, names_parent}
+use Rattle.model.specs.Images.Image.{Image, Thread, ImageContent, ImagePromise, StateRecord, between, size_fits, not_zero, is_constant, no_parent, names_parent}
 use Rattle.model.specs.Images.Listing.{Text, line, untyped_name, object_name, interrupt_name, source_name, term_words, memory_line, untyped_line, object_line}
-use Rattle.model.specs.Images.Listing.{interrupt_line, capability_line, table_line, frame_line, content_line, thread_line, register_line, range_line}
-use Rattle.model.specs.Images.Listing.{measure_line, slot_line}
+use Rattle.model.specs.Images.Listing.{interrupt_line, capability_line, table_line, frame_line, content_line, promise_line, promised_words, thread_line, register_line}
+use Rattle.model.specs.Images.Listing.{range_line, measure_line, slot_line}
 use Rattle.asm_line.specs.declared.lines.Line.{Line}
 use Rattle.asm_line.specs.declared.lines.Line.TheVariants as said
 use Rattle.asm_line.specs.declared.lines.Code.TheVariants as code
@@ -32,6 +33,9 @@ IsWord n = n < 2 ^ 32
 
 abbrev pub IsTerm : TermEntry → Type 0
 IsTerm t = (between 1 31 t.register ≡ true) × (fits_signed w32 t.coefficient ≡ true) × (not_zero t.coefficient ≡ true)
+
+abbrev pub IsPromisedWord : PromisedWord → Type 0
+IsPromisedWord w = IsWord w.low × IsWord w.high × (nat_le w.low w.high ≡ true)
 
 abbrev pub parent_said : SlotEntry → Parent
 parent_said e = if e.parent_cnode == no_parent then parent.Boot else parent.Slot (object_name e.parent_cnode) e.parent_index
@@ -54,6 +58,9 @@ pub data Lists : Line → Text → Type 0 where
       → Lists (said.Frame (object_name e.root) e.address (object_name e.frame) e.rights) (frame_line e)
   content : (c : ImageContent) → IsWord c.header.frame → 0 < length c.words → AllByRecursion IsWord c.words
       → Lists (said.Content (object_name c.header.frame) (map decimal c.words)) (content_line c)
+  promise : (p : ImagePromise) → IsWord p.header.endpoint → nat_le p.header.badge_low p.header.badge_high ≡ true
+      → nat_lt p.header.badge_high (2 ^ 28) ≡ true → length p.words ≤ 8 → AllByRecursion IsPromisedWord p.words
+      → Lists (said.Promise (object_name p.header.endpoint) p.header.badge_low p.header.badge_high (flat_map promised_words p.words)) (promise_line p)
   thread : (t : Thread) → IsWord t.header.tcb → IsWord t.header.cnode → IsWord t.header.guard → IsWord t.header.root → between 0 255 t.header.priority ≡ true
       → between 1 (2 ^ 62) t.header.budget ≡ true → IsWord t.header.fault → IsWord t.header.base
       → Lists (said.Thread (record {

@@ -17,6 +17,7 @@ pub(crate) enum Keyword {
     Table,
     Frame,
     Content,
+    Promise,
     Thread,
     Register,
     Measure,
@@ -54,6 +55,8 @@ pub(crate) fn keyword_in(word: &[u8]) -> Option<Keyword>
         Some(Keyword::Frame)
     } else if is(word, "data") {
         Some(Keyword::Content)
+    } else if is(word, "promise") {
+        Some(Keyword::Promise)
     } else if is(word, "thread") {
         Some(Keyword::Thread)
     } else {

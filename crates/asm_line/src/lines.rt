@@ -2,16 +2,17 @@
 
 ghost use Rattle.std.specs.Prelude.{◌≡◌, ◌<◌, ◌^◌, ◌∷◌, ◌++◌, ℕ, List, Some, decimal};
 ghost use Rattle.std.specs.Result.{result_ok};
+ghost use Rattle.model.specs.declared.entries.PromisedWord.{PromisedWord};
 ghost use Rattle.model.specs.declared.entries.TermEntry.{TermEntry};
-ghost use Rattle.model.specs.Images.Listing.{Text, term_words};
-ghost use Rattle.asm_line.specs.Lines.{term_first, word_first};
-ghost use Rattle.asm_line.specs.Listed.{IsTerm};
+ghost use Rattle.model.specs.Images.Listing.{Text, promised_words, term_words};
+ghost use Rattle.asm_line.specs.Lines.{promised_first, term_first, word_first};
+ghost use Rattle.asm_line.specs.Listed.{IsPromisedWord, IsTerm};
 
 use crate::names::Name;
-use crate::sections::word_and_rest;
+use crate::sections::{promised_and_rest, word_and_rest};
 use crate::thread_lines::term_and_rest;
 use crate::words::Words;
-use model::{BranchOp, RangeEntry, Register, RegisterEntry, TermEntry, UntypedEntry};
+use model::{BranchOp, PromisedWord, RangeEntry, Register, RegisterEntry, TermEntry, UntypedEntry};
 
 /// What one line of an image's text says. Names are lent by the text, and what they name is
 /// not known here. Numbers are in the ranges that can be checked on a line by itself.
@@ -69,6 +70,13 @@ pub enum Line<'a> {
         frame: Name<'a>,
         words: Words<'a>,
     },
+    /// `promise ENDPOINT LOW HIGH [LOW HIGH] ..`, the badges first: the words' ranges are read by `next_promised_word`
+    Promise {
+        endpoint: Name<'a>,
+        badge_low: u32,
+        badge_high: u32,
+        words: Words<'a>,
+    },
     /// `thread TCB CNODE GUARD ROOT PRIORITY BUDGET FAULT LABEL BASE`
     Thread(ThreadLine<'a>),
     /// `reg xN VALUE`
@@ -106,6 +114,14 @@ impl<'a> Words<'a> {
         ensures listed { (word : ℕ) (rest : List Text) → word < 2 ^ 32 → self.entry ≡ decimal word ∷ rest → result ≡ Some (word, rest) }
     {
         word_and_rest(self).ok()
+    }
+
+    /// The first of the words' ranges of a `promise` line that are left, and those after it.
+    pub fn next_promised_word(self) -> Option<(PromisedWord, Words<'a>)>
+        ensures exact { result ≡ result_ok (promised_first self.entry) }
+        ensures listed { (word : PromisedWord) (rest : List Text) → IsPromisedWord word → self.entry ≡ promised_words word ++ rest → result ≡ Some (word, rest) }
+    {
+        promised_and_rest(self).ok()
     }
 
     /// The first of the terms of a `measure` line that are left, and the words after it.

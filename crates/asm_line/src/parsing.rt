@@ -49,6 +49,7 @@ fn declared(keyword: Keyword, words: Words<'_>) -> Result<Line<'_>, u8>
         Keyword::Table => sections::table(words),
         Keyword::Frame => sections::frame(words),
         Keyword::Content => sections::content(words),
+        Keyword::Promise => sections::promise(words),
         Keyword::Thread => thread_lines::thread(words),
         Keyword::Register => thread_lines::register(words),
         Keyword::Measure => thread_lines::measure(words),

@@ -1,14 +1,14 @@
 //! The lines of the sections before the threads.
 
 ghost use Rattle.std.specs.Prelude.{◌≡◌};
-ghost use Rattle.asm_line.specs.Lines.{all_numbers, all_words, some_numbers, capability_of, content_of, frame_of, interrupt_of, kind_first, last_kind, memory_of, object_of, size_first, table_of, untyped_of, word_first};
+ghost use Rattle.asm_line.specs.Lines.{all_numbers, all_words, some_numbers, capability_of, content_of, few_promised, frame_of, interrupt_of, kind_first, last_kind, memory_of, number_pairs, object_of, promise_of, promised_first, promised_of, size_first, some_pairs, table_of, untyped_of, word_first};
 
 use crate::faults::{RANGE, SYNTAX};
 use crate::keywords::kind_in;
 use crate::lines::Line;
 use crate::numbers::{between, number_in, word};
 use crate::words::Words;
-use model::{ObjectType, UntypedEntry};
+use model::{ObjectType, PromisedWord, UntypedEntry};
 
 /// `memory BITS RADIX`
 #[tactic(auto, unfolding(crate::specs::Lines::memory_of))]
@@ -198,4 +198,98 @@ pub(crate) fn content(words: Words<'_>) -> Result<Line<'_>, u8>
     check_numbers(words.copied())?;
     check_words(words.copied())?;
     Ok(Line::Content { frame, words })
+}
+
+/// Some words are to be left, and all of them numbers, two and two.
+fn check_pairs(words: Words<'_>) -> Result<(), u8>
+    ensures { result ≡ number_pairs words.entry }
+{
+    let mut rest = words;
+    'pairs: while let Some((low, words)) = rest.first() {
+        let Some((high, words)) = words.first() else {
+            return Err(SYNTAX);
+        };
+        number_in(low)?;
+        number_in(high)?;
+        rest = words;
+    }
+    Ok(())
+}
+
+/// The same, and some words are to be left.
+fn check_some_pairs(words: Words<'_>) -> Result<(), u8>
+    ensures { result ≡ some_pairs words.entry }
+{
+    if words.copied().first().is_none() {
+        return Err(SYNTAX);
+    }
+    check_pairs(words)
+}
+
+/// A lowest and a highest value.
+#[tactic(auto, unfolding(crate::specs::Lines::promised_of))]
+fn promised_in(low: &[u8], high: &[u8]) -> Result<PromisedWord, u8>
+    ensures { result ≡ promised_of low.now high.now }
+{
+    let low = number_in(low)?;
+    let high = number_in(high)?;
+    let low = word(low)?;
+    let high = word(high)?;
+    if low > high {
+        return Err(RANGE);
+    }
+    Ok(PromisedWord { low, high })
+}
+
+/// The first two words, which are to be a lowest and a highest value, and those after them.
+pub(crate) fn promised_and_rest(words: Words<'_>) -> Result<(PromisedWord, Words<'_>), u8>
+    ensures { result ≡ promised_first words.entry }
+{
+    let Some((low, words)) = words.first() else {
+        return Err(SYNTAX);
+    };
+    let Some((high, words)) = words.first() else {
+        return Err(SYNTAX);
+    };
+    Ok((promised_in(low, high)?, words))
+}
+
+/// The words are to be lowest and highest values of so many words of a message at most.
+fn check_promised(words: Words<'_>, most: u32) -> Result<(), u8>
+    ensures { result ≡ few_promised most words.entry }
+{
+    let mut rest = words;
+    let mut left = most;
+    'words: while let Some((low, words)) = rest.first() {
+        let Some((high, words)) = words.first() else {
+            return Err(SYNTAX);
+        };
+        if left == 0 {
+            return Err(RANGE);
+        }
+        promised_in(low, high)?;
+        left -= 1;
+        rest = words;
+    }
+    Ok(())
+}
+
+/// `promise ENDPOINT LOW HIGH [LOW HIGH] ..`
+#[tactic(auto, unfolding(crate::specs::Lines::promise_of))]
+pub(crate) fn promise(words: Words<'_>) -> Result<Line<'_>, u8>
+    ensures { result ≡ promise_of words.entry }
+{
+    let (endpoint, words) = words.object()?;
+    check_some_pairs(words.copied())?;
+    let (badges, words) = promised_and_rest(words)?;
+    if badges.high >= 1 << 28 {
+        return Err(RANGE);
+    }
+    check_promised(words.copied(), 8)?;
+    Ok(Line::Promise {
+        endpoint,
+        badge_low: badges.low,
+        badge_high: badges.high,
+        words,
+    })
 }

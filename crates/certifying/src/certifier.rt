@@ -1,8 +1,7 @@
 //! The certificates of all threads of an image that has none.
 
 ghost use Rattle.std.specs.Prelude.{◌≡◌, ◌<◌, [], false};
-ghost use Rattle.model.specs.Acceptance.Accepted.{IsWellFormed};
-ghost use Rattle.thread_spaces.specs.Given.{AreOffsets};
+ghost use Rattle.typestate.specs.Promises.{AreOfImage};
 
 use crate::calls::Given;
 use crate::costs::{Costs, Counting, cost_at};
@@ -18,8 +17,10 @@ use image_reading::{ImageRef, ThreadRef, read};
 use model::{Refusal, TermEntry};
 use ranges::Bounds;
 use std::alloc::Global;
-use thread_spaces::{PlacedImage, given_space, offsets_of, reached_of, slots_of, windows_of};
-use typestate::NotedSlot;
+use thread_spaces::{
+    PlacedImage, given_space, offsets_of, promises_of, reached_of, slots_of, windows_of,
+};
+use typestate::{NotedSlot, PlacedPromises};
 use wellformed::well_formed;
 
 /// What is noted at a point of a program.
@@ -389,17 +390,17 @@ pub(crate) fn has_records(thread: &ThreadRef<'_>) -> bool
 }
 
 /// The certificate of a thread of a well-formed image, by its number. A thread that has records is refused.
-fn certificate_of(
+fn certificate_of<'a>(
     alloc: Global,
-    image: &ImageRef<'_>,
-    offsets: &[u32],
+    placed: &PlacedImage<'_, 'a>,
+    promises: &PlacedPromises<'a>,
     number: u32,
     effort: Effort,
 ) -> Result<Certificate, Fault>
-    requires formed { IsWellFormed image.now }
-    requires offsets { AreOffsets image.now image.now.header.objects offsets.now }
-    requires number { number < image.now.header.threads }
+    requires promises { AreOfImage placed.now.image.now promises.now }
+    requires number { number < placed.now.image.now.header.threads }
 {
+    let image = placed.image;
     let thread = image.thread(number);
     if has_records(&thread) {
         return Err(Fault::At {
@@ -410,10 +411,9 @@ fn certificate_of(
     let Ok(cnodes) = reached_of(alloc, image, &thread) else {
         return Err(Fault::OutOfMemory);
     };
-    let placed = PlacedImage { image, offsets };
-    let windows = windows_of(alloc, &placed, &thread, &cnodes)?;
-    let slots = slots_of(alloc, &placed, &thread, &cnodes)?;
-    let space = given_space(image, &thread, offsets, &windows);
+    let windows = windows_of(alloc, placed, &thread, &cnodes)?;
+    let slots = slots_of(alloc, placed, &thread, &cnodes)?;
+    let space = given_space(placed, &thread, &windows, promises);
     let lists_stray = space.lists_stray(&slots);
     let given = Given {
         space,
@@ -447,9 +447,16 @@ pub fn certificates(
     let Ok(offsets) = offsets_of(alloc, &image) else {
         return Err(Unfit::OutOfMemory);
     };
+    let placed = PlacedImage {
+        image: &image,
+        offsets: &offsets,
+    };
+    let Ok(promises) = promises_of(alloc, &placed) else {
+        return Err(Unfit::OutOfMemory);
+    };
     let mut all = Vec::new(alloc);
     'threads: for number in 0..image.header().threads {
-        let certificate = match certificate_of(alloc, &image, &offsets, number, effort) {
+        let certificate = match certificate_of(alloc, &placed, &promises, number, effort) {
             Ok(certificate) => certificate,
             Err(fault) => return Err(Unfit::of_thread(number, fault)),
         };

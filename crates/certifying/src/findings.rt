@@ -2,8 +2,7 @@
 //! is wrong.
 
 ghost use Rattle.std.specs.Prelude.{◌≡◌, ◌<◌, [], false};
-ghost use Rattle.model.specs.Acceptance.Accepted.{IsWellFormed};
-ghost use Rattle.thread_spaces.specs.Given.{AreOffsets};
+ghost use Rattle.typestate.specs.Promises.{AreOfImage};
 
 use crate::calls::Given;
 use crate::certifier::{Record, Unfit, has_records};
@@ -15,7 +14,10 @@ use crate::{Effort, Fault, Reason};
 use image_reading::{ImageRef, read};
 use ranges::Bounds;
 use std::alloc::Global;
-use thread_spaces::{PlacedImage, given_space, offsets_of, reached_of, slots_of, windows_of};
+use thread_spaces::{
+    PlacedImage, given_space, offsets_of, promises_of, reached_of, slots_of, windows_of,
+};
+use typestate::PlacedPromises;
 use wellformed::well_formed;
 
 /// What is wrong at a point of a program.
@@ -287,16 +289,16 @@ impl Given<'_, '_> {
 }
 
 /// What is found of a thread of a well-formed image, by its number. A thread that has records is refused.
-fn findings_of(
+fn findings_of<'a>(
     alloc: Global,
-    image: &ImageRef<'_>,
-    offsets: &[u32],
+    placed: &PlacedImage<'_, 'a>,
+    promises: &PlacedPromises<'a>,
     number: u32,
 ) -> Result<ThreadFindings, Fault>
-    requires formed { IsWellFormed image.now }
-    requires offsets { AreOffsets image.now image.now.header.objects offsets.now }
-    requires number { number < image.now.header.threads }
+    requires promises { AreOfImage placed.now.image.now promises.now }
+    requires number { number < placed.now.image.now.header.threads }
 {
+    let image = placed.image;
     let thread = image.thread(number);
     if has_records(&thread) {
         return Err(Fault::At {
@@ -307,10 +309,9 @@ fn findings_of(
     let Ok(cnodes) = reached_of(alloc, image, &thread) else {
         return Err(Fault::OutOfMemory);
     };
-    let placed = PlacedImage { image, offsets };
-    let windows = windows_of(alloc, &placed, &thread, &cnodes)?;
-    let slots = slots_of(alloc, &placed, &thread, &cnodes)?;
-    let space = given_space(image, &thread, offsets, &windows);
+    let windows = windows_of(alloc, placed, &thread, &cnodes)?;
+    let slots = slots_of(alloc, placed, &thread, &cnodes)?;
+    let space = given_space(placed, &thread, &windows, promises);
     let lists_stray = space.lists_stray(&slots);
     let given = Given {
         space,
@@ -339,9 +340,16 @@ pub fn findings_in(alloc: Global, bytes: &[u8]) -> Result<Vec<ThreadFindings>, U
     let Ok(offsets) = offsets_of(alloc, &image) else {
         return Err(Unfit::OutOfMemory);
     };
+    let placed = PlacedImage {
+        image: &image,
+        offsets: &offsets,
+    };
+    let Ok(promises) = promises_of(alloc, &placed) else {
+        return Err(Unfit::OutOfMemory);
+    };
     let mut all = Vec::new(alloc);
     'threads: for number in 0..image.header().threads {
-        let found = match findings_of(alloc, &image, &offsets, number) {
+        let found = match findings_of(alloc, &placed, &promises, number) {
             Ok(found) => found,
             Err(fault) => return Err(Unfit::of_thread(number, fault)),
         };

@@ -103,18 +103,19 @@ fn add_read(read: &mut Registers, instr: Instr) {
     }
 }
 
-/// The words of a message whose registers have single values.
-fn add_words(needed: &mut Registers, bounds: &Bounds, info: u32) {
+/// The words of a message whose registers have single values, and where ranges are promised, those whose ranges are not full.
+fn add_words(needed: &mut Registers, bounds: &Bounds, info: u32, promises: bool) {
     let count = (info % 128) as usize;
     'words: for (number, word) in WORDS.iter().enumerate() {
-        if number < count && range_of(bounds, *word).value().is_some() {
+        let range = range_of(bounds, *word);
+        if number < count && (range.value().is_some() || (promises && range != Range::FULL)) {
             needed.add(u32::from(word.0));
         }
     }
 }
 
-/// What a system call rests on: its number, its capability, and the words of an invocation.
-fn add_call(needed: &mut Registers, bounds: &Bounds) {
+/// What a system call rests on: its number, its capability, the words of an invocation, and what is promised of a message.
+fn add_call(needed: &mut Registers, bounds: &Bounds, promises: bool) {
     needed.add_all(&[NUMBER]);
     let number = range_of(bounds, NUMBER).value();
     if !matches!(number, Some(6 | 7 | 9)) {
@@ -122,15 +123,15 @@ fn add_call(needed: &mut Registers, bounds: &Bounds) {
     }
     if let (Some(1 | 3 | 4), Some(info)) = (number, range_of(bounds, INFO).value()) {
         needed.add_all(&[INFO]);
-        add_words(needed, bounds, info);
+        add_words(needed, bounds, info, promises);
     }
 }
 
 /// What an instruction rests on, whatever is needed after it.
-fn add_own(needed: &mut Registers, instr: Instr, bounds: &Bounds) {
+fn add_own(needed: &mut Registers, instr: Instr, bounds: &Bounds, promises: bool) {
     match instr {
         Instr::Load { rs1, .. } | Instr::Store { rs1, .. } => needed.add_all(&[rs1]),
-        Instr::Ecall => add_call(needed, bounds),
+        Instr::Ecall => add_call(needed, bounds, promises),
         _ => {}
     }
 }
@@ -189,13 +190,15 @@ struct Needs<'g> {
     graph: &'g Graph,
     costs: &'g [Option<Form>],
     needs: Vec<Registers>,
+    /// Whether the image has promises of messages.
+    promises: bool,
 }
 
 impl Needs<'_> {
     /// What is needed at a point.
     fn needed_at(&self, point: u32, instr: Instr, bounds: &Bounds) -> Registers {
         let mut needed = Registers::none();
-        add_own(&mut needed, instr, bounds);
+        add_own(&mut needed, instr, bounds, self.promises);
         if let Some(cost) = cost_at(self.costs, point) {
             add_measure(&mut needed, &cost);
         }
@@ -256,6 +259,7 @@ impl Given<'_, '_> {
             graph,
             costs,
             needs: none,
+            promises: self.space.image.header().promises > 0,
         };
         'rounds: for _ in 0..MOST_ROUNDS {
             if !self.look_at_all(&mut needs) {

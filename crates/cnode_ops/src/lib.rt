@@ -14,7 +14,6 @@ mod marks;
 mod moves;
 mod mutations;
 mod named;
-mod new_types;
 mod object_lifetimes;
 mod refusals;
 mod removal;

@@ -12,12 +12,11 @@ ghost use Rattle.model.specs.Kernel.Retype.{is_small_enough, retype};
 ghost use Rattle.model.specs.Kernel.Soundness.{IsSound};
 ghost use Rattle.model.specs.declared.capabilities.Cap.TheVariants.{Untyped};
 
-use crate::new_types::object_bits;
 use crate::windows::{named_node, window};
 use crate::{Begins, NewRange, Placing};
 use model::{Cap, KError, ObjectType, RetypeCall, Slot, UntypedMemory};
 use slots::SlotStore;
-use untyped::{asked_type, place};
+use untyped::{asked_type, object_bits, place};
 
 /// Whether a child may hang below a slot.
 ///

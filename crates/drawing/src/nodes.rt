@@ -4,7 +4,7 @@ use crate::links::push_ends;
 use crate::rights_words::mapping_words;
 use crate::scenes::Scene;
 use model::{ObjectKind, ObjectType};
-use source_texts::{FrameLine, InterruptLine, SourceThread};
+use source_texts::{FrameLine, InterruptLine, PromiseLine, SourceThread};
 use std::alloc::AllocError;
 
 /// How many of a thread's own pages its node names.
@@ -50,6 +50,33 @@ fn push_shape(to: &mut String, name: &str, look: &str) -> Result<(), AllocError>
 fn push_node(to: &mut String, name: &str, look: &str, words: &str) -> Result<(), AllocError> {
     push_shape(to, name, look)?;
     write!(to, "{words}</FONT>>];\n")
+}
+
+/// Puts the node of an endpoint, with what is promised of the messages to it.
+fn push_endpoint(
+    to: &mut String,
+    name: &str,
+    promise: Option<&PromiseLine>,
+) -> Result<(), AllocError> {
+    push_shape(to, name, ENDPOINT)?;
+    to.push_str("endpoint")?;
+    if let Some(promise) = promise {
+        push_promise(to, promise)?;
+    }
+    to.push_str("</FONT>>];\n")
+}
+
+/// Puts what is promised of messages.
+fn push_promise(to: &mut String, promise: &PromiseLine) -> Result<(), AllocError> {
+    let (low, high) = (promise.badge_low, promise.badge_high);
+    write!(to, "<BR/>badge {low} to {high}")?;
+    let mut place = 0usize;
+    for word in &promise.words {
+        let (low, high) = (word.low, word.high);
+        write!(to, "<BR/>word {place}: {low} to {high}")?;
+        place = place.saturating_add(1);
+    }
+    Ok(())
 }
 
 /// Puts the node of untyped memory, with its size.
@@ -142,7 +169,7 @@ impl Scene<'_, '_, '_> {
                 push_memory(&mut self.graph, name, u32::from(bits))
             }
             Some(ObjectType::Object(ObjectKind::Endpoint)) => {
-                push_node(&mut self.graph, name, ENDPOINT, "endpoint")
+                push_endpoint(&mut self.graph, name, self.text.promise(number))
             }
             Some(ObjectType::Object(ObjectKind::Notification)) => {
                 push_node(&mut self.graph, name, NOTIFICATION, "notification")

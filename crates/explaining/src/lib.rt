@@ -16,6 +16,7 @@ mod loops;
 mod page_gaps;
 mod point_words;
 mod programs;
+mod promises;
 mod requests;
 mod scenes;
 mod slot_gaps;

@@ -10,7 +10,9 @@ use rv32_isa::decode;
 use source_gaps::Text;
 use source_texts::SourceText;
 use std::alloc::{AllocError, Global};
-use thread_spaces::{PlacedImage, given_space, offsets_of, reached_of, slots_of, windows_of};
+use thread_spaces::{
+    PlacedImage, given_space, offsets_of, promises_of, reached_of, slots_of, windows_of,
+};
 
 /// The point that a refusal names, if it is one of programs.
 pub fn point_of(refusal: Refusal) -> Option<Point> {
@@ -119,6 +121,7 @@ impl Scene<'_, '_, '_, '_, '_, '_, '_> {
             Refusal::CallNotConstant(_) => self.report_not_constant(to, point, state),
             Refusal::CallRefused(_, error) => self.report_refused(to, point, state, error),
             Refusal::CapNotThere(_) => self.report_missing_slot(to, point, refusal, state),
+            Refusal::PromiseNotKept(_) => self.report_promise(to, point, state),
             _ => self.report_onward(to, point, refusal, state),
         }
     }
@@ -251,8 +254,9 @@ pub(crate) fn report_thread(
         offsets: &offsets,
     };
     let windows = windows_of(alloc, &placed, &thread, &cnodes)?;
+    let promises = promises_of(alloc, &placed)?;
     let slots = slots_of(alloc, &placed, &thread, &cnodes)?;
-    let space = given_space(image, &thread, &offsets, &windows);
+    let space = given_space(&placed, &thread, &windows, &promises);
     let scene = Scene {
         space,
         number,

@@ -12,7 +12,7 @@ use std::alloc::AllocError;
 use typestate::{OwnSlots, SlotKey, SlotLog};
 
 /// The registers of the words of a message.
-const WORDS: [u8; 8] = [12, 13, 14, 15, 18, 19, 20, 21];
+pub(crate) const WORDS: [u8; 8] = [12, 13, 14, 15, 18, 19, 20, 21];
 
 /// What a call on an endpoint or a notification wants.
 fn wanted_rights(number: u32, is_endpoint: bool) -> Rights {
@@ -71,7 +71,7 @@ fn capability_of(found: &Option<(SlotKey, Cap)>) -> Cap {
 
 impl Scene<'_, '_, '_, '_, '_, '_, '_> {
     /// The value of a register, if it has one alone.
-    fn single(&self, state: &State, number: u8) -> Option<u32> {
+    pub(crate) fn single(&self, state: &State, number: u8) -> Option<u32> {
         if number >= 32 {
             return None;
         }
@@ -79,7 +79,7 @@ impl Scene<'_, '_, '_, '_, '_, '_, '_> {
     }
 
     /// The slot that a call names, and what it holds.
-    fn called_key(
+    pub(crate) fn called_key(
         &self,
         state: &State,
         address: u32,
@@ -159,7 +159,7 @@ impl Scene<'_, '_, '_, '_, '_, '_, '_> {
     }
 
     /// Puts the name of a call and of the capability that it is on.
-    fn push_call(
+    pub(crate) fn push_call(
         &self,
         to: &mut String,
         number: u32,

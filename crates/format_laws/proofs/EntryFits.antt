@@ -7,14 +7,16 @@ use Rattle.model.specs.declared.entries.FrameEntry.{FrameEntry}
 use Rattle.model.specs.declared.entries.ImageHeader.{ImageHeader}
 use Rattle.model.specs.declared.entries.InterruptEntry.{InterruptEntry}
 use Rattle.model.specs.declared.entries.ObjectEntry.{ObjectEntry}
+use Rattle.model.specs.declared.entries.PromisedWord.{PromisedWord}
 use Rattle.model.specs.declared.entries.TableEntry.{TableEntry}
 use Rattle.model.specs.declared.entries.ThreadHeader.{ThreadHeader}
 use Rattle.model.specs.declared.entries.UntypedEntry.{UntypedEntry}
-use Rattle.format_laws.specs.Fitting.{CapabilityFits, FrameFits, HeaderFits, InterruptFits, ObjectFits, TableFits, ThreadFits, UntypedFits}
-use Rattle.format_laws.proofs.FormatFits.{between-bounds, field-between, field-parts}
-use Rattle.model.specs.Images.Image.{Image, Thread, anything, below, between, capability_format, frame_format, header_format, interrupt_format, magic}
-use Rattle.model.specs.Images.Image.{has_buffers, has_promises, latest_version, no_buffer, object_format, pair_key, size_fits, slots_format, table_format}
-use Rattle.model.specs.Images.Image.{thread_format, thread_header_format, untyped_format}
+use Rattle.format_laws.specs.Fitting.{CapabilityFits, FrameFits, HeaderFits, InterruptFits, ObjectFits, PromiseFits, PromisedWordFits, TableFits, ThreadFits}
+use Rattle.format_laws.specs.Fitting.{UntypedFits}
+use Rattle.format_laws.proofs.FormatFits.{between-bounds, field-between, field-parts, many-each, many-length}
+use Rattle.model.specs.Images.Image.{Image, ImagePromise, Thread, anything, below, between, capability_format, frame_format, header_format, interrupt_format, magic}
+use Rattle.model.specs.Images.Image.{has_buffers, has_promises, latest_version, no_buffer, object_format, pair_key, promise_format, promised_word_format, size_fits}
+use Rattle.model.specs.Images.Image.{slots_format, table_format, thread_format, thread_header_format, untyped_format}
 use Rattle.model.specs.Images.Format.{Format, both, field, number_or, only_if}
 use Rattle.model.specs.declared.refusals.Refusal.TheVariants.{Magic, Version}
 use Rattle.std.specs.Int.{w32}
@@ -151,6 +153,35 @@ frame-fits image least f is =
         rights = (field-between 0 7 f.rights d.1).1;
       },
       leb-true least (pair_key f.root f.address) address.1,
+    )
+
+promised-word-fits : (word : PromisedWord) → promised_word_format.fits word ≡ true → PromisedWordFits word
+unfolding promised_word_format
+promised-word-fits word is =
+    let a = and_parts _ _ is in
+    let high = field-parts (nat_le word.low) word.high a.1 in
+    record { ordered = leb-true word.low word.high high.1; high = high.0 }
+
+pub promise-fits : (image : Image) (least : ℕ) (p : ImagePromise) → (promise_format image.header.objects least).fits p ≡ true → PromiseFits image p
+    × (least ≤ p.header.endpoint)
+unfolding promise_format
+promise-fits image least p is =
+    let a = and_parts _ _ is in
+    let b = and_parts _ _ a.1 in
+    let c = and_parts _ _ b.1 in
+    let d = and_parts _ _ c.1 in
+    let endpoint = and_parts _ _ (field-parts (λ n. nat_le least n && nat_lt n image.header.objects) p.header.endpoint a.0).1 in
+    let high = and_parts _ _ (field-parts (λ n. nat_le p.header.badge_low n && nat_lt n (2 ^ 28)) p.header.badge_high c.0).1 in (
+      record {
+        endpoint = ltb-true p.header.endpoint image.header.objects endpoint.1;
+        badges = leb-true p.header.badge_low p.header.badge_high high.0;
+        badge_high = ltb-true p.header.badge_high (2 ^ 28) high.1;
+        count = many-length (λ _. promised_word_format) (λ _. 0) 0 p.header.words p.words d.1;
+        few = (field-between 0 8 p.header.words d.0).1;
+        word = λ k word at.
+            promised-word-fits word (many-each (λ _. promised_word_format) (λ _. 0) 0 p.header.words p.words d.1 k word at).1;
+      },
+      leb-true least p.header.endpoint endpoint.0,
     )
 
 header-of-thread : (image : Image) (t : ThreadHeader) → (thread_header_format image.header.version image.header.objects).fits t ≡ true → ThreadFits image t

@@ -5,7 +5,7 @@ use Rattle.format_laws.proofs.FormatFits.{many-each, many-length, many-rises}
 use Rattle.model.specs.Images.Image.{Image, capability_format, frame_format, image_with, interrupt_format, object_format, pair_key, sections_format}
 use Rattle.model.specs.Images.Image.{promise_format, slots_format, table_format, thread_format, untyped_format, whole_image}
 use Rattle.format_laws.specs.Fitting.{IsFitting}
-use Rattle.format_laws.proofs.EntryFits.{capability-fits, frame-fits, header-fits, interrupt-fits, object-fits, table-fits, thread-fits, untyped-fits}
+use Rattle.format_laws.proofs.EntryFits.{capability-fits, frame-fits, header-fits, interrupt-fits, object-fits, promise-fits, table-fits, thread-fits, untyped-fits}
 
 pub is-fitting : (image : Image) → whole_image.fits image ≡ true → IsFitting image
 unfolding image_with sections_format
@@ -47,6 +47,8 @@ is-fitting image is =
           (table-fits image one.0 x one.1).0;
       frame = λ k x at. let one = many-each frames (λ x. pair_key x.root x.address + 1) 0 h.frames image.frames g.0 k x at in
           (frame-fits image one.0 x one.1).0;
+      promise = λ k p at. let one = many-each promises (λ p. p.header.endpoint + 1) 0 h.promises image.promises j.1 k p at in
+          (promise-fits image one.0 p one.1).0;
       thread = λ k t at. thread-fits image t (many-each (λ _. threads) (λ _. 0) 0 h.threads image.threads whole.1 k t at).1;
       slots_rise = many-rises capabilities (λ x. pair_key x.cnode x.index + 1) (λ x. pair_key x.cnode x.index) (λ l x fits. (capability-fits image l x fits).1)
           (λ x. refl) 0 h.capabilities image.capabilities d.0;
@@ -56,4 +58,6 @@ is-fitting image is =
           (λ x. refl) 0 h.tables image.tables f.0;
       pages_rise = many-rises frames (λ x. pair_key x.root x.address + 1) (λ x. pair_key x.root x.address) (λ l x fits. (frame-fits image l x fits).1)
           (λ x. refl) 0 h.frames image.frames g.0;
+      promises_rise = many-rises promises (λ p. p.header.endpoint + 1) (λ p. p.header.endpoint) (λ l p fits. (promise-fits image l p fits).1)
+          (λ p. refl) 0 h.promises image.promises j.1;
     }

@@ -5,10 +5,11 @@ use Rattle.model.specs.declared.entries.FrameEntry.{FrameEntry}
 use Rattle.model.specs.declared.entries.ImageHeader.{ImageHeader}
 use Rattle.model.specs.declared.entries.InterruptEntry.{InterruptEntry}
 use Rattle.model.specs.declared.entries.ObjectEntry.{ObjectEntry}
+use Rattle.model.specs.declared.entries.PromisedWord.{PromisedWord}
 use Rattle.model.specs.declared.entries.TableEntry.{TableEntry}
 use Rattle.model.specs.declared.entries.ThreadHeader.{ThreadHeader}
 use Rattle.model.specs.declared.entries.UntypedEntry.{UntypedEntry}
-use Rattle.model.specs.Images.Image.{Image, StateRecord, Thread, has_buffers, has_promises, latest_version, no_buffer, pair_key, size_fits}
+use Rattle.model.specs.Images.Image.{Image, ImagePromise, StateRecord, Thread, has_buffers, has_promises, latest_version, no_buffer, pair_key, size_fits}
 
 -- ---- entries
 
@@ -65,6 +66,18 @@ pub record FrameFits (image : Image) (f : FrameEntry) : Type 0 where
   pub frame : f.frame < image.header.objects
   pub rights : f.rights ≤ 7
 
+pub record PromisedWordFits (word : PromisedWord) : Type 0 where
+  pub ordered : word.low ≤ word.high
+  pub high : word.high < 2 ^ 32
+
+pub record PromiseFits (image : Image) (p : ImagePromise) : Type 0 where
+  pub endpoint : p.header.endpoint < image.header.objects
+  pub badges : p.header.badge_low ≤ p.header.badge_high
+  pub badge_high : p.header.badge_high < 2 ^ 28
+  pub count : length p.words ≡ p.header.words
+  pub few : p.header.words ≤ 8
+  pub word : (k : ℕ) (word : PromisedWord) → slice_get p.words k ≡ Some word → PromisedWordFits word
+
 pub record ThreadFits (image : Image) (t : ThreadHeader) : Type 0 where
   pub tcb : t.tcb < image.header.objects
   pub cnode : t.cnode < image.header.objects
@@ -94,6 +107,7 @@ pub record IsFitting (image : Image) : Type 0 where
   pub interrupt : (k : ℕ) (i : InterruptEntry) → slice_get image.interrupts k ≡ Some i → InterruptFits image i
   pub table : (k : ℕ) (t : TableEntry) → slice_get image.tables k ≡ Some t → TableFits image t
   pub frame : (k : ℕ) (f : FrameEntry) → slice_get image.frames k ≡ Some f → FrameFits image f
+  pub promise : (k : ℕ) (p : ImagePromise) → slice_get image.promises k ≡ Some p → PromiseFits image p
   pub thread : (k : ℕ) (t : Thread) → slice_get image.threads k ≡ Some t → ThreadFits image t.header
   -- keys rise
   pub slots_rise : (i j : ℕ) (c d : CapabilityEntry) → i < j → slice_get image.capabilities i ≡ Some c → slice_get image.capabilities j ≡ Some d
@@ -103,6 +117,8 @@ pub record IsFitting (image : Image) : Type 0 where
       → pair_key a.root a.address < pair_key b.root b.address
   pub pages_rise : (i j : ℕ) (a b : FrameEntry) → i < j → slice_get image.frames i ≡ Some a → slice_get image.frames j ≡ Some b
       → pair_key a.root a.address < pair_key b.root b.address
+  pub promises_rise : (i j : ℕ) (a b : ImagePromise) → i < j → slice_get image.promises i ≡ Some a → slice_get image.promises j ≡ Some b
+      → a.header.endpoint < b.header.endpoint
 
 -- ---- the certificate of a thread
 

@@ -1,6 +1,7 @@
 mod Asked
 mod Calling
 mod Interrupts
+mod KeptPromises
 mod LeftAlone
 mod MessageCalls
 mod MessageSteps

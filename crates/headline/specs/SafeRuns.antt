@@ -4,7 +4,7 @@ use Rattle.model.specs.declared.events.Event.{Event}
 use Rattle.model.specs.declared.labels.Label.{Label}
 use Rattle.model.specs.Acceptance.Accepted.{IsAccepted}
 use Rattle.model.specs.Acceptance.Authority.{StaysWithin}
-use Rattle.model.specs.Acceptance.ThreadInvariants.{tcb_of}
+use Rattle.model.specs.Acceptance.ThreadInvariants.{KeepsPromises, tcb_of}
 use Rattle.model.specs.Images.Boot.{booted}
 use Rattle.model.specs.Images.Described.{described, Numbered, numbered_threads}
 use Rattle.model.specs.Images.Image.{Image, Thread}
@@ -23,7 +23,7 @@ trace_of image events = trace (described image) events
 
 -- The bytes are an accepted image. It boots with no kernel error into the state that it describes, each object inside its untyped
 -- memory and no two on one another. Over the events no line of the kernel's trace is a fault or an error, no stretch of a thread is longer
--- than its budget, and each event changes only what authority lets it.
+-- than its budget, each event changes only what authority lets it, and each message that waits at an endpoint keeps what the image promises there.
 pub record IsSafeRun (bytes : List ℕ) (image : Image) (events : List Event) : Type 0 where
   pub accepted : IsAccepted bytes image
   pub boots : booted image ≡ Ok (described image)
@@ -33,6 +33,7 @@ pub record IsSafeRun (bytes : List ℕ) (image : Image) (events : List Event) : 
   pub budgets : (t : Thread) → Contains image.threads t → KeepsBudget (offset_of image t.header.tcb) t.header.budget (trace_of image events)
   pub within : (before : List Event) (event : Event) (later : List Event) → events ≡ before ++ event ∷ later
       → StaysWithin image (state_after (described image) before) event (step (state_after (described image) before) event).0
+  pub promises : (before later : List Event) → events ≡ before ++ later → KeepsPromises image (state_after (described image) before)
 
 -- ---- the laws
 

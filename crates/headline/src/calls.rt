@@ -9,4 +9,4 @@ mod waking_laws;
 pub use call_laws::calls_lead_behind;
 pub use known_laws::allowed_calls_are_known;
 pub use message_rules::rules_on_messages_are_known;
-pub use waking_laws::messages_fit_behind;
+pub use waking_laws::{messages_fit_behind, what_is_sent_keeps_its_promise};

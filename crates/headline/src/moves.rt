@@ -7,6 +7,7 @@ mod event_laws;
 mod message_laws;
 mod moving_laws;
 mod plain_laws;
+mod promise_laws;
 mod standing_laws;
 
 pub use below::laws_below;
@@ -17,6 +18,7 @@ pub use moving_laws::{
     waits_that_end_lead_on,
 };
 pub use plain_laws::plain_steps_go_well;
+pub use promise_laws::waiting_messages_keep_their_promises;
 pub use standing_laws::{
     all_stand_where_others_rest, what_keeps_slots_and_bytes_touches_no_thread,
 };

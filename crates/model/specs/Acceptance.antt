@@ -8,6 +8,7 @@ pub mod Edges
 pub mod Measures
 pub mod NotedStates
 pub mod NotedKernel
+pub mod Promises
 pub mod CallRules
 pub mod PointStates
 pub mod PointRules

@@ -1,5 +1,5 @@
 -- A state that a certificate notes has the ranges of 31 registers.
-use Rattle.std.proofs.Common.{ℕ, zero, suc, ◌≡◌, ◌∙◌, ◌==◌, ◌-◌, ◌&&◌, Bool, true, false, not, if◌then◌else◌, Option, Some, None, Result, Ok, Err, option_map}
+use Rattle.std.proofs.Common.{ℕ, zero, suc, ◌≡◌, ◌∙◌, ◌==◌, ◌-◌, Bool, true, false, not, if◌then◌else◌, Option, Some, None, Result, Ok, Err, option_map}
 use Rattle.std.proofs.Common.{List, [], ◌∷◌, take, length, refl, subst, pos}
 use Rattle.std.specs.Prelude.{fold, slice_set}
 use Rattle.std.specs.Option.{option_map_or}
@@ -8,6 +8,7 @@ use Rattle.std.proofs.lemmas.List.{length-set}
 use Rattle.model.specs.declared.capabilities.Cap.{Cap}
 use Rattle.model.specs.declared.capabilities.Cap.TheVariants.{Empty, Untyped, Endpoint, Notification, CNode, Frame, PageTable, Tcb, RootTable, InterruptControl}
 use Rattle.model.specs.declared.capabilities.Cap.TheVariants.{InterruptHandler}
+use Rattle.model.specs.declared.entries.PromisedWord.{PromisedWord}
 use Rattle.model.specs.declared.entries.RangeEntry.{RangeEntry}
 use Rattle.model.specs.declared.errors.KError.TheVariants.{IllegalOperation}
 use Rattle.model.specs.declared.instructions.Instr.{Instr}
@@ -24,23 +25,24 @@ use Rattle.model.specs.declared.system_calls.SendCall.{SendCall}
 use Rattle.model.specs.declared.system_calls.SendCall.TheVariants.{Calling, Sending, Trying}
 use Rattle.model.specs.declared.system_calls.SystemCall.{SystemCall}
 use Rattle.model.specs.declared.system_calls.SystemCall.TheVariants.{Sends, Receives, RepliesAndReceives, Replies, Yields, PutsCharacter}
-use Rattle.model.specs.Acceptance.CallRules.{AfterCall, after_call, all_known, answers, badges, by_call, by_capability, by_number, demand, found_slot}
-use Rattle.model.specs.Acceptance.CallRules.{invocation, invoked, kernel_allows, known, loses_pool, may_call, message_registers, receive_rule, send_rule}
-use Rattle.model.specs.Acceptance.CallRules.{sends_message, sends_signal, with_all, with_answer, with_message}
+use Rattle.model.specs.Acceptance.CallRules.{AfterCall, after_call, after_message, all_known, answers, badges, by_call, by_capability, by_number, demand, found_slot}
+use Rattle.model.specs.Acceptance.CallRules.{invocation, invoked, kernel_allows, known, loses_pool, may_call, may_send, message_registers, promise_received, promise_rule}
+use Rattle.model.specs.Acceptance.CallRules.{receive_rule, send_rule, sends_message, sends_signal, with_answer, with_message, with_received}
 use Rattle.model.specs.Acceptance.Edges.{Edge, after}
 use Rattle.model.specs.Acceptance.Measures.{has_term, lowered, register_numbered}
 use Rattle.model.specs.Acceptance.NotedKernel.{noted_after, noted_kernel, noted_root}
 use Rattle.model.specs.Acceptance.NotedStates.{NotedSlot, PointState, full_ranges, has_stray_slots, record_of, record_state}
 use Rattle.model.specs.Acceptance.PointStates.{Noted, Known, Missing, Unmeasured, call_at, follows, follows_call, follows_edge, follows_instruction}
 use Rattle.model.specs.Acceptance.PointStates.{instruction_at, noted, noted_or, point_of, whole_budget, with_measure}
+use Rattle.model.specs.Acceptance.Promises.{promise_at, range_promised, with_words}
 use Rattle.model.specs.Acceptance.RangeRules.{destination, range, ranges_after}
 use Rattle.model.specs.Acceptance.Ranges.{full, single, with_range}
 use Rattle.model.specs.Capabilities.Lookup.{called_slot}
-use Rattle.model.specs.Capabilities.Rights.{may_grant_reply, may_read, may_write}
+use Rattle.model.specs.Capabilities.Rights.{may_read, may_write}
 use Rattle.model.specs.Capabilities.Slots.{capability_at}
 use Rattle.model.specs.Images.Described.{Numbered}
 use Rattle.model.specs.Images.Format.{◌>>=◌}
-use Rattle.model.specs.Images.Image.{Image, StateRecord, Thread}
+use Rattle.model.specs.Images.Image.{Image, ImagePromise, StateRecord, Thread}
 use Rattle.model.specs.Images.Places.{offset_of}
 use Rattle.model.specs.Kernel.Arguments.{Call}
 use Rattle.model.specs.Kernel.CallForms.{form_called}
@@ -56,9 +58,11 @@ with-long ranges x r = elim (x.0 == 0) as (λ b. length (if b then ranges else s
   | false ↦ length-set ranges (x.0 - 1) r
 ]
 
-pub all-long : (xs : List Register) (ranges : List Range) (r : Range) → length (with_all ranges xs r) ≡ length ranges
-all-long [] ranges r = refl
-all-long (x ∷ xs) ranges r = all-long xs (with_range ranges x r) r ∙ with-long ranges x r
+pub words-long : (xs : List Register) (ranges : List Range) (words : List PromisedWord) → length (with_words ranges xs words) ≡ length ranges
+words-long [] ranges words = refl
+words-long (x ∷ xs) ranges [] = words-long xs (with_range ranges x full) [] ∙ with-long ranges x full
+words-long (x ∷ xs) ranges (word ∷ words) =
+    words-long xs (with_range ranges x (range_promised word)) words ∙ with-long ranges x (range_promised word)
 
 entries-long : (es : List RangeEntry) (ranges : List Range) →
     length (fold (λ known e. with_range known (register_numbered e.register) (range e.low e.high)) ranges es) ≡ length ranges
@@ -123,15 +127,21 @@ so : (ranges : List Range) (slots : List NotedSlot) (is_wait : Bool) (written : 
 so ranges slots is_wait written long = answers_so (record { ranges = ranges; slots = slots; is_wait = is_wait; written = written }) long
 
 module _ (image : Image) (t : Thread) (at : Point) (state : PointState) (long : length state.ranges ≡ 31) where
-  message-long : (badge : Range) → length (with_message state.ranges badge) ≡ 31
-  message-long badge = all-long (a1 ∷ word_registers) (with_range state.ranges a0 badge) full ∙ with-long state.ranges a0 badge ∙ long
+  message-long : (badge : Range) (words : List PromisedWord) → length (with_message state.ranges badge words) ≡ 31
+  message-long badge words = words-long word_registers (with_range (with_range state.ranges a0 badge) a1 full) words
+      ∙ with-long (with_range state.ranges a0 badge) a1 full ∙ with-long state.ranges a0 badge ∙ long
+
+  received-long : (promise : Option ImagePromise) → length (with_received state.ranges promise) ≡ 31
+  received-long None = message-long badges []
+  received-long (Some p) = message-long (range p.header.badge_low p.header.badge_high) p.words
 
   answer-long : length (with_answer state.ranges) ≡ 31
   answer-long = with-long (with_range state.ranges a0 (single 0)) a1 (single 0) ∙ with-long state.ranges a0 (single 0) ∙ long
 
-  receives : (is_wait : Bool) (capability : Cap) → AnswerIsLong (receive_rule at state is_wait capability)
+  receives : (is_wait : Bool) (capability : Cap) → AnswerIsLong (receive_rule image at state is_wait capability)
   receives is_wait (Endpoint offset r badge) = bind-long (demand (may_read r) (CapNotThere at)) _
-      (λ _. so (with_message state.ranges badges) state.slots is_wait message_registers (message-long badges))
+      (λ _. so (with_received state.ranges (promise_received image is_wait offset)) state.slots is_wait message_registers
+      (received-long (promise_received image is_wait offset)))
   receives is_wait (Notification offset r badge) = bind-long (demand (may_read r) (CapNotThere at)) _
       (λ _. so (with_range state.ranges a0 badges) state.slots is_wait (a0 ∷ []) (with-long state.ranges a0 badges ∙ long))
   receives is_wait Empty = refuses _
@@ -144,11 +154,14 @@ module _ (image : Image) (t : Thread) (at : Point) (state : PointState) (long : 
   receives is_wait InterruptControl = refuses _
   receives is_wait (InterruptHandler _) = refuses _
 
-  messages : (kind : SendCall) (r : Rights) → AnswerIsLong (sends_message at state kind r)
-  messages Calling r = bind-long (demand (may_write r && may_grant_reply r) (CapNotThere at)) _
-      (λ _. so (with_message state.ranges (single 0)) state.slots true message_registers (message-long (single 0)))
-  messages Sending r = bind-long (demand (may_write r) (CapNotThere at)) _ (λ _. so state.ranges state.slots true [] long)
-  messages Trying r = bind-long (demand (may_write r) (CapNotThere at)) _ (λ _. so state.ranges state.slots false [] long)
+  sent : (kind : SendCall) → AnswerIsLong (Ok (after_message state kind))
+  sent Calling = so (with_message state.ranges (single 0) []) state.slots true message_registers (message-long (single 0) [])
+  sent Sending = so state.ranges state.slots true [] long
+  sent Trying = so state.ranges state.slots false [] long
+
+  messages : (kind : SendCall) (r : Rights) (badge : ℕ) (promise : Option ImagePromise) → AnswerIsLong (sends_message at state kind r badge promise)
+  messages kind r badge promise =
+      bind-long (demand (may_send kind r) (CapNotThere at)) _ (λ _. bind-long (promise_rule at state badge promise) _ (λ _. sent kind))
 
   signals : (kind : SendCall) (r : Rights) → AnswerIsLong (sends_signal at state kind r)
   signals Calling r = bind-long (demand (may_write r) (CapNotThere at)) _ (λ _. so (with_answer state.ranges) state.slots false (a0 ∷ a1 ∷ []) answer-long)
@@ -179,7 +192,7 @@ module _ (image : Image) (t : Thread) (at : Point) (state : PointState) (long : 
 
   sends : (kind : SendCall) (slot : ℕ) (capability : Cap) → AnswerIsLong (send_rule image t at state kind slot capability)
   unfolding call_of_slot
-  sends kind slot (Endpoint offset r badge) = messages kind r
+  sends kind slot (Endpoint offset r badge) = messages kind r badge (promise_at image offset)
   sends kind slot (Notification offset r badge) = signals kind r
   sends kind slot Empty = invocations (call_of_slot slot Empty) (answers kind)
   sends kind slot (Untyped a b c) = invocations (call_of_slot slot (Untyped a b c)) (answers kind)
@@ -200,9 +213,9 @@ module _ (image : Image) (t : Thread) (at : Point) (state : PointState) (long : 
 
   called : (call : SystemCall) → AnswerIsLong (by_call image t at state call)
   called (Sends kind) = capable (send_rule image t at state kind) (sends kind)
-  called (Receives Receiving) = capable (λ slot. receive_rule at state true) (λ slot. receives true)
-  called (Receives Polling) = capable (λ slot. receive_rule at state false) (λ slot. receives false)
-  called RepliesAndReceives = capable (λ slot. receive_rule at state true) (λ slot. receives true)
+  called (Receives Receiving) = capable (λ slot. receive_rule image at state true) (λ slot. receives true)
+  called (Receives Polling) = capable (λ slot. receive_rule image at state false) (λ slot. receives false)
+  called RepliesAndReceives = capable (λ slot. receive_rule image at state true) (λ slot. receives true)
   called Replies = so state.ranges state.slots false [] long
   called Yields = so state.ranges state.slots false [] long
   called PutsCharacter = so state.ranges state.slots false [] long

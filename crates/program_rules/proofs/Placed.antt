@@ -15,7 +15,7 @@ use Rattle.model.specs.Kernel.Messages.{a0, a1, word_registers}
 use Rattle.model.specs.declared.instructions.Instr.TheVariants.{Ecall}
 use Rattle.model.specs.declared.ranges.Range.{Range}
 use Rattle.program_rules.proofs.EachPoint.{noted-is}
-use Rattle.program_rules.proofs.LongRanges.{all-long, known-long, with-long}
+use Rattle.program_rules.proofs.LongRanges.{known-long, with-long, words-long}
 use Rattle.program_rules.specs.Kept.{AreKept, AreOne, IsAt, IsBehindCall, IsCalled, IsInRecord, IsKeptAt, IsNextAt, IsPlain, IsRecorded, IsSound, IsWhole}
 use Rattle.program_rules.specs.Kept.{KeepsAll, Leads, before as states_before, has_state, is_known_at, is_step, measure_behind, ranges_behind}
 use Rattle.program_rules.specs.Kept.{state_by, wide}
@@ -219,7 +219,8 @@ behind-long : (w : Written) (badge : Range) (ranges : List Range) → length (ra
 behind-long written.Nothing badge ranges = refl
 behind-long written.Badge badge ranges = with-long ranges a0 badge
 behind-long written.Answer badge ranges = with-long (with_range ranges a0 (single 0)) a1 (single 0) ∙ with-long ranges a0 (single 0)
-behind-long written.Message badge ranges = all-long (a1 ∷ word_registers) (with_range ranges a0 badge) full ∙ with-long ranges a0 badge
+behind-long written.Message badge ranges = words-long word_registers (with_range (with_range ranges a0 badge) a1 full) []
+    ∙ with-long (with_range ranges a0 badge) a1 full ∙ with-long ranges a0 badge
 
 pub called-leads : (budget : ℕ) (c : CalledPoint) (before after made : State) → IsCalled budget c before made →
     (length made.bounds ≡ 31 → length after.bounds ≡ 31 → AreOne made after)

@@ -136,7 +136,7 @@ abbrev pub ranges_behind : Written → Range → List Range → List Range
 ranges_behind written.Nothing badge ranges = ranges
 ranges_behind written.Badge badge ranges = with_range ranges a0 badge
 ranges_behind written.Answer badge ranges = with_answer ranges
-ranges_behind written.Message badge ranges = with_message ranges badge
+ranges_behind written.Message badge ranges = with_message ranges badge []
 
 abbrev pub measure_behind : ℕ → Bool → Measure → Measure
 measure_behind budget is_wait m = if is_wait then record { constant = pos budget; terms = [] } else lowered m (pos 1)

@@ -1,6 +1,6 @@
 //! What a system call leaves of the state before it.
 
-ghost use Rattle.std.specs.Prelude.{◌≡◌, ◌^◌, ◌-◌, ◌≤ℤ◌, IfSome, is_some, length, negsuc, true};
+ghost use Rattle.std.specs.Prelude.{◌≡◌, ◌^◌, ◌-◌, ◌≤ℤ◌, [], IfSome, is_some, length, negsuc, true};
 ghost use Rattle.measure.specs.Measures.{measure_of};
 ghost use Rattle.model.specs.Acceptance.CallRules.{with_message};
 ghost use Rattle.program_rules.specs.Kept.{AreOne, IsCalled, Leads, measure_behind, ranges_behind};
@@ -83,10 +83,10 @@ fn is_same(one: &Known, other: &Known) -> bool
 }
 
 impl CalledPoint {
-    /// The ranges after a message.
+    /// The ranges after a message of which nothing is promised.
     #[tactic(auto, unfolding(model::specs::Kernel::Messages::word_registers))]
     fn with_message(&self, bounds: &Bounds) -> Bounds
-        ensures { result ≡ with_message bounds.now self.now.badge }
+        ensures { result ≡ with_message bounds.now self.now.badge [] }
     {
         let mut bounds = *bounds;
         bounds.set(Register::A0, self.badge);

@@ -2,5 +2,6 @@
 
 mod calls;
 mod pairs;
+mod promises;
 mod rules;
 mod texts;

@@ -8,10 +8,10 @@ pub(crate) struct Form {
 }
 
 /// The words with which lines begin.
-pub(crate) const WORDS: [&str; 55] = [
-    "memory", "untyped", "object", "irq", "cap", "table", "map", "data", "thread", "reg",
-    "measure", "range", "slot", "word", "end", "lui", "auipc", "jal", "jalr", "beq", "bne", "blt",
-    "bge", "bltu", "bgeu", "lb", "lh", "lw", "lbu", "lhu", "sb", "sh", "sw", "addi", "slti",
+pub(crate) const WORDS: [&str; 56] = [
+    "memory", "untyped", "object", "irq", "cap", "table", "map", "data", "promise", "thread",
+    "reg", "measure", "range", "slot", "word", "end", "lui", "auipc", "jal", "jalr", "beq", "bne",
+    "blt", "bge", "bltu", "bgeu", "lb", "lh", "lw", "lbu", "lhu", "sb", "sh", "sw", "addi", "slti",
     "sltiu", "xori", "ori", "andi", "slli", "srli", "srai", "add", "sub", "sll", "slt", "sltu",
     "xor", "srl", "sra", "or", "and", "fence", "ecall", "ebreak",
 ];
@@ -155,6 +155,10 @@ fn declaration_form(word: &str) -> Option<Form> {
         "data" => (
             "FRAME WORD ..",
             "1 to 1024 words of 32 bits; each frame once",
+        ),
+        "promise" => (
+            "ENDPOINT LOW HIGH [LOW HIGH] ..",
+            "the badges first, below 0x10000000, then at most 8 words; each LOW is at most its HIGH; each endpoint once",
         ),
         "thread" => (
             "TCB CNODE GUARD ROOT PRIORITY BUDGET FAULT LABEL BASE",

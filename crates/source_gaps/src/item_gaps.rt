@@ -7,7 +7,9 @@ use source_texts::{
     CapabilityLine, FrameLine, Source, SourceText, TableLine, UntypedLine, word_at,
 };
 use std::alloc::{AllocError, Global};
-use wellformed::{UsedMemory, is_frame, is_page_table, is_root_table, is_thread, is_untyped};
+use wellformed::{
+    UsedMemory, is_endpoint, is_frame, is_page_table, is_root_table, is_thread, is_untyped,
+};
 
 /// A text, the image that it makes, and what the text declares.
 #[derive(Clone, Copy, Drop)]
@@ -563,6 +565,17 @@ impl Items<'_, '_, '_, '_, '_, '_> {
         Ok(())
     }
 
+    /// Reports which promise is of no endpoint.
+    fn report_promise(&self, to: &mut String) -> Result<(), AllocError> {
+        for promise in &self.source.promises {
+            if !is_endpoint(self.source.kind(promise.endpoint)) {
+                self.push_line(to, promise.line)?;
+                return self.report_kind(to, promise.endpoint, "endpoint");
+            }
+        }
+        Ok(())
+    }
+
     /// Reports which code can be written.
     fn report_writable(&self, to: &mut String, item: u32) -> Result<(), AllocError> {
         let Some(frame) = self.frame_line(item.saturating_sub(self.image.header().tables)) else {
@@ -650,6 +663,7 @@ impl Items<'_, '_, '_, '_, '_, '_> {
             Refusal::BadCap { item } => self.report_capability(to, item),
             Refusal::BadMapping { item } => self.report_mapping(to, item),
             Refusal::WritableCode { item } => self.report_writable(to, item),
+            Refusal::BadPromise { .. } => self.report_promise(to),
             refusal => self.report_of_thread(to, refusal),
         }
     }

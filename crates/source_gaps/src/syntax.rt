@@ -41,7 +41,7 @@ fn names_at(keyword: &str) -> &'static [usize] {
         "object" => &[2],
         "irq" => &[3],
         "cap" | "table" | "map" => &[1, 3],
-        "data" => &[1],
+        "data" | "promise" => &[1],
         "thread" => &[1, 2, 4],
         "slot" => &[1, 5],
         _ => &[],
@@ -97,7 +97,7 @@ fn place_words(keyword: &str) -> &'static str {
             "out of its place: it belongs after a line `measure`, before the instruction\n",
         "memory" => "out of its place: it comes first, once\n",
         "measure" => "out of its place: it belongs inside a thread, before an instruction\n",
-        "untyped" | "object" | "irq" | "cap" | "table" | "map" | "data" =>
+        "untyped" | "object" | "irq" | "cap" | "table" | "map" | "data" | "promise" =>
             "out of its place: a text begins with `memory`, and a declaration belongs to no thread: `end` ends one\n",
         "thread" =>
             "out of its place: a text begins with `memory`, and the thread before ends with `end`, as this one does\n",
@@ -118,6 +118,8 @@ fn range_words(keyword: &str) -> &'static str {
         "measure" =>
             "an instruction has one `measure`, with each register once and at most 4 terms\n",
         "data" => "a frame begins with at most 1024 words\n",
+        "promise" =>
+            "a lowest value is at most its highest one, badges are below 0x10000000, and at most 8 words are promised\n",
         "memory" | "" => "a text has untyped memory and at least one thread\n",
         _ =>
             "a number is out of its range, the target is too far away, or there are too many such lines\n",
@@ -318,7 +320,16 @@ impl<'t> Fault<'_, 't> {
     fn ends_threads(&self) -> bool {
         matches!(
             self.keyword(),
-            "memory" | "untyped" | "object" | "irq" | "cap" | "table" | "map" | "data" | "thread"
+            "memory"
+                | "untyped"
+                | "object"
+                | "irq"
+                | "cap"
+                | "table"
+                | "map"
+                | "data"
+                | "promise"
+                | "thread"
         )
     }
 
@@ -490,7 +501,7 @@ impl<'t> Fault<'_, 't> {
         match self.keyword() {
             "cap" | "table" | "map" | "slot" => self.has_word_of(line, 1)
                 && self.has_word_of(line, 2),
-            "data" | "reg" | "range" | "thread" => self.has_word_of(line, 1),
+            "data" | "promise" | "reg" | "range" | "thread" => self.has_word_of(line, 1),
             "irq" => self.has_word_of(line, 2),
             _ => false,
         }

@@ -1,7 +1,7 @@
 //! What a text declares, with the lines that it is on. Numbers count what is in the text from 0.
 
 use crate::source_threads::SourceThread;
-use model::{ObjectKind, ObjectType};
+use model::{ObjectKind, ObjectType, PromisedWord};
 
 /// `untyped NAME OFFSET BITS`
 #[derive(Clone, Copy, Debug)]
@@ -78,6 +78,16 @@ pub struct ContentLine {
     pub frame: usize,
 }
 
+/// `promise ENDPOINT LOW HIGH [LOW HIGH] ..`
+#[derive(Drop)]
+pub struct PromiseLine {
+    pub line: u64,
+    pub endpoint: usize,
+    pub badge_low: u32,
+    pub badge_high: u32,
+    pub words: Vec<PromisedWord>,
+}
+
 /// All that a text declares, each section in the order of its lines.
 #[derive(Drop)]
 pub struct SourceText<'a> {
@@ -88,6 +98,7 @@ pub struct SourceText<'a> {
     pub tables: Vec<TableLine>,
     pub frames: Vec<FrameLine>,
     pub contents: Vec<ContentLine>,
+    pub promises: Vec<PromiseLine>,
     pub threads: Vec<SourceThread<'a>>,
 }
 
@@ -125,6 +136,16 @@ impl<'a> SourceText<'a> {
             Some(ObjectType::Object(ObjectKind::CNode { radix })) => radix,
             _ => 0,
         }
+    }
+
+    /// What is promised of the messages to an endpoint.
+    pub fn promise(&self, endpoint: usize) -> Option<&PromiseLine> {
+        for promise in &self.promises {
+            if promise.endpoint == endpoint {
+                return Some(promise);
+            }
+        }
+        None
     }
 
     /// What is in a slot of a CNode.

@@ -10,8 +10,8 @@ mod source_threads;
 
 pub use automatic::{Budgets, has_automatic_budget, with_budgets};
 pub use declared::{
-    CapabilityLine, ContentLine, FrameLine, InterruptLine, ObjectLine, Source, SourceText,
-    TableLine, UntypedLine,
+    CapabilityLine, ContentLine, FrameLine, InterruptLine, ObjectLine, PromiseLine, Source,
+    SourceText, TableLine, UntypedLine,
 };
 pub use faults::TextFault;
 pub use names::word_at;

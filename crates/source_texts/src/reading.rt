@@ -1,15 +1,15 @@
 //! Reading a text line by line.
 
 use crate::declared::{
-    CapabilityLine, ContentLine, FrameLine, InterruptLine, ObjectLine, Source, SourceText,
-    TableLine, UntypedLine,
+    CapabilityLine, ContentLine, FrameLine, InterruptLine, ObjectLine, PromiseLine, Source,
+    SourceText, TableLine, UntypedLine,
 };
 use crate::faults::TextFault;
 use crate::names::{Named, Names};
 use crate::source_threads::{RecordLine, SourceThread};
-use asm_line::{Line, Name, ThreadLine, parse_line};
-use model::ObjectType;
-use std::alloc::Global;
+use asm_line::{Line, Name, ThreadLine, Words, parse_line};
+use model::{ObjectType, PromisedWord};
+use std::alloc::{AllocError, Global};
 
 /// What is read of a text up to some line.
 #[derive(Drop)]
@@ -19,6 +19,17 @@ struct Reader<'a> {
     text: SourceText<'a>,
     /// The thread that is not at its end.
     open: Option<SourceThread<'a>>,
+}
+
+/// The words' ranges of a `promise` line.
+fn promised_words(alloc: Global, words: Words<'_>) -> Result<Vec<PromisedWord>, AllocError> {
+    let mut promised = Vec::new(alloc);
+    let mut rest = words;
+    'words: while let Some((word, words)) = rest.next_promised_word() {
+        promised.push(word)?;
+        rest = words;
+    }
+    Ok(promised)
 }
 
 impl<'a> Reader<'a> {
@@ -34,6 +45,7 @@ impl<'a> Reader<'a> {
                 tables: Vec::new(alloc),
                 frames: Vec::new(alloc),
                 contents: Vec::new(alloc),
+                promises: Vec::new(alloc),
                 threads: Vec::new(alloc),
             },
             open: None,
@@ -189,6 +201,25 @@ impl<'a> Reader<'a> {
         Ok(())
     }
 
+    fn add_promise(
+        &mut self,
+        endpoint: Name<'a>,
+        badge_low: u32,
+        badge_high: u32,
+        words: Words<'a>,
+    ) -> Result<(), TextFault> {
+        let endpoint = self.names.object(&endpoint)?;
+        let words = promised_words(self.alloc, words)?;
+        self.text.promises.push(PromiseLine {
+            line: self.names.line,
+            endpoint,
+            badge_low,
+            badge_high,
+            words,
+        })?;
+        Ok(())
+    }
+
     /// A line that puts objects into one another.
     fn bind(&mut self, said: Line<'a>) -> Result<(), TextFault> {
         match said {
@@ -211,6 +242,12 @@ impl<'a> Reader<'a> {
                 rights,
             } => self.add_frame(root, address, frame, rights),
             Line::Content { frame, words: _ } => self.add_content(frame),
+            Line::Promise {
+                endpoint,
+                badge_low,
+                badge_high,
+                words,
+            } => self.add_promise(endpoint, badge_low, badge_high, words),
             _ => Ok(()),
         }
     }

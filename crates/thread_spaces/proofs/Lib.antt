@@ -3,6 +3,7 @@ mod Awaited
 mod GivenCNodes
 mod WindowLists
 mod PlaceSteps
+mod PromisesPlaced
 mod OwnPlaces
 mod EachHolding
 mod ListedSlots

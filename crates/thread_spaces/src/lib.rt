@@ -5,6 +5,7 @@ mod capabilities;
 mod given_slots;
 mod offsets;
 mod own_slots;
+mod promises;
 mod reach;
 mod space_laws;
 mod spaces;
@@ -13,6 +14,7 @@ mod windows;
 pub use given_slots::slots_of;
 pub use offsets::{PlacedImage, offsets_of};
 pub use own_slots::slots_are_own;
+pub use promises::promises_of;
 pub use reach::reached_of;
 pub use space_laws::{
     mappings_are_listed, programs_have_their_places, root_tables_are_placed, threads_stand_apart,

@@ -1,19 +1,19 @@
 //! A thread's capability space, as a well-formed image gives it.
 
 ghost use Rattle.std.specs.Prelude.{◌≡◌};
-ghost use Rattle.model.specs.Acceptance.Accepted.{IsWellFormed};
 ghost use Rattle.model.specs.Acceptance.NotedKernel.{noted_root};
 ghost use Rattle.model.specs.Acceptance.ThreadRules.{reached};
 ghost use Rattle.model.specs.Capabilities.CapabilityWords.{IsCapability};
 ghost use Rattle.model.specs.Images.Places.{offset_of};
-ghost use Rattle.thread_spaces.specs.Given.{AreOffsets, IsListed};
+ghost use Rattle.thread_spaces.specs.Given.{IsListed};
+ghost use Rattle.typestate.specs.Promises.{AreOfImage};
 ghost use Rattle.typestate.specs.Spaces.{AreWindows, IsSpace};
 
 use crate::offsets::PlacedImage;
 use crate::space_laws::{mappings_are_listed, threads_stand_apart};
-use image_reading::{ImageRef, ThreadRef};
+use image_reading::ThreadRef;
 use model::Cap;
-use typestate::{Space, Windows};
+use typestate::{PlacedPromises, Space, Windows};
 use wellformed::{radix_of, type_at};
 
 /// The root of a thread's capability space: its CNode, with its guard word.
@@ -47,29 +47,29 @@ fn table_of(placed: &PlacedImage<'_, '_>, thread: &ThreadRef<'_>) -> u32
 
 /// A thread of a well-formed image with the CNodes that it reaches.
 pub fn given_space<'a, 's>(
-    image: &'s ImageRef<'a>,
+    placed: &'s PlacedImage<'_, 'a>,
     thread: &'s ThreadRef<'a>,
-    offsets: &[u32],
     windows: &'s Windows,
+    promises: &'s PlacedPromises<'a>,
 ) -> Space<'a, 's>
-    requires formed { IsWellFormed image.now }
-    requires listed { IsListed image.now thread.now }
-    requires offsets { AreOffsets image.now image.now.header.objects offsets.now }
-    requires windows { AreWindows image.now (reached image.now thread.now) windows.now }
+    requires listed { IsListed placed.now.image.now thread.now }
+    requires windows { AreWindows placed.now.image.now (reached placed.now.image.now thread.now) windows.now }
+    requires promises { AreOfImage placed.now.image.now promises.now }
     ensures space { IsSpace result }
-    ensures image { result.image.now ≡ image.now }
+    ensures image { result.image.now ≡ placed.now.image.now }
     ensures thread { result.thread.now ≡ thread.now }
     ensures windows { result.windows.now ≡ windows.now }
 {
+    let image = placed.image;
     let _ = image.header();
     threads_stand_apart();
     mappings_are_listed();
-    let placed = PlacedImage { image, offsets };
     Space {
         image,
         thread,
         windows,
-        root: root_of(&placed, thread),
-        table: table_of(&placed, thread),
+        promises,
+        root: root_of(placed, thread),
+        table: table_of(placed, thread),
     }
 }

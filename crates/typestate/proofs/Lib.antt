@@ -62,6 +62,10 @@ mod FrameRules
 mod HandlerRules
 mod PoolRules
 mod MadeSlots
+mod MadeTypes
 mod PoolPlaces
 mod CallsOn
+mod PromisedWords
+mod PromisedPlaces
+mod SentMessages
 pub mod Laws

@@ -9,6 +9,7 @@ use Rattle.std.proofs.lemmas.List.Folds.{list_any_none}
 use Rattle.model.specs.declared.capabilities.Cap.TheVariants.{Empty, Untyped}
 use Rattle.model.specs.declared.invocations.UntypedMemory.{UntypedMemory}
 use Rattle.model.specs.declared.slot_entries.Entry.{Entry}
+use Rattle.model.specs.Acceptance.CallRules.{may_make}
 use Rattle.model.specs.Acceptance.NotedKernel.{boot_parent, key_of, noted_after, noted_of, noted_slots, slot_of_key}
 use Rattle.model.specs.Acceptance.NotedStates.{NotedSlot, SlotKey, is_own, is_same_key, number_of, slot_at, with_noted}
 use Rattle.model.specs.Acceptance.ThreadRules.{reached}
@@ -16,15 +17,14 @@ use Rattle.model.specs.Acceptance.WellFormed.{has_slot}
 use Rattle.model.specs.Capabilities.Slots.{Slots, empty_entry, is_empty, is_within, recapped}
 use Rattle.model.specs.Images.Image.{Image, Thread}
 use Rattle.model.specs.Kernel.Removal.{slot_count}
-use Rattle.model.specs.Kernel.Retype.{NewObjects, first_capability, object, place_of_new, with_first_capabilities, with_new_slots}
+use Rattle.model.specs.Kernel.Retype.{NewObject, NewObjects, first_capability, object, place_of_new, with_first_capabilities, with_new_slots}
 use Rattle.model.specs.Kernel.State.{slot_of}
-use Rattle.typestate.specs.declared.pool_calls.Makeable.{Makeable}
-use Rattle.typestate.specs.declared.pool_calls.Makeable.TheVariants.{Endpoint, Notification, Frame}
 use Rattle.typestate.specs.declared.window.Window.{Window}
 use Rattle.typestate.specs.Differences.{changed, left_by}
-use Rattle.typestate.specs.Pools.{IsOwnWindow, new_of, pool_used, slot_made, slots_made}
+use Rattle.typestate.specs.Pools.{IsOwnWindow, pool_used, slot_made, slots_made}
 use Rattle.typestate.specs.Spaces.{AreOwn, StandsApart}
 use Rattle.typestate.proofs.HeldCaps.{recap-back}
+use Rattle.typestate.proofs.MadeTypes.{first-full, no-slots}
 use Rattle.typestate.proofs.NamedKeys.{own-named, same-own-key}
 use Rattle.typestate.proofs.Puts.{put-own}
 use Rattle.typestate.proofs.Rising.{RiseFrom, changes-rise}
@@ -59,17 +59,7 @@ module _ (f : ℕ → NotedSlot) where
         (λ j lower upper. apart j lower (omega (arith, upper)))
   ]
 
--- ---- new objects without slots of their own
-
-no-slots : (m : Makeable) → slot_count (object (new_of m)) ≡ 0
-no-slots Endpoint = refl
-no-slots Notification = refl
-no-slots Frame = refl
-
-first-full : (m : Makeable) (offset : ℕ) → is_empty (first_capability (new_of m) offset) ≡ false
-first-full Endpoint offset = refl
-first-full Notification offset = refl
-first-full Frame offset = refl
+-- ---- slots one after another
 
 nowhere : (first slot : ℕ) → is_within first 0 slot ≡ false
 nowhere first slot = grind (arith, nat_tests)
@@ -83,7 +73,8 @@ within-at first count i less = grind (arith, nat_tests)
 module _ (image : Image) (t : Thread) (stand : StandsApart image t) (slots : List NotedSlot) (are : AreOwn image t slots) (rises : RiseFrom 0 slots)
     (held : NotedSlot) (is : slot_at slots held.key ≡ Some held) (memory : UntypedMemory)
     (pool : held.capability ≡ Untyped memory.offset memory.bits memory.watermark) (mark : ℕ)
-    (m : Makeable) (w : Window) (own : IsOwnWindow image t w) (index count offset : ℕ) (fits : index + count ≤ 2 ^ w.radix) where
+    (new : NewObject) (may : may_make (Some new) ≡ true) (w : Window) (own : IsOwnWindow image t w) (index count offset : ℕ)
+    (fits : index + count ≤ 2 ^ w.radix) where
   abbrev cnodes : List ℕ
   cnodes = reached image t
 
@@ -94,10 +85,10 @@ module _ (image : Image) (t : Thread) (stand : StandsApart image t) (slots : Lis
   first = record { cnode = w.cnode; index = index }
 
   abbrev made : ℕ → NotedSlot
-  made i = slot_made first held.key (new_of m) offset i
+  made i = slot_made first held.key new offset i
 
   abbrev objects : NewObjects
-  objects = record { kind = new_of m; first = offset; count = count }
+  objects = record { kind = new; first = offset; count = count }
 
   abbrev W : ℕ
   W = slot_of w.offset index
@@ -115,7 +106,7 @@ module _ (image : Image) (t : Thread) (stand : StandsApart image t) (slots : Lis
   base = with_noted slots (pool_used held memory mark)
 
   abbrev listed : List NotedSlot
-  listed = changed slots (pool_used held memory mark ∷ slots_made first held.key (new_of m) offset count)
+  listed = changed slots (pool_used held memory mark ∷ slots_made first held.key new offset count)
 
   -- ---- the keys
 
@@ -137,8 +128,9 @@ module _ (image : Image) (t : Thread) (stand : StandsApart image t) (slots : Lis
 
   none-new : (slot : ℕ) → with_new_slots objects used slot ≡ used slot
   none-new slot = ap (λ b. if b then Some empty_entry else used slot)
-      (list_any_none (λ at. is_within (slot_of at 0) (slot_count (object (new_of m))) slot) (map (place_of_new objects) (range_with_len 0 count))
-      (λ k d less. ap (λ n. is_within (slot_of (get_or (map (place_of_new objects) (range_with_len 0 count)) k d) 0) n slot) (no-slots m) ∙ nowhere _ slot))
+      (list_any_none (λ at. is_within (slot_of at 0) (slot_count (object new)) slot) (map (place_of_new objects) (range_with_len 0 count))
+      (λ k d less. ap (λ n. is_within (slot_of (get_or (map (place_of_new objects) (range_with_len 0 count)) k d) 0) n slot) (no-slots new may)
+      ∙ nowhere _ slot))
 
   -- ---- at each key
 
@@ -161,7 +153,7 @@ module _ (image : Image) (t : Thread) (stand : StandsApart image t) (slots : Lis
   other-key key mine out =
       let x = slot_of_key image key in
       same-noted after used key
-      (ap (λ b. if b then Some (let e : Entry = record { capability = first_capability (new_of m) (place_of_new objects (x - W)); parent = Some P } in e)
+      (ap (λ b. if b then Some (let e : Entry = record { capability = first_capability new (place_of_new objects (x - W)); parent = Some P } in e)
       else with_new_slots objects used x) out ∙ none-new x)
       ∙ sym (after-at image t stand used key mine) ∙ ap (λ l. slot_at l key) pool-back
       ∙ sym (changes-miss made base key 0 count (λ i _ below. ne_eqb (number_of (made i).key) (number_of key) (λ same.
@@ -175,17 +167,17 @@ module _ (image : Image) (t : Thread) (stand : StandsApart image t) (slots : Lis
       let held-entry : Entry = record { capability = (made i).capability; parent = Some P } in
       let x = slot_of_key image (made i).key in
       let here : after x ≡ Some held-entry =
-      ap (λ b. if b then Some (let e : Entry = record { capability = first_capability (new_of m) (place_of_new objects (x - W)); parent = Some P } in e) else
+      ap (λ b. if b then Some (let e : Entry = record { capability = first_capability new (place_of_new objects (x - W)); parent = Some P } in e) else
       with_new_slots objects used x)
       (ap (is_within W count) (made-place i) ∙ within-at W count i less)
-      ∙ ap (λ n. Some (let e : Entry = record { capability = first_capability (new_of m) (place_of_new objects n); parent = Some P } in e))
+      ∙ ap (λ n. Some (let e : Entry = record { capability = first_capability new (place_of_new objects n); parent = Some P } in e))
       (ap (λ y. y - W) (made-place i) ∙ omega arith) in
       back-of image t stand after (made i).key held-entry here
       ∙ ap (λ b. if not b then Some (let s : NotedSlot = record { key = (made i).key; capability = (made i).capability; parent = key_of image cnodes P } in s)
-      else None) (first-full m (place_of_new objects i))
+      else None) (first-full new (place_of_new objects i))
       ∙ ap (λ (p : Option SlotKey). Some (let s : NotedSlot = record { key = (made i).key; capability = (made i).capability; parent = p } in s))
       (own-named image t stand held.key held-own)
-      ∙ sym (changes-hit made base 0 count i (omega arith) (omega (arith, less)) (first-full m (place_of_new objects i))
+      ∙ sym (changes-hit made base 0 count i (omega arith) (omega (arith, less)) (first-full new (place_of_new objects i))
       (λ j lower upper. ne_eqb (number_of (made j).key) (number_of (made i).key) (λ same.
       absurd (omega (arith, same, lower)))))
 
@@ -213,7 +205,7 @@ module _ (image : Image) (t : Thread) (stand : StandsApart image t) (slots : Lis
 
   pub made-back : noted_after image t after ≡ listed
   made-back =
-      after-is image t stand after listed (changes-rise slots (pool_used held memory mark ∷ slots_made first held.key (new_of m) offset count) rises)
+      after-is image t stand after listed (changes-rise slots (pool_used held memory mark ∷ slots_made first held.key new offset count) rises)
       (changes-own count 0 base (omega arith)
       (put-own image t stand slots (pool_used held memory mark) (λ key r found. (found-own image t slots key r are found).key) held-own))
       at-key

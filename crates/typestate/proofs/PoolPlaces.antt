@@ -28,16 +28,14 @@ use Rattle.model.specs.Capabilities.Placement.{placement}
 use Rattle.model.specs.Capabilities.Slots.{Slots, depth_of, is_empty, is_full, recapped}
 use Rattle.model.specs.Images.Image.{Image, Thread}
 use Rattle.model.specs.Kernel.Arguments.{◌>>=◌, check, wanted}
-use Rattle.model.specs.Kernel.Retype.{NewObject, NewUntyped, NewThread, NewEndpoint, NewNotification, NewCNode, NewFrame, NewPageTable, NewRootTable}
-use Rattle.model.specs.Kernel.Retype.{NewObjects, any_full, object_bits, type_of, with_first_capabilities, with_new_slots}
+use Rattle.model.specs.Kernel.ObjectTypes.{new_type}
+use Rattle.model.specs.Kernel.Retype.{NewObject, NewObjects, any_full, object_bits, type_of, with_first_capabilities, with_new_slots}
 use Rattle.model.specs.Kernel.State.{slot_of}
-use Rattle.typestate.specs.declared.pool_calls.Makeable.{Makeable}
 use Rattle.typestate.specs.declared.pool_calls.NewPlace.{NewPlace}
-use Rattle.typestate.specs.declared.pool_calls.Makeable.TheVariants as makeable
 use Rattle.typestate.specs.declared.window.Window.{Window}
 use Rattle.typestate.specs.Differences.{changed}
 use Rattle.typestate.specs.Invocations.{held_after}
-use Rattle.typestate.specs.Pools.{IsOwnWindow, Makes, NamesNode, PlacedNew, fits_node, new_of, pool_used, room_in, slots_made}
+use Rattle.typestate.specs.Pools.{IsOwnWindow, NamesNode, PlacedNew, fits_node, pool_used, room_in, slots_made}
 use Rattle.typestate.specs.SlotChanges.{noted_depth}
 use Rattle.typestate.specs.Spaces.{AreOwn, AreWindows, IsWindow, StandsApart}
 use Rattle.typestate.specs.Strays.{is_at}
@@ -204,33 +202,6 @@ room-parts image t slots k memory w bits index count p is =
         let same : q ≡ p = (let both : placed q ≡ placed p = so in cc) in
         record { fits = fits; vacant = free; place = place ∙ ap (λ (x : ℕ × ℕ). Some x) same }
 
--- ---- the type
-
-pub makes-none : (o : Option NewObject) → Makes o None → may_make o ≡ false
-makes-none None is = refl
-makes-none (Some (NewUntyped bits)) is = refl
-makes-none (Some NewThread) is = refl
-makes-none (Some NewEndpoint) is = absurd (let no : None ≡ Some makeable.Endpoint = is in cc)
-makes-none (Some NewNotification) is = absurd (let no : None ≡ Some makeable.Notification = is in cc)
-makes-none (Some (NewCNode radix)) is = refl
-makes-none (Some NewFrame) is = absurd (let no : None ≡ Some makeable.Frame = is in cc)
-makes-none (Some NewPageTable) is = refl
-makes-none (Some NewRootTable) is = refl
-
-abbrev some-new : NewObject → Option NewObject
-some-new new = Some new
-
-pub makes-some : (o : Option NewObject) (m : Makeable) → Makes o (Some m) → (may_make o ≡ true) × (o ≡ Some (new_of m))
-makes-some None m is = absurd (let no : Some m ≡ None = is in cc)
-makes-some (Some (NewUntyped bits)) m is = absurd (let no : Some m ≡ None = is in cc)
-makes-some (Some NewThread) m is = absurd (let no : Some m ≡ None = is in cc)
-makes-some (Some NewEndpoint) m is = (refl, ap (λ (o : Option Makeable). option_map_or (λ x. some-new (new_of x)) o None) (sym is))
-makes-some (Some NewNotification) m is = (refl, ap (λ (o : Option Makeable). option_map_or (λ x. some-new (new_of x)) o None) (sym is))
-makes-some (Some (NewCNode radix)) m is = absurd (let no : Some m ≡ None = is in cc)
-makes-some (Some NewFrame) m is = (refl, ap (λ (o : Option Makeable). option_map_or (λ x. some-new (new_of x)) o None) (sym is))
-makes-some (Some NewPageTable) m is = absurd (let no : Some m ≡ None = is in cc)
-makes-some (Some NewRootTable) m is = absurd (let no : Some m ≡ None = is in cc)
-
 -- ---- the places
 
 -- a power that is not larger
@@ -303,54 +274,48 @@ module _ (image : Image) (t : Thread) (stand : StandsApart image t) (slots : Lis
     (memory : UntypedMemory) (call : RetypeCall) (p : NewPlace)
     (is : slot_at slots held.key ≡ Some held) (pool : held.capability ≡ Untyped memory.offset memory.bits memory.watermark)
     (placed : PlacedNew image t slots held.key memory call p) where
+  abbrev new : NewObject
+  new = new_type p.kind
+
   abbrev found : ℕ × ℕ
   found = (placed.place, p.watermark)
 
-  room-found : room_of image t slots held memory call placed.new placed.cnode ≡ Ok found
-  room-found = room-same image t stand slots are held memory call placed.new placed.cnode placed.w (found-own image t slots held.key held are is).key
+  room-found : room_of image t slots held memory call new placed.cnode ≡ Ok found
+  room-found = room-same image t stand slots are held memory call new placed.cnode placed.w (found-own image t slots held.key held are is).key
       placed.offset placed.radix ∙ placed.room
 
-  pub room-is : IsRoom image t slots memory placed.w (object_bits placed.new) call.index call.count found
-  room-is = room-parts image t slots held.key memory placed.w (object_bits placed.new) call.index call.count found placed.room
+  pub room-is : IsRoom image t slots memory placed.w (object_bits new) call.index call.count found
+  room-is = room-parts image t slots held.key memory placed.w (object_bits new) call.index call.count found placed.room
 
-  pub placing : Placing memory.bits memory.watermark (object_bits placed.new) call.count placed.place p.watermark
-  placing = placed-so memory.bits memory.watermark (object_bits placed.new) call.count placed.place p.watermark room-is.place
+  pub placing : Placing memory.bits memory.watermark (object_bits new) call.count placed.place p.watermark
+  placing = placed-so memory.bits memory.watermark (object_bits new) call.count placed.place p.watermark room-is.place
 
-  pub never-made : (at : Point) → Makes (type_of call.kind call.size) None →
-      held_after image t at slots held (OnUntyped memory call) ≡ Err (CallRefused at IllegalOperation)
-  never-made at none = pool-never image t slots held memory call at placed.new placed.cnode found placed.asked placed.named room-found
-      (makes-none (type_of call.kind call.size) none)
+  may-is : may_make (type_of call.kind call.size) ≡ may_make (Some new)
+  may-is = ap may_make (asked-type call.kind call.size new placed.asked)
 
-  module _ (m : Makeable) (makes : Makes (type_of call.kind call.size) (Some m)) where
-    pub new-is : placed.new ≡ new_of m
-    new-is =
-        let one : Some placed.new ≡ Some (new_of m) = sym (asked-type call.kind call.size placed.new placed.asked)
-        ∙ (makes-some (type_of call.kind call.size) m makes).1 in
-        cc
+  pub never-made : (at : Point) → may_make (Some new) ≡ false → held_after image t at slots held (OnUntyped memory call) ≡ Err (CallRefused at IllegalOperation)
+  never-made at never = pool-never image t slots held memory call at new placed.cnode found placed.asked placed.named room-found (may-is ∙ never)
 
-    pub places-valid : IsCapability (Untyped memory.offset memory.bits memory.watermark) → (i : ℕ) → i < call.count →
-        IsPlace (p.offset + i * 2 ^ object_bits (new_of m)) (object_bits (new_of m))
-    places-valid valid i less =
-        subst (λ (n : NewObject). IsPlace (p.offset + i * 2 ^ object_bits n) (object_bits n)) new-is
-        (subst (λ o. IsPlace (o + i * 2 ^ object_bits placed.new) (object_bits placed.new)) (sym placed.first)
-        (place-valid memory (object_bits placed.new) call.count placed.place p.watermark i valid placing less))
+  pub places-valid : IsCapability (Untyped memory.offset memory.bits memory.watermark) → (i : ℕ) → i < call.count →
+      IsPlace (p.offset + i * 2 ^ object_bits new) (object_bits new)
+  places-valid valid i less =
+      subst (λ o. IsPlace (o + i * 2 ^ object_bits new) (object_bits new)) (sym placed.first)
+      (place-valid memory (object_bits new) call.count placed.place p.watermark i valid placing less)
 
-    pub made-all : (at : Point) → RiseFrom 0 slots
-        → held_after image t at slots held (OnUntyped memory call) ≡ Ok
-        (changed slots (pool_used held memory p.watermark ∷ slots_made p.slot held.key (new_of m) p.offset call.count))
-    unfolding noted_kernel
-    made-all at rises =
-        let fits = fits-node placed.w.radix call.index call.count room-is.fits in
-        let used = recapped (noted_slots image t slots) (slot_of_key image held.key) (Untyped memory.offset memory.bits p.watermark) in
-        let behind : NewObject → ℕ → ℕ → List NotedSlot = λ new window first.
-        noted_after image t (with_first_capabilities (let o : NewObjects = record { kind = new; first = first; count = call.count } in o) window
-        (slot_of_key image held.key) (with_new_slots (let o : NewObjects = record { kind = new; first = first; count = call.count } in o) used)) in
-        let done : List NotedSlot → Result (List NotedSlot) Refusal = λ l. Ok l in
-        pool-goes image t slots held memory call at placed.new placed.cnode found placed.asked placed.named room-found
-        (makes-some (type_of call.kind call.size) m makes).0
-        ∙ ap (λ (n : NewObject). done (behind n (slot_of placed.cnode.offset call.index) (memory.offset + placed.place))) new-is
-        ∙ ap (λ o. done (behind (new_of m) (slot_of o call.index) (memory.offset + placed.place))) (sym placed.offset)
-        ∙ ap (λ f. done (behind (new_of m) (slot_of placed.w.offset call.index) f)) (sym placed.first)
-        ∙ ap done (made-back image t stand slots are rises held is memory pool p.watermark m placed.w placed.own call.index call.count p.offset fits.2)
-        ∙ ap (λ (k : SlotKey). done (changed slots (pool_used held memory p.watermark ∷ slots_made k held.key (new_of m) p.offset call.count)))
-        (sym placed.slot)
+  pub made-all : (may : may_make (Some new) ≡ true) (at : Point) → RiseFrom 0 slots
+      → held_after image t at slots held (OnUntyped memory call) ≡ Ok
+      (changed slots (pool_used held memory p.watermark ∷ slots_made p.slot held.key new p.offset call.count))
+  unfolding noted_kernel
+  made-all may at rises =
+      let fits = fits-node placed.w.radix call.index call.count room-is.fits in
+      let used = recapped (noted_slots image t slots) (slot_of_key image held.key) (Untyped memory.offset memory.bits p.watermark) in
+      let behind : ℕ → ℕ → List NotedSlot = λ window first.
+      noted_after image t (with_first_capabilities (let o : NewObjects = record { kind = new; first = first; count = call.count } in o) window
+      (slot_of_key image held.key) (with_new_slots (let o : NewObjects = record { kind = new; first = first; count = call.count } in o) used)) in
+      let done : List NotedSlot → Result (List NotedSlot) Refusal = λ l. Ok l in
+      pool-goes image t slots held memory call at new placed.cnode found placed.asked placed.named room-found (may-is ∙ may)
+      ∙ ap (λ o. done (behind (slot_of o call.index) (memory.offset + placed.place))) (sym placed.offset)
+      ∙ ap (λ f. done (behind (slot_of placed.w.offset call.index) f)) (sym placed.first)
+      ∙ ap done (made-back image t stand slots are rises held is memory pool p.watermark new may placed.w placed.own call.index call.count p.offset fits.2)
+      ∙ ap (λ (k : SlotKey). done (changed slots (pool_used held memory p.watermark ∷ slots_made k held.key new p.offset call.count)))
+      (sym placed.slot)

@@ -22,8 +22,9 @@ use Rattle.model.specs.Kernel.Arguments.{◌>>=◌, check, wanted}
 use Rattle.model.specs.Kernel.Retype.{NewObject, NewObjects, any_full, is_large_enough, is_small_enough, node, object_bits, retype, type_of, with_new}
 use Rattle.model.specs.Kernel.State.{State, slot_of, with_slots}
 use Rattle.typestate.specs.Invocations.{held_after}
-use Rattle.typestate.specs.Pools.{bits_asked, fits_node, type_asked}
+use Rattle.typestate.specs.Pools.{fits_node}
 use Rattle.typestate.proofs.Allowed.{chain, kernel-refuses}
+use Rattle.untyped.specs.NewTypes.{asked_type}
 
 -- ---- the type
 
@@ -42,24 +43,8 @@ asked-from (Some other) new is = elim (is_large_enough other)
       ]
     ] is
 
-pub asked-type : (kind size : ℕ) (new : NewObject) → type_asked kind size ≡ Ok new → type_of kind size ≡ Some new
+pub asked-type : (kind size : ℕ) (new : NewObject) → asked_type kind size ≡ Ok new → type_of kind size ≡ Some new
 asked-type kind size new is = asked-from (type_of kind size) new is
-
-pub bits-new : (kind size bits : ℕ) → Ok bits ≡ bits_asked kind size → (new : NewObject) × (type_asked kind size ≡ Ok new) × (object_bits new ≡ bits)
-bits-new kind size bits is = by-type (type_asked kind size) is
-  where
-    by-type : (found : Result NewObject KError) → Ok bits ≡ (found >>= λ new. Ok (object_bits new)) → (new : NewObject) × (found ≡ Ok new)
-        × (object_bits new ≡ bits)
-    by-type (Ok new) same = (new, refl, let both : Ok bits ≡ Ok (object_bits new) = same in let one : bits ≡ object_bits new = cc in sym one)
-    by-type (Err error) clash = absurd (let no : Ok bits ≡ Err error = clash in cc)
-
-pub bits-error : (kind size : ℕ) (error : KError) → Err error ≡ bits_asked kind size → type_asked kind size ≡ Err error
-bits-error kind size error is = by-type (type_asked kind size) is
-  where
-    by-type : (found : Result NewObject KError) → Err error ≡ (found >>= λ new. Ok (object_bits new)) → found ≡ Err error
-    by-type (Ok new) clash = absurd (let no : Err error ≡ Ok (object_bits new) = clash in cc)
-    by-type (Err other) same = let one : error ≡ other = (let both : Err error ≡ Err other = same in cc) in
-        ap (λ (e : KError). let r : Result NewObject KError = Err e in r) (sym one)
 
 -- ---- the place
 
@@ -114,7 +99,7 @@ module _ (image : Image) (t : Thread) (slots : List NotedSlot) (held : NotedSlot
   abbrev pub behind_type : Result NewObject KError → Result State KError
   behind_type found = found >>= λ new. behind_node new (node all (noted_root image t) call.node)
 
-  retype-is : retype s (noted_root image t) slot memory call ≡ behind_type (type_asked call.kind call.size)
+  retype-is : retype s (noted_root image t) slot memory call ≡ behind_type (asked_type call.kind call.size)
   unfolding retype noted_kernel
   retype-is = steps (type_of call.kind call.size) (node all (noted_root image t) call.node)
     where
@@ -170,11 +155,11 @@ module _ (image : Image) (t : Thread) (slots : List NotedSlot) (held : NotedSlot
     abbrev travels : Bool
     travels = may_make (type_of call.kind call.size)
 
-    pub pool-refused : (error : KError) → behind_type (type_asked call.kind call.size) ≡ Err error →
+    pub pool-refused : (error : KError) → behind_type (asked_type call.kind call.size) ≡ Err error →
         held_after image t at slots held (OnUntyped memory call) ≡ Err (CallRefused at error)
     pool-refused error is = kernel-refuses image t at false travels (retype s (noted_root image t) slot memory call) error (retype-is ∙ is)
 
-    module _ (new : NewObject) (cnode : Node) (place : ℕ × ℕ) (asked : type_asked call.kind call.size ≡ Ok new)
+    module _ (new : NewObject) (cnode : Node) (place : ℕ × ℕ) (asked : asked_type call.kind call.size ≡ Ok new)
         (named : node all (noted_root image t) call.node ≡ Ok cnode) (room : room_of new cnode ≡ Ok place) where
       passes : retype s (noted_root image t) slot memory call ≡ Ok (effect new cnode place)
       passes =

@@ -7,22 +7,23 @@ use Rattle.std.specs.List.{list_all, list_any, range_with_len}
 use Rattle.model.specs.declared.capabilities.Cap.TheVariants.{Untyped}
 use Rattle.model.specs.declared.invocations.RetypeCall.{RetypeCall}
 use Rattle.model.specs.declared.invocations.UntypedMemory.{UntypedMemory}
+use Rattle.model.specs.Acceptance.CallRules.{may_make}
 use Rattle.model.specs.Acceptance.NotedKernel.{noted_slots}
 use Rattle.model.specs.Acceptance.NotedStates.{NotedSlot, SlotKey, is_foreign, is_own, is_same_parent, slot_at}
 use Rattle.model.specs.Capabilities.CapabilityFields.{is_capability}
-use Rattle.model.specs.Capabilities.CapabilityWords.{IsCapability, IsPlace}
+use Rattle.model.specs.Capabilities.CapabilityWords.{IsCapability}
 use Rattle.model.specs.Capabilities.Slots.{is_empty, is_full}
 use Rattle.model.specs.Images.Image.{Image, Thread}
-use Rattle.model.specs.Kernel.Retype.{first_capability, object_bits, type_of}
+use Rattle.model.specs.Kernel.ObjectTypes.{new_type}
+use Rattle.model.specs.Kernel.Retype.{NewObject, first_capability, object_bits}
 use Rattle.model.specs.Kernel.State.{slot_of}
-use Rattle.typestate.specs.declared.pool_calls.Makeable.{Makeable}
 use Rattle.typestate.specs.declared.pool_calls.NewPlace.{NewPlace}
-use Rattle.typestate.specs.declared.pool_calls.Makeable.TheVariants as makeable
 use Rattle.typestate.specs.declared.spaces.Space.{Space}
-use Rattle.typestate.specs.Pools.{Makes, PlacedNew, new_of, pool_used, slot_made, slots_made}
+use Rattle.typestate.specs.Pools.{PlacedNew, pool_used, slot_made, slots_made}
 use Rattle.typestate.specs.Spaces.{AreOwn, StandsApart}
 use Rattle.typestate.specs.Strays.{cnodes_of, is_tidy_put, keeps_line}
 use Rattle.typestate.proofs.GivenFacts.{decides-test}
+use Rattle.typestate.proofs.MadeTypes.{first-full, made-mine, made-valid}
 use Rattle.typestate.proofs.PoolPlaces.{any-same, fits-node, key-own, placing, places-valid, room-is}
 use Rattle.typestate.proofs.Rising.{same-parent}
 use Rattle.typestate.proofs.Standing.{found-own}
@@ -65,21 +66,6 @@ tidy-put space slots s own mine valid full line =
     ∙ ap (λ b. not (not b) && not (is_empty s.capability) && keeps_line slots s) valid
     ∙ ap (λ b. not b && keeps_line slots s) full ∙ line
 
-made-mine : (image : Image) (t : Thread) (cnodes : List ℕ) (m : Makeable) (offset : ℕ) → is_foreign image t cnodes (first_capability (new_of m) offset) ≡ false
-made-mine image t cnodes makeable.Endpoint offset = refl
-made-mine image t cnodes makeable.Notification offset = refl
-made-mine image t cnodes makeable.Frame offset = refl
-
-made-full : (m : Makeable) (offset : ℕ) → is_empty (first_capability (new_of m) offset) ≡ false
-made-full makeable.Endpoint offset = refl
-made-full makeable.Notification offset = refl
-made-full makeable.Frame offset = refl
-
-made-valid : (m : Makeable) (offset : ℕ) → IsPlace offset (object_bits (new_of m)) → is_capability (first_capability (new_of m) offset) ≡ true
-made-valid makeable.Endpoint offset place = decides-test (first_capability (new_of makeable.Endpoint) offset) (place, refl, omega arith)
-made-valid makeable.Notification offset place = decides-test (first_capability (new_of makeable.Notification) offset) (place, refl, omega arith)
-made-valid makeable.Frame offset place = decides-test (first_capability (new_of makeable.Frame) offset) (place, omega arith, tt)
-
 -- ---- all that Retype puts
 
 module _ (space : Space) (stand : StandsApart space.image.now space.thread.now) (slots : List NotedSlot) (are : AreOwn space.image.now space.thread.now slots)
@@ -117,23 +103,28 @@ module _ (space : Space) (stand : StandsApart space.image.now space.thread.now) 
       nothing None off = refl
       nothing (Some s) off = absurd (let clash : true ≡ false = off in cc)
 
-  module _ (m : Makeable) (makes : Makes (type_of call.kind call.size) (Some m)) where
-    made-tidy : (i : ℕ) → i < call.count → is_tidy_put space slots (slot_made p.slot held.key (new_of m) p.offset i) ≡ true
+  abbrev new : NewObject
+  new = new_type p.kind
+
+  module _ (may : may_make (Some new) ≡ true) where
+    made-tidy : (i : ℕ) → i < call.count → is_tidy_put space slots (slot_made p.slot held.key new p.offset i) ≡ true
     made-tidy i less =
         let room = room-is image t stand slots are held memory call p is pool placed in
         let few = (fits-node placed.w.radix call.index call.count room.fits).2 in
-        let offset = p.offset + i * 2 ^ object_bits (new_of m) in
+        let offset = p.offset + i * 2 ^ object_bits new in
         let first : SlotKey = record { cnode = placed.w.cnode; index = call.index } in
-        let made : SlotKey → NotedSlot = λ k. slot_made k held.key (new_of m) p.offset i in
+        let made : SlotKey → NotedSlot = λ k. slot_made k held.key new p.offset i in
         ap (λ (k : SlotKey). is_tidy_put space slots (made k)) placed.slot
         ∙ tidy-put space slots (made first) (key-own image t stand slots are placed.w placed.own (call.index + i) (omega (arith, few, less)))
-        (made-mine image t (cnodes_of space) m offset)
-        (made-valid m offset (places-valid image t stand slots are held memory call p is pool placed m makes valid i less)) (made-full m offset)
+        (made-mine image t (cnodes_of space) offset new may)
+        (decides-test (first_capability new offset)
+        (made-valid offset new may (places-valid image t stand slots are held memory call p is pool placed valid i less)))
+        (first-full new offset)
         (ap (λ (o : Option NotedSlot). option_map_or (λ s. is_same_parent (Some held.key) s.parent) o (is_some (slot_at slots held.key))) (vacant i less)
         ∙ ap (λ (o : Option NotedSlot). is_some o) is)
 
-    pub all-tidy : list_all (is_tidy_put space slots) (pool_used held memory p.watermark ∷ slots_made p.slot held.key (new_of m) p.offset call.count) ≡ true
+    pub all-tidy : list_all (is_tidy_put space slots) (pool_used held memory p.watermark ∷ slots_made p.slot held.key new p.offset call.count) ≡ true
     all-tidy =
-        ap (λ b. b && list_all (is_tidy_put space slots) (slots_made p.slot held.key (new_of m) p.offset call.count)) pool-tidy
-        ∙ all-made (is_tidy_put space slots) (slot_made p.slot held.key (new_of m) p.offset) 0 call.count (λ i less.
-        ap (λ k. is_tidy_put space slots (slot_made p.slot held.key (new_of m) p.offset k)) (let e : 0 + i ≡ i = omega arith in e) ∙ made-tidy i less)
+        ap (λ b. b && list_all (is_tidy_put space slots) (slots_made p.slot held.key new p.offset call.count)) pool-tidy
+        ∙ all-made (is_tidy_put space slots) (slot_made p.slot held.key new p.offset) 0 call.count (λ i less.
+        ap (λ k. is_tidy_put space slots (slot_made p.slot held.key new p.offset k)) (let e : 0 + i ≡ i = omega arith in e) ∙ made-tidy i less)

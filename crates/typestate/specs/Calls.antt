@@ -51,7 +51,7 @@ told slots (Err refusal) = Err refusal
 
 abbrev pub by_kind : Image → Thread → Point → PointState → Option Kind → Result AfterCall Refusal
 by_kind image t at state (Some (Sends kind)) = by_capability image t at state (send_rule image t at state kind)
-by_kind image t at state (Some (Receives is_wait)) = by_capability image t at state (λ slot. receive_rule at state is_wait)
+by_kind image t at state (Some (Receives is_wait)) = by_capability image t at state (λ slot. receive_rule image at state is_wait)
 by_kind image t at state (Some Passes) = Ok (changes_nothing state false)
 by_kind image t at state None = Err (CallRefused at IllegalOperation)
 

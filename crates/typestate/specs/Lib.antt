@@ -8,6 +8,7 @@ pub mod Pages
 pub mod Unlinked
 pub mod Differences
 pub mod Calls
+pub mod Promises
 pub mod GivenSpaces
 pub mod Spaces
 pub mod Strays

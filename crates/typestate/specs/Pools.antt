@@ -1,9 +1,9 @@
 -- Retype at a point, step by step.
-use Rattle.std.specs.Prelude.{ℕ, ◌≡◌, ◌+◌, ◌*◌, ◌^◌, ◌&&◌, not, nat_le, nat_lt, is_some, true, Bool, Option, Some, None, Result, Ok, Err, List, map}
+use Rattle.std.specs.Prelude.{ℕ, ◌≡◌, ◌+◌, ◌*◌, ◌^◌, ◌&&◌, not, nat_le, nat_lt, is_some, true, Bool, Some, Result, Ok, Err, List, map}
 use Rattle.std.specs.List.{list_any, range_with_len}
 use Rattle.model.specs.declared.capabilities.Cap.TheVariants.{Untyped}
 use Rattle.model.specs.declared.errors.KError.{KError}
-use Rattle.model.specs.declared.errors.KError.TheVariants.{DeleteFirst, IllegalOperation, InvalidArgument, NotEnoughMemory, RangeError}
+use Rattle.model.specs.declared.errors.KError.TheVariants.{DeleteFirst, IllegalOperation, NotEnoughMemory, RangeError}
 use Rattle.model.specs.declared.invocations.UntypedMemory.{UntypedMemory}
 use Rattle.model.specs.declared.invocations.Invocation.TheVariants.{OnUntyped}
 use Rattle.model.specs.declared.invocations.RetypeCall.{RetypeCall}
@@ -16,53 +16,19 @@ use Rattle.model.specs.Capabilities.CapabilityKinds.{Node}
 use Rattle.model.specs.Capabilities.Placement.{placement}
 use Rattle.model.specs.Images.Image.{Image, Thread}
 use Rattle.model.specs.Kernel.Arguments.{◌>>=◌, check, wanted}
-use Rattle.model.specs.Kernel.Retype.{NewObject, NewEndpoint, NewNotification, NewFrame, any_full, first_capability, is_large_enough, is_small_enough, node}
-use Rattle.model.specs.Kernel.Retype.{object_bits, type_of}
+use Rattle.model.specs.Kernel.ObjectTypes.{new_type}
+use Rattle.model.specs.Kernel.Retype.{NewObject, any_full, first_capability, node, object_bits}
 use Rattle.model.specs.Kernel.State.{slot_of}
-use Rattle.typestate.specs.declared.pool_calls.Makeable.{Makeable}
-use Rattle.typestate.specs.declared.pool_calls.Makeable.TheVariants.{Endpoint, Notification, Frame}
 use Rattle.typestate.specs.declared.pool_calls.NewPlace.{NewPlace}
 use Rattle.typestate.specs.declared.window.Window.{Window}
 use Rattle.typestate.specs.Invocations.{held_after}
 use Rattle.typestate.specs.SlotChanges.{noted_depth}
 use Rattle.typestate.specs.Spaces.{IsWindow}
-
--- the type that a call asks for, of a size within its limits
-abbrev pub type_asked : ℕ → ℕ → Result NewObject KError
-type_asked kind size = do
-  new ← wanted (type_of kind size) InvalidArgument
-  _ ← check (is_large_enough new) InvalidArgument
-  _ ← check (is_small_enough new) RangeError
-  Ok new
-
--- a size within its limits
-abbrev pub sized : ℕ → ℕ → ℕ → Result ℕ KError
-sized size least most = do
-  _ ← check (nat_le least size) InvalidArgument
-  _ ← check (nat_le size most) RangeError
-  Ok size
+use Rattle.untyped.specs.NewTypes.{asked_type}
 
 -- whether some of so many slots from one on is full
 abbrev pub some_full : List NotedSlot → SlotKey → ℕ → Bool
 some_full slots first count = list_any (λ i. is_some (slot_at slots (record { cnode = first.cnode; index = first.index + i }))) (range_with_len 0 count)
-
--- how many bits its objects have
-abbrev pub bits_asked : ℕ → ℕ → Result ℕ KError
-bits_asked kind size = do
-  new ← type_asked kind size
-  Ok (object_bits new)
-
--- the types that a program may make
-abbrev pub new_of : Makeable → NewObject
-new_of Endpoint = NewEndpoint
-new_of Notification = NewNotification
-new_of Frame = NewFrame
-
-abbrev pub Makes : Option NewObject → Option Makeable → Type 0
-Makes (Some NewEndpoint) made = made ≡ Some Endpoint
-Makes (Some NewNotification) made = made ≡ Some Notification
-Makes (Some NewFrame) made = made ≡ Some Frame
-Makes _ made = made ≡ None
 
 -- a CNode of the thread's
 pub record IsOwnWindow (image : Image) (t : Thread) (w : Window) : Type 0 where
@@ -107,8 +73,7 @@ pool_used held memory watermark = record { key = held.key; capability = Untyped 
 -- what the checks of a call that passes have found
 pub record PlacedNew (image : Image) (t : Thread) (slots : List NotedSlot) (key : SlotKey) (memory : UntypedMemory) (call : RetypeCall) (p : NewPlace) : Type
     0 where
-  pub new : NewObject
-  pub asked : type_asked call.kind call.size ≡ Ok new
+  pub asked : asked_type call.kind call.size ≡ Ok (new_type p.kind)
   pub cnode : Node
   pub named : node (noted_slots image t slots) (noted_root image t) call.node ≡ Ok cnode
   pub w : Window
@@ -116,7 +81,7 @@ pub record PlacedNew (image : Image) (t : Thread) (slots : List NotedSlot) (key 
   pub offset : w.offset ≡ cnode.offset
   pub radix : w.radix ≡ cnode.radix
   pub place : ℕ
-  pub room : room_in image t slots key memory w (object_bits new) call.index call.count ≡ Ok (place, p.watermark)
+  pub room : room_in image t slots key memory w (object_bits (new_type p.kind)) call.index call.count ≡ Ok (place, p.watermark)
   pub first : p.offset ≡ memory.offset + place
   pub slot : p.slot ≡ record { cnode = w.cnode; index = call.index }
 

@@ -1,14 +1,19 @@
 //! What is known of the registers after a system call.
 
-ghost use Rattle.std.specs.Prelude.{◌≡◌, List, true};
+ghost use Rattle.std.specs.Prelude.{◌≡◌, [], List, Some, true};
 ghost use Rattle.model.specs.Acceptance.Measures.{Measure};
 ghost use Rattle.model.specs.Acceptance.NotedStates.{NotedSlot};
-ghost use Rattle.model.specs.Acceptance.CallRules.{with_answer, with_message};
+ghost use Rattle.model.specs.Acceptance.CallRules.{with_answer, with_message, with_received};
+ghost use Rattle.model.specs.Acceptance.RangeRules.{range};
+ghost use Rattle.model.specs.Acceptance.Ranges.{full, with_range};
+ghost use Rattle.model.specs.Kernel.Messages.{a0, a1, word_registers};
 ghost use Rattle.ranges.specs.Orders.{IsOrdered};
 ghost use Rattle.typestate.specs.Calls.{behind_with, known_with};
+ghost use Rattle.typestate.specs.Promises.{range_at, with_each};
 ghost use Rattle.typestate.specs.SlotChanges.{behind_call};
 ghost use Rattle.typestate.specs.declared.behind.Written.TheVariants.{Nothing};
 
+use crate::MessagePromise;
 use model::{Range, Register};
 use ranges::Bounds;
 
@@ -45,7 +50,7 @@ pub struct Behind {
 #[tactic(auto, unfolding(model::specs::Kernel::Messages::word_registers))]
 pub(crate) fn with_message(bounds: &Bounds, badge: Range) -> Bounds
     requires { IsOrdered badge }
-    ensures { result ≡ with_message bounds.now badge }
+    ensures { result ≡ with_message bounds.now badge [] }
 {
     let mut bounds = *bounds;
     bounds.set(Register::A0, badge);
@@ -59,6 +64,32 @@ pub(crate) fn with_message(bounds: &Bounds, badge: Range) -> Bounds
     bounds.set(Register(20), Range::FULL);
     bounds.set(Register(21), Range::FULL);
     bounds
+}
+
+/// Registers after a message of which this is promised.
+#[tactic(auto, unfolding(model::specs::Kernel::Messages::word_registers))]
+fn with_promised_words(bounds: &Bounds, promise: &MessagePromise<'_>) -> Bounds
+    ensures { result ≡ with_each (with_range (with_range bounds.now a0 (range promise.now.header.badge_low promise.now.header.badge_high)) a1 full) word_registers (range_at promise.now.words) }
+{
+    let mut bounds = *bounds;
+    bounds.set(Register::A0, promise.badges());
+    bounds.set(Register::A1, Range::FULL);
+    bounds.set(Register(12), promise.word_range(0));
+    bounds.set(Register(13), promise.word_range(1));
+    bounds.set(Register(14), promise.word_range(2));
+    bounds.set(Register(15), promise.word_range(3));
+    bounds.set(Register(18), promise.word_range(4));
+    bounds.set(Register(19), promise.word_range(5));
+    bounds.set(Register(20), promise.word_range(6));
+    bounds.set(Register(21), promise.word_range(7));
+    bounds
+}
+
+/// The same, as the definition says it.
+pub(crate) fn with_promise(bounds: &Bounds, promise: &MessagePromise<'_>) -> Bounds
+    ensures { result ≡ with_received bounds.now (Some promise.now) }
+{
+    with_promised_words(bounds, promise)
 }
 
 /// Registers after a call that succeeded.

@@ -30,6 +30,7 @@ mod plain_calls;
 mod points;
 mod pool_calls;
 mod pools;
+mod promises;
 mod records;
 mod removal;
 mod roots;
@@ -58,6 +59,7 @@ pub use mapped_pages::MappedPages;
 pub use messages::message_call;
 pub use own_slots::OwnSlots;
 pub use points::NotedSlots;
+pub use promises::{MessagePromise, PlacedPromises};
 pub use records::note_record;
 pub use slot_changes::{
     Removed, SlotChange, changes_make_slots, slots_come_back, slots_decide_calls,

@@ -41,7 +41,7 @@ fn words_listed(capability: Cap, info: u32) -> Result<usize, KError>
 
 /// The register of a message's word.
 #[tactic(auto, unfolding(model::specs::Kernel::Messages::word_registers))]
-fn word_register(index: usize) -> Register
+pub(crate) fn word_register(index: usize) -> Register
     requires { index < 8 }
     ensures value { result ≡ slice_index_or word_registers index a0 }
     ensures valid { IsRegister result }

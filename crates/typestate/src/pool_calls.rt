@@ -1,22 +1,23 @@
 //! Retype at a point: a program may make endpoints, notifications and frames in its pools.
 //! seL4 Reference Manual, "Kernel Memory Allocation", seL4_Untyped_Retype; type numbers and sizes are our own.
 
-ghost use Rattle.std.specs.Prelude.{ℕ, ◌≡◌, ◌+◌, ◌*◌, ◌^◌, ◌≤◌, ◌<◌, ◌++◌, ◌∷◌, [], true, is_some, map, Some, IfOk};
+ghost use Rattle.std.specs.Prelude.{◌≡◌, ◌+◌, ◌*◌, ◌^◌, ◌≤◌, ◌<◌, ◌++◌, ◌∷◌, [], true, is_some, map, Some, IfOk};
 ghost use Rattle.std.specs.List.{find};
+ghost use Rattle.model.specs.Acceptance.CallRules.{may_make};
 ghost use Rattle.model.specs.Acceptance.NotedKernel.{noted_root, noted_slots};
 ghost use Rattle.model.specs.Acceptance.NotedStates.{is_own, slot_at};
 ghost use Rattle.model.specs.Acceptance.ThreadRules.{reached};
 ghost use Rattle.model.specs.declared.capabilities.Cap.TheVariants.{Untyped};
-ghost use Rattle.model.specs.Capabilities.CapabilityWords.{IsCapability, IsPlace};
 ghost use Rattle.model.specs.Capabilities.CapabilityKinds.{cnode_of};
 ghost use Rattle.model.specs.Kernel.Arguments.{wanted};
 ghost use Rattle.model.specs.declared.errors.KError.TheVariants.{FailedLookup};
 ghost use Rattle.model.specs.Kernel.State.{slot_of};
-ghost use Rattle.model.specs.Kernel.Retype.{any_full, first_capability, node, object_bits, type_of};
+ghost use Rattle.model.specs.Kernel.ObjectTypes.{new_type};
+ghost use Rattle.model.specs.Kernel.Retype.{any_full, node, object_bits};
 ghost use Rattle.model.specs.declared.invocations.Invocation.TheVariants.{OnUntyped};
 ghost use Rattle.typestate.specs.Differences.{slots_of};
 ghost use Rattle.typestate.specs.Invocations.{IsCallOn, held_after, made_or_refused};
-ghost use Rattle.typestate.specs.Pools.{IsOwnWindow, Makes, NamesNode, PlaceAnswer, bits_asked, fits_node, new_of, room_in, sized, slot_made, slots_made, some_full};
+ghost use Rattle.typestate.specs.Pools.{IsOwnWindow, NamesNode, PlaceAnswer, fits_node, room_in, slot_made, slots_made, some_full};
 ghost use Rattle.typestate.specs.Spaces.{is_inside};
 ghost use Rattle.typestate.specs.Strays.{IsTidyCall, is_at};
 ghost use Rattle.typestate.specs.declared.log_entries.LogEntry.TheVariants.{Sets};
@@ -30,106 +31,38 @@ use crate::slot_runs::SlotRun;
 use crate::{
     LogEntry, NotedSlot, NotedSlots, SlotKey, ThreadSlots, Window, tidy_puts_leave_no_stray_slot,
 };
-use model::{Cap, KError, Point, Refusal, RetypeCall, Rights, SlotName, UntypedMemory};
+use model::{
+    Cap, KError, ObjectKind, ObjectType, Point, Refusal, RetypeCall, SlotName, UntypedMemory,
+};
 use std::alloc::AllocError;
-use untyped::place;
+use untyped::{asked_type, object_bits, place, power};
 
-/// The types of new objects that a program may make.
-#[derive(Clone, Copy)]
-pub(crate) enum Makeable {
-    Endpoint,
-    Notification,
-    Frame,
-}
-
-/// Where new objects are: the first in memory, the pool's watermark after them, and the slot of the first capability.
+/// Where new objects of a type are: the first in memory, the pool's watermark after them, and the slot of the first capability.
 #[derive(Clone, Copy)]
 struct NewPlace {
+    kind: ObjectType,
     offset: u32,
     watermark: u32,
     slot: SlotKey,
 }
 
-impl Makeable {
-    /// The bytes of an object of the type.
-    fn size(self) -> u32
-        ensures value { result ≡ 2 ^ object_bits (new_of self) }
-        ensures few { result ≤ 4096 }
-    {
-        match self {
-            Makeable::Endpoint | Makeable::Notification => 16,
-            Makeable::Frame => 4096,
-        }
-    }
-
-    /// The first capability to an object of the type: all rights, no badge and no mapping.
-    fn first_capability(self, offset: u32) -> Cap
-        requires { IsPlace offset (object_bits (new_of self)) }
-        ensures value { result ≡ first_capability (new_of self) offset }
-        ensures valid { IsCapability result }
-    {
-        match self {
-            Makeable::Endpoint => Cap::Endpoint {
-                offset,
-                rights: Rights::OF_ENDPOINT,
-                badge: 0,
-            },
-            Makeable::Notification => Cap::Notification {
-                offset,
-                rights: Rights::OF_ENDPOINT,
-                badge: 0,
-            },
-            Makeable::Frame => Cap::Frame {
-                offset,
-                rights: Rights::OF_FRAME,
-                mapping: None,
-            },
-        }
-    }
+/// Whether a program may make objects of a type: endpoints, notifications and frames.
+fn may_make(new: ObjectType) -> bool
+    ensures { result ≡ may_make (Some (new_type new)) }
+{
+    matches!(
+        new,
+        ObjectType::Object(ObjectKind::Endpoint | ObjectKind::Notification | ObjectKind::Frame)
+    )
 }
 
-/// The type of a number, if a program may make it.
-fn type_made(kind: u32) -> Option<Makeable>
-    ensures { (size : ℕ) → Makes (type_of kind size) result }
+/// The bytes of an object of a type that a program may make.
+fn size_of(new: ObjectType) -> u32
+    requires { may_make (Some (new_type new)) ≡ true }
+    ensures value { result ≡ 2 ^ object_bits (new_type new) }
+    ensures few { result ≤ 4096 }
 {
-    match kind {
-        3 => Some(Makeable::Endpoint),
-        4 => Some(Makeable::Notification),
-        6 => Some(Makeable::Frame),
-        _ => None,
-    }
-}
-
-/// A size, if it is within its limits: it is too small (`InvalidArgument`) or too great (`RangeError`).
-fn sized(size: u32, least: u8, most: u8) -> Result<u8, KError>
-    ensures { result ≡ sized size least most }
-{
-    if size < u32::from(least) {
-        return Err(KError::InvalidArgument);
-    }
-    if size > u32::from(most) {
-        return Err(KError::RangeError);
-    }
-    Ok(size as u8)
-}
-
-/// How many bits the objects have that a call asks for by the number of their type, 1 to 8, and a size. There is no such
-/// type, or the size is too small (`InvalidArgument`) or too great (`RangeError`).
-fn bits_asked(kind: u32, size: u32) -> Result<u8, KError>
-    ensures value { result ≡ bits_asked kind size }
-    ensures few { IfOk result (λ bits. bits ≤ 24) }
-{
-    match kind {
-        1 => sized(size, 4, 24),
-        2 => Ok(9),
-        3 | 4 => Ok(4),
-        5 => match sized(size, 1, 14) {
-            Ok(radix) => Ok(radix + 4),
-            Err(error) => Err(error),
-        },
-        6 | 7 | 8 => Ok(12),
-        _ => Err(KError::InvalidArgument),
-    }
+    power(new.bits()) as u32
 }
 
 impl Window {
@@ -147,20 +80,18 @@ impl NewObjects {
     /// The slot with the first capability to the object of a number.
     fn made_slot(&self, i: u32) -> NotedSlot
         requires { i < self.now.slots.count }
-        ensures { result ≡ slot_made self.now.slots.first self.now.pool (new_of self.now.kind) self.now.offset i }
+        ensures { result ≡ slot_made self.now.slots.first self.now.pool (new_type self.now.kind) self.now.offset i }
     {
         NotedSlot {
             key: self.slots.key(i),
-            capability: self
-                .kind
-                .first_capability(self.offset + i * self.kind.size()),
+            capability: self.kind.first_capability(self.offset + i * self.size),
             parent: Some(self.pool),
         }
     }
 
     /// Appends the slots with the first capabilities to all of them. Memory may be refused.
     fn note(&self, made: &mut Vec<NotedSlot>) -> Result<(), AllocError>
-        ensures { IfOk result (λ _. made.new.items ≡ made.old.items ++ slots_made self.now.slots.first self.now.pool (new_of self.now.kind) self.now.offset self.now.slots.count) }
+        ensures { IfOk result (λ _. made.new.items ≡ made.old.items ++ slots_made self.now.slots.first self.now.pool (new_type self.now.kind) self.now.offset self.now.slots.count) }
     {
         for i in 0..self.slots.count {
             made.push(self.made_slot(i))?;
@@ -285,16 +216,17 @@ impl Pool<'_, '_, '_, '_> {
     fn new_place(&self, call: RetypeCall) -> Result<NewPlace, KError>
         ensures { PlaceAnswer self.now.own.space.image.now self.now.own.space.thread.now (slots_of self.now.own.slots) self.now.held.now.key self.now.memory call result }
     {
-        let bits = match bits_asked(call.kind, call.size) {
-            Ok(bits) => bits,
+        let kind = match asked_type(call.kind, call.size) {
+            Ok(kind) => kind,
             Err(error) => return Err(error),
         };
         let window = match self.own.node(call.node) {
             Ok(window) => window,
             Err(error) => return Err(error),
         };
-        match self.room_in(window, bits, call.index, call.count) {
+        match self.room_in(window, object_bits(kind), call.index, call.count) {
             Ok((place, watermark)) => Ok(NewPlace {
+                kind,
                 offset: self.memory.offset + place,
                 watermark,
                 slot: SlotKey {
@@ -323,9 +255,9 @@ impl Pool<'_, '_, '_, '_> {
             Ok(new) => new,
             Err(error) => return Ok(Err(Refusal::CallRefused(at, error))),
         };
-        let Some(kind) = type_made(call.kind) else {
+        if !may_make(new.kind) {
             return Ok(Err(Refusal::CallRefused(at, KError::IllegalOperation)));
-        };
+        }
         let held = *self.held;
         made.push(NotedSlot {
             key: held.key,
@@ -337,7 +269,8 @@ impl Pool<'_, '_, '_, '_> {
             parent: held.parent,
         })?;
         let objects = NewObjects {
-            kind,
+            kind: new.kind,
+            size: size_of(new.kind),
             offset: new.offset,
             slots: SlotRun {
                 first: new.slot,

@@ -17,7 +17,7 @@ ghost use Rattle.typestate.specs.Spaces.{own_slots};
 
 use crate::behind::Behind;
 use crate::plain_calls::{receive_rule, sends_message, sends_signal};
-use crate::{OwnSlots, ThreadSlots};
+use crate::{OwnSlots, Space, ThreadSlots};
 use cspace::called_slot;
 use model::{
     Cap, KError, Point, ReceiveCall, Refusal, Register, SendCall, Slot, SystemCall as NumberedCall,
@@ -87,17 +87,22 @@ pub(crate) fn known(at: Point, bounds: &Bounds, register: Register) -> Result<u3
 
 /// What a send by this capability is, which is in this slot.
 fn sends(
+    space: &Space<'_, '_>,
     at: Point,
     bounds: &Bounds,
     kind: SendCall,
     slot: Slot,
     capability: Cap,
 ) -> Result<SystemCall, Refusal>
-    ensures value { (image : Image) (t : Thread) (slots : List NotedSlot) (measure : Measure) → send_rule image t at (known_with bounds.now slots measure) kind slot capability ≡ goes_on image t at (known_with bounds.now slots measure) result }
+    ensures value { (t : Thread) (slots : List NotedSlot) (measure : Measure) → send_rule space.now.image.now t at (known_with bounds.now slots measure) kind slot capability ≡ goes_on space.now.image.now t at (known_with bounds.now slots measure) result }
     ensures named { CalledOf (λ called held. (called ≡ slot) × (held ≡ capability)) result }
 {
     let left = match capability {
-        Cap::Endpoint { rights, .. } => sends_message(at, bounds, kind, rights),
+        Cap::Endpoint {
+            offset,
+            rights,
+            badge,
+        } => sends_message(space, at, bounds, kind, rights, offset, badge),
         Cap::Notification { rights, .. } => sends_signal(at, bounds, kind, rights),
         _ => {
             return Ok(SystemCall::Invokes {
@@ -162,7 +167,13 @@ impl ThreadSlots<'_, '_, '_> {
     {
         match self.called(at, bounds) {
             Err(refusal) => Err(refusal),
-            Ok((_, capability)) => match receive_rule(at, bounds, is_wait, capability) {
+            Ok((_, capability)) => match receive_rule(
+                &self.space,
+                at,
+                bounds,
+                is_wait,
+                capability,
+            ) {
                 Ok(behind) => Ok(SystemCall::Plain(behind)),
                 Err(refusal) => Err(refusal),
             },
@@ -176,7 +187,7 @@ impl ThreadSlots<'_, '_, '_> {
     {
         match self.called(at, bounds) {
             Err(refusal) => Err(refusal),
-            Ok((slot, capability)) => sends(at, bounds, kind, slot, capability),
+            Ok((slot, capability)) => sends(&self.space, at, bounds, kind, slot, capability),
         }
     }
 }

@@ -5,5 +5,5 @@
 mod new_types;
 mod placing;
 
-pub use new_types::asked_type;
+pub use new_types::{asked_type, object_bits};
 pub use placing::{NotEnoughMemory, next_place, place, power};

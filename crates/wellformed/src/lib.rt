@@ -15,7 +15,7 @@ pub use model::Refusal;
 pub use number_sets::NumberSet;
 pub use object_places::{Place, UsedMemory};
 pub use object_types::{
-    is_cnode_source, is_frame, is_page_table, is_root_table, is_thread, is_untyped, radix_of,
-    source_type, type_at,
+    is_cnode_source, is_endpoint, is_frame, is_page_table, is_root_table, is_thread, is_untyped,
+    radix_of, source_type, type_at,
 };
 pub use whole::well_formed;

@@ -1,17 +1,17 @@
-//! Tables, frames and contents: whether they fit what they name, and whether code can be written.
+//! Tables, frames, contents and promises: whether they fit what they name, and whether code can be written.
 
 ghost use Rattle.std.specs.Prelude.{ℕ, ◌≡◌, ◌==◌, ◌+◌, ◌<◌, [], IfErr, IfOk, OnOk, if◌then◌else◌, flat_map, map};
 ghost use Rattle.std.specs.List.{list_any};
 ghost use Rattle.model.specs.declared.refusals.Refusal.TheVariants.{BadMapping, OutOfMemory};
 ghost use Rattle.model.specs.Acceptance.Rules.{first_broken, refuse_if};
 ghost use Rattle.model.specs.Acceptance.ThreadRules.{is_member};
-ghost use Rattle.model.specs.Acceptance.WellFormed.{content_rule, executes, fills_nothing, frame_rules, has_writable_code, is_address, is_covered, is_mapped_before, is_mapped_twice, is_named_otherwise, mapping_rules, misplaces_frame, misplaces_table};
+ghost use Rattle.model.specs.Acceptance.WellFormed.{content_rule, executes, fills_nothing, frame_rules, has_writable_code, is_address, is_covered, is_mapped_before, is_mapped_twice, is_named_otherwise, mapping_rules, misplaces_frame, misplaces_table, promise_rule, promises_nothing};
 ghost use Rattle.model.specs.Images.Described.{numbered};
 ghost use Rattle.wellformed.specs.Answering.{Answers, AreNamed, AreTwice, with_number};
 
 use crate::number_sets::NumberSet;
-use crate::object_types::{is_frame, is_page_table, is_root_table, type_at};
-use image_reading::{ContentRef, ImageRef, header_of, lists_region};
+use crate::object_types::{is_endpoint, is_frame, is_page_table, is_root_table, type_at};
+use image_reading::{ContentRef, ImageRef, PromiseRef, header_of, lists_region};
 use model::{FrameEntry, Refusal, TableEntry};
 use std::alloc::Global;
 
@@ -213,7 +213,31 @@ fn check_contents(image: &ImageRef<'_>) -> Result<(), Refusal>
     Ok(())
 }
 
-/// The rules on tables, frames and contents. `sources` has the objects that capabilities name.
+/// Whether a promise is of no endpoint.
+fn promises_nothing(image: &ImageRef<'_>, promise: &PromiseRef<'_>) -> bool
+    ensures { result ≡ promises_nothing image.now promise.now }
+{
+    !is_endpoint(type_at(image, promise.header().endpoint))
+}
+
+/// The promises, in their order, numbered on after the contents.
+fn check_promises(image: &ImageRef<'_>) -> Result<(), Refusal>
+    ensures { Answers (first_broken (map (promise_rule image.now) (numbered image.now.promises))) result }
+{
+    let header = header_of(image);
+    let mut number = 0;
+    for promise in image.promises() {
+        if promises_nothing(image, &promise) {
+            return Err(Refusal::BadPromise {
+                item: header.tables + header.frames + header.contents + number,
+            });
+        }
+        number += 1;
+    }
+    Ok(())
+}
+
+/// The rules on tables, frames, contents and promises. `sources` has the objects that capabilities name.
 #[tactic(auto, unfolding(model::specs::Acceptance::WellFormed::mapping_rules))]
 pub(crate) fn check_mappings(
     alloc: Global,
@@ -225,5 +249,6 @@ pub(crate) fn check_mappings(
 {
     check_tables(alloc, image)?;
     check_frames(alloc, image, sources)?;
-    check_contents(image)
+    check_contents(image)?;
+    check_promises(image)
 }

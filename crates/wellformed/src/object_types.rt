@@ -1,7 +1,7 @@
 //! What the objects of an image are.
 
 ghost use Rattle.std.specs.Prelude.{◌≡◌, ◌^◌, ◌≤◌, nat_lt, option_map, true};
-ghost use Rattle.model.specs.Acceptance.WellFormed.{has_slot, is_frame_type, is_notification_type, is_root_type, is_table_type, is_thread_type, is_untyped_type, may_have, radix_of, source_type};
+ghost use Rattle.model.specs.Acceptance.WellFormed.{has_slot, is_endpoint_type, is_frame_type, is_notification_type, is_root_type, is_table_type, is_thread_type, is_untyped_type, may_have, radix_of, source_type};
 ghost use Rattle.model.specs.Acceptance.ThreadRules.{is_cnode_source};
 ghost use Rattle.model.specs.Capabilities.CapabilityKinds.{is_guard_word};
 ghost use Rattle.model.specs.Images.Image.{size_fits};
@@ -48,6 +48,13 @@ pub fn is_thread(object: Option<ObjectType>) -> bool
     ensures { result ≡ is_thread_type (option_map new_type object) }
 {
     matches!(&object, Some(ObjectType::Object(ObjectKind::Thread)))
+}
+
+/// Whether this is an endpoint.
+pub fn is_endpoint(object: Option<ObjectType>) -> bool
+    ensures { result ≡ is_endpoint_type (option_map new_type object) }
+{
+    matches!(&object, Some(ObjectType::Object(ObjectKind::Endpoint)))
 }
 
 /// Whether this is a notification.

@@ -82,25 +82,25 @@ module _ (laws : Laws) (bytes : List ℕ) (image : Image) (s : State) (labels : 
   by-send : (kind : SendCall) (slot : ℕ) → call_of number ≡ Some (Sends kind) → named_slot s tcb ≡ Ok slot → IsOwnSlot image t.thread slot
       → (IsInvoked (capability_at s.slots slot) → ⊥)
       → SendsBy image t.thread (point_of t point) state kind slot (capability_at s.slots slot) left → Within
-  by-send kind slot call named mine quiet (SendsBy.calls offset r badge kind_is is writes grants asks) =
+  by-send kind slot call named mine quiet (SendsBy.calls offset r badge kind_is is writes grants keeps asks) =
       sends-within image t.thread s all.sound number offset badge r (calls-here (Endpoint offset r badge) slot named mine is) writes kind call
-  by-send kind slot call named mine quiet (SendsBy.sends offset r badge kind_is is writes asks) =
+  by-send kind slot call named mine quiet (SendsBy.sends offset r badge kind_is is writes keeps asks) =
       sends-within image t.thread s all.sound number offset badge r (calls-here (Endpoint offset r badge) slot named mine is) writes kind call
-  by-send kind slot call named mine quiet (SendsBy.tries offset r badge kind_is is writes asks) =
+  by-send kind slot call named mine quiet (SendsBy.tries offset r badge kind_is is writes keeps asks) =
       sends-within image t.thread s all.sound number offset badge r (calls-here (Endpoint offset r badge) slot named mine is) writes kind call
   by-send kind slot call named mine quiet (SendsBy.signals offset r badge is writes asks) =
       signals-within image t.thread s all.sound number offset badge r (calls-here (Notification offset r badge) slot named mine is) writes kind call
   by-send kind slot call named mine quiet (SendsBy.invokes invoked asks) = absurd (quiet invoked)
 
   by-receive : (kind : ReceiveCall) (slot : ℕ) (is_wait : Bool) → call_of number ≡ Some (Receives kind) → named_slot s tcb ≡ Ok slot
-      → IsOwnSlot image t.thread slot → ReceivesBy state is_wait (capability_at s.slots slot) left → Within
+      → IsOwnSlot image t.thread slot → ReceivesBy image state is_wait (capability_at s.slots slot) left → Within
   by-receive kind slot is_wait call named mine (ReceivesBy.on_endpoint offset r badge is reads asks) =
       receives-within image t.thread s all.sound number offset badge r (calls-here (Endpoint offset r badge) slot named mine is) reads kind call
   by-receive kind slot is_wait call named mine (ReceivesBy.on_notification offset r badge is reads asks) =
       waits-within image t.thread s all.sound number offset badge r (calls-here (Notification offset r badge) slot named mine is) reads kind call
 
   by-reply : (slot : ℕ) (is_wait : Bool) → call_of number ≡ Some RepliesAndReceives → named_slot s tcb ≡ Ok slot → IsOwnSlot image t.thread slot
-      → ReceivesBy state is_wait (capability_at s.slots slot) left → Within
+      → ReceivesBy image state is_wait (capability_at s.slots slot) left → Within
   unfolding calls-here
   by-reply slot is_wait call named mine (ReceivesBy.on_endpoint offset r badge is reads asks) =
       reply-endpoint image t.thread s all.sound number call offset badge r reads (calls-here (Endpoint offset r badge) slot named mine is) handles-nobody
@@ -119,17 +119,17 @@ module _ (laws : Laws) (bytes : List ℕ) (image : Image) (s : State) (labels : 
       by-send kind names.slot is names.named names.own (quiet kind names.slot refl names.named)
       (laws.sends image t.thread (point_of t point) state kind names.slot (capability_at s.slots names.slot) left names.rule)
   calls-within (Receives Receiving) is rule quiet =
-      let names = named-here laws bytes image s labels accepted t listed own point state left at (λ slot. receive_rule (point_of t point) state true) rule in
+      let names = named-here laws bytes image s labels accepted t listed own point state left at (λ slot. receive_rule image (point_of t point) state true) rule in
       by-receive Receiving names.slot true is names.named names.own
-      (laws.receives (point_of t point) state true (capability_at s.slots names.slot) left names.rule)
+      (laws.receives image (point_of t point) state true (capability_at s.slots names.slot) left names.rule)
   calls-within (Receives Polling) is rule quiet =
-      let names = named-here laws bytes image s labels accepted t listed own point state left at (λ slot. receive_rule (point_of t point) state false) rule in
+      let names = named-here laws bytes image s labels accepted t listed own point state left at (λ slot. receive_rule image (point_of t point) state false) rule in
       by-receive Polling names.slot false is names.named names.own
-      (laws.receives (point_of t point) state false (capability_at s.slots names.slot) left names.rule)
+      (laws.receives image (point_of t point) state false (capability_at s.slots names.slot) left names.rule)
   calls-within RepliesAndReceives is rule quiet =
-      let names = named-here laws bytes image s labels accepted t listed own point state left at (λ slot. receive_rule (point_of t point) state true) rule in
+      let names = named-here laws bytes image s labels accepted t listed own point state left at (λ slot. receive_rule image (point_of t point) state true) rule in
       by-reply names.slot true is names.named names.own
-      (laws.receives (point_of t point) state true (capability_at s.slots names.slot) left names.rule)
+      (laws.receives image (point_of t point) state true (capability_at s.slots names.slot) left names.rule)
   calls-within Replies is rule quiet = reply-within image t.thread s all.sound number is own at.there at.status handles-nobody refl
   calls-within Yields is rule quiet = yield-within image t.thread s number all.sound is runs-here
   calls-within PutsCharacter is rule quiet = character-within image t.thread s number all.sound is runs-here

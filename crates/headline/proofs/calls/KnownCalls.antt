@@ -52,7 +52,7 @@ value-in n k at r low high is =
     ] refl is
 
 -- such a range is that of one value
-range-known : (n : ℕ) (at : Point) (r : Range) → one_value at r ≡ Ok n → r ≡ single n
+pub range-known : (n : ℕ) (at : Point) (r : Range) → one_value at r ≡ Ok n → r ≡ single n
 range-known n at r is =
     elim (is_single r) as (λ (b : Bool). is_single r ≡ b → (if b then Ok r.low else Err (CallNotConstant at)) ≡ Ok n → r ≡ single n) [
       | true ↦ λ one some.

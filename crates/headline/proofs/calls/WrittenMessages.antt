@@ -6,9 +6,11 @@ use Rattle.std.specs.List.{All, list_all}
 use Rattle.std.proofs.lemmas.Bool.{and_parts, leb-true, ltb-true}
 use Rattle.std.proofs.lemmas.List.Elements.{All-head, All-tail}
 use Rattle.headline.specs.measure_facts.Terms.{WritesOnly}
+use Rattle.model.specs.declared.entries.PromisedWord.{PromisedWord}
 use Rattle.model.specs.declared.instructions.Register.{Register}
 use Rattle.model.specs.declared.ranges.Range.{Range}
-use Rattle.model.specs.Acceptance.CallRules.{badges, message_registers, with_all, with_answer, with_message}
+use Rattle.model.specs.Acceptance.CallRules.{badges, message_registers, with_answer, with_message}
+use Rattle.model.specs.Acceptance.Promises.{KeepWords, range_promised, with_words}
 use Rattle.model.specs.Acceptance.Measures.{register_numbered}
 use Rattle.model.specs.Acceptance.Ranges.{full, single, with_range}
 use Rattle.model.specs.Acceptance.ThreadInvariants.{LieWithin}
@@ -32,19 +34,25 @@ first-writable x xs fit =
 abbrev IsSmall : ℕ → Type 0
 IsSmall word = word < 2 ^ 32
 
--- registers beyond the last word may have any value too
-words-fit : (r : RegisterFile) (ranges : List Range) (xs : List Register) (words : List ℕ) → AreWritable xs → All IsSmall words → Fits r ranges
-    → Fits (write_words r xs words) (with_all ranges xs full)
-words-fit r ranges [] [] fit small have = have
-words-fit r ranges [] (word ∷ words) fit small have = have
-words-fit r ranges (x ∷ xs) [] fit small have =
+-- registers beyond the last word may have any value too, and so may words of which nothing is promised
+words-fit : (r : RegisterFile) (ranges : List Range) (xs : List Register) (words : List ℕ) (promised : List PromisedWord) → AreWritable xs
+    → All IsSmall words → KeepWords words promised → Fits r ranges → Fits (write_words r xs words) (with_words ranges xs promised)
+words-fit r ranges [] [] promised fit small kept have = have
+words-fit r ranges [] (word ∷ words) promised fit small kept have = have
+words-fit r ranges (x ∷ xs) [] [] fit small kept have =
     let parts = first-writable x xs fit in
-    words-fit r (with_range ranges x full) xs [] parts.1 small (widened r ranges x parts.0 have)
-words-fit r ranges (x ∷ xs) (word ∷ words) fit small have =
+    words-fit r (with_range ranges x full) xs [] [] parts.1 small tt (widened r ranges x parts.0 have)
+words-fit r ranges (x ∷ xs) [] (first ∷ promised) fit small kept have = absurd kept
+words-fit r ranges (x ∷ xs) (word ∷ words) [] fit small kept have =
     let parts = first-writable x xs fit in
     let least : word < 2 ^ 32 = All-head IsSmall word words small in
-    words-fit (write r x word) (with_range ranges x full) xs words parts.1 (All-tail IsSmall word words small)
+    words-fit (write r x word) (with_range ranges x full) xs words [] parts.1 (All-tail IsSmall word words small) tt
     (wrote r ranges x word full parts.0 least (below-full word least) have)
+words-fit r ranges (x ∷ xs) (word ∷ words) (first ∷ promised) fit small kept have =
+    let parts = first-writable x xs fit in
+    let least : word < 2 ^ 32 = All-head IsSmall word words small in
+    words-fit (write r x word) (with_range ranges x (range_promised first)) xs words promised parts.1 (All-tail IsSmall word words small) kept.2
+    (wrote r ranges x word (range_promised first) parts.0 least (kept.0, kept.1) have)
 
 words-only : (r : RegisterFile) (xs : List Register) (words : List ℕ) → AreWritable xs → WritesOnly r (write_words r xs words) xs
 words-only r [] [] fit = writes-none r []
@@ -76,10 +84,11 @@ module _ (registers : RegisterFile) (ranges : List Range) (count : length regist
   start : Fits registers ranges
   start = record { count = count; small = words-small; long = long; within = within }
 
-  pub message-fits : (badge : ℕ) (out : Range) (message : Message) → badge < 2 ^ 32 → LiesIn badge out → All IsSmall message.words
-      → info_word message.label (length message.words) < 2 ^ 32
-      → LieWithin (delivered registers badge message) (with_message ranges out) × WritesOnly registers (delivered registers badge message) message_registers
-  message-fits badge out message low inside words info =
+  pub message-fits : (badge : ℕ) (out : Range) (message : Message) (promised : List PromisedWord) → badge < 2 ^ 32 → LiesIn badge out
+      → All IsSmall message.words → KeepWords message.words promised → info_word message.label (length message.words) < 2 ^ 32
+      → LieWithin (delivered registers badge message) (with_message ranges out promised)
+      × WritesOnly registers (delivered registers badge message) message_registers
+  message-fits badge out message promised low inside words kept info =
       let number : ℕ = info_word message.label (length message.words) in
       let first : RegisterFile = write registers a0 badge in
       let second : RegisterFile = write first a1 number in
@@ -88,7 +97,7 @@ module _ (registers : RegisterFile) (ranges : List Range) (count : length regist
       let two : Fits second wide = wrote first (with_range ranges a0 out) a1 number full info-writable info (below-full number info) one in
       let last : RegisterFile = write_words second word_registers message.words in
       let only : WritesOnly second last word_registers = words-only second word_registers message.words words-writable in
-      let fit = words-fit second wide word_registers message.words words-writable words two in (
+      let fit = words-fit second wide word_registers message.words promised words-writable words kept two in (
         fit.within,
         writes-more registers last a0 badge (a1 ∷ word_registers) badge-writable
             (writes-more first last a1 number word_registers info-writable only),
@@ -111,11 +120,11 @@ module _ (registers : RegisterFile) (ranges : List Range) (count : length regist
       (two.within, writes-more registers second a0 0 (a1 ∷ []) badge-writable (writes-more first second a1 0 [] info-writable (writes-none second [])))
 
   -- where no message is, a0 alone is written, and the ranges are wider than that
-  pub nothing-fits : LieWithin (write registers a0 0) (with_message ranges badges) × WritesOnly registers (write registers a0 0) message_registers
+  pub nothing-fits : LieWithin (write registers a0 0) (with_message ranges badges []) × WritesOnly registers (write registers a0 0) message_registers
   nothing-fits =
       let others : List Register = a1 ∷ word_registers in
       let after : RegisterFile = write registers a0 0 in
       let one : Fits after (with_range ranges a0 badges) = wrote registers ranges a0 0 badges badge-writable (omega arith) (omega arith, omega arith) start in
       let none : All IsSmall [] = λ k other less. absurd (omega (arith, less)) in
-      let fit = words-fit after (with_range ranges a0 badges) others [] words-writable none one in
+      let fit = words-fit after (with_range ranges a0 badges) others [] [] words-writable none tt one in
       (fit.within, writes-more registers after a0 0 others badge-writable (writes-none after others))

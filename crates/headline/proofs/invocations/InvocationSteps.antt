@@ -65,9 +65,9 @@ by-invoking s thread kind slot (InterruptHandler line) invoked = refl
 module _ (image : Image) (t : Thread) (point : Point) (state : PointState) (kind : SendCall) (slot : ℕ) (c : Cap) (left : AfterCall)
     (invoked : IsInvoked c) where
   ruled-so : SendsBy image t point state kind slot c left → invocation image t point state (call_on image t slot c) (answers kind) ≡ Ok left
-  ruled-so (calls_by offset r badge kind_is is writes grants asks) = absurd (subst IsInvoked is invoked)
-  ruled-so (sends_by offset r badge kind_is is writes asks) = absurd (subst IsInvoked is invoked)
-  ruled-so (tries_by offset r badge kind_is is writes asks) = absurd (subst IsInvoked is invoked)
+  ruled-so (calls_by offset r badge kind_is is writes grants keeps asks) = absurd (subst IsInvoked is invoked)
+  ruled-so (sends_by offset r badge kind_is is writes keeps asks) = absurd (subst IsInvoked is invoked)
+  ruled-so (tries_by offset r badge kind_is is writes keeps asks) = absurd (subst IsInvoked is invoked)
   ruled-so (signals_by offset r badge is writes asks) = absurd (subst IsInvoked is invoked)
   ruled-so (invokes_by named rule) = rule
 

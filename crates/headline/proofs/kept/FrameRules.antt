@@ -11,7 +11,7 @@ use Rattle.model.specs.declared.entries.UntypedEntry.{UntypedEntry}
 use Rattle.model.specs.declared.refusals.Refusal.TheVariants.{BadMapping, BadObject, NoRoom, UntypedOverlap}
 use Rattle.model.specs.Acceptance.Accepted.{AreKept, IsWellFormed}
 use Rattle.model.specs.Acceptance.Rules.{Rule, refuse_if}
-use Rattle.model.specs.Acceptance.WellFormed.{content_rule, frame_rules, has_no_room, has_writable_code, mapping_rules, misplaces_frame, misplaces_table}
+use Rattle.model.specs.Acceptance.WellFormed.{content_rule, frame_rules, has_no_room, has_writable_code, mapping_rules, misplaces_frame, misplaces_table, promise_rule}
 use Rattle.model.specs.Acceptance.WellFormed.{object_rules, overlaps, too_few_boot_slots}
 use Rattle.model.specs.Images.Described.{numbered}
 use Rattle.model.specs.Images.Image.{Image}
@@ -84,7 +84,9 @@ frame-kept image item f fitting formed at =
     let frames = flat_map (frame_rules image) (numbered image.frames) in
     let contents = map (content_rule image) (numbered image.contents) in
     let start : 0 + item ≡ item = omega arith in
-    let all = kept-behind tables frames (kept-before (tables ++ frames) contents formed.mappings) in
+    let promises = map (promise_rule image) (numbered image.promises) in
+    let mappings = kept-before (tables ++ frames ++ contents) promises formed.mappings in
+    let all = kept-behind tables frames (kept-before (tables ++ frames) contents mappings) in
     let kept = subst (λ n. AreKept (frame_rules image (n, f))) start (rules-of (frame_rules image) 0 image.frames all item f at) in
     by-rules image item f fitting at (not-refused _ _ (kept 0 None (omega arith))) (not-refused _ _ (kept 1 None (omega arith)))
 

@@ -1,6 +1,7 @@
 -- Recv and NBRecv on what the thread names: the step goes well.
-use Rattle.std.proofs.Common.{ℕ, ◌≡◌, ◌∙◌, ◌+◌, ◌++◌, inl, inr, Bool, true, false, if◌then◌else◌, Some, None, Ok, List, [], ◌∷◌, refl, sym, ap, subst}
+use Rattle.std.proofs.Common.{ℕ, ◌≡◌, ◌∙◌, ◌+◌, ◌++◌, inl, inr, Bool, true, false, if◌then◌else◌, Option, Some, None, Ok, List, [], ◌∷◌, refl, sym, ap, subst}
 use Rattle.std.specs.Prelude.{Contains}
+use Rattle.std.proofs.lemmas.Option.{none-some}
 use Rattle.headline.specs.calls.Messages.{ReceivesBy}
 use Rattle.headline.specs.facts.Standing.{AllStand}
 use Rattle.headline.specs.facts.Waiting.{NamesQueue, NamesThere, behind_receive}
@@ -11,16 +12,18 @@ use Rattle.model.specs.declared.labels.Label.{Label}
 use Rattle.model.specs.declared.labels.Label.TheVariants.{Ran}
 use Rattle.model.specs.declared.labels.Outcome.{Outcome}
 use Rattle.model.specs.declared.labels.Outcome.TheVariants.{Waited, Plain}
+use Rattle.model.specs.declared.ranges.Range.{Range}
 use Rattle.model.specs.declared.lookup_failures.LookupFailure.TheVariants.{MissingCapability}
 use Rattle.model.specs.Acceptance.Accepted.{IsAccepted}
 use Rattle.headline.specs.moves.Ground.{SameGround}
-use Rattle.model.specs.Acceptance.CallRules.{AfterCall, badges, by_capability, known_behind, message_registers, receive_rule, with_message}
+use Rattle.model.specs.Acceptance.CallRules.{AfterCall, by_capability, known_behind, message_registers, receive_rule, with_received}
 use Rattle.model.specs.Acceptance.NotedStates.{PointState}
 use Rattle.model.specs.Acceptance.PointStates.{point_of}
+use Rattle.model.specs.Acceptance.Promises.{promise_at}
 use Rattle.model.specs.Acceptance.ThreadInvariants.{tcb_of}
 use Rattle.model.specs.Capabilities.Slots.{capability_at}
 use Rattle.model.specs.Images.Described.{Numbered, numbered_threads}
-use Rattle.model.specs.Images.Image.{Image}
+use Rattle.model.specs.Images.Image.{Image, ImagePromise}
 use Rattle.model.specs.Kernel.Messages.{Message, a0, deliver, deliver_word, message_sent, poll, receive, receive_from, received_waiting, receives}
 use Rattle.model.specs.Kernel.Messages.{try_to_receive, wait, waits_to_receive, with_caller}
 use Rattle.model.specs.Kernel.Scheduling.{block}
@@ -80,22 +83,23 @@ module _ (laws : Laws) (bytes : List ℕ) (image : Image) (s : State) (labels : 
     store-received x f b m (ByFault fault) = record { memory_bits = refl; boot_radix = refl; slots = λ slot. refl; bytes = λ frame place code low high. refl }
 
     some-sends : (outcome : Outcome) → is_waited outcome ≡ left.is_wait →
-        left ≡ known_behind state (with_message state.ranges badges) left.is_wait message_registers
+        (promise : Option ImagePromise) → ((p : ImagePromise) → promise ≡ Some p → promise_at image e ≡ Some p)
+        → left ≡ known_behind state (with_received state.ranges promise) left.is_wait message_registers
         → (otherwise : State) (x : Sender) (others : List Sender) → (endpoint_at ready e).senders ≡ x ∷ others
         → IsSound (receives ready e tcb otherwise (x ∷ others)) → AllStand image (receives ready e tcb otherwise (x ∷ others)) (behind outcome)
-    some-sends outcome waited asks otherwise x others first sound =
+    some-sends outcome waited promise of_image asks otherwise x others first sound =
         let f = record (endpoint_at ready e) { senders = others } in
         let after = receive_from (with_endpoint ready e f) x tcb in
         receives-stand laws bytes image s labels (behind outcome) accepted all t listed own point state left at (counts outcome waited) e old was after
         sound
-        (store-received x f x.badge (message_sent (with_endpoint ready e f) x x.sent) x.sent) x others first (λ y. refl) asks
+        (store-received x f x.badge (message_sent (with_endpoint ready e f) x x.sent) x.sent) x others first (λ y. refl) promise of_image asks
 
-    receive-waits : left ≡ behind_receive state → (capability : Cap) → NamesThere image t state capability → NamesQueue e capability
+    receive-waits : left ≡ behind_receive image e state → (capability : Cap) → NamesThere image t state capability → NamesQueue e capability
         → IsSound (receive s e tcb) → AllStand image (receive s e tcb) (behind Waited)
     receive-waits asks capability named leads =
         let wait : true ≡ left.is_wait = sym (ap (λ (l : AfterCall). l.is_wait) asks) in
-        let asks_so : left ≡ known_behind state (with_message state.ranges badges) left.is_wait message_registers = asks
-        ∙ ap (λ b. known_behind state (with_message state.ranges badges) b message_registers) wait in
+        let known : List Range = with_received state.ranges (promise_at image e) in
+        let asks_so : left ≡ known_behind state known left.is_wait message_registers = asks ∙ ap (λ b. known_behind state known b message_registers) wait in
         elim (endpoint_at ready e).senders as (λ xs. (endpoint_at ready e).senders ≡ xs → IsSound (receives ready e tcb (waits_to_receive ready e tcb) xs) →
         AllStand image (receives ready e tcb (waits_to_receive ready e tcb) xs) (behind Waited)) [
           | [] ↦ λ none sound.
@@ -103,11 +107,11 @@ module _ (laws : Laws) (bytes : List ℕ) (image : Image) (s : State) (labels : 
               (waits_to_receive ready e tcb) sound
               (record { memory_bits = refl; boot_radix = refl; slots = λ slot. refl; bytes = λ frame place code low high. refl }) none (λ y. refl) asks
               capability named leads
-          | x ∷ others ↦ λ first sound. some-sends Waited wait asks_so (waits_to_receive ready e tcb) x others first sound
+          | x ∷ others ↦ λ first sound. some-sends Waited wait (promise_at image e) (λ p is. is) asks_so (waits_to_receive ready e tcb) x others first sound
         ] refl
 
     -- nothing is there: a0 becomes 0
-    finds-nothing : left ≡ known_behind state (with_message state.ranges badges) false message_registers → IsSound (deliver_word ready tcb 0) →
+    finds-nothing : left ≡ known_behind state (with_received state.ranges None) false message_registers → IsSound (deliver_word ready tcb 0) →
         AllStand image (deliver_word ready tcb 0) (behind Plain)
     finds-nothing asks sound =
         let fit = laws.nothing own.registers state.ranges
@@ -133,16 +137,16 @@ module _ (laws : Laws) (bytes : List ℕ) (image : Image) (s : State) (labels : 
         (ap (λ (l : AfterCall). l.slots) asks) passes
         (λ y other. passed-there ready tcb (write (thread_at ready tcb).registers a0 0) y other ∙ caller-there s tcb None y other)
 
-    receive-polls : left ≡ known_behind state (with_message state.ranges badges) false message_registers →
+    receive-polls : left ≡ known_behind state (with_received state.ranges None) false message_registers →
         IsSound (try_to_receive s e tcb) → AllStand image (try_to_receive s e tcb) (behind Plain)
     receive-polls asks =
         let wait : false ≡ left.is_wait = sym (ap (λ (l : AfterCall). l.is_wait) asks) in
-        let asks_so : left ≡ known_behind state (with_message state.ranges badges) left.is_wait message_registers = asks
-        ∙ ap (λ b. known_behind state (with_message state.ranges badges) b message_registers) wait in
+        let known : List Range = with_received state.ranges None in
+        let asks_so : left ≡ known_behind state known left.is_wait message_registers = asks ∙ ap (λ b. known_behind state known b message_registers) wait in
         elim (endpoint_at ready e).senders as (λ xs. (endpoint_at ready e).senders ≡ xs → IsSound (receives ready e tcb (deliver_word ready tcb 0) xs) →
         AllStand image (receives ready e tcb (deliver_word ready tcb 0) xs) (behind Plain)) [
           | [] ↦ λ none sound. finds-nothing asks sound
-          | x ∷ others ↦ λ first sound. some-sends Plain wait asks_so (deliver_word ready tcb 0) x others first sound
+          | x ∷ others ↦ λ first sound. some-sends Plain wait None (λ p is. absurd (none-some p is)) asks_so (deliver_word ready tcb 0) x others first sound
         ] refl
 
   -- ---- whatever the thread names
@@ -155,7 +159,7 @@ module _ (laws : Laws) (bytes : List ℕ) (image : Image) (s : State) (labels : 
       AllStand image after (behind outcome) → IsFine image t labels pc (after, outcome)
   fine outcome after runs allowed stands = record { faults = runs; errors = allowed; stands = stands }
 
-  by-object : (kind : ReceiveCall) (slot : ℕ) → NamesThere image t state (capability_at s.slots slot) → ReceivesBy state (is_wait_of kind) (capability_at s.slots slot) left
+  by-object : (kind : ReceiveCall) (slot : ℕ) → NamesThere image t state (capability_at s.slots slot) → ReceivesBy image state (is_wait_of kind) (capability_at s.slots slot) left
       → IsSound (receive_by s tcb kind (capability_at s.slots slot)).0 → IsFine image t labels pc (receive_by s tcb kind (capability_at s.slots slot))
   by-object Receiving slot names (ReceivesBy.on_endpoint offset r badge is reads asks) =
       let there = endpoint-named image t s labels all state slot names offset r badge is in
@@ -189,11 +193,11 @@ module _ (laws : Laws) (bytes : List ℕ) (image : Image) (s : State) (labels : 
       (counts Plain (sym (ap (λ (l : AfterCall). l.is_wait) asks))) offset there.old there.was asks sound))
 
   pub receive-fine : (kind : ReceiveCall) → by_capability image t.thread (point_of t point) state
-      (λ slot. receive_rule (point_of t point) state (is_wait_of kind)) ≡ Ok left
+      (λ slot. receive_rule image (point_of t point) state (is_wait_of kind)) ≡ Ok left
       → IsSound (receive_call s tcb kind).0 → IsFine image t labels pc (receive_call s tcb kind)
   receive-fine kind rule =
       let names = named-here laws bytes image s labels accepted t listed own point state left at
-      (λ slot. receive_rule (point_of t point) state (is_wait_of kind)) rule in
-      let by = laws.receives (point_of t point) state (is_wait_of kind) (capability_at s.slots names.slot) left names.rule in
+      (λ slot. receive_rule image (point_of t point) state (is_wait_of kind)) rule in
+      let by = laws.receives image (point_of t point) state (is_wait_of kind) (capability_at s.slots names.slot) left names.rule in
       subst (λ (done : Done). IsSound done.0 → IsFine image t labels pc done) (sym (ap (receive_named s tcb kind) names.named))
       (by-object kind names.slot names.there by)

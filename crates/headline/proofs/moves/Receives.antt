@@ -4,17 +4,19 @@ use Rattle.std.proofs.Common.{sym, ap, subst, arith}
 use Rattle.std.specs.Prelude.{Contains}
 use Rattle.std.proofs.lemmas.Bool.{eqb-true, eqb-false}
 use Rattle.headline.specs.facts.Standing.{AllStand}
+use Rattle.headline.specs.calls.Messages.{KnownToKeepAt}
 use Rattle.headline.specs.facts.Waiting.{NamesQueue, NamesThere, SendsAs, WaitsAsAsked, WaitsSo, behind_receive}
 use Rattle.headline.proofs.facts.Laws.{at-place}
 use Rattle.model.specs.declared.capabilities.Cap.{Cap}
 use Rattle.model.specs.declared.labels.Label.{Label}
 use Rattle.model.specs.Acceptance.Accepted.{IsAccepted}
 use Rattle.headline.specs.moves.Ground.{SameGround}
-use Rattle.model.specs.Acceptance.CallRules.{AfterCall, badges, known_behind, message_registers, with_message}
+use Rattle.model.specs.Acceptance.CallRules.{AfterCall, known_behind, message_registers, with_received}
 use Rattle.model.specs.Acceptance.NotedStates.{PointState}
+use Rattle.model.specs.Acceptance.Promises.{KeepsPromise, promise_at}
 use Rattle.model.specs.Acceptance.ThreadInvariants.{IsWaiting, ThreadInvariant, tcb_of}
 use Rattle.model.specs.Images.Described.{Numbered, numbered_threads}
-use Rattle.model.specs.Images.Image.{Image}
+use Rattle.model.specs.Images.Image.{Image, ImagePromise}
 use Rattle.model.specs.Kernel.Deliveries.{woken}
 use Rattle.model.specs.Kernel.Messages.{Message, deliver, delivered, message_of, message_sent, passes, receive_from, received_waiting, waits_to_receive}
 use Rattle.model.specs.Kernel.Messages.{with_caller}
@@ -76,7 +78,7 @@ module _ (laws : Laws) (bytes : List ℕ) (image : Image) (s : State) (labels la
 
   -- ---- nobody sends
 
-  module _ (none : ep.senders ≡ []) (objects : (y : ℕ) → after.objects y ≡ (waits_to_receive ready e tcb).objects y) (asks : left ≡ behind_receive state)
+  module _ (none : ep.senders ≡ []) (objects : (y : ℕ) → after.objects y ≡ (waits_to_receive ready e tcb).objects y) (asks : left ≡ behind_receive image e state)
       (capability : Cap) (named : NamesThere image t state capability) (leads : NamesQueue e capability) where
     abbrev queued : EndpointState
     queued = record ep { receivers = ep.receivers ++ tcb ∷ [] }
@@ -155,7 +157,8 @@ module _ (laws : Laws) (bytes : List ℕ) (image : Image) (s : State) (labels la
 
   module _ (x : Sender) (others : List Sender) (first : ep.senders ≡ x ∷ others)
       (objects : (y : ℕ) → after.objects y ≡ (receive_from (with_endpoint ready e (record ep { senders = others })) x tcb).objects y)
-      (asks : left ≡ known_behind state (with_message state.ranges badges) left.is_wait message_registers) where
+      (promise : Option ImagePromise) (of_image : (p : ImagePromise) → promise ≡ Some p → promise_at image e ≡ Some p)
+      (asks : left ≡ known_behind state (with_received state.ranges promise) left.is_wait message_registers) where
     abbrev from : ℕ
     from = x.thread
 
@@ -218,6 +221,12 @@ module _ (laws : Laws) (bytes : List ℕ) (image : Image) (s : State) (labels la
         ((subst (WaitsSo image u s state left) blocked-from.status so).sends ep x was-ep
         (subst (λ (xs : List Sender). Contains xs x) (sym first) (0, omega arith, refl)) is).kind
 
+    keeps-so : (u : Numbered) (state : PointState) (left : AfterCall) → from ≡ tcb_of image u → WaitsSo image u s state left sender.status →
+        KnownToKeepAt image e state x.badge
+    keeps-so u state left is so =
+        ((subst (WaitsSo image u s state left) blocked-from.status so).sends ep x was-ep
+        (subst (λ (xs : List Sender). Contains xs x) (sym first) (0, omega arith, refl)) is).keeps
+
     queued-still : (thread : ℕ) → QueuesOn (EndpointObject ep) (EndpointObject fewer) thread
     queued-still thread = record {
       sends = λ f y is among mine. let same : fewer ≡ f = cc in (
@@ -243,10 +252,13 @@ module _ (laws : Laws) (bytes : List ℕ) (image : Image) (s : State) (labels la
 
     -- ---- the thread that receives
 
-    is-fine : IsMessage message → x.badge < 2 ^ 28 → FitsBehind state left own.registers (delivered own.registers x.badge message)
-    is-fine fine small =
-        let fit = laws.message own.registers state.ranges x.badge message
-        (own-registers laws bytes image s labels later accepted all t listed own point state left at) small fine in
+    abbrev KeptHere : Message → Type 0
+    KeptHere m = (p : ImagePromise) → promise ≡ Some p → KeepsPromise p x.badge m
+
+    is-fine : IsMessage message → KeptHere message → x.badge < 2 ^ 28 → FitsBehind state left own.registers (delivered own.registers x.badge message)
+    is-fine fine kept small =
+        let fit = laws.message own.registers state.ranges promise x.badge message
+        (own-registers laws bytes image s labels later accepted all t listed own point state left at) small fine kept in
         subst (λ (l : AfterCall). FitsBehind state l own.registers (delivered own.registers x.badge message)) (sym asks)
         (record { slots = refl; pc = delivered-pc own.registers x.badge message; only = fit.1; within = fit.0 })
 
@@ -261,11 +273,17 @@ module _ (laws : Laws) (bytes : List ℕ) (image : Image) (s : State) (labels la
         subst (λ (u : ThreadState). IsMessage (message_of u)) (sym (at-place taken from sender taken-from))
         (own-message sender (all.sound.threads.threads from sender blocked-from.is))
 
+    sender-keeps : KeptHere (message_of (thread_at taken from))
+    sender-keeps p is =
+        subst (λ (u : ThreadState). KeepsPromise p x.badge (message_of u)) (sym (at-place taken from sender taken-from))
+        (laws.sent sender waits-so.state x.badge p waits-so.stands.registers
+        (keeps-so waits-so.thread waits-so.state waits-so.left waits-so.is waits-so.so p (of_image p is)))
+
     own-receives : (next : ThreadState) → after.objects tcb ≡ Some (ThreadObject next) → next.status ≡ own.status → next.registers ≡ received.registers →
-        IsMessage message
+        IsMessage message → KeptHere message
         → ThreadInvariant image t after later × WaitsAsAsked image t after
-    own-receives next is status registers fine =
-        let fit = is-fine fine small-badge in
+    own-receives next is status registers fine kept =
+        let fit = is-fine fine kept small-badge in
         own-passes laws bytes image s labels later accepted all t listed own point state left at after sound store fit.slots
         (record {
           next = next;
@@ -300,7 +318,8 @@ module _ (laws : Laws) (bytes : List ℕ) (image : Image) (s : State) (labels la
         ∙ went-there two from y other in
         let own_is : after.objects tcb ≡ Some (ThreadObject received) = apart tcb (λ is. from-apart (sym is)) ∙ two-own in
         let fine : IsMessage message = subst (λ (k : Sent). IsMessage (message_sent taken x k)) (sym kind) sender-message in
-        pair-stands received gone own_is from_is (λ y other beside. apart y beside) (own-receives received own_is refl refl fine)
+        let kept : KeptHere message = subst (λ (k : Sent). KeptHere (message_sent taken x k)) (sym kind) sender-keeps in
+        pair-stands received gone own_is from_is (λ y other beside. apart y beside) (own-receives received own_is refl refl fine kept)
         (wakes-up laws bytes image s labels later accepted all after sound store waits-so.thread waits-so.listed count-from sender there-from sender.registers
         gone
         (ap after.objects (sym waits-so.is) ∙ from_is) refl refl
@@ -326,10 +345,11 @@ module _ (laws : Laws) (bytes : List ℕ) (image : Image) (s : State) (labels la
         let from_is : after.objects from ≡ Some (ThreadObject gone) = granted from ∙ caller-there three tcb (Some from) from from-apart
         ∙ blocked two from AwaitsReply sender two-from in
         let fine : IsMessage message = subst (λ (k : Sent). IsMessage (message_sent taken x k)) (sym kind) sender-message in
+        let kept : KeptHere message = subst (λ (k : Sent). KeptHere (message_sent taken x k)) (sym kind) sender-keeps in
         let from_here : after.objects (tcb_of image waits-so.thread) ≡ Some (ThreadObject gone) = ap after.objects (sym waits-so.is) ∙ from_is in
         pair-stands next gone own_is from_is
         (λ y other beside. granted y ∙ caller-there three tcb (Some from) y other ∙ blocked-there two from AwaitsReply y beside)
-        (own-receives next own_is refl refl fine) (
+        (own-receives next own_is refl refl fine kept) (
           begins laws.stand_on image waits-so.thread s after sender waits-so.point waits-so.state
               (touches-none bytes image waits-so.thread s after accepted waits-so.listed all.sound sound store) waits-so.stands gone later
               (waits-so.ecall, (waits-so.left, waits-so.call, waits-so.wait)) from_here tt refl

@@ -1,7 +1,7 @@
 -- Call, Send and NBSend on an endpoint or a notification: the step goes well.
 use Rattle.std.proofs.Common.{ℕ, ◌≡◌, ◌∙◌, ◌+◌, ◌++◌, ◌^◌, ◌<◌, inl, Bool, true, false, if◌then◌else◌, Some, option_map, Ok, List, [], ◌∷◌, refl, sym, ap, subst}
 use Rattle.std.specs.Prelude.{Contains}
-use Rattle.headline.specs.calls.Messages.{IsInvoked, SendsBy}
+use Rattle.headline.specs.calls.Messages.{IsInvoked, KnownToKeepAt, SendsBy}
 use Rattle.headline.specs.facts.Standing.{AllStand}
 use Rattle.headline.specs.facts.Waiting.{NamesThere, SendsAs, behind_reply}
 use Rattle.model.specs.declared.capabilities.Cap.{Cap}
@@ -55,7 +55,7 @@ module _ (laws : Laws) (bytes : List ℕ) (image : Image) (s : State) (labels : 
   -- ---- endpoints
 
   module _ (e : ℕ) (r : Rights) (badge : ℕ) (small : badge < 2 ^ 28) (old : EndpointState) (was : s.objects e ≡ Some (EndpointObject old))
-      (named : NamesThere image t state (Endpoint e r badge)) where
+      (named : NamesThere image t state (Endpoint e r badge)) (keeps : KnownToKeepAt image e state badge) where
     by-call : (grants : Bool) → grants ≡ may_grant_reply r → grants ≡ true → left ≡ behind_reply state → IsSound (send s e (sender tcb ByCall badge grants)) →
         AllStand image (send s e (sender tcb ByCall badge grants)) (behind Waited)
     by-call grants same grant asks =
@@ -67,7 +67,7 @@ module _ (laws : Laws) (bytes : List ℕ) (image : Image) (s : State) (labels : 
               waits-stand laws bytes image s labels (behind Waited) accepted all t listed own point state left at (counts Waited wait) e old was ByCall
               badge grants (waits_to_send s e x) sound
               (record { memory_bits = refl; boot_radix = refl; slots = λ slot. refl; bytes = λ frame place code low high. refl }) none (λ y. refl) (sym wait)
-              (Endpoint e r badge) named (inl refl) (record { badge = refl; grants = same; kind = SendsAs.by_call refl grant asks })
+              (Endpoint e r badge) named (inl refl) (record { badge = refl; grants = same; kind = SendsAs.by_call refl grant asks; keeps = keeps })
           | r ∷ others ↦ λ first sound.
               let one = with_endpoint s e (record (endpoint_at s e) { receivers = others }) in
               called-stands laws bytes image s labels (behind Waited) accepted all t listed own point state left at (counts Waited wait) e old was ByCall
@@ -75,7 +75,7 @@ module _ (laws : Laws) (bytes : List ℕ) (image : Image) (s : State) (labels : 
               (elim grants as (λ g. SameGround image s (send_to one (sender tcb ByCall badge g) r)) [
                 | true ↦ record { memory_bits = refl; boot_radix = refl; slots = λ slot. refl; bytes = λ frame place code low high. refl }
                 | false ↦ record { memory_bits = refl; boot_radix = refl; slots = λ slot. refl; bytes = λ frame place code low high. refl }
-              ]) r others first small (λ y. refl) refl grant asks
+              ]) keeps r others first small (λ y. refl) refl grant asks
         ] refl
 
     by-send : (grants : Bool) → grants ≡ may_grant_reply r → left ≡ changes_nothing state true → IsSound (send s e (sender tcb BySend badge grants)) →
@@ -89,7 +89,7 @@ module _ (laws : Laws) (bytes : List ℕ) (image : Image) (s : State) (labels : 
               waits-stand laws bytes image s labels (behind Waited) accepted all t listed own point state left at (counts Waited wait) e old was BySend
               badge grants (waits_to_send s e x) sound
               (record { memory_bits = refl; boot_radix = refl; slots = λ slot. refl; bytes = λ frame place code low high. refl }) none (λ y. refl) (sym wait)
-              (Endpoint e r badge) named (inl refl) (record { badge = refl; grants = same; kind = SendsAs.by_send refl asks })
+              (Endpoint e r badge) named (inl refl) (record { badge = refl; grants = same; kind = SendsAs.by_send refl asks; keeps = keeps })
           | r ∷ others ↦ λ first sound. to-receiver Waited wait grants r others first (asks ∙ ap (changes_nothing state) wait) sound
         ] refl
       where
@@ -101,7 +101,7 @@ module _ (laws : Laws) (bytes : List ℕ) (image : Image) (s : State) (labels : 
             sent-stands laws bytes image s labels (behind outcome) accepted all t listed own point state left at (counts outcome waited) e old was BySend
             badge grants
             (send_to (with_endpoint s e (record (endpoint_at s e) { receivers = others })) (sender tcb BySend badge grants) r) sound
-            (record { memory_bits = refl; boot_radix = refl; slots = λ slot. refl; bytes = λ frame place code low high. refl }) r others first small (λ y. refl)
+            (record { memory_bits = refl; boot_radix = refl; slots = λ slot. refl; bytes = λ frame place code low high. refl }) keeps r others first small (λ y. refl)
             refl asks
 
     by-try : (grants : Bool) → left ≡ changes_nothing state false → IsSound (try_to_send s e (sender tcb BySend badge grants)) →
@@ -117,7 +117,7 @@ module _ (laws : Laws) (bytes : List ℕ) (image : Image) (s : State) (labels : 
               sent-stands laws bytes image s labels (behind Plain) accepted all t listed own point state left at (counts Plain wait) e old was BySend badge
               grants
               (send_to (with_endpoint s e (record (endpoint_at s e) { receivers = others })) x r) sound
-              (record { memory_bits = refl; boot_radix = refl; slots = λ slot. refl; bytes = λ frame place code low high. refl }) r others first small
+              (record { memory_bits = refl; boot_radix = refl; slots = λ slot. refl; bytes = λ frame place code low high. refl }) keeps r others first small
               (λ y. refl) refl (asks ∙ ap (changes_nothing state) wait)
         ] refl
 
@@ -162,7 +162,7 @@ module _ (laws : Laws) (bytes : List ℕ) (image : Image) (s : State) (labels : 
   by-object : (kind : SendCall) (slot : ℕ) → NamesThere image t state (capability_at s.slots slot) → (IsInvoked (capability_at s.slots slot) → ⊥)
       → SendsBy image t.thread (point_of t point) state kind slot (capability_at s.slots slot) left
       → IsSound (send_by s tcb kind slot (capability_at s.slots slot)).0 → IsFine image t labels pc (send_by s tcb kind slot (capability_at s.slots slot))
-  by-object kind slot names quiet (SendsBy.calls offset r badge kind_is is writes grants asks) =
+  by-object kind slot names quiet (SendsBy.calls offset r badge kind_is is writes grants keeps asks) =
       let there = endpoint-named image t s labels all state slot names offset r badge is in
       let by : Done = send_on s tcb Calling offset badge (may_grant_reply r) in
       used kind slot (capability_at s.slots slot) by r writes
@@ -172,9 +172,9 @@ module _ (laws : Laws) (bytes : List ℕ) (image : Image) (s : State) (labels : 
         faults = refl;
         errors = refl;
         stands =
-            by-call offset r badge there.small there.old there.was there.named (may_grant_reply r) refl grants asks sound;
+            by-call offset r badge there.small there.old there.was there.named keeps (may_grant_reply r) refl grants asks sound;
       })
-  by-object kind slot names quiet (SendsBy.sends offset r badge kind_is is writes asks) =
+  by-object kind slot names quiet (SendsBy.sends offset r badge kind_is is writes keeps asks) =
       let there = endpoint-named image t s labels all state slot names offset r badge is in
       let by : Done = send_on s tcb Sending offset badge (may_grant_reply r) in
       used kind slot (capability_at s.slots slot) by r writes
@@ -184,15 +184,15 @@ module _ (laws : Laws) (bytes : List ℕ) (image : Image) (s : State) (labels : 
         faults = refl;
         errors = refl;
         stands =
-            by-send offset r badge there.small there.old there.was there.named (may_grant_reply r) refl asks sound;
+            by-send offset r badge there.small there.old there.was there.named keeps (may_grant_reply r) refl asks sound;
       })
-  by-object kind slot names quiet (SendsBy.tries offset r badge kind_is is writes asks) =
+  by-object kind slot names quiet (SendsBy.tries offset r badge kind_is is writes keeps asks) =
       let there = endpoint-named image t s labels all state slot names offset r badge is in
       let by : Done = send_on s tcb Trying offset badge (may_grant_reply r) in
       used kind slot (capability_at s.slots slot) by r writes
       (ap (λ k. send_by s tcb k slot (capability_at s.slots slot)) kind_is ∙ ap (send_by s tcb Trying slot) is
       ∙ ap (λ k. if may_write r then by else refused s tcb k InvalidCapability) (sym kind_is))
-      (λ sound. record { faults = refl; errors = refl; stands = by-try offset r badge there.small there.old there.was there.named (may_grant_reply r) asks sound })
+      (λ sound. record { faults = refl; errors = refl; stands = by-try offset r badge there.small there.old there.was there.named keeps (may_grant_reply r) asks sound })
   by-object kind slot names quiet (SendsBy.signals offset r badge is writes asks) =
       let there = notification-named image t s labels all state slot names offset r badge is in
       let by : Done = signal_on s tcb kind offset badge in

@@ -5,6 +5,7 @@ use Rattle.std.specs.Prelude.{Contains}
 use Rattle.std.proofs.lemmas.Bool.{eqb-true, eqb-false}
 use Rattle.headline.specs.facts.Standing.{AllStand}
 use Rattle.headline.specs.facts.Waiting.{NamesQueue, NamesThere, SendsSo, WaitsAsAsked, WaitsSo, behind_receive, behind_reply}
+use Rattle.headline.specs.calls.Messages.{KnownToKeepAt}
 use Rattle.headline.proofs.facts.Laws.{at-place}
 use Rattle.model.specs.declared.capabilities.Cap.{Cap}
 use Rattle.model.specs.declared.labels.Label.{Label}
@@ -12,9 +13,10 @@ use Rattle.model.specs.Acceptance.Accepted.{IsAccepted}
 use Rattle.headline.specs.moves.Ground.{SameGround}
 use Rattle.model.specs.Acceptance.CallRules.{AfterCall, changes_nothing}
 use Rattle.model.specs.Acceptance.NotedStates.{PointState}
+use Rattle.model.specs.Acceptance.Promises.{KeepsPromise, promise_at}
 use Rattle.model.specs.Acceptance.ThreadInvariants.{IsWaiting, ThreadInvariant, tcb_of}
 use Rattle.model.specs.Images.Described.{Numbered, numbered_threads}
-use Rattle.model.specs.Images.Image.{Image}
+use Rattle.model.specs.Images.Image.{Image, ImagePromise}
 use Rattle.model.specs.Kernel.Deliveries.{woken}
 use Rattle.model.specs.Kernel.Messages.{Message, deliver, delivered, message_of, message_sent, received, send_to, waits_to_send, with_caller}
 use Rattle.model.specs.Kernel.Scheduling.{block, wake}
@@ -43,7 +45,7 @@ use Rattle.headline.proofs.moves.Waiters.{StandsWaiting, delivered-pc, own-messa
 use Rattle.headline.proofs.moves.Woken.{FitsBehind, wakes-up}
 
 -- a sender among others is a thread among their threads
-sender-times : (xs : List Sender) (y : Sender) (receivers : List ℕ) → Contains xs y → 1 ≤ times_in (map (λ (x : Sender). x.thread) xs ++ receivers) y.thread
+pub sender-times : (xs : List Sender) (y : Sender) (receivers : List ℕ) → Contains xs y → 1 ≤ times_in (map (λ (x : Sender). x.thread) xs ++ receivers) y.thread
 sender-times xs y receivers among =
     let some = among-senders xs among.0 among.1 among.2 in
     let more = times-before (map (λ (x : Sender). x.thread) xs) receivers y.thread in
@@ -88,7 +90,7 @@ module _ (laws : Laws) (bytes : List ℕ) (image : Image) (s : State) (labels la
   -- ---- nobody receives
 
   module _ (none : ep.receivers ≡ []) (objects : (y : ℕ) → after.objects y ≡ (waits_to_send s e x).objects y) (waits : left.is_wait ≡ true)
-      (capability : Cap) (named : NamesThere image t state capability) (leads : NamesQueue e capability) (so : SendsSo state left capability x) where
+      (capability : Cap) (named : NamesThere image t state capability) (leads : NamesQueue e capability) (so : SendsSo image e state left capability x) where
     abbrev queued : EndpointState
     queued = record ep { senders = ep.senders ++ x ∷ [] }
 
@@ -139,12 +141,12 @@ module _ (laws : Laws) (bytes : List ℕ) (image : Image) (s : State) (labels la
         let clash : Blocked e ≡ Runnable = sym there.status ∙ ap (λ (u : ThreadState). u.status) same ∙ at.status in absurd cc
 
     sends-own : (f : EndpointState) (y : Sender) → after.objects e ≡ Some (EndpointObject f) → Contains f.senders y → y.thread ≡ tcb
-        → SendsSo state left capability y
+        → SendsSo image e state left capability y
     sends-own f y is among mine =
         let same : queued ≡ f = let both : Some (EndpointObject queued) ≡ Some (EndpointObject f) = sym after-queue ∙ is in cc in
         elim (contains-last ep.senders y x (subst (λ (g : EndpointState). Contains g.senders y) (sym same) among)) [
           | inl before ↦ absurd (not-queued y before mine)
-          | inr last ↦ subst (SendsSo state left capability) last so
+          | inr last ↦ subst (SendsSo image e state left capability) last so
         ]
 
     asked : WaitsAsAsked image t after
@@ -179,7 +181,7 @@ module _ (laws : Laws) (bytes : List ℕ) (image : Image) (s : State) (labels la
 
   -- ---- somebody receives
 
-  module _ (r : ℕ) (others : List ℕ) (first : ep.receivers ≡ r ∷ others) (small : badge < 2 ^ 28)
+  module _ (keeps : KnownToKeepAt image e state badge) (r : ℕ) (others : List ℕ) (first : ep.receivers ≡ r ∷ others) (small : badge < 2 ^ 28)
       (objects : (y : ℕ) → after.objects y ≡ (send_to (with_endpoint s e (record ep { receivers = others })) x r).objects y) where
     abbrev fewer : EndpointState
     fewer = record ep { receivers = others }
@@ -251,6 +253,14 @@ module _ (laws : Laws) (bytes : List ℕ) (image : Image) (s : State) (labels la
     own-sends = subst (λ (u : ThreadState). IsMessage (message_of u)) (sym (at-place taken tcb own taken-own))
         (own-message own (all.sound.threads.threads tcb own at.there))
 
+    abbrev KeptAt : Message → Type 0
+    KeptAt m = (p : ImagePromise) → promise_at image e ≡ Some p → KeepsPromise p badge m
+
+    own-keeps : KeptAt (message_of (thread_at taken tcb))
+    own-keeps p is =
+        subst (λ (u : ThreadState). KeepsPromise p badge (message_of u)) (sym (at-place taken tcb own taken-own))
+        (laws.sent own state badge p at.stands.registers (keeps p is))
+
     there-r : s.objects (tcb_of image waits-so.thread) ≡ Some (ThreadObject receiver)
     there-r = ap s.objects (sym waits-so.is) ∙ blocked-at.is
 
@@ -258,17 +268,17 @@ module _ (laws : Laws) (bytes : List ℕ) (image : Image) (s : State) (labels la
     count-r = counts.others (tcb_of image waits-so.thread) (λ is. r-apart (waits-so.is ∙ is))
 
     receiver-wakes : (gone : ThreadState) → after.objects r ≡ Some (ThreadObject gone) → gone.status ≡ Runnable → gone.registers ≡ advanced written →
-        IsMessage message
+        IsMessage message → KeptAt message
         → ThreadInvariant image waits-so.thread after later × WaitsAsAsked image waits-so.thread after
-    receiver-wakes gone is runs registers fine =
+    receiver-wakes gone is runs registers fine kept =
         wakes-up laws bytes image s labels later accepted all after sound store waits-so.thread waits-so.listed count-r receiver there-r written gone
         (ap after.objects (sym waits-so.is) ∙ is) runs registers
         (λ at_state behind so fit_registers.
         let among : Contains ep.receivers (tcb_of image waits-so.thread) =
         subst (λ (xs : List ℕ). Contains xs (tcb_of image waits-so.thread)) (sym first) (0, omega arith, waits-so.is) in
-        let behind_is : behind ≡ behind_receive at_state = (subst (WaitsSo image waits-so.thread s at_state behind) blocked-at.status so).receives ep was-ep
+        let behind_is : behind ≡ behind_receive image e at_state = (subst (WaitsSo image waits-so.thread s at_state behind) blocked-at.status so).receives ep was-ep
         among in
-        let fit = laws.message receiver.registers at_state.ranges badge message fit_registers small fine in
+        let fit = laws.message receiver.registers at_state.ranges (promise_at image e) badge message fit_registers small fine kept in
         subst (λ (l : AfterCall). FitsBehind at_state l receiver.registers written) (sym behind_is)
         (record { slots = refl; pc = delivered-pc receiver.registers badge message; only = fit.1; within = fit.0 }))
         (subst IsWaiting (sym blocked-at.status) tt)
@@ -296,13 +306,14 @@ module _ (laws : Laws) (bytes : List ℕ) (image : Image) (s : State) (labels la
         let own_is : after.objects tcb ≡ Some (ThreadObject next) = sent-by BySend kind tcb ∙ went-here three tcb own three-own in
         let r_is : after.objects r ≡ Some (ThreadObject gone) = sent-by BySend kind r ∙ went-there three tcb r r-apart ∙ three-r in
         let fine : IsMessage message = subst (λ (k : Sent). IsMessage (message_sent taken x k)) (sym kind) own-sends in
+        let kept : KeptAt message = subst (λ (k : Sent). KeptAt (message_sent taken x k)) (sym kind) own-keeps in
         let fit = subst (λ (l : AfterCall). FitsBehind state l own.registers own.registers) (sym asks)
         (record { slots = refl; pc = refl; only = λ k less none. refl; within = at.stands.registers }) in
         pair-stands next gone own_is r_is (λ y own_apart r_apart. sent-by BySend kind y ∙ went-there three tcb y own_apart)
         (own-passes laws bytes image s labels later accepted all t listed own point state left at after sound store (ap (λ (l : AfterCall). l.slots) asks)
         (record { next = next; is = own_is; runs = at.status; written = own.registers; registers = refl; pc = refl; only = fit.only; within = fit.within })
         counts)
-        (receiver-wakes gone r_is refl refl fine)
+        (receiver-wakes gone r_is refl refl fine kept)
 
     -- ---- the thread waits for the reply
 
@@ -318,6 +329,7 @@ module _ (laws : Laws) (bytes : List ℕ) (image : Image) (s : State) (labels la
         let r_is : after.objects r ≡ Some (ThreadObject gone) =
         granted r ∙ caller-here four r (Some tcb) (woken receiver (advanced written)) (blocked-there three tcb AwaitsReply r r-apart ∙ three-r) in
         let fine : IsMessage message = subst (λ (k : Sent). IsMessage (message_sent taken x k)) (sym kind) own-sends in
+        let kept : KeptAt message = subst (λ (k : Sent). KeptAt (message_sent taken x k)) (sym kind) own-keeps in
         let wait = ap (λ (l : AfterCall). l.is_wait) asks in
         pair-stands next gone own_is r_is (λ y own_apart r_apart. granted y ∙ caller-there four r (Some tcb) y r_apart
         ∙ blocked-there three tcb AwaitsReply y own_apart) (
@@ -325,4 +337,4 @@ module _ (laws : Laws) (bytes : List ℕ) (image : Image) (s : State) (labels la
               (at.ecall, (left, at.call, wait)) own_is tt refl (counts.waits wait),
           asked-once image t after next own_is point state left at.stands.pc at.stands.known at.call asks,
         )
-        (receiver-wakes gone r_is refl refl fine)
+        (receiver-wakes gone r_is refl refl fine kept)

@@ -9,17 +9,18 @@ use Rattle.std.proofs.lemmas.Bool.{and_parts, lt-ltb, ltb-true}
 use Rattle.std.proofs.lemmas.List.{length-set}
 use Rattle.format_laws.specs.Fitting.{IsFitting}
 use Rattle.model.specs.declared.entries.CapabilityEntry.{CapabilityEntry}
+use Rattle.model.specs.declared.entries.PromisedWord.{PromisedWord}
 use Rattle.model.specs.declared.entries.RangeEntry.{RangeEntry}
 use Rattle.model.specs.declared.instructions.Instr.{Instr}
 use Rattle.model.specs.declared.instructions.Instr.TheVariants.{Upper, Jal, Jalr, Branch, Load, Store, Immediate, Shift, Registers, Fence, Ecall, Ebreak}
 use Rattle.model.specs.declared.instructions.Register.{Register}
 use Rattle.model.specs.declared.ranges.Range.{Range}
-use Rattle.model.specs.Acceptance.CallRules.{with_all}
+use Rattle.model.specs.Acceptance.Promises.{range_promised, with_words}
 use Rattle.model.specs.Acceptance.Measures.{register_numbered}
 use Rattle.model.specs.Acceptance.NotedKernel.{key_of, keys_of, noted_after, noted_of, slot_of_key, slots_of_cnode, stands_in}
 use Rattle.model.specs.Acceptance.NotedStates.{NotedSlot, SlotKey, image_slots, listed_slot, number_of, put_in, with_noted, without_key}
 use Rattle.model.specs.Acceptance.RangeRules.{range, ranges_after}
-use Rattle.model.specs.Acceptance.Ranges.{with_range}
+use Rattle.model.specs.Acceptance.Ranges.{full, with_range}
 use Rattle.model.specs.Acceptance.ThreadRules.{is_member, reached}
 use Rattle.model.specs.Acceptance.WellFormed.{radix_of}
 use Rattle.model.specs.Capabilities.Slots.{Slots, capability_at, is_empty, is_full, parent_at}
@@ -133,9 +134,11 @@ with-long ranges x r = elim (x.0 == 0) as (λ b. length (if b then ranges else s
   | false ↦ length-set ranges (x.0 - 1) r
 ]
 
-pub all-long : (xs : List Register) (ranges : List Range) (r : Range) → length (with_all ranges xs r) ≡ length ranges
-all-long [] ranges r = refl
-all-long (x ∷ xs) ranges r = all-long xs (with_range ranges x r) r ∙ with-long ranges x r
+pub words-long : (xs : List Register) (ranges : List Range) (words : List PromisedWord) → length (with_words ranges xs words) ≡ length ranges
+words-long [] ranges words = refl
+words-long (x ∷ xs) ranges [] = words-long xs (with_range ranges x full) [] ∙ with-long ranges x full
+words-long (x ∷ xs) ranges (word ∷ words) =
+    words-long xs (with_range ranges x (range_promised word)) words ∙ with-long ranges x (range_promised word)
 
 pub entries-long : (es : List RangeEntry) (ranges : List Range) →
     length (fold (λ known e. with_range known (register_numbered e.register) (range e.low e.high)) ranges es) ≡ length ranges

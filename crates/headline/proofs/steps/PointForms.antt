@@ -10,6 +10,7 @@ use Rattle.format_laws.proofs.Laws.{field-parts, many-each}
 use Rattle.model.specs.declared.capabilities.Cap.{Cap}
 use Rattle.model.specs.declared.capabilities.Cap.TheVariants.{Empty, Untyped, Endpoint, Notification, CNode, Frame, PageTable, Tcb, RootTable, InterruptControl}
 use Rattle.model.specs.declared.capabilities.Cap.TheVariants.{InterruptHandler}
+use Rattle.model.specs.declared.entries.PromisedWord.{PromisedWord}
 use Rattle.model.specs.declared.entries.SlotEntry.{SlotEntry}
 use Rattle.model.specs.declared.instructions.Instr.{Instr}
 use Rattle.model.specs.declared.instructions.Instr.TheVariants.{Upper, Jal, Jalr, Branch, Load, Store, Immediate, Shift, Registers, Fence, Ecall, Ebreak}
@@ -20,9 +21,9 @@ use Rattle.model.specs.declared.refusals.Refusal.{Refusal}
 use Rattle.model.specs.declared.refusals.Refusal.TheVariants.{CallRefused, CapNotThere, PoolLost}
 use Rattle.model.specs.declared.errors.KError.TheVariants.{IllegalOperation}
 use Rattle.model.specs.declared.rights.Rights.{Rights}
-use Rattle.model.specs.Acceptance.CallRules.{AfterCall, after_call, all_known, answers, badges, by_call, by_capability, by_number, demand, found_slot}
-use Rattle.model.specs.Acceptance.CallRules.{invocation, invoked, kernel_allows, known, loses_pool, may_call, message_registers, receive_rule, send_rule}
-use Rattle.model.specs.Acceptance.CallRules.{sends_message, sends_signal, with_answer, with_message}
+use Rattle.model.specs.Acceptance.CallRules.{AfterCall, after_call, after_message, all_known, answers, badges, by_call, by_capability, by_number, demand, found_slot}
+use Rattle.model.specs.Acceptance.CallRules.{invocation, invoked, kernel_allows, known, loses_pool, may_call, may_send, message_registers, promise_received, promise_rule}
+use Rattle.model.specs.Acceptance.CallRules.{receive_rule, send_rule, sends_message, sends_signal, with_answer, with_message, with_received}
 use Rattle.model.specs.Acceptance.Edges.{Edge, after}
 use Rattle.model.specs.Acceptance.Measures.{has_term, lowered}
 use Rattle.model.specs.Acceptance.NotedKernel.{noted_after, noted_kernel, noted_root}
@@ -30,14 +31,15 @@ use Rattle.model.specs.Acceptance.NotedStates.{NotedSlot, PointState, SlotKey, e
 use Rattle.model.specs.Acceptance.NotedStates.{with_noted}
 use Rattle.model.specs.Acceptance.PointStates.{Noted, Known, Missing, Unmeasured, call_at, follows, follows_call, follows_edge, follows_instruction}
 use Rattle.model.specs.Acceptance.PointStates.{instruction_at, noted, noted_or, point_of, whole_budget, with_measure}
-use Rattle.model.specs.Acceptance.RangeRules.{destination}
+use Rattle.model.specs.Acceptance.Promises.{promise_at}
+use Rattle.model.specs.Acceptance.RangeRules.{destination, range}
 use Rattle.model.specs.Acceptance.Ranges.{full, single, with_range}
 use Rattle.model.specs.Capabilities.Lookup.{called_slot}
 use Rattle.model.specs.Capabilities.Slots.{capability_at}
 use Rattle.model.specs.Images.Described.{Numbered}
 use Rattle.model.specs.Images.Format.{◌>>=◌, field, many_fit}
-use Rattle.model.specs.Images.Image.{Image, StateRecord, Thread, anything, below, image_with, names_parent, no_parent, pair_key, record_format, records_format}
-use Rattle.model.specs.Images.Image.{registers_format, sections_format, sections_of, slot_format, slots_format, thread_format, thread_header_format}
+use Rattle.model.specs.Images.Image.{Image, ImagePromise, StateRecord, Thread, anything, below, image_with, names_parent, no_parent, pair_key, record_format}
+use Rattle.model.specs.Images.Image.{records_format, registers_format, sections_format, sections_of, slot_format, slots_format, thread_format, thread_header_format}
 use Rattle.model.specs.Images.Image.{whole_image, words_format}
 use Rattle.model.specs.Images.Places.{offset_of}
 use Rattle.model.specs.Kernel.Arguments.{Call}
@@ -45,7 +47,7 @@ use Rattle.model.specs.Kernel.CallForms.{form_called}
 use Rattle.model.specs.Kernel.Invocations.{perform}
 use Rattle.model.specs.Kernel.Messages.{a0, a1, a7, extra_capabilities_of, label_of, length_of, word_registers}
 use Rattle.model.specs.Capabilities.CapabilityFields.{unpacked}
-use Rattle.model.specs.Capabilities.Rights.{may_grant_reply, may_read, may_write}
+use Rattle.model.specs.Capabilities.Rights.{may_read, may_write}
 use Rattle.model.specs.Kernel.Steps.{call_of}
 use Rattle.model.specs.declared.system_calls.SendCall.{SendCall}
 use Rattle.model.specs.declared.system_calls.SendCall.TheVariants.{Calling, Sending, Trying}
@@ -54,7 +56,7 @@ use Rattle.model.specs.declared.system_calls.SystemCall.{SystemCall}
 use Rattle.model.specs.declared.system_calls.SystemCall.TheVariants.{Sends, Receives, RepliesAndReceives, Replies, Yields, PutsCharacter}
 use Rattle.model.specs.declared.invocations.Invocation.{Invocation}
 use Rattle.headline.specs.steps.Formed.{HasForm, is_low}
-use Rattle.headline.proofs.steps.NotedForms.{AreLow, after-low, all-long, behind-long, entries-long, image-low, noted-low, with-long}
+use Rattle.headline.proofs.steps.NotedForms.{AreLow, after-low, behind-long, entries-long, image-low, noted-low, with-long, words-long}
 use Rattle.soundness.proofs.Laws.{find-get}
 
 -- ---- branches
@@ -105,15 +107,21 @@ so ranges slots is_wait written long low = answers_so (record { ranges = ranges;
 
 module _ (image : Image) (t : Thread) (at : Point) (state : PointState) (fitting : IsFitting image) (long : length state.ranges ≡ 31)
     (low : AreLow state.slots) where
-  message-long : (badge : Range) → length (with_message state.ranges badge) ≡ 31
-  message-long badge = all-long (a1 ∷ word_registers) (with_range state.ranges a0 badge) full ∙ with-long state.ranges a0 badge ∙ long
+  message-long : (badge : Range) (words : List PromisedWord) → length (with_message state.ranges badge words) ≡ 31
+  message-long badge words = words-long word_registers (with_range (with_range state.ranges a0 badge) a1 full) words
+      ∙ with-long (with_range state.ranges a0 badge) a1 full ∙ with-long state.ranges a0 badge ∙ long
+
+  received-long : (promise : Option ImagePromise) → length (with_received state.ranges promise) ≡ 31
+  received-long None = message-long badges []
+  received-long (Some p) = message-long (range p.header.badge_low p.header.badge_high) p.words
 
   answer-long : length (with_answer state.ranges) ≡ 31
   answer-long = with-long (with_range state.ranges a0 (single 0)) a1 (single 0) ∙ with-long state.ranges a0 (single 0) ∙ long
 
-  receives : (is_wait : Bool) (capability : Cap) → AnswerHasForm (receive_rule at state is_wait capability)
+  receives : (is_wait : Bool) (capability : Cap) → AnswerHasForm (receive_rule image at state is_wait capability)
   receives is_wait (Endpoint offset r badge) = bind-form (demand (may_read r) (CapNotThere at)) _
-      (λ _. so (with_message state.ranges badges) state.slots is_wait message_registers (message-long badges) low)
+      (λ _. so (with_received state.ranges (promise_received image is_wait offset)) state.slots is_wait message_registers
+      (received-long (promise_received image is_wait offset)) low)
   receives is_wait (Notification offset r badge) = bind-form (demand (may_read r) (CapNotThere at)) _
       (λ _. so (with_range state.ranges a0 badges) state.slots is_wait (a0 ∷ []) (with-long state.ranges a0 badges ∙ long) low)
   receives is_wait Empty = refuses _
@@ -126,11 +134,14 @@ module _ (image : Image) (t : Thread) (at : Point) (state : PointState) (fitting
   receives is_wait InterruptControl = refuses _
   receives is_wait (InterruptHandler _) = refuses _
 
-  messages : (kind : SendCall) (r : Rights) → AnswerHasForm (sends_message at state kind r)
-  messages Calling r = bind-form (demand (may_write r && may_grant_reply r) (CapNotThere at)) _
-      (λ _. so (with_message state.ranges (single 0)) state.slots true message_registers (message-long (single 0)) low)
-  messages Sending r = bind-form (demand (may_write r) (CapNotThere at)) _ (λ _. so state.ranges state.slots true [] long low)
-  messages Trying r = bind-form (demand (may_write r) (CapNotThere at)) _ (λ _. so state.ranges state.slots false [] long low)
+  sent : (kind : SendCall) → AnswerHasForm (Ok (after_message state kind))
+  sent Calling = so (with_message state.ranges (single 0) []) state.slots true message_registers (message-long (single 0) []) low
+  sent Sending = so state.ranges state.slots true [] long low
+  sent Trying = so state.ranges state.slots false [] long low
+
+  messages : (kind : SendCall) (r : Rights) (badge : ℕ) (promise : Option ImagePromise) → AnswerHasForm (sends_message at state kind r badge promise)
+  messages kind r badge promise =
+      bind-form (demand (may_send kind r) (CapNotThere at)) _ (λ _. bind-form (promise_rule at state badge promise) _ (λ _. sent kind))
 
   signals : (kind : SendCall) (r : Rights) → AnswerHasForm (sends_signal at state kind r)
   signals Calling r = bind-form (demand (may_write r) (CapNotThere at)) _ (λ _. so (with_answer state.ranges) state.slots false (a0 ∷ a1 ∷ []) answer-long low)
@@ -161,7 +172,7 @@ module _ (image : Image) (t : Thread) (at : Point) (state : PointState) (fitting
 
   sends : (kind : SendCall) (slot : ℕ) (capability : Cap) → AnswerHasForm (send_rule image t at state kind slot capability)
   unfolding call_of_slot
-  sends kind slot (Endpoint offset r badge) = messages kind r
+  sends kind slot (Endpoint offset r badge) = messages kind r badge (promise_at image offset)
   sends kind slot (Notification offset r badge) = signals kind r
   sends kind slot Empty = invocations (call_of_slot slot Empty) (answers kind)
   sends kind slot (Untyped a b c) = invocations (call_of_slot slot (Untyped a b c)) (answers kind)
@@ -182,9 +193,9 @@ module _ (image : Image) (t : Thread) (at : Point) (state : PointState) (fitting
 
   called : (call : SystemCall) → AnswerHasForm (by_call image t at state call)
   called (Sends kind) = capable (send_rule image t at state kind) (sends kind)
-  called (Receives Receiving) = capable (λ slot. receive_rule at state true) (λ slot. receives true)
-  called (Receives Polling) = capable (λ slot. receive_rule at state false) (λ slot. receives false)
-  called RepliesAndReceives = capable (λ slot. receive_rule at state true) (λ slot. receives true)
+  called (Receives Receiving) = capable (λ slot. receive_rule image at state true) (λ slot. receives true)
+  called (Receives Polling) = capable (λ slot. receive_rule image at state false) (λ slot. receives false)
+  called RepliesAndReceives = capable (λ slot. receive_rule image at state true) (λ slot. receives true)
   called Replies = so state.ranges state.slots false [] long low
   called Yields = so state.ranges state.slots false [] long low
   called PutsCharacter = so state.ranges state.slots false [] long low

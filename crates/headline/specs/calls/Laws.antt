@@ -1,5 +1,5 @@
 -- The laws of this crate.
-use Rattle.std.specs.Prelude.{ℕ, ◌≡◌, ◌^◌, ◌<◌, ◌≤◌, Bool, Some, Result, Ok, false, List, [], ◌∷◌, All, length, Contains, map}
+use Rattle.std.specs.Prelude.{ℕ, ◌≡◌, ◌^◌, ◌<◌, ◌≤◌, Bool, Option, Some, Result, Ok, false, List, [], ◌∷◌, All, length, Contains, map}
 use Rattle.model.specs.declared.capabilities.Cap.{Cap}
 use Rattle.model.specs.declared.instructions.Instr.TheVariants.{Ecall}
 use Rattle.model.specs.declared.instructions.Register.{Register}
@@ -8,20 +8,22 @@ use Rattle.model.specs.declared.refusals.Point.{Point}
 use Rattle.model.specs.declared.refusals.Refusal.{Refusal}
 use Rattle.model.specs.Acceptance.Accepted.{IsAccepted}
 use Rattle.model.specs.Acceptance.CallRules.{AfterCall, after_call, badges, by_call, by_capability, changes_nothing, message_registers, receive_rule, send_rule}
-use Rattle.model.specs.Acceptance.CallRules.{with_answer, with_message, all_known, known}
+use Rattle.model.specs.Acceptance.CallRules.{with_answer, with_message, with_received, all_known, known}
 use Rattle.model.specs.Acceptance.NotedStates.{PointState}
+use Rattle.model.specs.Acceptance.Promises.{KeepsPromise}
 use Rattle.model.specs.Acceptance.PointStates.{Known, call_at, instruction_at, noted}
 use Rattle.model.specs.Acceptance.Ranges.{single, with_range}
 use Rattle.model.specs.Acceptance.ThreadInvariants.{LieWithin}
 use Rattle.model.specs.Images.Described.{Numbered, numbered_threads}
-use Rattle.model.specs.Images.Image.{Image, Thread}
-use Rattle.model.specs.Kernel.Messages.{Message, a0, a1, delivered, info_word}
+use Rattle.model.specs.Images.Image.{Image, ImagePromise, Thread}
+use Rattle.model.specs.Kernel.Messages.{Message, a0, a1, delivered, info_word, message_of}
+use Rattle.model.specs.Kernel.State.{ThreadState}
 use Rattle.model.specs.declared.system_calls.SendCall.{SendCall}
 use Rattle.model.specs.declared.system_calls.SystemCall.{SystemCall}
 use Rattle.model.specs.Machine.ProgramMemory.{RegisterFile, write, read}
 use Rattle.headline.specs.calls.Behind.{LeadsBehind}
 use Rattle.headline.specs.calls.Known.{CallsSo, IsAllowed, NamesSo}
-use Rattle.headline.specs.calls.Messages.{NeedsNothing, ReceivesBy, SendsBy}
+use Rattle.headline.specs.calls.Messages.{KnownToKeep, NeedsNothing, ReceivesBy, SendsBy}
 use Rattle.headline.specs.measure_facts.Terms.{WritesOnly}
 
 -- ---- where a call leads
@@ -64,8 +66,8 @@ AreWordsKnown =
 
 -- a receive that its rule allows
 abbrev pub Receives : Type 0
-Receives = (at : Point) (state : PointState) (is_wait : Bool) (capability : Cap) (left : AfterCall) → receive_rule at state is_wait capability ≡ Ok left
-    → ReceivesBy state is_wait capability left
+Receives = (image : Image) (at : Point) (state : PointState) (is_wait : Bool) (capability : Cap) (left : AfterCall)
+    → receive_rule image at state is_wait capability ≡ Ok left → ReceivesBy image state is_wait capability left
 
 -- a Call, Send or NBSend that its rule allows
 abbrev pub Sends : Type 0
@@ -96,16 +98,21 @@ pub record IsMessage (message : Message) : Type 0 where
 abbrev pub Fits : RegisterFile → RegisterFile → List Range → List Register → Type 0
 Fits registers written behind which = LieWithin written behind × WritesOnly registers written which
 
--- a message with a badge
+-- a message with a badge, which keeps what is promised of it
 abbrev pub MessageFits : Type 0
-MessageFits = (registers : RegisterFile) (ranges : List Range) (badge : ℕ) (message : Message) → AreRegisters registers ranges → badge < 2 ^ 28
-    → IsMessage message
-    → Fits registers (delivered registers badge message) (with_message ranges badges) message_registers
+MessageFits = (registers : RegisterFile) (ranges : List Range) (promise : Option ImagePromise) (badge : ℕ) (message : Message)
+    → AreRegisters registers ranges → badge < 2 ^ 28 → IsMessage message → ((p : ImagePromise) → promise ≡ Some p → KeepsPromise p badge message)
+    → Fits registers (delivered registers badge message) (with_received ranges promise) message_registers
+
+-- what is known to keep a promise keeps it
+abbrev pub SentMessagesKeepPromises : Type 0
+SentMessagesKeepPromises = (t : ThreadState) (state : PointState) (badge : ℕ) (p : ImagePromise) → LieWithin t.registers state.ranges
+    → KnownToKeep state badge p → KeepsPromise p badge (message_of t)
 
 -- the answer to a call
 abbrev pub AnswerFits : Type 0
 AnswerFits = (registers : RegisterFile) (ranges : List Range) (message : Message) → AreRegisters registers ranges → IsMessage message
-    → Fits registers (delivered registers 0 message) (with_message ranges (single 0)) message_registers
+    → Fits registers (delivered registers 0 message) (with_message ranges (single 0) []) message_registers
 
 -- the word of a notification
 abbrev pub SignalFits : Type 0
@@ -120,4 +127,4 @@ ResultFits = (registers : RegisterFile) (ranges : List Range) → AreRegisters r
 -- a message that is not there
 abbrev pub NothingFits : Type 0
 NothingFits = (registers : RegisterFile) (ranges : List Range) → AreRegisters registers ranges
-    → Fits registers (write registers a0 0) (with_message ranges badges) message_registers
+    → Fits registers (write registers a0 0) (with_message ranges badges []) message_registers

@@ -2,10 +2,11 @@
 use Rattle.std.specs.Prelude.{ℕ, ◌≡◌, ◌⊎◌, ◌<◌, true, ⊤, Contains, Some, Ok, [], ◌∷◌}
 use Rattle.model.specs.declared.capabilities.Cap.{Cap}
 use Rattle.model.specs.Acceptance.Authority.{badge_of, rights_of}
-use Rattle.model.specs.Acceptance.CallRules.{AfterCall, badges, changes_nothing, known_behind, message_registers, with_message}
+use Rattle.model.specs.Acceptance.CallRules.{AfterCall, badges, changes_nothing, known_behind, message_registers, with_message, with_received}
 use Rattle.model.specs.Acceptance.NotedKernel.{noted_root}
 use Rattle.model.specs.Acceptance.NotedStates.{PointState}
 use Rattle.model.specs.Acceptance.PointStates.{Known, address_of, call_at, noted}
+use Rattle.model.specs.Acceptance.Promises.{promise_at}
 use Rattle.model.specs.Acceptance.Ranges.{range_of, single, with_range}
 use Rattle.model.specs.Acceptance.ThreadInvariants.{tcb_of}
 use Rattle.model.specs.Capabilities.Lookup.{called_slot}
@@ -18,13 +19,14 @@ use Rattle.model.specs.Kernel.Messages.{a0}
 use Rattle.model.specs.Kernel.Retype.{NewEndpoint, NewNotification}
 use Rattle.model.specs.Kernel.State.{State, Status, Inactive, Runnable, Blocked, AwaitsReply, AwaitsHandler, Sender, BySend, ByCall, EndpointObject}
 use Rattle.model.specs.Kernel.State.{EndpointState, NotificationObject, NotificationState, ThreadObject, ThreadState}
+use Rattle.headline.specs.calls.Messages.{KnownToKeepAt}
 use Rattle.headline.specs.lookups.Found.{slots_noted}
 
 -- ---- what is known after a call that waits
 
--- a message of any sender
-abbrev pub behind_receive : PointState → AfterCall
-behind_receive state = known_behind state (with_message state.ranges badges) true message_registers
+-- a message at an endpoint
+abbrev pub behind_receive : Image → ℕ → PointState → AfterCall
+behind_receive image endpoint state = known_behind state (with_received state.ranges (promise_at image endpoint)) true message_registers
 
 -- any word of a notification
 abbrev pub behind_signal : PointState → AfterCall
@@ -32,7 +34,7 @@ behind_signal state = known_behind state (with_range state.ranges a0 badges) tru
 
 -- the answer of whom it called
 abbrev pub behind_reply : PointState → AfterCall
-behind_reply state = known_behind state (with_message state.ranges (single 0)) true message_registers
+behind_reply state = known_behind state (with_message state.ranges (single 0) []) true message_registers
 
 -- ---- queues
 
@@ -53,11 +55,12 @@ pub data SendsAs (state : PointState) (left : AfterCall) (x : Sender) : Type 0 w
   by_send : x.sent ≡ BySend → left ≡ changes_nothing state true → SendsAs state left x
   by_call : x.sent ≡ ByCall → x.grant_reply ≡ true → left ≡ behind_reply state → SendsAs state left x
 
--- with the capability's badge, and its right to get an answer
-pub record SendsSo (state : PointState) (left : AfterCall) (capability : Cap) (x : Sender) : Type 0 where
+-- with the capability's badge, and its right to get an answer; and it keeps what is promised at the endpoint
+pub record SendsSo (image : Image) (endpoint : ℕ) (state : PointState) (left : AfterCall) (capability : Cap) (x : Sender) : Type 0 where
   pub badge : x.badge ≡ badge_of capability
   pub grants : x.grant_reply ≡ may_grant_reply (rights_of capability)
   pub kind : SendsAs state left x
+  pub keeps : KnownToKeepAt image endpoint state x.badge
 
 -- it is queued at what the capability leads to that its call names
 pub record QueuesSo (image : Image) (t : Numbered) (s : State) (state : PointState) (left : AfterCall) (queue : ℕ) : Type 0 where
@@ -65,9 +68,9 @@ pub record QueuesSo (image : Image) (t : Numbered) (s : State) (state : PointSta
   pub named : NamesThere image t state capability
   pub leads : NamesQueue queue capability
   pub sends : (e : EndpointState) (x : Sender) → s.objects queue ≡ Some (EndpointObject e) → Contains e.senders x → x.thread ≡ tcb_of image t
-      → SendsSo state left capability x
+      → SendsSo image queue state left capability x
   pub receives : (e : EndpointState) → s.objects queue ≡ Some (EndpointObject e) → Contains e.receivers (tcb_of image t)
-      → left ≡ behind_receive state
+      → left ≡ behind_receive image queue state
   pub waits : (n : NotificationState) → s.objects queue ≡ Some (NotificationObject n) → Contains n.waiters (tcb_of image t)
       → left ≡ behind_signal state
 

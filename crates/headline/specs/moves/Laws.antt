@@ -8,7 +8,7 @@ use Rattle.headline.specs.moves.Ground.{SameGround}
 use Rattle.model.specs.Acceptance.CallRules.{AfterCall}
 use Rattle.model.specs.Acceptance.NotedStates.{PointState}
 use Rattle.model.specs.Acceptance.PointStates.{call_at, instruction_at}
-use Rattle.model.specs.Acceptance.ThreadInvariants.{IsWaiting, IsWithinBudget, StandsAt, ThreadInvariant, WaitsThere, tcb_of}
+use Rattle.model.specs.Acceptance.ThreadInvariants.{IsWaiting, IsWithinBudget, KeepsPromises, StandsAt, ThreadInvariant, WaitsThere, tcb_of}
 use Rattle.model.specs.Images.Described.{Numbered, numbered_threads}
 use Rattle.model.specs.Images.Image.{Image}
 use Rattle.model.specs.Kernel.Scheduling.{current}
@@ -17,7 +17,7 @@ use Rattle.model.specs.Kernel.State.{State, ThreadObject, ThreadState}
 use Rattle.model.specs.Kernel.Steps.{step}
 use Rattle.model.specs.Kernel.Waits.{open_count}
 use Rattle.headline.specs.calls.Laws.{LeadsOn, AreAllowed, AreNumbered, AreNamed, Receives, Sends, NeedNothing, MessageFits, AnswerFits, SignalFits, ResultFits}
-use Rattle.headline.specs.calls.Laws.{NothingFits}
+use Rattle.headline.specs.calls.Laws.{SentMessagesKeepPromises, NothingFits}
 use Rattle.headline.specs.kept.Laws.{StandsOn, HaveOwnBlocks, IsLong}
 use Rattle.soundness.specs.Laws.{EventsKeepSoundness, ReplyKeepsSoundness, SignalKeepsSoundness}
 use Rattle.headline.specs.facts.Laws.{Ends}
@@ -105,6 +105,10 @@ PlainStepsGoWell =
     (bytes : List ℕ) (image : Image) (t : Numbered) (s : State) (labels : List Label) → IsAccepted bytes image → AllStand image s labels
     → Contains (numbered_threads image) t → current s ≡ Some (tcb_of image t) → ReachesNoCall s (tcb_of image t) → GoesWell image s labels Step
 
+-- what waits keeps what is promised
+abbrev pub WaitingMessagesKeepPromises : Type 0
+WaitingMessagesKeepPromises = (image : Image) (s : State) (labels : List Label) → AllStand image s labels → KeepsPromises image s
+
 -- ---- the laws below that these are built on
 
 pub record Laws : Type 0 where
@@ -126,6 +130,7 @@ pub record Laws : Type 0 where
   pub signal : SignalFits
   pub result : ResultFits
   pub nothing : NothingFits
+  pub sent : SentMessagesKeepPromises
   pub receives : Receives
   pub sends : Sends
   pub others : NeedNothing

@@ -4,6 +4,7 @@ ghost use Rattle.headline.specs.moves.Laws.{Laws};
 
 use crate::calls::{
     allowed_calls_are_known, calls_lead_behind, messages_fit_behind, rules_on_messages_are_known,
+    what_is_sent_keeps_its_promise,
 };
 use crate::kept::{
     points_note_all_ranges, threads_have_their_own_blocks, untouched_threads_stand_on,
@@ -21,6 +22,7 @@ pub fn laws_below()
     points_note_all_ranges();
     calls_lead_behind();
     messages_fit_behind();
+    what_is_sent_keeps_its_promise();
     allowed_calls_are_known();
     rules_on_messages_are_known();
     programs_have_their_places();

@@ -1,6 +1,6 @@
 -- The system calls that a program may make: what has to be known of each, and what is known after it.
 -- seL4 Reference Manual, "System Calls", for the calls; which of them are accepted is this project's own.
-use Rattle.std.specs.Prelude.{ℕ, ◌==◌, ◌-◌, ◌/◌, ◌%◌, ◌^◌, Bool, true, false, not, ◌&&◌, Option, Some, None, Result, Ok, Err, List, [], ◌∷◌, fold, take}
+use Rattle.std.specs.Prelude.{ℕ, ◌==◌, ◌-◌, ◌/◌, ◌%◌, ◌^◌, Bool, true, false, not, ◌&&◌, Option, Some, None, Result, Ok, Err, List, [], ◌∷◌, take}
 use Rattle.std.specs.Prelude.{if◌then◌else◌}
 use Rattle.model.specs.declared.capabilities.Cap.{Cap}
 use Rattle.model.specs.declared.capabilities.Cap.TheVariants.{Endpoint, Notification, Frame}
@@ -17,13 +17,14 @@ use Rattle.model.specs.declared.lookup_failures.LookupFailure.{LookupFailure}
 use Rattle.model.specs.declared.ranges.Range.{Range}
 use Rattle.model.specs.declared.refusals.Point.{Point}
 use Rattle.model.specs.declared.refusals.Refusal.{Refusal}
-use Rattle.model.specs.declared.refusals.Refusal.TheVariants.{CallNotConstant, CallRefused, CapNotThere, PoolLost}
+use Rattle.model.specs.declared.refusals.Refusal.TheVariants.{CallNotConstant, CallRefused, CapNotThere, PoolLost, PromiseNotKept}
 use Rattle.model.specs.declared.rights.Rights.{Rights}
 use Rattle.model.specs.Kernel.Arguments.{Call, argument_slot}
 use Rattle.model.specs.Kernel.CallForms.{form_called}
 use Rattle.model.specs.Capabilities.CapabilityKinds.{is_untyped}
 use Rattle.model.specs.Images.Format.{◌>>=◌}
-use Rattle.model.specs.Images.Image.{Image, Thread}
+use Rattle.model.specs.Images.Image.{Image, ImagePromise, Thread}
+use Rattle.model.specs.declared.entries.PromisedWord.{PromisedWord}
 use Rattle.model.specs.Kernel.Invocations.{perform}
 use Rattle.model.specs.Kernel.Retype.{NewObject, NewEndpoint, NewNotification, NewFrame, type_of}
 use Rattle.model.specs.Capabilities.Lookup.{called_slot}
@@ -31,6 +32,7 @@ use Rattle.model.specs.Kernel.Messages.{a0, a1, a7, extra_capabilities_of, label
 use Rattle.model.specs.Acceptance.NotedKernel.{noted_after, noted_kernel, noted_root}
 use Rattle.model.specs.Acceptance.NotedStates.{NotedSlot, PointState}
 use Rattle.model.specs.Images.Places.{offset_of}
+use Rattle.model.specs.Acceptance.Promises.{keeps_promise, promise_at, with_words}
 use Rattle.model.specs.Acceptance.RangeRules.{is_single, range}
 use Rattle.model.specs.Acceptance.Ranges.{full, single, range_of, with_range}
 use Rattle.model.specs.Capabilities.Rights.{may_grant_reply, may_read, may_write}
@@ -82,12 +84,9 @@ found_slot at (Err failure) = Err (CapNotThere at)
 abbrev pub badges : Range
 badges = range 0 (2 ^ 28 - 1)
 
-abbrev pub with_all : List Range → List Register → Range → List Range
-with_all ranges xs r = fold (λ known x. with_range known x r) ranges xs
-
--- a message: what a0 becomes, and any info and words
-abbrev pub with_message : List Range → Range → List Range
-with_message ranges badge = with_all (with_range ranges a0 badge) (a1 ∷ word_registers) full
+-- a message: what a0 becomes, any info, these promised words, and any others
+abbrev pub with_message : List Range → Range → List PromisedWord → List Range
+with_message ranges badge words = with_words (with_range (with_range ranges a0 badge) a1 full) word_registers words
 
 abbrev pub with_answer : List Range → List Range
 with_answer ranges = with_range (with_range ranges a0 (single 0)) a1 (single 0)
@@ -104,15 +103,24 @@ changes_nothing state is_wait = known_behind state state.ranges is_wait []
 
 -- ---- receives
 
+-- a message that is received, by what is promised of it
+abbrev pub with_received : List Range → Option ImagePromise → List Range
+with_received ranges None = with_message ranges badges []
+with_received ranges (Some p) = with_message ranges (range p.header.badge_low p.header.badge_high) p.words
+
+-- A receive that waits gets a message. One that does not may get none, and then nothing is promised.
+abbrev pub promise_received : Image → Bool → ℕ → Option ImagePromise
+promise_received image is_wait endpoint = if is_wait then promise_at image endpoint else None
+
 -- Recv and ReplyRecv wait, NBRecv does not
-abbrev pub receive_rule : Point → PointState → Bool → Cap → Result AfterCall Refusal
-receive_rule at state is_wait (Endpoint offset r badge) = do
+abbrev pub receive_rule : Image → Point → PointState → Bool → Cap → Result AfterCall Refusal
+receive_rule image at state is_wait (Endpoint offset r badge) = do
   _ ← demand (may_read r) (CapNotThere at)
-  Ok (known_behind state (with_message state.ranges badges) is_wait message_registers)
-receive_rule at state is_wait (Notification offset r badge) = do
+  Ok (known_behind state (with_received state.ranges (promise_received image is_wait offset)) is_wait message_registers)
+receive_rule image at state is_wait (Notification offset r badge) = do
   _ ← demand (may_read r) (CapNotThere at)
   Ok (known_behind state (with_range state.ranges a0 badges) is_wait (a0 ∷ []))
-receive_rule at state is_wait _ = Err (CapNotThere at)
+receive_rule image at state is_wait _ = Err (CapNotThere at)
 
 -- ---- invocations
 
@@ -190,16 +198,30 @@ answers Calling = true
 answers Sending = false
 answers Trying = false
 
-abbrev pub sends_message : Point → PointState → SendCall → Rights → Result AfterCall Refusal
-sends_message at state Calling r = do
-  _ ← demand (may_write r && may_grant_reply r) (CapNotThere at)
-  Ok (known_behind state (with_message state.ranges (single 0)) true message_registers)
-sends_message at state Sending r = do
-  _ ← demand (may_write r) (CapNotThere at)
-  Ok (changes_nothing state true)
-sends_message at state Trying r = do
-  _ ← demand (may_write r) (CapNotThere at)
-  Ok (changes_nothing state false)
+-- a message keeps what is promised; its info word has to be known, whatever that is
+abbrev pub promise_rule : Point → PointState → ℕ → Option ImagePromise → Result (Unit {0}) Refusal
+promise_rule at state badge None = Ok tt
+promise_rule at state badge (Some p) = do
+  info ← known at state a1
+  demand (keeps_promise state.ranges info badge p) (PromiseNotKept at)
+
+-- who calls needs the right to get a reply, too
+abbrev pub may_send : SendCall → Rights → Bool
+may_send Calling r = may_write r && may_grant_reply r
+may_send Sending r = may_write r
+may_send Trying r = may_write r
+
+-- what is known after a message was sent: after a Call, the reply
+abbrev pub after_message : PointState → SendCall → AfterCall
+after_message state Calling = known_behind state (with_message state.ranges (single 0) []) true message_registers
+after_message state Sending = changes_nothing state true
+after_message state Trying = changes_nothing state false
+
+abbrev pub sends_message : Point → PointState → SendCall → Rights → ℕ → Option ImagePromise → Result AfterCall Refusal
+sends_message at state kind r badge promise = do
+  _ ← demand (may_send kind r) (CapNotThere at)
+  _ ← promise_rule at state badge promise
+  Ok (after_message state kind)
 
 abbrev pub sends_signal : Point → PointState → SendCall → Rights → Result AfterCall Refusal
 sends_signal at state kind r = do
@@ -207,7 +229,7 @@ sends_signal at state kind r = do
   Ok (if answers kind then known_behind state (with_answer state.ranges) false (a0 ∷ a1 ∷ []) else changes_nothing state false)
 
 abbrev pub send_rule : Image → Thread → Point → PointState → SendCall → ℕ → Cap → Result AfterCall Refusal
-send_rule image t at state kind slot (Endpoint offset r badge) = sends_message at state kind r
+send_rule image t at state kind slot (Endpoint offset r badge) = sends_message at state kind r badge (promise_at image offset)
 send_rule image t at state kind slot (Notification offset r badge) = sends_signal at state kind r
 send_rule image t at state kind slot capability =
     let call : Call = record { root = noted_root image t; caller = Some (offset_of image t.header.tcb); slot = slot; capability = capability } in
@@ -227,9 +249,9 @@ by_capability image t at state rule =
 -- Reply, Yield and PutChar need nothing, and change neither registers nor slots.
 abbrev pub by_call : Image → Thread → Point → PointState → SystemCall → Result AfterCall Refusal
 by_call image t at state (Sends kind) = by_capability image t at state (send_rule image t at state kind)
-by_call image t at state (Receives Receiving) = by_capability image t at state (λ slot. receive_rule at state true)
-by_call image t at state (Receives Polling) = by_capability image t at state (λ slot. receive_rule at state false)
-by_call image t at state RepliesAndReceives = by_capability image t at state (λ slot. receive_rule at state true)
+by_call image t at state (Receives Receiving) = by_capability image t at state (λ slot. receive_rule image at state true)
+by_call image t at state (Receives Polling) = by_capability image t at state (λ slot. receive_rule image at state false)
+by_call image t at state RepliesAndReceives = by_capability image t at state (λ slot. receive_rule image at state true)
 by_call image t at state Replies = Ok (changes_nothing state false)
 by_call image t at state Yields = Ok (changes_nothing state false)
 by_call image t at state PutsCharacter = Ok (changes_nothing state false)

@@ -27,6 +27,10 @@ use Rattle.model.specs.Capabilities.Slots.{capability_at, parent_at}
 use Rattle.model.specs.Kernel.State.{State, Status, Inactive, Runnable, Blocked, AwaitsReply, AwaitsHandler, ThreadObject, ThreadState, cspace_slot}
 use Rattle.model.specs.Kernel.State.{vspace_slot}
 use Rattle.model.specs.Kernel.Waits.{open_count}
+use Rattle.model.specs.Acceptance.Promises.{KeepsPromise, promise_at}
+use Rattle.model.specs.Images.Image.{ImagePromise}
+use Rattle.model.specs.Kernel.Messages.{message_sent}
+use Rattle.model.specs.Kernel.State.{EndpointObject, EndpointState, Sender}
 
 abbrev pub tcb_of : Image → Numbered → ℕ
 tcb_of image t = offset_of image t.thread.header.tcb
@@ -141,3 +145,11 @@ pub data ThreadInvariant (image : Image) (t : Numbered) (s : State) (labels : Li
       → s.objects (tcb_of image t) ≡ Some (ThreadObject own) → IsWaiting own.status
       → StandsAt image t s own point state → WaitsThere image t point state → open_count (tcb_of image t) labels ≡ 0
       → ThreadInvariant image t s labels
+
+-- ---- promises
+
+-- a message that waits at an endpoint keeps what is promised there, as it would be delivered now
+abbrev pub KeepsPromises : Image → State → Type 0
+KeepsPromises image s =
+    (endpoint : ℕ) (e : EndpointState) (x : Sender) (p : ImagePromise) → s.objects endpoint ≡ Some (EndpointObject e) → Contains e.senders x
+    → promise_at image endpoint ≡ Some p → KeepsPromise p x.badge (message_sent s x x.sent)

@@ -9,11 +9,11 @@ use Rattle.model.specs.declared.entries.CapabilityEntry.{CapabilityEntry}
 use Rattle.model.specs.declared.entries.InterruptEntry.{InterruptEntry}
 use Rattle.model.specs.declared.entries.FrameEntry.{FrameEntry}
 use Rattle.model.specs.declared.entries.TableEntry.{TableEntry}
-use Rattle.model.specs.declared.refusals.Refusal.TheVariants.{UntypedOverlap, NoRoom, BadObject, BadCap, BadMapping, WritableCode}
+use Rattle.model.specs.declared.refusals.Refusal.TheVariants.{UntypedOverlap, NoRoom, BadObject, BadCap, BadMapping, WritableCode, BadPromise}
 use Rattle.model.specs.Kernel.AddressSpaces.{address_limit, page_size, region_size}
 use Rattle.model.specs.Capabilities.CapabilityKinds.{is_badge, is_guard_word}
 use Rattle.model.specs.Images.Described.{numbered}
-use Rattle.model.specs.Images.Image.{Image, ImageContent}
+use Rattle.model.specs.Images.Image.{Image, ImageContent, ImagePromise}
 use Rattle.model.specs.Capabilities.Placement.{placement}
 use Rattle.model.specs.Images.Places.{bits_of, boot_slots, is_handler, object_at, type_at, untyped_at, used_before}
 use Rattle.model.specs.Kernel.Retype.{NewObject, NewUntyped, NewThread, NewEndpoint, NewNotification, NewCNode, NewFrame, NewPageTable, NewRootTable}
@@ -60,6 +60,10 @@ is_untyped_type _ = false
 abbrev pub is_thread_type : Option NewObject → Bool
 is_thread_type (Some NewThread) = true
 is_thread_type _ = false
+
+abbrev pub is_endpoint_type : Option NewObject → Bool
+is_endpoint_type (Some NewEndpoint) = true
+is_endpoint_type _ = false
 
 abbrev pub is_notification_type : Option NewObject → Bool
 is_notification_type (Some NewNotification) = true
@@ -125,7 +129,7 @@ capability_rules image =
     map (λ c. refuse_if (does_not_fit image c) (BadCap c.0)) (numbered image.capabilities)
     ++ map (λ i. refuse_if (signals_nothing image i.1) (BadCap (image.header.capabilities + i.0))) (numbered image.interrupts)
 
--- ---- mappings and contents
+-- ---- mappings, contents and promises
 
 -- a virtual address that is a multiple of a size
 abbrev pub is_address : ℕ → ℕ → Bool
@@ -180,7 +184,16 @@ fills_nothing image c = not (is_frame_type (type_at image c.header.frame))
 abbrev pub content_rule : Image → ℕ × ImageContent → Rule
 content_rule image c = refuse_if (fills_nothing image c.1) (BadMapping (image.header.tables + image.header.frames + c.0))
 
+-- a promise is of an endpoint
+abbrev pub promises_nothing : Image → ImagePromise → Bool
+promises_nothing image p = not (is_endpoint_type (type_at image p.header.endpoint))
+
+abbrev pub promise_rule : Image → ℕ × ImagePromise → Rule
+promise_rule image p =
+    refuse_if (promises_nothing image p.1) (BadPromise (image.header.tables + image.header.frames + image.header.contents + p.0))
+
 unfoldable pub mapping_rules : Image → List Rule
 mapping_rules image =
     map (λ t. refuse_if (misplaces_table image t) (BadMapping t.0)) (numbered image.tables)
     ++ flat_map (frame_rules image) (numbered image.frames) ++ map (content_rule image) (numbered image.contents)
+    ++ map (promise_rule image) (numbered image.promises)

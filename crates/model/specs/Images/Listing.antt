@@ -6,6 +6,7 @@ use Rattle.model.specs.declared.entries.UntypedEntry.{UntypedEntry}
 use Rattle.model.specs.declared.entries.ObjectEntry.{ObjectEntry}
 use Rattle.model.specs.declared.entries.CapabilityEntry.{CapabilityEntry}
 use Rattle.model.specs.declared.entries.InterruptEntry.{InterruptEntry}
+use Rattle.model.specs.declared.entries.PromisedWord.{PromisedWord}
 use Rattle.model.specs.declared.entries.TableEntry.{TableEntry}
 use Rattle.model.specs.declared.entries.FrameEntry.{FrameEntry}
 use Rattle.model.specs.declared.entries.RegisterEntry.{RegisterEntry}
@@ -13,7 +14,7 @@ use Rattle.model.specs.declared.entries.RangeEntry.{RangeEntry}
 use Rattle.model.specs.declared.entries.SlotEntry.{SlotEntry}
 use Rattle.model.specs.declared.entries.TermEntry.{TermEntry}
 use Rattle.model.specs.Images.Described.{numbered}
-use Rattle.model.specs.Images.Image.{Image, Thread, ImageContent, StateRecord, no_parent}
+use Rattle.model.specs.Images.Image.{Image, Thread, ImageContent, ImagePromise, StateRecord, no_parent}
 use Rattle.model.specs.Acceptance.NotedStates.{record_of}
 use Rattle.model.specs.Images.Places.{interrupt_of, is_handler}
 
@@ -91,6 +92,15 @@ frame_line f = line (codes "map" ∷ object_name f.root ∷ decimal f.address �
 abbrev pub content_line : ImageContent → Text
 content_line c = line (codes "data" ∷ object_name c.header.frame ∷ map decimal c.words)
 
+-- the lowest and the highest value
+abbrev pub promised_words : PromisedWord → List Text
+promised_words word = decimal word.low ∷ decimal word.high ∷ []
+
+-- the badges come first
+abbrev pub promise_line : ImagePromise → Text
+promise_line p =
+    line (codes "promise" ∷ object_name p.header.endpoint ∷ decimal p.header.badge_low ∷ decimal p.header.badge_high ∷ flat_map promised_words p.words)
+
 -- ---- the lines of a thread
 
 -- its entry has the label `l`
@@ -139,12 +149,17 @@ thread_lines t =
 
 -- ---- the whole
 
+-- the version of an image with such promises: the first that has a field for them; in another version it has no listing
+abbrev pub version_listed : List ImagePromise → ℕ
+version_listed [] = 1
+version_listed (p ∷ promises) = 2
+
 unfoldable pub listing_lines : Image → List Text
 listing_lines image =
     (memory_line image ∷ map untyped_line (numbered image.untypeds)) ++ map object_line (numbered image.objects)
     ++ map interrupt_line (numbered image.interrupts) ++ map (capability_line image) image.capabilities
     ++ map table_line image.tables ++ map frame_line image.frames ++ map content_line image.contents
-    ++ flat_map thread_lines image.threads
+    ++ map promise_line image.promises ++ flat_map thread_lines image.threads
 
 -- a line feed after each line
 unfoldable pub listing : Image → Text

@@ -19,6 +19,8 @@ const ROWS: &str = "
     0|table vs 0 pt
     0|map vs 0x1000 code 4
     0|data f 1 0xfFfFffFF 003
+    0|promise p 0 0xFFFFFFF
+    0|promise p 1 1 0 0xFFFFFFFF 2 2 3 3 4 4 5 5 6 6 7 7 8 8
     0|thread main cs 28 vs 100 24 0 start 0x1000
     0|end
     0|reg x1 1
@@ -44,6 +46,9 @@ const ROWS: &str = "
     1|object o u tab
     1|object o u
     1|data f
+    1|promise p
+    1|promise p 0
+    1|promise p 0 0 1
     1|reg x05 1
     1|reg x32 1
     1|reg y1 1
@@ -74,6 +79,11 @@ const ROWS: &str = "
     4|irq l 1 b 0x10000000
     4|map v 0 f 8
     4|data f 1 -1
+    4|promise p 2 1
+    4|promise p 0 0x10000000
+    4|promise p 0 0 2 1
+    4|promise p 0 0 0 0x100000000
+    4|promise p 0 0 1 1 2 2 3 3 4 4 5 5 6 6 7 7 8 8 9 9
     4|reg x0 1
     4|reg x1 0
     4|range x1 2 1

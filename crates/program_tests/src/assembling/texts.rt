@@ -30,6 +30,7 @@ const FORMS: &str = "
     12 | cap cs 2 line 0 0/cap cs 3 bell 1 0 | cap cs 3 bell 1 0/cap cs 2 line 0 0
     15 | map vs 0x2000 data 3/map vs 0x3000 data 1 | map vs 0x3000 data 1/map vs 0x2000 data 3
     15 | map vs 0x2000 data 3/data code 1 2/data data 3 | data data 3/map vs 0x2000 data 3/data code 1 2
+    15 | object e u endpoint/object g u endpoint/promise e 0 0/promise g 1 1 2 3 | object e u endpoint/object g u endpoint/promise g 1 1 2 3/promise e 0 0
     17 | reg x1 7/reg x2 8 | reg x2 8/reg x1 7
     17 | measure 24 x1 1 x2 -1 | measure 24 x2 -1 x1 1
     17 | measure 24/range x1 0 9/range x2 0 8 | measure 24/range x2 0 8/range x1 0 9
@@ -61,6 +62,7 @@ const WITHOUT_IMAGE: &str = "
     3 4 | memory 16 4/untyped u 0 4//
     1 1 | untyped u 0 4
     1 1 | memory 16
+    5 4 | memory 16 4/untyped u 0 15/object e u endpoint/promise e 0 0/promise e 1 1
 ";
 
 #[test]
@@ -124,6 +126,12 @@ const AT_FAULT: &str = "
     15 1 | data code
     15 2 | data none 1
     15 4 | data code 0x100000000
+    15 1 | promise bell 0
+    15 1 | promise bell 0 0 1
+    15 2 | promise none 0 0
+    15 2 | promise u 0 0
+    15 4 | promise bell 0 0x10000000
+    15 4 | promise bell 0 0 2 1
     16 1 | thread main cs 28 vs 100 24 0 start
     16 1 | thread main cs 28 vs 100 24 0 start 0x1000 0
     16 4 | thread main cs 28 vs 256 24 0 start 0x1000

@@ -1,6 +1,6 @@
 //! Runs of images, verified and not: what is promised of accepted ones, seen.
 
-use crate::images::solo;
+use crate::images::{solo, with_word};
 use crate::running::sessions::{answer_to, put_file, take_files};
 use crate::running::workers::{
     DRIVER, DRIVER_OBJECTS, DRIVER_SPACES, OBJECTS, RECEIVER, SPACES, WORKER,
@@ -58,10 +58,13 @@ fn put_events<R: Files + Env + AllocGlobal>(
     put_file(rt, name, list.as_bytes())
 }
 
-#[test]
-fn solo_counts_and_waits(rt: HostRuntime) -> Result<(), Fail> {
-    put_file(&rt, "solo.img", solo(rt.alloc())?.as_slice())?;
-    put_file(&rt, "solo.events", b"step 25\nirq 3\nstep\n")?;
+/// Asserts that an image runs as solo, verified or not.
+fn counts_and_waits<R: Files + Env + AllocGlobal + Abort>(
+    rt: &R,
+    image: &[u8],
+) -> Result<(), Fail> {
+    put_file(rt, "solo.img", image)?;
+    put_file(rt, "solo.events", b"step 25\nirq 3\nstep\n")?;
     let mut want = String::new(rt.alloc());
     want.push_str("8000c000 00001000 plain\n")?;
     for _ in 0..10 {
@@ -71,13 +74,33 @@ fn solo_counts_and_waits(rt: HostRuntime) -> Result<(), Fail> {
         "8000c000 0000100c plain\n8000c000 00001010 plain\n8000c000 00001014 wait\nidle\nirq 3\n\
         8000c000 00001018 plain\nstatus 0\n",
     )?;
-    assert_eq!(rt; answer_to(&rt, "run @solo.img @solo.events")?, want);
+    assert_eq!(rt; answer_to(rt, "run @solo.img @solo.events")?, want);
     assert_eq!(rt;
-        answer_to(&rt, "run --unverified @solo.img @solo.events")?,
+        answer_to(rt, "run --unverified @solo.img @solo.events")?,
         want
     );
-    take_files(&rt, "solo.img solo.events")?;
+    take_files(rt, "solo.img solo.events")?;
     Ok(())
+}
+
+#[test]
+fn solo_counts_and_waits(rt: HostRuntime) -> Result<(), Fail> {
+    counts_and_waits(&rt, solo(rt.alloc())?.as_slice())
+}
+
+/// Version 2 has one word more: how many promises there are, before how many threads.
+#[test]
+fn solo_is_the_same_as_version_2(rt: HostRuntime) -> Result<(), Fail> {
+    let solo = solo(rt.alloc())?;
+    let mut image = Vec::new(rt.alloc());
+    image.extend_from_slice(solo.as_slice().get(..44).ok_or("the header")?)?;
+    image.extend_from_slice(&0u32.to_le_bytes())?;
+    image.extend_from_slice(solo.as_slice().get(44..).ok_or("the rest")?)?;
+    let image = with_word(image, 4, 2)?;
+    assert_eq!(rt; image.len(), 432);
+    // The budget is one word later.
+    assert_eq!(rt; image.get(260).copied(), Some(24));
+    counts_and_waits(&rt, image.as_slice())
 }
 
 /// Where the thread's control block is in the memory of solo.

@@ -191,7 +191,9 @@ are-formed image formed =
     let tables = map (λ t. refuse_if (misplaces_table image t) (BadMapping t.0)) (numbered image.tables) in
     let frames = flat_map (frame_rules image) (numbered image.frames) in
     let places = kept-before (untypeds ++ rooms) few formed.objects in
-    let maps = kept-before (tables ++ frames) _ formed.mappings in
+    let contents = map (content_rule image) (numbered image.contents) in
+    let mappings = kept-before (tables ++ frames ++ contents) _ formed.mappings in
+    let maps = kept-before (tables ++ frames) contents mappings in
     let of_frame = λ (k : ℕ) (f : FrameEntry) (at : slice_get image.frames k ≡ Some f).
     kept-of (frame_rules image) (numbered image.frames) (kept-behind tables frames maps) k (k, f) (numbered-at image.frames k f at) in
     let of_thread = λ (k : ℕ) (t : Thread) (at : slice_get image.threads k ≡ Some t).
@@ -214,7 +216,7 @@ are-formed image formed =
           (k, t) (numbered-at image.tables k t at)));
       frame = λ k f at. frame-kept image k f (not-refused _ _ (of_frame k f at 0 None (omega arith))) (not-refused _ _ (of_frame k f at 1 None (omega arith)));
       content = λ k c at. not-false _
-          (not-refused _ _ (kept-one (content_rule image) (numbered image.contents) (kept-behind (tables ++ frames) _ formed.mappings) k (k, c)
+          (not-refused _ _ (kept-one (content_rule image) (numbered image.contents) (kept-behind (tables ++ frames) contents mappings) k (k, c)
           (numbered-at image.contents k c at)));
       thread = λ k t at.
           thread-kept image k t (not-refused _ _ (of_thread k t at 0 None (omega arith))) (not-refused _ _ (of_thread k t at 1 None (omega arith)))

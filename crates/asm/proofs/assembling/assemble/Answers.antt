@@ -1,4 +1,4 @@
-use Rattle.std.specs.Prelude.{Result, ◌⊎◌, MatchResult, max}
+use Rattle.std.specs.Prelude.{Result, MatchResult, max}
 use Rattle.std.proofs.Common.{◌≡◌, ℕ, List, Ok, Err, inl, inr, sym, ap, subst, ◌∙◌}
 use Rattle.model.specs.Images.Image.{Image}
 use Rattle.model.specs.Images.Listing.{Text}
@@ -20,10 +20,10 @@ only text (Err fault) image (inr told) means = absurd (let no : Err (fault.line,
 
 pub returns-clause-listed : goal.returns-clause-listed
 unfolding text_means
-returns-clause-listed c listed is entered same =
+returns-clause-listed c listed is version entered same =
     let texts = lines c.args.text.now in
     let searched : c.deref.result.now ≡ labels_of texts = c.deref.ensures.value ∙ c.in_ok-labels.ensures.meant in
     let given = subst (λ (labels : List FoundLabels). MeansText c.image_with.result
     (and_then (all_read labels 0 nothing_read texts) (λ (read : ℕ × Draft). on_line (max read.0 1) (finished read.1))))
     searched c.image_with.ensures.meant in
-    only c.args.text.now c.image_with.result listed given (ap text_means same ∙ listing-means listed is entered)
+    only c.args.text.now c.image_with.result listed given (ap text_means same ∙ listing-means listed is version entered)

@@ -14,14 +14,14 @@ use Rattle.certifying.proofs.findings.findings_of.Goals as goal
 
 pub invariant_of-given : goal.invariant_of-given
 invariant_of-given c =
-    let image = c.args.image.now in
+    let image = c.args.placed.now.image.now in
     let t = c.thread-thread.result in
     let space : Space = c.given_space-space.result in
     let image-is = sym c.given_space-space.ensures.image in
     let thread-is = sym c.given_space-space.ensures.thread in
     let noted = c.deref-2.ensures.value ∙ c.in_ok-slots.ensures.slots in
     record {
-      formed = subst (λ (i : Image). IsWellFormed i) image-is c.requires.formed;
+      formed = subst (λ (i : Image). IsWellFormed i) image-is c.args.placed.now.formed;
       place = subst (λ (i : Image). slice_get i.threads c.args.number ≡ Some space.thread.now) image-is
           (subst (λ (u : Thread). slice_get image.threads c.args.number ≡ Some u) thread-is c.thread-thread.ensures);
       listed = noted ∙ ap (λ (i : Image). image_slots i t) image-is ∙ ap (λ (u : Thread). image_slots space.image.now u) thread-is;

@@ -20,7 +20,7 @@ returns-in_err-kind-clause-outcome g c =
     let slots : Slots = g.S.SlotMap.slots c.args.store.now in
     let has : s.slots ≡ slots = g.met.B.Begins.of_slots _ _ _ in
     let p = err_from_is_err_and c.from_residual.result c.from_residual.ensures.1 in
-    rw (p.1, p.2) (type-refused s slots c.args.root c.args.slot c.args.memory c.args.call has _ c.in_err-kind.ensures)
+    rw (p.1, p.2) (type-refused s slots c.args.root c.args.slot c.args.memory c.args.call has _ c.in_err-kind.ensures.value)
 
 pub named_node-requires-clause-nodes : goal.named_node-requires-clause-nodes
 named_node-requires-clause-nodes g c = subst CNodesAreOpen (g.met.B.Begins.of_slots _ _ _) (sound-nodes _ c.requires.sound)
@@ -31,7 +31,7 @@ returns-in_err-node-clause-outcome g c =
     let slots : Slots = g.S.SlotMap.slots c.args.store.now in
     let has : s.slots ≡ slots = g.met.B.Begins.of_slots _ _ _ in
     let p = err_from_is_err_and c.from_residual-in_err-node.result c.from_residual-in_err-node.ensures.1 in
-    rw (p.1, p.2) (node-refused s slots c.args.root c.args.slot c.args.memory c.args.call has _ c.in_ok-kind.ensures
+    rw (p.1, p.2) (node-refused s slots c.args.root c.args.slot c.args.memory c.args.call has _ c.in_ok-kind.ensures.value
     _ c.in_err-node.ensures.value)
 
 pub returns-in_err-window-clause-outcome : goal.returns-in_err-window-clause-outcome
@@ -40,7 +40,7 @@ returns-in_err-window-clause-outcome g c =
     let slots : Slots = g.S.SlotMap.slots c.args.store.now in
     let has : s.slots ≡ slots = g.met.B.Begins.of_slots _ _ _ in
     let p = err_from_is_err_and c.from_residual-in_err-window.result c.from_residual-in_err-window.ensures.1 in
-    rw (p.1, p.2) (window-refused s slots c.args.root c.args.slot c.args.memory c.args.call has _ c.in_ok-kind.ensures _ c.in_ok-node.ensures.value
+    rw (p.1, p.2) (window-refused s slots c.args.root c.args.slot c.args.memory c.args.call has _ c.in_ok-kind.ensures.value _ c.in_ok-node.ensures.value
     _ c.in_err-window.ensures.value)
 
 pub returns-in_err-may_have_child-clause-outcome :
@@ -50,7 +50,7 @@ returns-in_err-may_have_child-clause-outcome g c =
     let slots : Slots = g.S.SlotMap.slots c.args.store.now in
     let has : s.slots ≡ slots = g.met.B.Begins.of_slots _ _ _ in
     let p = err_from_is_err_and c.from_residual-in_err-may_have_child.result c.from_residual-in_err-may_have_child.ensures.1 in
-    rw (p.1, p.2) (child-refused s slots c.args.root c.args.slot c.args.memory c.args.call has _ c.in_ok-kind.ensures _ c.in_ok-node.ensures.value _
+    rw (p.1, p.2) (child-refused s slots c.args.root c.args.slot c.args.memory c.args.call has _ c.in_ok-kind.ensures.value _ c.in_ok-node.ensures.value _
     c.in_ok-window.ensures.value
     _ c.in_err-may_have_child.ensures)
 
@@ -66,7 +66,7 @@ returns-in_err-first-clause-outcome g c =
     let slots : Slots = g.S.SlotMap.slots c.args.store.now in
     let has : s.slots ≡ slots = g.met.B.Begins.of_slots _ _ _ in
     let p = err_from_is_err_and c.from_residual-in_err-first.result c.from_residual-in_err-first.ensures.1 in
-    rw (p.1, p.2) (place-refused s slots c.args.root c.args.slot c.args.memory c.args.call has _ c.in_ok-kind.ensures _ c.in_ok-node.ensures.value _
+    rw (p.1, p.2) (place-refused s slots c.args.root c.args.slot c.args.memory c.args.call has _ c.in_ok-kind.ensures.value _ c.in_ok-node.ensures.value _
     c.in_ok-window.ensures.value tt c.in_ok-may_have_child.ensures
     _ c.in_err-first.ensures)
 
@@ -75,7 +75,7 @@ begin-requires-clause-placed g c =
     let s : State = g.B.Begins.state c.args.begins.now (g.S.SlotMap.slots c.args.store.now) (g.S.SlotStore.memory c.args.store.now) in
     let slots : Slots = g.S.SlotMap.slots c.args.store.now in
     let has : s.slots ≡ slots = g.met.B.Begins.of_slots _ _ _ in
-    let sizes = asked-sized c.args.call.kind c.args.call.size (new_type c.in_ok-kind.kind) c.in_ok-kind.ensures in
+    let sizes = asked-sized c.args.call.kind c.args.call.size (new_type c.in_ok-kind.kind) c.in_ok-kind.ensures.value in
     let window = window-counted slots c.in_ok-node.node c.args.call.index c.args.call.count c.in_ok-window.window c.in_ok-window.ensures.value in
     placed s slots c.args.memory (new_type c.in_ok-kind.kind) c.args.call.count c.in_ok-first.first c.in_ok-first.watermark _ has c.requires.held
     (subst IsCapability (ap (λ (t : Slots). capability_at t c.args.slot) has ∙ c.requires.held) (c.requires.sound.slots.derivation.valid c.args.slot))
@@ -86,7 +86,7 @@ returns-clause-outcome g c =
     let s : State = g.B.Begins.state c.args.begins.now (g.S.SlotMap.slots c.args.store.now) (g.S.SlotStore.memory c.args.store.now) in
     let slots : Slots = g.S.SlotMap.slots c.args.store.now in
     let has : s.slots ≡ slots = g.met.B.Begins.of_slots _ _ _ in
-    retype-gives s slots c.args.root c.args.slot c.args.memory c.args.call has _ c.in_ok-kind.ensures _ c.in_ok-node.ensures.value _
+    retype-gives s slots c.args.root c.args.slot c.args.memory c.args.call has _ c.in_ok-kind.ensures.value _ c.in_ok-node.ensures.value _
     c.in_ok-window.ensures.value tt
     c.in_ok-may_have_child.ensures c.in_ok-first.first c.in_ok-first.watermark c.in_ok-first.ensures
     ∙ ap (λ (t : State). Ok t) (made-placed s slots c.args.root c.args.slot c.args.memory c.args.call has c.requires.held
@@ -112,7 +112,7 @@ may_have_child-requires g c =
     full-open (g.S.SlotMap.slots c.args.store.now) c.args.slot (ap (λ (held : Cap). not (is_empty held)) c.requires.held)
 
 pub places-requires-clause-small : goal.places-requires-clause-small
-places-requires-clause-small g c = (asked-sized c.args.call.kind c.args.call.size (new_type c.in_ok-kind.kind) c.in_ok-kind.ensures).1
+places-requires-clause-small g c = c.in_ok-kind.ensures.small
 
 pub places-requires-clause-few : goal.places-requires-clause-few
 places-requires-clause-few g c =

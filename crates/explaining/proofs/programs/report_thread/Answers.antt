@@ -19,14 +19,14 @@ invariant_of-scene c =
     let space : Space = c.given_space-space.result in
     let image-is = sym c.given_space-space.ensures.image in
     let thread-is = sym c.given_space-space.ensures.thread in
-    let own = c.deref-4.ensures.value ∙ c.in_ok-slots.ensures.slots in
+    let own = c.deref-3.ensures.value ∙ c.in_ok-slots.ensures.slots in
     record {
       formed = subst (λ (i : Image). IsWellFormed i) image-is c.args.formed.formed;
       place = subst (λ (i : Image). slice_get i.threads c.args.number ≡ Some space.thread.now) image-is
           (subst (λ (u : Thread). slice_get image.threads c.args.number ≡ Some u) thread-is c.thread-thread.ensures);
       listed = own ∙ ap (λ (i : Image). image_slots i t) image-is ∙ ap (λ (u : Thread). image_slots space.image.now u) thread-is;
-      rising = subst (λ (l : List NotedSlot). Rise l) (sym c.deref-4.ensures.value) c.in_ok-slots.ensures.rise;
+      rising = subst (λ (l : List NotedSlot). Rise l) (sym c.deref-3.ensures.value) c.in_ok-slots.ensures.rise;
       unlinked = subst (λ (l : List NotedSlot). AreUnlinked l) (sym own) (image-unlinked image t);
       told = c.lists_stray.ensures ∙ ap (λ (slots : List NotedSlot). list_any (is_stray_in space []) slots)
-          (c.deref-5.ensures.value ∙ sym c.deref-4.ensures.value);
+          (c.deref-4.ensures.value ∙ sym c.deref-3.ensures.value);
     }

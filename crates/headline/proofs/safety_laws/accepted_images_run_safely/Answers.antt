@@ -1,4 +1,6 @@
 -- All events go well, and where the threads' invariant holds each keeps its budget.
+use Rattle.model.specs.Images.Described.{described}
+use Rattle.model.specs.Kernel.Steps.{state_after, trace}
 use Rattle.headline.proofs.Numbers.{numbered-listed}
 use Rattle.headline.proofs.safety_laws.accepted_images_run_safely.Goals as goal
 
@@ -17,4 +19,7 @@ returns c = λ bytes image events accepted.
           (λ before behind is. (c.events_go_well.ensures bytes image before accepted).stand)
           (record { number = of.0; thread = t }) of.1;
       within = λ before event later is. c.events_stay_within_authority.ensures bytes image before event accepted;
+      promises = λ before later is.
+          c.waiting_messages_keep_their_promises.ensures image (state_after (described image) before) (trace (described image) before)
+          (c.events_go_well.ensures bytes image before accepted).stand;
     }

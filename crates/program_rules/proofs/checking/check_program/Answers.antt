@@ -20,16 +20,16 @@ use Rattle.typestate.specs.declared.spaces.Space.{Space}
 
 pub invariant_of-program : goal.invariant_of-program
 invariant_of-program c =
-    let image = c.args.image.now in
+    let image = c.args.placed.now.image.now in
     let t = c.args.thread.now in
     let space : Space = c.given_space-space.result in
     let image-is = sym c.given_space-space.ensures.image in
     let thread-is = sym c.given_space-space.ensures.thread in
     let listed : IsListed image t = record { number = c.args.number; listed = c.requires.listed } in
-    let places = c.programs_have_their_places.ensures image t c.requires.formed listed in
+    let places = c.programs_have_their_places.ensures image t c.args.placed.now.formed listed in
     let own = c.deref.ensures.value ∙ c.in_ok-slots.ensures.slots in
     record {
-      formed = subst (λ (i : Image). IsWellFormed i) image-is c.requires.formed;
+      formed = subst (λ (i : Image). IsWellFormed i) image-is c.args.placed.now.formed;
       place = subst (λ (i : Image). slice_get i.threads c.args.number ≡ Some space.thread.now) image-is
           (subst (λ (u : Thread). slice_get image.threads c.args.number ≡ Some u) thread-is c.requires.listed);
       listed = own ∙ ap (λ (i : Image). image_slots i t) image-is ∙ ap (λ (u : Thread). image_slots space.image.now u) thread-is;

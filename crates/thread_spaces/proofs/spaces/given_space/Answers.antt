@@ -6,12 +6,13 @@ pub invariant_of-result : goal.invariant_of-result
 invariant_of-result c = record {
   rooted = c.root_of.ensures.value;
   mapped = c.table_of.ensures;
+  promised = c.requires.promises;
   given = ∣ record {
     cnodes = c.requires.windows;
-    inside = root-leads-inside c.args.image.now c.args.thread.now c.root_of.result c.requires.formed c.requires.listed c.root_of.ensures.value;
+    inside = root-leads-inside c.args.placed.now.image.now c.args.thread.now c.root_of.result c.args.placed.now.formed c.requires.listed c.root_of.ensures.value;
     valid = c.root_of.ensures.valid;
-    apart = c.threads_stand_apart.ensures c.args.image.now c.args.thread.now c.header.ensures.fits c.requires.formed c.requires.listed;
-    listed = c.mappings_are_listed.ensures c.args.image.now c.args.thread.now c.header.ensures.fits c.requires.formed c.requires.listed;
+    apart = c.threads_stand_apart.ensures c.args.placed.now.image.now c.args.thread.now c.header.ensures.fits c.args.placed.now.formed c.requires.listed;
+    listed = c.mappings_are_listed.ensures c.args.placed.now.image.now c.args.thread.now c.header.ensures.fits c.args.placed.now.formed c.requires.listed;
   } ∣₁;
 }
 
@@ -19,7 +20,7 @@ pub returns-clause-space : goal.returns-clause-space
 returns-clause-space c = record {
   cnodes = c.requires.windows;
   root_is = c.root_of.ensures.value;
-  root_inside = root-leads-inside c.args.image.now c.args.thread.now c.root_of.result c.requires.formed c.requires.listed c.root_of.ensures.value;
+  root_inside = root-leads-inside c.args.placed.now.image.now c.args.thread.now c.root_of.result c.args.placed.now.formed c.requires.listed c.root_of.ensures.value;
   valid = c.root_of.ensures.valid;
   table_is = c.table_of.ensures;
 }

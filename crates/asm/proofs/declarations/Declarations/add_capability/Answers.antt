@@ -25,6 +25,7 @@ returns c =
       tables = c.self.inside.tables.items;
       frames = c.self.inside.frames.items;
       contents = c.self.inside.contents.items;
+      promises = c.self.inside.promises.items;
     } in
     let key : Capability → ℕ = λ (e : Capability). pair_key e.cnode e.index in
     let entry : Capability = record {

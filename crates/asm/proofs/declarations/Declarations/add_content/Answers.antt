@@ -5,7 +5,7 @@ use Rattle.asm_line.specs.Words.{◌>>=◌}
 use Rattle.asm_line.specs.declared.lines.Line.TheVariants as line
 use Rattle.asm.specs.Keys.{sorted_with}
 use Rattle.asm.specs.Meaning.{content_with, placed_with, words_said}
-use Rattle.asm.specs.Names.{number_known, source_known}
+use Rattle.asm.specs.Names.{number_known}
 use Rattle.asm.specs.Outcomes.{Means}
 use Rattle.asm.specs.Sections.{Declared}
 use Rattle.asm.proofs.ListedSteps.{goes}
@@ -24,6 +24,7 @@ returns c =
       tables = c.self.inside.tables.items;
       frames = c.self.inside.frames.items;
       contents = c.self.inside.contents.items;
+      promises = c.self.inside.promises.items;
     } in
     let key : ImageContent → ℕ = λ (e : ImageContent). e.header.frame in
     let entry : ImageContent = content_with c.in_ok-frame.frame c.in_ok-words.words.items in

@@ -1,5 +1,5 @@
-use Rattle.std.specs.Prelude.{Result, MatchResult}
-use Rattle.std.proofs.Common.{◌≡◌, ℕ, List, Ok, Err, refl, sym, ap, subst, ◌∙◌}
+use Rattle.std.specs.Prelude.{Result}
+use Rattle.std.proofs.Common.{◌≡◌, ℕ, List, Ok, refl, sym, ap, ◌∙◌}
 use Rattle.model.specs.declared.entries.InterruptEntry.{InterruptEntry}
 use Rattle.asm_line.specs.Words.{◌>>=◌}
 use Rattle.asm_line.specs.declared.lines.Line.TheVariants as line
@@ -36,6 +36,7 @@ returns-in_err-insert c =
       tables = c.self.inside.tables.items;
       frames = c.self.inside.frames.items;
       contents = c.self.inside.contents.items;
+      promises = c.self.inside.promises.items;
     } in
     let said = line.Interrupt c.args.name.now c.args.line c.args.notification.now c.args.badge in
     let steps = chain d c.args.name.now c.args.notification.now c.args.line c.args.badge c.in_ok-object.field-0
@@ -57,6 +58,7 @@ returns c =
       tables = c.self.inside.tables.items;
       frames = c.self.inside.frames.items;
       contents = c.self.inside.contents.items;
+      promises = c.self.inside.promises.items;
     } in
     let said = line.Interrupt c.args.name.now c.args.line c.args.notification.now c.args.badge in
     let steps = chain d c.args.name.now c.args.notification.now c.args.line c.args.badge c.in_ok-object.field-0

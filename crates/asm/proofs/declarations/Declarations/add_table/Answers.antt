@@ -6,7 +6,7 @@ use Rattle.asm_line.specs.Words.{◌>>=◌}
 use Rattle.asm_line.specs.declared.lines.Line.TheVariants as line
 use Rattle.asm.specs.Keys.{sorted_with}
 use Rattle.asm.specs.Meaning.{placed_with}
-use Rattle.asm.specs.Names.{number_known, source_known}
+use Rattle.asm.specs.Names.{number_known}
 use Rattle.asm.specs.Outcomes.{Means}
 use Rattle.asm.specs.Sections.{Declared}
 use Rattle.asm.proofs.ListedSteps.{goes}
@@ -25,6 +25,7 @@ returns c =
       tables = c.self.inside.tables.items;
       frames = c.self.inside.frames.items;
       contents = c.self.inside.contents.items;
+      promises = c.self.inside.promises.items;
     } in
     let key : TableEntry → ℕ = λ (e : TableEntry). pair_key e.root e.address in
     let entry : TableEntry = record { root = c.in_ok-root.root; address = c.args.address; table = c.in_ok-table.table } in

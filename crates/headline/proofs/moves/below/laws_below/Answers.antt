@@ -22,6 +22,7 @@ returns c = record {
   signal = c.messages_fit_behind.ensures.signal;
   result = c.messages_fit_behind.ensures.result;
   nothing = c.messages_fit_behind.ensures.nothing;
+  sent = c.what_is_sent_keeps_its_promise.ensures;
   receives = c.rules_on_messages_are_known.ensures.receives;
   sends = c.rules_on_messages_are_known.ensures.sends;
   others = c.rules_on_messages_are_known.ensures.others;

@@ -4,12 +4,13 @@ use Rattle.std.specs.List.{range_with_len}
 use Rattle.std.proofs.lemmas.List.{append_assoc}
 use Rattle.std.proofs.lemmas.List.FromFn.{map-range_with_len_more}
 use Rattle.model.specs.Acceptance.NotedStates.{NotedSlot}
-use Rattle.typestate.specs.Pools.{new_of, slot_made}
+use Rattle.model.specs.Kernel.ObjectTypes.{new_type}
+use Rattle.typestate.specs.Pools.{slot_made}
 use Rattle.typestate.proofs.new_objects.NewObjects.note.Goals as goal
 
 pub loop-i-preserved : goal.loop-i-preserved
 loop-i-preserved c =
-    let f : ℕ → NotedSlot = slot_made c.args.self.now.slots.first c.args.self.now.pool (new_of c.args.self.now.kind) c.args.self.now.offset in
+    let f : ℕ → NotedSlot = slot_made c.args.self.now.slots.first c.args.self.now.pool (new_type c.args.self.now.kind) c.args.self.now.offset in
     let i = c.loop-i.i in
     let before = c.args.made.now.items in
     let so = map f (range_with_len 0 i) in

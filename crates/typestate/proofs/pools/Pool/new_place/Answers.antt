@@ -6,13 +6,14 @@ use Rattle.model.specs.Acceptance.NotedKernel.{noted_root, noted_slots}
 use Rattle.model.specs.Acceptance.NotedStates.{SlotKey, is_own}
 use Rattle.model.specs.Acceptance.ThreadRules.{reached}
 use Rattle.model.specs.Kernel.Arguments.{◌>>=◌}
+use Rattle.model.specs.Kernel.ObjectTypes.{new_type}
 use Rattle.model.specs.Kernel.Retype.{node, object_bits}
 use Rattle.model.specs.Kernel.State.{State}
 use Rattle.typestate.specs.Pools.{room_in}
 use Rattle.typestate.specs.Differences.{slots_of}
 use Rattle.typestate.proofs.GivenFacts.{apart-of, test-decides}
 use Rattle.typestate.proofs.PoolPlaces.{node-err, node-ok, place-small, room-parts, room-same}
-use Rattle.typestate.proofs.PoolRules.{behind_node, behind_type, bits-error, bits-new, effect, placed-so, pool-refused, room_of}
+use Rattle.typestate.proofs.PoolRules.{behind_node, behind_type, effect, placed-so, pool-refused, room_of}
 use Rattle.typestate.proofs.Standing.{found-own}
 use Rattle.typestate.proofs.pools.Pool.new_place.Goals as goal
 
@@ -22,18 +23,17 @@ returns-in-Err c = λ at held same.
     let t = c.args.self.now.own.space.thread.now in
     let slots = slots_of c.args.self.now.own.slots in
     pool-refused image t slots held c.args.self.now.memory c.args.call at c.in-Err.error
-    (ap (behind_type image t slots held c.args.self.now.memory c.args.call)
-    (bits-error c.args.call.kind c.args.call.size c.in-Err.error c.in-Err.ensures.value))
+    (ap (behind_type image t slots held c.args.self.now.memory c.args.call) (sym c.in-Err.ensures.value))
 
 pub returns-in-Err-node : goal.returns-in-Err-node
 returns-in-Err-node c = λ at held same.
     let image = c.args.self.now.own.space.image.now in
     let t = c.args.self.now.own.space.thread.now in
     let slots = slots_of c.args.self.now.own.slots in
-    let new = bits-new c.args.call.kind c.args.call.size c.in-Ok.bits c.in-Ok.ensures.value in
+    let new = new_type c.in-Ok.kind in
     pool-refused image t slots held c.args.self.now.memory c.args.call at c.in-Err-node.error
-    (ap (behind_type image t slots held c.args.self.now.memory c.args.call) new.1
-    ∙ ap (behind_node image t slots held c.args.self.now.memory c.args.call new.0)
+    (ap (behind_type image t slots held c.args.self.now.memory c.args.call) (sym c.in-Ok.ensures.value)
+    ∙ ap (behind_node image t slots held c.args.self.now.memory c.args.call new)
     (node-err image t (node (noted_slots image t slots) (noted_root image t) c.args.call.node) c.in-Err-node.error c.in-Err-node.ensures))
 
 pub room_in-requires-clause-mine : goal.room_in-requires-clause-mine
@@ -49,12 +49,12 @@ overflow_add-result c =
     let t = c.args.self.now.own.space.thread.now in
     let slots = slots_of c.args.self.now.own.slots in
     let found : ℕ × ℕ = (c.in-Ok-room_in.place, c.in-Ok-room_in.watermark) in
-    let room = room-parts image t slots c.args.self.now.held.now.key c.args.self.now.memory c.in-Ok-node.window c.in-Ok.bits c.args.call.index c.args.call.count
-    found (sym c.in-Ok-room_in.ensures) in
-    let small = place-small c.args.self.now.memory c.in-Ok.bits c.args.call.count c.in-Ok-room_in.place c.in-Ok-room_in.watermark
+    let room = room-parts image t slots c.args.self.now.held.now.key c.args.self.now.memory c.in-Ok-node.window c.object_bits.result c.args.call.index
+    c.args.call.count found (sym c.in-Ok-room_in.ensures) in
+    let small = place-small c.args.self.now.memory c.object_bits.result c.args.call.count c.in-Ok-room_in.place c.in-Ok-room_in.watermark
     (test-decides (Untyped c.args.self.now.memory.offset c.args.self.now.memory.bits c.args.self.now.memory.watermark) c.args.self.now.valid)
-    (placed-so c.args.self.now.memory.bits c.args.self.now.memory.watermark c.in-Ok.bits c.args.call.count c.in-Ok-room_in.place c.in-Ok-room_in.watermark
-    room.place) in
+    (placed-so c.args.self.now.memory.bits c.args.self.now.memory.watermark c.object_bits.result c.args.call.count c.in-Ok-room_in.place
+    c.in-Ok-room_in.watermark room.place) in
     omega (arith, small)
 
 pub returns-in-Err-room_in : goal.returns-in-Err-room_in
@@ -64,18 +64,19 @@ returns-in-Err-room_in c = λ at held same.
     let slots = slots_of c.args.self.now.own.slots in
     let memory = c.args.self.now.memory in
     let call = c.args.call in
-    let new = bits-new call.kind call.size c.in-Ok.bits c.in-Ok.ensures.value in
+    let new = new_type c.in-Ok.kind in
     let named = node-ok image t (node (noted_slots image t slots) (noted_root image t) call.node) c.in-Ok-node.window c.in-Ok-node.ensures in
     let mine = subst (λ (k : SlotKey). is_own image (reached image t) k ≡ true) (sym same)
     (found-own image t slots c.args.self.now.held.now.key c.args.self.now.held.now c.args.self.now.own.own c.args.self.now.there).key in
-    let room : room_of image t slots held memory call new.0 named.cnode ≡ Err c.in-Err-room_in.error =
-    room-same image t (apart-of c.args.self.now.own.space) slots c.args.self.now.own.own held memory call new.0 named.cnode c.in-Ok-node.window mine
+    let room : room_of image t slots held memory call new named.cnode ≡ Err c.in-Err-room_in.error =
+    room-same image t (apart-of c.args.self.now.own.space) slots c.args.self.now.own.own held memory call new named.cnode c.in-Ok-node.window mine
     named.offset named.radix
-    ∙ ap (λ k. room_in image t slots k memory c.in-Ok-node.window (object_bits new.0) call.index call.count) same
-    ∙ ap (λ b. room_in image t slots c.args.self.now.held.now.key memory c.in-Ok-node.window b call.index call.count) new.2 ∙ sym c.in-Err-room_in.ensures in
+    ∙ ap (λ k. room_in image t slots k memory c.in-Ok-node.window (object_bits new) call.index call.count) same
+    ∙ ap (λ b. room_in image t slots c.args.self.now.held.now.key memory c.in-Ok-node.window b call.index call.count)
+    (sym c.object_bits.ensures.value) ∙ sym c.in-Err-room_in.ensures in
     pool-refused image t slots held memory call at c.in-Err-room_in.error
-    (ap (behind_type image t slots held memory call) new.1 ∙ ap (behind_node image t slots held memory call new.0) named.is
-    ∙ ap (λ (r : Result (ℕ × ℕ) KError). r >>= λ p. let made : Result State KError = Ok (effect image t slots held memory call new.0 named.cnode p) in made)
+    (ap (behind_type image t slots held memory call) (sym c.in-Ok.ensures.value) ∙ ap (behind_node image t slots held memory call new) named.is
+    ∙ ap (λ (r : Result (ℕ × ℕ) KError). r >>= λ p. let made : Result State KError = Ok (effect image t slots held memory call new named.cnode p) in made)
     room)
 
 pub returns-in-Ok-room_in : goal.returns-in-Ok-room_in
@@ -84,11 +85,10 @@ returns-in-Ok-room_in c =
     let t = c.args.self.now.own.space.thread.now in
     let slots = slots_of c.args.self.now.own.slots in
     let call = c.args.call in
-    let new = bits-new call.kind call.size c.in-Ok.bits c.in-Ok.ensures.value in
+    let new = new_type c.in-Ok.kind in
     let named = node-ok image t (node (noted_slots image t slots) (noted_root image t) call.node) c.in-Ok-node.window c.in-Ok-node.ensures in
     record {
-      new = new.0;
-      asked = new.1;
+      asked = sym c.in-Ok.ensures.value;
       cnode = named.cnode;
       named = named.is;
       w = c.in-Ok-node.window;
@@ -96,8 +96,8 @@ returns-in-Ok-room_in c =
       offset = named.offset;
       radix = named.radix;
       place = c.in-Ok-room_in.place;
-      room = ap (λ b. room_in image t slots c.args.self.now.held.now.key c.args.self.now.memory c.in-Ok-node.window b call.index call.count) new.2
-          ∙ sym c.in-Ok-room_in.ensures;
+      room = ap (λ b. room_in image t slots c.args.self.now.held.now.key c.args.self.now.memory c.in-Ok-node.window b call.index call.count)
+          (sym c.object_bits.ensures.value) ∙ sym c.in-Ok-room_in.ensures;
       first = refl;
       slot = refl;
     }

@@ -13,7 +13,7 @@ pub returns-in-Err-clause-value : goal.returns-in-Err-clause-value
 returns-in-Err-clause-value c = λ measure.
     let slots = slots_of c.args.self.now.slots in
     let state = known_with c.args.bounds.now slots measure in
-    let rule : ℕ → Cap → Result AfterCall Refusal = λ _. receive_rule c.args.at state c.args.is_wait in
+    let rule : ℕ → Cap → Result AfterCall Refusal = λ _. receive_rule c.args.self.now.space.image.now c.args.at state c.args.is_wait in
     by-called c.args.self.now.space c.args.at state rule (space-of c.args.self.now.space) c.args.self.now.inside
     ∙ ap (ruled_by rule) (sym (c.in-Err.ensures.value measure))
 
@@ -21,7 +21,7 @@ pub returns-in-Ok-receive_rule-clause-value : goal.returns-in-Ok-receive_rule-cl
 returns-in-Ok-receive_rule-clause-value c = λ measure.
     let slots = slots_of c.args.self.now.slots in
     let state = known_with c.args.bounds.now slots measure in
-    let rule : ℕ → Cap → Result AfterCall Refusal = λ _. receive_rule c.args.at state c.args.is_wait in
+    let rule : ℕ → Cap → Result AfterCall Refusal = λ _. receive_rule c.args.self.now.space.image.now c.args.at state c.args.is_wait in
     by-called c.args.self.now.space c.args.at state rule (space-of c.args.self.now.space) c.args.self.now.inside
     ∙ ap (ruled_by rule) (sym (c.in-Ok.ensures.value measure)) ∙ sym (c.in-Ok-receive_rule.ensures slots measure)
 
@@ -29,6 +29,6 @@ pub returns-in-Err-receive_rule-clause-value : goal.returns-in-Err-receive_rule-
 returns-in-Err-receive_rule-clause-value c = λ measure.
     let slots = slots_of c.args.self.now.slots in
     let state = known_with c.args.bounds.now slots measure in
-    let rule : ℕ → Cap → Result AfterCall Refusal = λ _. receive_rule c.args.at state c.args.is_wait in
+    let rule : ℕ → Cap → Result AfterCall Refusal = λ _. receive_rule c.args.self.now.space.image.now c.args.at state c.args.is_wait in
     by-called c.args.self.now.space c.args.at state rule (space-of c.args.self.now.space) c.args.self.now.inside
     ∙ ap (ruled_by rule) (sym (c.in-Ok.ensures.value measure)) ∙ sym (c.in-Err-receive_rule.ensures slots measure)

@@ -25,4 +25,4 @@ returns-in-Ok-clause-value c = λ measure.
     let state = known_with c.args.bounds.now slots measure in
     let rule = send_rule image t c.args.at state c.args.kind in
     by-called c.args.self.now.space c.args.at state rule (space-of c.args.self.now.space) c.args.self.now.inside
-    ∙ ap (ruled_by rule) (sym (c.in-Ok.ensures.value measure)) ∙ c.sends.ensures.value image t slots measure
+    ∙ ap (ruled_by rule) (sym (c.in-Ok.ensures.value measure)) ∙ c.sends.ensures.value t slots measure

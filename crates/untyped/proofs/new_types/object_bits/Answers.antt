@@ -1,7 +1,7 @@
 -- A type that is small enough has at most 2^24 bytes.
 use Rattle.std.proofs.Common.{◌≡◌, ◌≤◌, true, arith}
 use Rattle.std.proofs.lemmas.Bool.{leb-true}
-use Rattle.cnode_ops.proofs.new_types.object_bits.Goals as goal
+use Rattle.untyped.proofs.new_types.object_bits.Goals as goal
 use Rattle.model.specs.Kernel.Retype.{NewObject, NewUntyped, NewThread, NewEndpoint, NewNotification, NewCNode, NewFrame, NewPageTable, NewRootTable}
 use Rattle.model.specs.Kernel.Retype.{is_small_enough, object_bits}
 
