@@ -63,6 +63,11 @@ reckons_damage() {
         echo "accepted 2; refused (1, 12), (2, 12), (5, 258), (6, 12), (7, 1), (12, 3)" | diff - "$room/counts"
 }
 
+# Forty systems with promises: in those that the rules accept each message keeps its promise, and some are refused by it.
+reckons_promises() {
+    python3 tools/promises/systems.py reckon 40
+}
+
 makes_crowd() {
     python3 tools/hostile/crowd.py "$room" && cmp "$room/crowd.txt" samples/hostile/crowd.txt &&
         cmp "$room/crowd.events" samples/hostile/crowd.events
@@ -111,9 +116,10 @@ part_with python3 "tools/checks/below.py" copies_are_whole
 part_with python3 "tools/checks/texts.py --premises" tools/checks/texts.py --premises
 part_with python3 "tools/checks/proved_table.py" tools/checks/proved_table.py --check
 part_with python3 "tools/manual_rows.py" same_calls
-part_with python3 "tools/traces/reckon.py" python3 tools/traces/reckon.py compare samples/{bell,solo,worker,client_server} \
+part_with python3 "tools/traces/reckon.py" python3 tools/traces/reckon.py compare samples/{bell,solo,worker,client_server,promise} \
     samples/gallery/controller
 part_with python3 "tools/damage/reckon.py" reckons_damage
+part_with python3 "tools/promises/systems.py" reckons_promises
 part_with python3 "tools/hostile/crowd.py" makes_crowd
 part_with python3 "tools/large_images/make.py" makes_large_image
 part_with python3 "tools/certify/loops.py" makes_loops

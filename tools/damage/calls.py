@@ -269,9 +269,9 @@ def after_call(image, t, state, here):
     if held is None:
         raise Refused(23, *here)
     if number in (2, 5, 8):
-        return received(state, held, number != 8, here)
+        return received(image, state, held, number != 8, here)
     if held[0] in (ENDPOINT, NOTIFICATION):
-        return sent(state, held, number, here)
+        return sent(image, state, held, number, here)
     return invoked(state, kernel, found[0], number == 1, here)
 
 
@@ -282,18 +282,34 @@ def written(state, values):
     return ranges, state.slots
 
 
-def received(state, held, wait, here):
+def promised(image, capability):
+    """The badges and the ranges of words that are promised of messages, or None."""
+    return next((it for endpoint, *it in image.promises if capability[:2] == (ENDPOINT, image.offsets[endpoint])), None)
+
+
+def received(image, state, held, wait, here):
     if held[0] not in (ENDPOINT, NOTIFICATION) or not held[2] & 2:
         raise Refused(23, *here)
-    values = {A0: BADGES}
+    # who only polls may get no message, and then nothing is promised
+    badges, ranges = wait and promised(image, held) or (BADGES, [])
+    values = {A0: badges}
     if held[0] == ENDPOINT:
-        values |= {it: FULL for it in [A1, *WORDS]}
+        values |= {it: FULL for it in [A1, *WORDS]} | dict(zip(WORDS, ranges))
     return *written(state, values), wait, set(values)
 
 
-def sent(state, held, number, here):
+def keeps(state, badge, info, badges, ranges):
+    """Whether a message is known to keep a promise."""
+    inside = [low <= state.ranges[it][0] and state.ranges[it][1] <= high for it, (low, high) in zip(WORDS, ranges)]
+    return badges[0] <= badge <= badges[1] and len(ranges) <= min(info & 127, 8) and all(inside)
+
+
+def sent(image, state, held, number, here):
     if not held[2] & 1 or held[0] == ENDPOINT and number == 1 and not held[2] & 8:
         raise Refused(23, *here)
+    promise = promised(image, held)
+    if promise and not keeps(state, held[3], single(state, A1, here), *promise):
+        raise Refused(28, *here)
     values = {}
     if number == 1:
         values = {A0: ZERO, A1: ZERO}

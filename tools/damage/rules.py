@@ -52,10 +52,12 @@ def read(data):
     """The image that the bytes spell."""
     r, i = Reader(data), Image()
     r.field(lambda n: n == 0x5359534D, refusal=MAGIC)
-    r.field(lambda n: n == 1, refusal=VERSION)
+    version = r.field(lambda n: 1 <= n <= 2, refusal=VERSION)
     i.bits = r.between(16, 24)
     i.radix = r.between(1, min(14, i.bits - 5))
-    u, o, c, n, t, f, d, h = (r.between(*it) for it in ((1, 64), (0, 4096), (0, 16384), (0, 64), (0, 1024), (0, 4096), (0, 4096), (1, 64)))
+    u, o, c, n, t, f, d = (r.between(*it) for it in ((1, 64), (0, 4096), (0, 16384), (0, 64), (0, 1024), (0, 4096), (0, 4096)))
+    p = r.between(0, 4096) if version == 2 else 0
+    h = r.between(1, 64)
     thing = lambda: r.field(lambda x: x < o)
     i.untypeds = [(r.field(), r.between(4, 24)) for _ in range(u)]
     i.objects = r.rising(o, lambda last: read_object(r, u, last), lambda x: x[0])
@@ -66,6 +68,7 @@ def read(data):
         f, lambda last: (lambda root: (root, r.field(lambda x: pair(root, x) > last), thing(), r.between(0, 7)))(thing()), lambda x: pair(x[0], x[1])
     )
     i.contents = r.rising(d, lambda last: read_content(r, o, last), lambda x: x[0])
+    i.promises = r.rising(p, lambda last: read_promise(r, o, last), lambda x: x[0])
     i.threads = [read_thread(r, o) for _ in range(h)]
     if r.at < len(data):
         raise Refused(TRAILING, r.at, 0)
@@ -88,6 +91,13 @@ def read_capability(r, objects, interrupts, last):
 def read_content(r, objects, last):
     frame = r.field(lambda x: last < x < objects)
     return frame, [r.field() for _ in range(r.between(1, 1024))]
+
+
+def read_promise(r, objects, last):
+    """The endpoint, the badges, and the ranges of the first words."""
+    endpoint, low = r.field(lambda x: last < x < objects), r.field()
+    badges = low, r.field(lambda x: low <= x < 2**28)
+    return endpoint, badges, [(lambda low: (low, r.field(lambda x: low <= x)))(r.field()) for _ in range(r.between(0, 8))]
 
 
 class Thread:
@@ -269,6 +279,9 @@ def check_mappings(i):
     for item, (frame, _) in enumerate(i.contents, len(i.tables) + len(i.frames)):
         if kind_of(i, frame) != FRAME:
             raise Refused(12, item, 0)
+    for item, (endpoint, *_) in enumerate(i.promises, len(i.tables) + len(i.frames) + len(i.contents)):
+        if kind_of(i, endpoint) != ENDPOINT:
+            raise Refused(29, item, 0)
 
 
 def check_thread(i, number, t, tcbs):

@@ -17,7 +17,7 @@ HERE = os.path.dirname(os.path.realpath(__file__))
 ROOT = os.path.dirname(os.path.dirname(HERE))
 # Kinds in which one count grows, and the shares of the limits at which each is taken. Of `verify` the whole is left out: it takes minutes.
 KINDS = {
-    **{kind: (16, 4, 1) for kind in "noted carried jumps threads capabilities objects mappings chain".split()},
+    **{kind: (16, 4, 1) for kind in "noted carried jumps threads capabilities objects mappings chain promises".split()},
     **{kind: (16, 4, 1) for kind in "fan descents deletes revokes searches branches retypes maps".split()},
     **{kind: (16, 4, 1) for kind in "rising falling moves movers noted_slots wide spread".split()},
     "verify": (232, 16),

@@ -17,7 +17,7 @@ wait, load, add, store, branch and count, and begin with a record that notes a r
 `make.py KIND SHARE FILE` writes an accepted image in which one count grows: `noted` (each word has a record of 29 ranges and four terms), `carried`
 (four terms are carried over programs of 65536 words), `jumps` (each word leads half the program away, and has a record), `calls` (each
 second word is a system call), `threads`,
-`capabilities` (of one CNode), `objects`, `mappings` (of one root table, with its tables) and `chain` (CNodes, each held by the next); and in which
+`capabilities` (of one CNode), `objects`, `promises` (of endpoints, beside sends), `mappings` (of one root table, with its tables) and `chain` (CNodes, each held by the next); and in which
 a thread's calls change many slots: `fan` (copies of one capability), `descents` (chains of copies), `deletes` (copies, of which every second one is
 deleted), `revokes` (of nothing, beside many capabilities that the image lists), `searches` (of nothing, beside chains of copies), `branches` (beside copies), `retypes` (endpoints, one a call), `maps` (frames that are made, mapped
 and written to), `rising` and `falling` (256 endpoints a call, into slots that rise or fall through four CNodes), `moves` (of one capability, with
@@ -33,8 +33,8 @@ def words(*numbers):
     return struct.pack(f"<{len(numbers)}I", *numbers)
 
 
-def header(bits, radix, counts):
-    return b"MSYS" + words(1, bits, radix, *counts)
+def header(bits, radix, counts, version=1):
+    return b"MSYS" + words(version, bits, radix, *counts)
 
 
 def read_image(share):
@@ -253,6 +253,12 @@ def calling_program(count):
     return (*words, *waiting(len(words) + 4)), [record(0, count + 10)]
 
 
+# Each word is a Send to the endpoint in slot 2, of one word.
+def sending_program(count):
+    words = (immediate(0, 17, 0, 3), immediate(0, 10, 0, 2), immediate(0, 11, 0, 1), *(ECALL,) * count)
+    return (*words, *waiting(len(words) + 4)), [record(0, count + 10)]
+
+
 def quiet_program(count):
     return (NOTHING,) * (count - 4) + waiting(count), [record(0, count + 10)]
 
@@ -422,7 +428,7 @@ def spreading_program(frames, loads):
 # thread's CNode has more capabilities, its space more tables and mappings, and a chain of CNodes hangs on it, each before the last one.
 # A program that notes slots is a function of its CNode's number and of where the notification lies. The first thread may have more CNodes, and
 # its registers may begin with values.
-def image_of(programs, endpoints=1, listed=0, radix=1, tables=0, mappings=0, chain=0, pool=0, further=0, registers=()):
+def image_of(programs, endpoints=1, listed=0, radix=1, tables=0, mappings=0, chain=0, pool=0, further=0, registers=(), rights=2, promised=False):
     untypeds = untypeds_of(59)
     objects, capabilities, places, maps = [], [], [], []
     put, room, at = placing(untypeds, objects, 0)
@@ -450,10 +456,14 @@ def image_of(programs, endpoints=1, listed=0, radix=1, tables=0, mappings=0, cha
     if pool:
         capabilities += [(first, OWN, first, 0, 32 - radix), (first, POOL, memory, 0, 0), (first, ROOT, root, 0, 0)]
     capabilities += [(first, ROOT + 1 + i, it, 0, 32 - radix) for i, it in enumerate(more)]
-    capabilities += [(first, i + (ROOT + 1 if pool else 2), sources[i % len(sources)], 2, 0) for i in range(listed)]
+    capabilities += [(first, i + (ROOT + 1 if pool else 2), sources[i % len(sources)], rights, 0) for i in range(listed)]
     capabilities += [(links[i + 1] if i + 1 < chain else first, 0, link, 0, 31) for i, link in enumerate(links)]
-    yield header(24, 14, (len(untypeds), len(objects), len(capabilities), 0, len(places), len(maps), 0, len(programs)))
-    for section in (untypeds, objects, sorted(capabilities), sorted(places), sorted(maps)):
+    counts = (len(untypeds), len(objects), len(capabilities), 0, len(places), len(maps), 0)
+    # Each endpoint's messages have any badge, and one word at least, of any value.
+    promises = [(it, 0, (1 << 28) - 1, 1, 0, (1 << 32) - 1) for it in sources if promised]
+    counted = (len(promises), len(programs)) if promised else (len(programs),)
+    yield header(24, 14, (*counts, *counted), 2 if promised else 1)
+    for section in (untypeds, objects, sorted(capabilities), sorted(places), sorted(maps), promises):
         yield b"".join(words(*it) for it in section)
     for (program, records), tcb, cnode, (root, *_) in zip(programs, tcbs, cnodes, parts):
         guard = 32 - radix if cnode == first else 31
@@ -473,6 +483,9 @@ GROWING = {
     "objects": lambda share: image_of([quiet_program(1024)], endpoints=4064 // share),
     "mappings": lambda share: image_of([quiet_program(1024)], tables=496 // share, mappings=4064 // share),
     "chain": lambda share: image_of([quiet_program(1024)], chain=4064 // share),
+    "promises": lambda share: image_of(
+        [sending_program(20000 // share)], endpoints=4064 // share, listed=1, radix=2, rights=1, promised=True
+    ),
     "fan": lambda share: image_of([copying_program(16000 // share, False)], radix=14, pool=12),
     "descents": lambda share: image_of([copying_program(16000 // share, True)], radix=14, pool=12),
     "deletes": lambda share: image_of([deleting_program(6000 // share)], radix=14, pool=12),

@@ -279,9 +279,8 @@ class Machine:
         return f"irq {line}"
 
 
-def trace(data, events):
+def trace(machine, events):
     """The lines that a list of events gives."""
-    machine = Machine(data)
     for line in events.splitlines():
         word, *rest = line.split("#")[0].split() or [""]
         if word == "step":

@@ -10,7 +10,7 @@ NAME is a path without its ending.
 import sys
 
 sys.dont_write_bytecode = True
-from machine import trace  # noqa: E402
+from machine import Machine, trace  # noqa: E402
 from texts import assembled  # noqa: E402
 
 
@@ -18,7 +18,7 @@ def reckoned(name):
     """The image's bytes, and the trace's."""
     with open(f"{name}.txt", encoding="ascii") as text, open(f"{name}.events", encoding="ascii") as events:
         image = assembled(text.read())
-        return {"img": image, "trace": "".join(f"{line}\n" for line in trace(image, events.read())).encode()}
+        return {"img": image, "trace": "".join(f"{line}\n" for line in trace(Machine(image), events.read())).encode()}
 
 
 def main():

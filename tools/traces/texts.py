@@ -98,10 +98,16 @@ class Thread:
         return said
 
 
+def promised(content):
+    """The badges, how many words are promised, and the range of each."""
+    low, high, *ranges = map(number, content)
+    return low, high, len(ranges) // 2, *ranges
+
+
 def assembled(text):
     """The bytes of the image that a text describes."""
     names, lines, threads, thread = {}, {}, [], None
-    declared = {kind: [] for kind in ("untyped", "object", "cap", "irq", "table", "map", "data")}
+    declared = {kind: [] for kind in ("untyped", "object", "cap", "irq", "table", "map", "data", "promise")}
     for line in text.split("\n"):
         first, *rest = line.split("#")[0].replace("\t", " ").replace(",", " ").split() or [""]
         if thread is not None:
@@ -135,7 +141,10 @@ def assembled(text):
         sorted((names[root], number(address), names[frame], number(rights)) for root, address, frame, rights in declared["map"]),
         sorted((names[frame], len(content), *map(number, content)) for frame, *content in declared["data"]),
     ]
-    said = b"MSYS" + words(1, *memory, *(len(section) for section in sections), len(threads))
+    # version 2 is the first that has promises
+    if declared["promise"]:
+        sections.append(sorted((names[endpoint], *promised(content)) for endpoint, *content in declared["promise"]))
+    said = b"MSYS" + words(2 if declared["promise"] else 1, *memory, *(len(section) for section in sections), len(threads))
     for section in sections:
         for entry in section:
             said += words(*entry)
