@@ -107,7 +107,7 @@ def main():
     print("//! Made by `tools/instruction_table.py`.")
     print()
     print("/// Each instruction with 32 choices of its operands: word and line.")
-    print('pub const ROWS: &str = "')
+    print('pub(crate) const ROWS: &str = "')
     for word, line in zip(made, program):
         print(f"    0x{word:08X} {line}")
     print('";')

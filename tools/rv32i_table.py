@@ -134,7 +134,7 @@ def main():
         print(f"//! {version.splitlines()[0]}.")
     print()
     print("/// The word and its address; x5 and x6; behind it x7, the pc, and the two words of memory.")
-    print('pub const ROWS: &str = "\\')
+    print('pub(crate) const ROWS: &str = "\\')
     print("\n".join(rows) + '";')
 
 

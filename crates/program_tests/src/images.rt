@@ -88,22 +88,22 @@ fn image_of(alloc: Global, thread: &str) -> Result<Vec<u8>, Fail> {
 }
 
 /// The 328 bytes of bell.
-pub fn bell(alloc: Global) -> Result<Vec<u8>, Fail> {
+pub(crate) fn bell(alloc: Global) -> Result<Vec<u8>, Fail> {
     image_of(alloc, BELL)
 }
 
 /// The 428 bytes of solo.
-pub fn solo(alloc: Global) -> Result<Vec<u8>, Fail> {
+pub(crate) fn solo(alloc: Global) -> Result<Vec<u8>, Fail> {
     image_of(alloc, SOLO)
 }
 
 /// The worker that takes a frame from its pool, and the receiver that it informs, 872 bytes.
-pub fn worker(alloc: Global) -> Result<Vec<u8>, Fail> {
+pub(crate) fn worker(alloc: Global) -> Result<Vec<u8>, Fail> {
     bytes_of(alloc, WORKER)
 }
 
 /// An image with one word changed, which is within it.
-pub fn with_word(mut image: Vec<u8>, at: usize, word: u32) -> Result<Vec<u8>, Fail> {
+pub(crate) fn with_word(mut image: Vec<u8>, at: usize, word: u32) -> Result<Vec<u8>, Fail> {
     if image.len() < at.saturating_add(4) {
         return Err("the word stands behind the image".into());
     }

@@ -21,6 +21,10 @@ pub trait View {
     ghost rest: { Self → Rest };
 
     /// The place that an address names for an access.
+    ///
+    /// # Errors
+    ///
+    /// The address has no such right: a fault at that address.
     fn place(&self, address: u32, access: Access) -> Result<u32, MemoryFault>
         ensures { result ≡ place_at (content self.now) access address };
 
@@ -36,6 +40,10 @@ pub trait View {
         ensures rest { rest self.new ≡ rest self.old };
 
     /// The number at an address, lowest byte first.
+    ///
+    /// # Errors
+    ///
+    /// One of its bytes has no such right: a fault at the first.
     fn number(&self, address: u32, size: AccessSize, access: Access) -> Result<u32, MemoryFault>
         ensures value { result ≡ loaded (content self.now) access size address }
         ensures range { IfOk result (FitsSize size) }
@@ -70,6 +78,10 @@ pub trait View {
     }
 
     /// The number at an address, for an instruction that loads it.
+    ///
+    /// # Errors
+    ///
+    /// One of its bytes may not be read: a fault at the first.
     fn load(&self, address: u32, size: AccessSize) -> Result<u32, MemoryFault>
         ensures value { result ≡ loaded (content self.now) Access.Load size address }
         ensures range { IfOk result (FitsSize size) }
@@ -78,14 +90,21 @@ pub trait View {
     }
 
     /// The word at an address, to be run.
+    ///
+    /// # Errors
+    ///
+    /// One of its bytes may not be run: a fault at the first.
     fn fetch(&self, address: u32) -> Result<u32, MemoryFault>
         ensures { result ≡ loaded (content self.now) Access.Fetch AccessSize.Word address }
     {
         self.number(address, AccessSize::Word, Access::Fetch)
     }
 
-    /// Puts the low bytes of a number at an address, lowest byte first. Where one of them has no right,
-    /// nothing changes.
+    /// Puts the low bytes of a number at an address, lowest byte first.
+    ///
+    /// # Errors
+    ///
+    /// One of them may not be written: a fault at the first. Nothing changes then.
     fn set_number(&mut self, address: u32, size: AccessSize, value: u32) -> Result<(), MemoryFault>
         ensures content { MatchResult
             result
@@ -123,8 +142,11 @@ pub trait View {
         Ok(())
     }
 
-    /// Stores the low bytes of a number at an address, for an instruction that stores it. Where one of
-    /// them has no right, nothing changes.
+    /// Stores the low bytes of a number at an address, for an instruction that stores it.
+    ///
+    /// # Errors
+    ///
+    /// One of them may not be written: a fault at the first. Nothing changes then.
     fn store(&mut self, address: u32, size: AccessSize, value: u32) -> Result<(), MemoryFault>
         ensures content { MatchResult
             result

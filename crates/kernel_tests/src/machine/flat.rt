@@ -7,7 +7,7 @@ use rv32_exec::View;
 
 /// Bytes from [`Flat::BASE`] on, which can be loaded, stored and fetched, and a number beside them.
 #[derive(Drop)]
-pub struct Flat {
+pub(crate) struct Flat {
     bytes: [u8; 32],
     beside: u32,
 }
@@ -18,7 +18,7 @@ impl Flat {
     pub const END: u32 = 0x2_0020;
 
     /// Zeros, with this number beside them.
-    pub fn new(beside: u32) -> Self
+    pub(crate) fn new(beside: u32) -> Self
         ensures { result.beside ≡ beside }
     {
         Flat {
@@ -28,7 +28,7 @@ impl Flat {
     }
 
     /// The number beside the bytes. No instruction changes it.
-    pub fn beside(&self) -> u32
+    pub(crate) fn beside(&self) -> u32
         ensures { result ≡ self.now.beside }
     {
         self.beside

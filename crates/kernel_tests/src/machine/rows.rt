@@ -3,7 +3,7 @@
 use std::test::Fail;
 
 /// The numbers and the text of a row. There have to be just as many numbers as are asked for.
-pub fn row<const N: usize>(line: &str) -> Result<([u32; N], &str), Fail> {
+pub(crate) fn row<const N: usize>(line: &str) -> Result<([u32; N], &str), Fail> {
     let (list, text) = line.split_once(" | ").ok_or(line)?;
     let mut words = list.split_whitespace();
     let mut numbers = [0; N];

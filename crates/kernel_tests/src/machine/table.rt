@@ -3,7 +3,7 @@
 //! qemu-riscv32 version 7.2.22 (Debian 1:7.2+dfsg-7+deb12u18+b3).
 
 /// The word and its address; x5 and x6; after it x7, the pc, and the two words of memory.
-pub const ROWS: &str = "\
+pub(crate) const ROWS: &str = "\
 0x006283B3 0x00001000 0x00000000 0x00000000 0x00000000 0x00001004 0x80FF7F01 0x8001FE7F | add x7, x5, x6
 0x006283B3 0x00001000 0x00000001 0xFFFFFFFF 0x00000000 0x00001004 0x80FF7F01 0x8001FE7F | add x7, x5, x6
 0x006283B3 0x00001000 0x80000000 0x00000001 0x80000001 0x00001004 0x80FF7F01 0x8001FE7F | add x7, x5, x6

@@ -3,7 +3,7 @@
 //! Made by `tools/instruction_table.py`.
 
 /// Each instruction with 32 choices of its operands: word and line.
-pub const ROWS: &str = "
+pub(crate) const ROWS: &str = "
     0x01938233 start: add x4, x7, x25
     0x01A08EB3 p1: add x29, x1, x26
     0x00980333 p2: add x6, x16, x9

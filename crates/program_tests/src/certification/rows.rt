@@ -16,7 +16,7 @@ const FRONT: &str =
 const WAIT: &str = "wait: addi x10 x0 1\naddi x17 x0 5\necall\njal x0 wait\nend\n";
 
 /// Asserts that a text comes back with certificates, and with these budgets.
-pub fn certified_with<R: AllocGlobal + Abort>(
+pub(crate) fn certified_with<R: AllocGlobal + Abort>(
     rt: &R,
     text: &str,
     budgets: &str,
@@ -30,7 +30,7 @@ pub fn certified_with<R: AllocGlobal + Abort>(
 }
 
 /// The text of a thread with these loops before it waits.
-pub fn text_with<R: AllocGlobal>(rt: &R, loops: &str) -> Result<String, Fail> {
+pub(crate) fn text_with<R: AllocGlobal>(rt: &R, loops: &str) -> Result<String, Fail> {
     let mut text = String::new(rt.alloc());
     'parts: for part in [FRONT, loops, WAIT] {
         text.push_str(part)?;
@@ -39,6 +39,10 @@ pub fn text_with<R: AllocGlobal>(rt: &R, loops: &str) -> Result<String, Fail> {
 }
 
 /// Asserts that a thread with these loops comes back with this budget.
-pub fn loops_have<R: AllocGlobal + Abort>(rt: &R, loops: &str, budgets: &str) -> Result<(), Fail> {
+pub(crate) fn loops_have<R: AllocGlobal + Abort>(
+    rt: &R,
+    loops: &str,
+    budgets: &str,
+) -> Result<(), Fail> {
     certified_with(rt, text_with(rt, loops)?.as_str(), budgets)
 }

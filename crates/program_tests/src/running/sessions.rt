@@ -10,13 +10,13 @@ use std::{env, fs, str};
 const ROOM: usize = 500_000;
 
 /// A file's name. No two tests have a file in common.
-pub fn name_of<R: Env + AllocGlobal>(rt: &R, name: &str) -> Result<String, Fail> {
+pub(crate) fn name_of<R: Env + AllocGlobal>(rt: &R, name: &str) -> Result<String, Fail> {
     let folder = env::temp_dir(rt)?;
     Ok(format!(in rt.alloc(); "{}/microsys-{name}", folder.as_path().as_str())?)
 }
 
 /// Writes a file of these bytes.
-pub fn put_file<R: Files + Env + AllocGlobal>(
+pub(crate) fn put_file<R: Files + Env + AllocGlobal>(
     rt: &R,
     name: &str,
     bytes: &[u8],
@@ -25,7 +25,10 @@ pub fn put_file<R: Files + Env + AllocGlobal>(
 }
 
 /// Removes files, and returns the bytes of the last one.
-pub fn take_files<R: Files + Env + AllocGlobal>(rt: &R, names: &str) -> Result<Vec<u8>, Fail> {
+pub(crate) fn take_files<R: Files + Env + AllocGlobal>(
+    rt: &R,
+    names: &str,
+) -> Result<Vec<u8>, Fail> {
     let mut bytes = Vec::new(rt.alloc());
     for name in names.split_whitespace() {
         let file = name_of(rt, name)?;
@@ -36,7 +39,7 @@ pub fn take_files<R: Files + Env + AllocGlobal>(rt: &R, names: &str) -> Result<V
 }
 
 /// What the program prints for words: its output, `status` with its status, and its errors.
-pub fn answer_to<R: Files + Env + AllocGlobal>(rt: &R, words: &str) -> Result<String, Fail> {
+pub(crate) fn answer_to<R: Files + Env + AllocGlobal>(rt: &R, words: &str) -> Result<String, Fail> {
     let words = words.replace(rt.alloc(), '@', name_of(rt, "")?.as_str())?;
     let mut list = Vec::new(rt.alloc());
     for word in words.split_whitespace() {
@@ -54,7 +57,10 @@ pub fn answer_to<R: Files + Env + AllocGlobal>(rt: &R, words: &str) -> Result<St
 
 /// Plays a session, line for line: after `$ microsys` are words, and after those what the program prints for them.
 /// `@` begins the name of a file.
-pub fn plays<R: Files + Env + AllocGlobal + Abort>(rt: &R, session: &str) -> Result<(), Fail> {
+pub(crate) fn plays<R: Files + Env + AllocGlobal + Abort>(
+    rt: &R,
+    session: &str,
+) -> Result<(), Fail> {
     let folder = name_of(rt, "")?;
     let mut want = String::new(rt.alloc());
     let mut found = String::new(rt.alloc());

@@ -13,7 +13,7 @@ use std::test::Fail;
 use verify::verify;
 
 /// Makes NAME.img by the program, of pieces of its text.
-pub fn put_image<R: Files + Env + AllocGlobal + Abort>(
+pub(crate) fn put_image<R: Files + Env + AllocGlobal + Abort>(
     rt: &R,
     name: &str,
     pieces: &[&str],

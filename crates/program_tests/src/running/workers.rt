@@ -2,7 +2,7 @@
 //! back, for ever. In memory of 2^17 bytes, with 64 KiB of untyped memory at 0x10000, the worker is at 0x16000.
 
 /// The objects of both.
-pub const OBJECTS: &str = "memory 17 5
+pub(crate) const OBJECTS: &str = "memory 17 5
     untyped u 0x10000 16
     object code u frame
     object vs u root
@@ -19,7 +19,7 @@ pub const OBJECTS: &str = "memory 17 5
 ";
 
 /// Their capabilities and mappings.
-pub const SPACES: &str = "
+pub(crate) const SPACES: &str = "
     cap cs 1 pool 0 0
     cap cs 2 cs 0 28
     cap cs 3 vs 0 0
@@ -32,7 +32,7 @@ pub const SPACES: &str = "
 ";
 
 /// The worker with its certificate. It begins after its Revoke.
-pub const WORKER: &str = "
+pub(crate) const WORKER: &str = "
     thread worker cs 28 vs 100 28 0 start 0x1000
     reg x17 1
     reg x18 4
@@ -83,7 +83,7 @@ pub const WORKER: &str = "
 ";
 
 /// The worker with its store after its Revoke, which takes the page away, and without a certificate.
-pub const LATE_WORKER: &str = "
+pub(crate) const LATE_WORKER: &str = "
     thread worker cs 28 vs 100 100 0 start 0x1000
     reg x17 1
     reg x18 4
@@ -121,7 +121,7 @@ pub const LATE_WORKER: &str = "
 ";
 
 /// The thread that receives what the worker sends.
-pub const RECEIVER: &str = "
+pub(crate) const RECEIVER: &str = "
     thread receiver cs2 28 vs2 100 3 0 again 0x1000
     reg x17 5
     measure 2
@@ -133,7 +133,7 @@ pub const RECEIVER: &str = "
 ";
 
 /// The objects of a driver beside them, above both: it waits for line 3 and acknowledges it, for ever.
-pub const DRIVER_OBJECTS: &str = "
+pub(crate) const DRIVER_OBJECTS: &str = "
     object code3 u frame
     object vs3 u root
     object pt3 u table
@@ -144,7 +144,7 @@ pub const DRIVER_OBJECTS: &str = "
 ";
 
 /// Its capabilities and mappings.
-pub const DRIVER_SPACES: &str = "
+pub(crate) const DRIVER_SPACES: &str = "
     cap cs3 1 bell 2 0
     cap cs3 2 line 0 0
     table vs3 0 pt3
@@ -152,7 +152,7 @@ pub const DRIVER_SPACES: &str = "
 ";
 
 /// Its program and certificate.
-pub const DRIVER: &str = "
+pub(crate) const DRIVER: &str = "
     thread driver cs3 28 vs3 101 8 0 again 0x1000
     measure 3
     again: addi x10 x0 1

@@ -9,7 +9,7 @@ use std::test::Fail;
 use verify::verify;
 
 /// What is said of the bytes of an image: `accepted`, or the refusal's name, its two items, and the error of a refused call.
-pub fn verdict_on(alloc: Global, bytes: &[u8]) -> Result<String, Fail> {
+pub(crate) fn verdict_on(alloc: Global, bytes: &[u8]) -> Result<String, Fail> {
     let Err(refusal) = verify(alloc, bytes) else {
         return Ok(format!(in alloc; "accepted")?);
     };
@@ -25,20 +25,20 @@ pub fn verdict_on(alloc: Global, bytes: &[u8]) -> Result<String, Fail> {
 }
 
 /// The bytes of the image of a text.
-pub fn bytes_of(alloc: Global, text: &str) -> Result<Vec<u8>, Fail> {
+pub(crate) fn bytes_of(alloc: Global, text: &str) -> Result<Vec<u8>, Fail> {
     let image = assemble(alloc, text).ok().ok_or("the text is at fault")?;
     Ok(write(alloc, &image)?)
 }
 
 /// What is said of the image of a text.
-pub fn verdict(alloc: Global, text: &str) -> Result<String, Fail> {
+pub(crate) fn verdict(alloc: Global, text: &str) -> Result<String, Fail> {
     let bytes = bytes_of(alloc, text)?;
     verdict_on(alloc, bytes.as_slice())
 }
 
 /// A text with some lines put another way: each change is a line's number, counted from 1, and what is in its place, and
 /// ` ; ` parts them. `/` is the end of a line.
-pub fn changed(alloc: Global, text: &str, changes: &str) -> Result<String, Fail> {
+pub(crate) fn changed(alloc: Global, text: &str, changes: &str) -> Result<String, Fail> {
     let mut found = String::new(alloc);
     let mut left = text.lines();
     let mut passed = 0usize;
@@ -60,7 +60,11 @@ pub fn changed(alloc: Global, text: &str, changes: &str) -> Result<String, Fail>
 }
 
 /// Asserts what is said of a text with the changes of each row.
-pub fn are_said(rt: &(impl Abort + AllocGlobal), text: &str, rows: &str) -> Result<(), Fail> {
+pub(crate) fn are_said(
+    rt: &(impl Abort + AllocGlobal),
+    text: &str,
+    rows: &str,
+) -> Result<(), Fail> {
     for row in rows.trim().lines() {
         let row = row.trim_start();
         if row.is_empty() || row.starts_with('#') {
