@@ -71,7 +71,7 @@ PROGRAMS = [
     ("pair", {22: "map vs2 0x1000 code2 4\npromise door 0 7 0 9"},
         {32: ["PromiseNotKept", "thread one", "`door`", "x12", "65", "0..9", "too large by 56"]}),
     ("pair", {22: "map vs2 0x1000 code2 4\npromise door 0 6 0 99"}, {32: ["PromiseNotKept", "`door`", "badge 7", "0..6"]}),
-    ("pair", {22: "map vs2 0x1000 code2 4\npromise door 7 7 65 65 0 9"}, {32: ["PromiseNotKept", "a1", "promised are 2"]}),
+    ("pair", {22: "map vs2 0x1000 code2 4\npromise door 7 7 65 65 0 9"}, {32: ["PromiseNotKept", "a1", "promised: 2"]}),
     ("pair", {22: "map vs2 0x1000 code2 4\npromise door 0 7 0 99", 27: "addi x11 x10 0", 28: "addi x10 x0 2"},
         {32: ["CallNotConstant", "x11 (a1"]}),
     ("count", {23: "addi x17 x0 10"}, {24: ["x17 (a7) is 10", "1 to 9"]}),

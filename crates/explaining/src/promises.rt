@@ -23,7 +23,7 @@ fn push_count(to: &mut String, given: u32, promised: u32) -> Result<(), AllocErr
     if given < promised {
         write!(
             to,
-            "  {given} words, by the low 7 bits of a1; promised are {promised}\n"
+            "  words: {given}, by the low 7 bits of a1; promised: {promised}\n"
         )
     } else {
         Ok(())
