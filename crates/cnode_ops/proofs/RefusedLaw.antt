@@ -38,7 +38,7 @@ kind_in p = option_map_or (λ q. q.0) p NewFrame
 -- how many slots an object of a type has
 abbrev slots_of_kind : NewObject → ℕ
 slots_of_kind (NewUntyped bits) = 0
-slots_of_kind NewThread = 2
+slots_of_kind NewThread = 3
 slots_of_kind NewEndpoint = 0
 slots_of_kind NewNotification = 0
 slots_of_kind (NewCNode radix) = 2 ^ radix
@@ -247,7 +247,7 @@ module _ (s : State) (sound : IsSound s) (set : Removed) (near : (y : ℕ) → I
   at-slot y less (RootTable f) is = without-slots y f NewRootTable (ap object_named is) refl
   at-slot y less (CNode f radix g) is = with-slots y f (NewCNode radix) (2 ^ radix) less (ap object_named is) (ap (names_object f) is ∙ eq-eqb f f refl)
       (λ clash. absurd cc) refl
-  at-slot y less (Tcb f) is = with-slots y f NewThread 2 less (ap object_named is) (ap (names_object f) is ∙ eq-eqb f f refl) (λ clash. absurd cc) refl
+  at-slot y less (Tcb f) is = with-slots y f NewThread 3 less (ap object_named is) (ap (names_object f) is ∙ eq-eqb f f refl) (λ clash. absurd cc) refl
 
   some-same : (first count : ℕ) (a b : ℕ → Bool) → ((y : ℕ) → y < first + count → a y ≡ b y) → some_slot first count a ≡ some_slot first count b
   some-same first count a b same = bool-iff (some_slot first count a) (some_slot first count b)

@@ -66,7 +66,7 @@ fn slots_named(capability: Cap) -> u32
 {
     match capability {
         Cap::CNode { radix, .. } => 1 << radix,
-        Cap::Tcb { .. } => 2,
+        Cap::Tcb { .. } => 3,
         _ => 0,
     }
 }

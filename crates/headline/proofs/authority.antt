@@ -3,6 +3,7 @@ mod Answering
 mod Awaited
 mod CallsMade
 mod Changes
+mod Deliveries
 mod EndpointCalls
 mod FurtherUsed
 mod Gains

@@ -5,6 +5,8 @@ mod KeptCode
 mod StandingOn
 mod StartObjects
 mod OwnBlocks
+mod BlockSlots
+mod NoBuffers
 mod FrameRules
 mod FramePlaces
 mod StoredPlaces

@@ -3,7 +3,7 @@
 use Rattle.std.specs.Prelude.{ℕ}
 use Rattle.invoke.specs.declared.methods.Method.{Method}
 use Rattle.invoke.specs.declared.methods.Method.TheVariants as methods
-use Rattle.model.specs.Kernel.CallForms.{retype_label, configure_label, set_priority_label, set_register_label, resume_label, suspend_label}
+use Rattle.model.specs.Kernel.CallForms.{retype_label, configure_label, set_priority_label, set_register_label, resume_label, suspend_label, set_buffer_label}
 use Rattle.model.specs.Kernel.CallForms.{copy_label, mint_label, move_label, mutate_label, delete_label, revoke_label}
 use Rattle.model.specs.Kernel.CallForms.{map_frame_label, unmap_frame_label, map_table_label, unmap_table_label}
 use Rattle.model.specs.Kernel.CallForms.{get_handler_label, acknowledge_label, set_notification_label, clear_label}
@@ -29,3 +29,4 @@ label_of methods.GetHandler = get_handler_label
 label_of methods.Acknowledge = acknowledge_label
 label_of methods.SetNotification = set_notification_label
 label_of methods.Clear = clear_label
+label_of methods.SetBuffer = set_buffer_label

@@ -48,6 +48,9 @@ fn thread_call(thread: u32, method: Method, words: &[u32]) -> Option<Invocation>
         },
         Method::Resume => ThreadCall::Resume,
         Method::Suspend => ThreadCall::Suspend,
+        Method::SetBuffer => ThreadCall::SetBuffer {
+            frame: slot_name(words, 0),
+        },
         _ => return None,
     };
     Some(Invocation::OnThread { thread, call })

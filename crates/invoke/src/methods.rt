@@ -49,6 +49,8 @@ pub enum Method {
     SetNotification,
     /// An interrupt line signals nothing any more.
     Clear,
+    /// The frame of a thread's message buffer.
+    SetBuffer,
 }
 
 impl Method {
@@ -78,10 +80,11 @@ impl Method {
             Method::Acknowledge => (18, "Ack", 0),
             Method::SetNotification => (19, "SetNotification", 2),
             Method::Clear => (20, "Clear", 0),
+            Method::SetBuffer => (21, "SetBuffer", 2),
         }
     }
 
-    /// The label by which messages ask for it, 1 to 20.
+    /// The label by which messages ask for it, 1 to 21.
     pub fn label(self) -> u32
         ensures { result ≡ label_of self }
     {
@@ -126,6 +129,7 @@ impl Method {
             18 => Method::Acknowledge,
             19 => Method::SetNotification,
             20 => Method::Clear,
+            21 => Method::SetBuffer,
             _ => return None,
         })
     }

@@ -1,12 +1,14 @@
 //! Threads that get messages, and go on after their calls.
 
 ghost use Rattle.std.specs.Prelude.{ℕ, ◌≡◌, Some};
+ghost use Rattle.ipc.specs.Buffers.{MayHandOver};
 ghost use Rattle.model.specs.Kernel.Kinds.{kind_at};
-ghost use Rattle.model.specs.Kernel.Messages.{deliver, deliver_word, message_sent, passes, passes_with};
+ghost use Rattle.model.specs.Kernel.Messages.{bytes_between, deliver, deliver_sent, deliver_with, deliver_word, passes, passes_with};
 ghost use Rattle.model.specs.Kernel.Retype.{NewThread};
 ghost use Rattle.objects.specs.Lives.{Beside, state};
-ghost use Rattle.objects.specs.thread_records.Threads.{sender_of, sent_of};
+ghost use Rattle.objects.specs.thread_records.Threads.{sender_of};
 
+use crate::buffers::{copy_between, message_between};
 use crate::registers::{Message, advanced, delivered, with_word};
 use objects::{Live, Sent, WaitingSender};
 use rv32_exec::Regs;
@@ -34,8 +36,8 @@ pub fn pass_with<S: SlotStore>(live: &mut Live<S>, thread: u32, registers: Regs)
     pass(live, thread);
 }
 
-/// A thread gets a message, and goes on.
-pub(crate) fn deliver<S: SlotStore>(live: &mut Live<S>, thread: u32, badge: u32, message: &Message)
+/// A thread gets a message in its registers, and goes on.
+fn deliver<S: SlotStore>(live: &mut Live<S>, thread: u32, badge: u32, message: &Message)
     requires there { kind_at (state S.SlotStore live.old) thread ≡ Some NewThread }
     ensures state { state S.SlotStore live.new
         ≡ deliver (state S.SlotStore live.old) thread badge message.now }
@@ -56,12 +58,36 @@ pub fn deliver_word<S: SlotStore>(live: &mut Live<S>, thread: u32, word: u32)
     pass_with(live, thread, with_word(registers, word));
 }
 
-/// What a sender's message is at its delivery.
-pub(crate) fn message_sent<S: SlotStore>(live: &Live<S>, sender: &WaitingSender) -> Message
-    ensures { result ≡ message_sent (state S.SlotStore live.now) (sender_of sender.now.thread sender.now.sending) (sent_of sender.now.sending.sent) }
+/// A thread gets a message of another one in its registers and its buffer, and goes on.
+pub(crate) fn hand_over<S: SlotStore>(
+    live: &mut Live<S>,
+    from: u32,
+    to: u32,
+    badge: u32,
+    message: &Message,
+)
+    requires { MayHandOver (state S.SlotStore live.old) from to }
+    ensures state { state S.SlotStore live.new
+        ≡ deliver_with (state S.SlotStore live.old) (bytes_between (state S.SlotStore live.old) from to message.now.count) to badge message.now }
+    ensures beside { Beside S.SlotStore live.old live.new }
 {
+    copy_between(live, from, to, message.count());
+    deliver(live, to, badge, message);
+}
+
+/// A thread gets what a sender says, and goes on. A fault goes by registers alone.
+pub(crate) fn deliver_sent<S: SlotStore>(live: &mut Live<S>, sender: &WaitingSender, receiver: u32)
+    requires { MayHandOver (state S.SlotStore live.old) sender.now.thread receiver }
+    ensures state { state S.SlotStore live.new
+        ≡ deliver_sent (state S.SlotStore live.old) (sender_of sender.now.thread sender.now.sending) receiver }
+    ensures beside { Beside S.SlotStore live.old live.new }
+{
+    let badge = sender.sending.badge;
     match sender.sending.sent {
-        Sent::Send | Sent::Call => Message::of(&live.registers(sender.thread)),
-        Sent::Fault(fault) => Message::of_fault(fault),
+        Sent::Send | Sent::Call => {
+            let message = message_between(live, sender.thread, receiver);
+            hand_over(live, sender.thread, receiver, badge, &message);
+        }
+        Sent::Fault(fault) => deliver(live, receiver, badge, &Message::of_fault(fault)),
     }
 }

@@ -1,6 +1,7 @@
 //! Receiving from an endpoint.
 
 ghost use Rattle.std.specs.Prelude.{ℕ, ◌≡◌, [], Some};
+ghost use Rattle.ipc.specs.Buffers.{HaveBuffers, MayHandOver};
 ghost use Rattle.model.specs.Kernel.Kinds.{kind_at};
 ghost use Rattle.model.specs.Kernel.Messages.{deliver_word, receive, receive_from, receives, try_to_receive, waits_to_receive};
 ghost use Rattle.model.specs.Kernel.Retype.{NewEndpoint, NewThread};
@@ -10,7 +11,7 @@ ghost use Rattle.objects.specs.Lives.{Beside, state};
 ghost use Rattle.objects.specs.thread_records.Threads.{sender_of};
 ghost use Rattle.objects.specs.Waiting.{IsOneSided, StandsNowhere};
 
-use crate::deliveries::{deliver, deliver_word, message_sent};
+use crate::deliveries::{deliver_sent, deliver_word};
 use crate::receipts::received_waiting;
 use objects::{Live, Status, WaitingSender};
 use slots::SlotStore;
@@ -31,14 +32,12 @@ fn wait_to_receive<S: SlotStore>(live: &mut Live<S>, endpoint: u32, thread: u32)
 
 /// A thread that runs receives from a sender that waited.
 fn receive_from<S: SlotStore>(live: &mut Live<S>, sender: WaitingSender, receiver: u32)
-    requires sender { kind_at (state S.SlotStore live.old) sender.thread ≡ Some NewThread }
-    requires receiver { kind_at (state S.SlotStore live.old) receiver ≡ Some NewThread }
+    requires { MayHandOver (state S.SlotStore live.old) sender.thread receiver }
     ensures state { state S.SlotStore live.new
         ≡ receive_from (state S.SlotStore live.old) (sender_of sender.thread sender.sending) receiver }
     ensures beside { Beside S.SlotStore live.old live.new }
 {
-    let message = message_sent(live, &sender);
-    deliver(live, receiver, sender.sending.badge, &message);
+    deliver_sent(live, &sender, receiver);
     received_waiting(live, sender, receiver);
 }
 
@@ -47,6 +46,7 @@ fn receive_or_wait<S: SlotStore>(live: &mut Live<S>, endpoint: u32, thread: u32)
     requires endpoint { kind_at (state S.SlotStore live.old) endpoint ≡ Some NewEndpoint }
     requires there { kind_at (state S.SlotStore live.old) thread ≡ Some NewThread }
     requires one_sided { IsOneSided (endpoint_at (state S.SlotStore live.old) endpoint) }
+    requires buffers { HaveBuffers (state S.SlotStore live.old) }
     requires apart { StandsNowhere (state S.SlotStore live.old).objects thread }
     ensures state { state S.SlotStore live.new
         ≡ receives (state S.SlotStore live.old) endpoint thread (waits_to_receive (state S.SlotStore live.old) endpoint thread) (endpoint_at (state S.SlotStore live.old) endpoint).senders }
@@ -63,6 +63,7 @@ fn receive_or_pass<S: SlotStore>(live: &mut Live<S>, endpoint: u32, thread: u32)
     requires endpoint { kind_at (state S.SlotStore live.old) endpoint ≡ Some NewEndpoint }
     requires there { kind_at (state S.SlotStore live.old) thread ≡ Some NewThread }
     requires one_sided { IsOneSided (endpoint_at (state S.SlotStore live.old) endpoint) }
+    requires buffers { HaveBuffers (state S.SlotStore live.old) }
     ensures state { state S.SlotStore live.new
         ≡ receives (state S.SlotStore live.old) endpoint thread (deliver_word (state S.SlotStore live.old) thread 0) (endpoint_at (state S.SlotStore live.old) endpoint).senders }
     ensures beside { Beside S.SlotStore live.old live.new }

@@ -1,21 +1,21 @@
 //! Messages in registers: what a sender's hold, and what a receiver's become.
 
-ghost use Rattle.std.specs.Prelude.{ℕ, ◌≡◌, ◌==◌, ◌+◌, ◌<◌, ◌≤◌, ◌^◌, length, slice_index_or};
+ghost use Rattle.std.specs.Prelude.{ℕ, ◌≡◌, ◌==◌, ◌+◌, ◌%◌, ◌<◌, ◌≤◌, ◌^◌, min, length, slice_index_or};
 ghost use Rattle.ipc.specs.Registers.{message_for, message_in};
-ghost use Rattle.model.specs.Kernel.Messages.{delivered, register, resumption, word_registers, write_words};
+ghost use Rattle.model.specs.Kernel.Messages.{a1, delivered, length_of, register, register_words, resumption, word_registers, write_words};
 ghost use Rattle.model.specs.Machine.Effects.{advanced};
 ghost use Rattle.model.specs.Machine.Instructions.{IsRegister};
-ghost use Rattle.model.specs.Machine.ProgramMemory.{write};
+ghost use Rattle.model.specs.Machine.ProgramMemory.{read, write};
 
 use model::{FaultKind, Register};
 use objects::Fault;
 use rv32_exec::Regs;
 use std::marker::Model;
 
-/// How many words a message has at most.
-const MOST_WORDS: u32 = 8;
+/// How many words of a message registers hold at most.
+pub(crate) const REGISTER_WORDS: u32 = 8;
 
-/// A message: its label, and the first so many of the words.
+/// A message: its label, how many words it has, and those of them that registers hold, which are the first so many of these.
 #[derive(Drop)]
 pub struct Message {
     label: u32,
@@ -30,21 +30,29 @@ impl Model for Message {
 
     ghost Value = { messages.Message };
 
-    ghost view = { λ m. record { label = m.label; words = take m.count m.words } };
+    ghost view = { λ m. record { label = m.label; count = m.count; words = take m.count m.words } };
 
     ghost invariant = { λ m. FitsInfo m.label m.count };
 }
 
 impl Message {
     /// The message in a sender's registers. A length above 8 counts as 8.
-    #[tactic(auto, unfolding(model::specs::Kernel::Messages::word_registers))]
     pub fn of(registers: &Regs) -> Self
         ensures { result ≡ message_in registers.now }
     {
-        let info = registers.read(Register::A1);
+        Message::of_length(registers, length_named(registers).min(REGISTER_WORDS))
+    }
+
+    /// The message in a sender's registers, of so many words: the length that they name, or fewer, but all that registers hold.
+    #[tactic(auto, unfolding(model::specs::Kernel::Messages::word_registers))]
+    pub(crate) fn of_length(registers: &Regs, count: u32) -> Self
+        requires few { count ≤ 120 }
+        requires held { min register_words count ≡ length_of (read registers.now a1) }
+        ensures { result ≡ record (message_in registers.now) { count = count } }
+    {
         Message {
-            label: info / 0x1000,
-            count: MOST_WORDS.min(info % 0x80),
+            label: registers.read(Register::A1) / 0x1000,
+            count,
             words: [
                 registers.read(Register(12)),
                 registers.read(Register(13)),
@@ -118,11 +126,19 @@ impl Message {
         self.label
     }
 
-    /// Its words, at most 8.
+    /// How many words it has, at most 120.
+    pub(crate) fn count(&self) -> u32
+        ensures value { result ≡ self.now.count }
+        ensures most { result ≤ 120 }
+    {
+        self.count
+    }
+
+    /// Its words that registers hold, at most 8.
     pub fn words(&self) -> &[u32]
         ensures { result.now ≡ self.now.words }
     {
-        &self.words[..self.count as usize]
+        &self.words[..self.count.min(REGISTER_WORDS) as usize]
     }
 
     /// Whether it resumes a thread that faulted.
@@ -151,6 +167,13 @@ impl Message {
         now.set_pc(self.resumption(registers.pc()));
         now
     }
+}
+
+/// How many words a sender's registers say that the message has: 0 to 127.
+pub(crate) fn length_named(registers: &Regs) -> u32
+    ensures { result ≡ read registers.now a1 % 2 ^ 7 }
+{
+    registers.read(Register::A1) % 0x80
 }
 
 /// The register that holds a word of a message: a2 to a5, then s2 to s5.
@@ -184,7 +207,7 @@ pub(crate) fn delivered(registers: Regs, badge: u32, message: &Message) -> Regs
     let mut now = registers;
     now.write(Register::A0, badge);
     now.write(Register::A1, 0x1000 * message.label + message.count);
-    write_words(&mut now, &message.words[..message.count as usize]);
+    write_words(&mut now, message.words());
     now
 }
 

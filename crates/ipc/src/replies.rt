@@ -1,28 +1,30 @@
 //! Replies to callers, and to threads that faulted.
 
 ghost use Rattle.std.specs.Prelude.{ℕ, ◌≡◌, None, Some};
+ghost use Rattle.ipc.specs.Buffers.{MayHandOver};
 ghost use Rattle.ipc.specs.Registers.{resumed};
 ghost use Rattle.model.specs.Kernel.Kinds.{kind_at};
-ghost use Rattle.model.specs.Kernel.Messages.{message_of, replied, reply, reply_to_call, reply_to_fault, with_caller};
+ghost use Rattle.model.specs.Kernel.Messages.{message_between, replied, reply, reply_to_call, reply_to_fault, with_caller};
 ghost use Rattle.model.specs.Kernel.Retype.{NewThread};
 ghost use Rattle.model.specs.Kernel.Soundness.{IsSound};
 ghost use Rattle.model.specs.Kernel.State.{thread_at};
 ghost use Rattle.objects.specs.Lives.{Beside, state};
 ghost use Rattle.objects.specs.thread_records.Threads.{status_of};
 
-use crate::deliveries::deliver;
+use crate::buffers::message_between;
+use crate::deliveries::hand_over;
 use crate::registers::Message;
 use objects::{Live, Status};
 use slots::SlotStore;
 
-/// A caller gets the reply as a message with badge 0, and runs again.
-fn reply_to_call<S: SlotStore>(live: &mut Live<S>, caller: u32, message: &Message)
-    requires there { kind_at (state S.SlotStore live.old) caller ≡ Some NewThread }
+/// A caller gets the reply of a thread as a message with badge 0, and runs again.
+fn reply_to_call<S: SlotStore>(live: &mut Live<S>, thread: u32, caller: u32, message: &Message)
+    requires { MayHandOver (state S.SlotStore live.old) thread caller }
     ensures state { state S.SlotStore live.new
-        ≡ reply_to_call (state S.SlotStore live.old) caller message.now }
+        ≡ reply_to_call (state S.SlotStore live.old) thread caller message.now }
     ensures beside { Beside S.SlotStore live.old live.new }
 {
-    deliver(live, caller, 0, message);
+    hand_over(live, thread, caller, 0, message);
     live.wake(caller);
 }
 
@@ -52,15 +54,21 @@ fn reply_to_fault<S: SlotStore>(live: &mut Live<S>, thread: u32, message: &Messa
     }
 }
 
-/// The caller gets the answer that it waits for.
-fn answer<S: SlotStore>(live: &mut Live<S>, caller: u32, status: Status, message: &Message)
-    requires there { kind_at (state S.SlotStore live.old) caller ≡ Some NewThread }
+/// The caller gets the answer of a thread that it waits for.
+fn answer<S: SlotStore>(
+    live: &mut Live<S>,
+    thread: u32,
+    caller: u32,
+    status: Status,
+    message: &Message,
+)
+    requires { MayHandOver (state S.SlotStore live.old) thread caller }
     ensures state { state S.SlotStore live.new
-        ≡ replied (state S.SlotStore live.old) caller (status_of status) message.now }
+        ≡ replied (state S.SlotStore live.old) thread caller (status_of status) message.now }
     ensures beside { Beside S.SlotStore live.old live.new }
 {
     match status {
-        Status::AwaitsReply => reply_to_call(live, caller, message),
+        Status::AwaitsReply => reply_to_call(live, thread, caller, message),
         Status::AwaitsHandler => reply_to_fault(live, caller, message),
         Status::Inactive | Status::Runnable | Status::Blocked { .. } => {}
     }
@@ -68,16 +76,15 @@ fn answer<S: SlotStore>(live: &mut Live<S>, caller: u32, status: Status, message
 
 /// A thread answers its caller, and gives the right away.
 fn reply_to<S: SlotStore>(live: &mut Live<S>, thread: u32, caller: u32)
-    requires there { kind_at (state S.SlotStore live.old) thread ≡ Some NewThread }
-    requires caller { kind_at (state S.SlotStore live.old) caller ≡ Some NewThread }
+    requires { MayHandOver (state S.SlotStore live.old) thread caller }
     ensures state { state S.SlotStore live.new
-        ≡ replied (with_caller (state S.SlotStore live.old) thread None) caller (thread_at (state S.SlotStore live.old) caller).status (message_of (thread_at (state S.SlotStore live.old) thread)) }
+        ≡ replied (with_caller (state S.SlotStore live.old) thread None) thread caller (thread_at (state S.SlotStore live.old) caller).status (message_between (state S.SlotStore live.old) thread caller) }
     ensures beside { Beside S.SlotStore live.old live.new }
 {
-    let message = Message::of(&live.registers(thread));
+    let message = message_between(live, thread, caller);
     let status = live.status(caller);
     live.set_caller(thread, None);
-    answer(live, caller, status, &message);
+    answer(live, thread, caller, status, &message);
 }
 
 /// A thread answers its caller, if it has one, and gives the right away.

@@ -1,6 +1,7 @@
 //! Sending to an endpoint.
 
 ghost use Rattle.std.specs.Prelude.{ℕ, ◌≡◌, [], Some};
+ghost use Rattle.ipc.specs.Buffers.{MayHandOver};
 ghost use Rattle.model.specs.Kernel.Kinds.{kind_at};
 ghost use Rattle.model.specs.Kernel.Messages.{send, send_to, try_to_send, waits_to_send};
 ghost use Rattle.model.specs.Kernel.Retype.{NewEndpoint, NewThread};
@@ -10,7 +11,7 @@ ghost use Rattle.objects.specs.Lives.{Beside, state};
 ghost use Rattle.objects.specs.thread_records.Threads.{sender_of};
 ghost use Rattle.objects.specs.Waiting.{StandsNowhere};
 
-use crate::deliveries::{deliver, message_sent, pass};
+use crate::deliveries::{deliver_sent, pass};
 use crate::receipts::received;
 use objects::{Live, Sending, Status, WaitingSender};
 use slots::SlotStore;
@@ -31,14 +32,12 @@ fn wait_to_send<S: SlotStore>(live: &mut Live<S>, endpoint: u32, thread: u32, se
 
 /// A thread that runs sends to a receiver that waits, which runs again.
 fn send_to<S: SlotStore>(live: &mut Live<S>, sender: WaitingSender, receiver: u32)
-    requires sender { kind_at (state S.SlotStore live.old) sender.thread ≡ Some NewThread }
-    requires receiver { kind_at (state S.SlotStore live.old) receiver ≡ Some NewThread }
+    requires { MayHandOver (state S.SlotStore live.old) sender.thread receiver }
     ensures state { state S.SlotStore live.new
         ≡ send_to (state S.SlotStore live.old) (sender_of sender.thread sender.sending) receiver }
     ensures beside { Beside S.SlotStore live.old live.new }
 {
-    let message = message_sent(live, &sender);
-    deliver(live, receiver, sender.sending.badge, &message);
+    deliver_sent(live, &sender, receiver);
     live.wake(receiver);
     received(live, sender, receiver);
 }

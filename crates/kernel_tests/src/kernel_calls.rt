@@ -1,5 +1,6 @@
 //! The public calls of the kernel.
 
+mod buffers;
 mod endpoint_calls;
 mod handlers;
 mod interrupt_lines;

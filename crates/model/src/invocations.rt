@@ -52,6 +52,10 @@ pub enum ThreadCall {
     },
     Resume,
     Suspend,
+    /// An unmapped copy of a frame's capability goes into the thread's own slot for its message buffer.
+    SetBuffer {
+        frame: SlotName,
+    },
 }
 
 /// A call on a CNode. The first slot is named under that CNode, a source in the caller's capability

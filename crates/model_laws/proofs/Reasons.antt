@@ -9,7 +9,7 @@ use Rattle.model.specs.Capabilities.Slots.{capability_at}
 use Rattle.model.specs.Kernel.Deliveries.{MayReply, as_before, to_sender, Reason, receiver, sender, waiter, caller, faulted, set_back, once_received, by_line}
 use Rattle.model.specs.Kernel.Deliveries.{by_right, CallsTo, ReceivesFrom, SendsTo, Signals}
 use Rattle.model.specs.Kernel.Interrupts.{Signal, binding}
-use Rattle.model.specs.Kernel.Messages.{a0, delivered, message_of}
+use Rattle.model.specs.Kernel.Messages.{a0, delivered, message_between}
 use Rattle.model.specs.Kernel.State.{State, Inactive, Runnable, Blocked, AwaitsReply, AwaitsHandler, Sender, Sent, BySend, ByCall, ByFault, ThreadState}
 use Rattle.model.specs.Kernel.State.{Object, EndpointObject, EndpointState, NotificationState, as_endpoint, as_notification, endpoint_at, new_endpoint}
 use Rattle.model.specs.Kernel.State.{new_notification, notification_at, thread_at}
@@ -82,9 +82,9 @@ no_third s after self Held other third endpoint old new another waits none has (
 pub receivers_badge : (s after : State) (self : ℕ) (Held : (Cap → Type 0) → Type 0) (other endpoint badge : ℕ) (old new : ThreadState)
     → old.status ≡ Blocked endpoint → (endpoint_at s endpoint).senders ≡ [] → after.objects endpoint ≢ None
     → ((e b : ℕ) → Held (SendsTo e b) → b ≡ badge) → ((n b : ℕ) → Held (Signals s n b) → ⊥) → Reason s after self Held other old new
-    → new.registers ≡ advanced (delivered old.registers badge (message_of (thread_at s self)))
+    → new.registers ≡ advanced (delivered old.registers badge (message_between s self other))
 receivers_badge s after self Held other endpoint badge old new waits nobody stays badges no_signal (receiver e b c first blocked held right is) =
-    ap (λ (t : ThreadState). t.registers) is ∙ ap (λ (n : ℕ). advanced (delivered old.registers n (message_of (thread_at s self)))) (badges e b held)
+    ap (λ (t : ThreadState). t.registers) is ∙ ap (λ (n : ℕ). advanced (delivered old.registers n (message_between s self other))) (badges e b held)
 receivers_badge s after self Held other endpoint badge old new waits nobody stays badges no_signal (sender e first there names blocked held is) =
     let here : e ≡ endpoint = blocked_is e endpoint old blocked waits in
     let f : [] ≡ first ∷ (endpoint_at after e).senders = sym (ap (λ (n : ℕ). (endpoint_at s n).senders) here ∙ nobody) ∙ there in absurd cc

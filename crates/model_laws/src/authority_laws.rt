@@ -12,7 +12,7 @@ ghost use Rattle.model.specs.Images.Places.{offset_of};
 ghost use Rattle.model.specs.Kernel.Deliveries.{woken};
 ghost use Rattle.model.specs.Kernel.Interrupts.{binding};
 ghost use Rattle.model.specs.Kernel.Kinds.{frame_around};
-ghost use Rattle.model.specs.Kernel.Messages.{a0, delivered, message_of};
+ghost use Rattle.model.specs.Kernel.Messages.{a0, delivered, message_between};
 ghost use Rattle.model.specs.Kernel.Scheduling.{current, full_slice};
 ghost use Rattle.model.specs.Kernel.Soundness.{IsSound};
 ghost use Rattle.model.specs.Kernel.State.{State, Inactive, Blocked, AwaitsReply, Sender, BySend, ByCall, ByFault, FaultMessage, CNodeObject, EndpointObject, EndpointState, FrameObject, NotificationObject, NotificationState, ThreadObject, ThreadState, endpoint_at, thread_at};
@@ -166,7 +166,7 @@ pub fn a_badge_is_that_of_the_named_capability()
         → other ≢ self_of image t → named_slot s (self_of image t) ≡ Ok slot → capability_at s.slots slot ≡ Endpoint endpoint r badge
         → s.objects other ≡ Some (ThreadObject old) → old.status ≡ Blocked endpoint → (endpoint_at s endpoint).senders ≡ []
         → after.objects other ≡ Some (ThreadObject new) → old ≢ new → after.objects endpoint ≢ None
-        → new.registers ≢ advanced (delivered old.registers badge (message_of (thread_at s (self_of image t)))) → WithinAuthority image t s after → ⊥ }
+        → new.registers ≢ advanced (delivered old.registers badge (message_between s (self_of image t) other)) → WithinAuthority image t s after → ⊥ }
     ensures notification { (image : Image) (t : Thread) (s after : State) (slot other notification badge : ℕ) (r : Rights) (old new : ThreadState)
         → other ≢ self_of image t → named_slot s (self_of image t) ≡ Ok slot → capability_at s.slots slot ≡ Notification notification r badge
         → s.objects other ≡ Some (ThreadObject old) → old.status ≡ Blocked notification

@@ -6,6 +6,7 @@ ghost use Rattle.model.specs.Images.Described.{described};
 ghost use Rattle.model.specs.Images.Listing.{listing_lines};
 ghost use Rattle.model.specs.Images.Places.{boot_slots, offset_of, watermark_of};
 ghost use Rattle.model.specs.Capabilities.Rights.{rights};
+ghost use Rattle.model.specs.Capabilities.Slots.{empty_entry};
 ghost use Rattle.model.specs.declared.capabilities.Cap.TheVariants.{CNode, Frame, Notification, PageTable, RootTable, Untyped};
 ghost use Rattle.model_laws.specs.Solo.{solo_image};
 
@@ -19,7 +20,7 @@ pub fn solo_objects_stand_at()
 {}
 
 /// What is in some of the slots: the untyped memory, a mapped page table, the copy by which code is mapped, the binding
-/// of line 3, a listed capability and the thread's own two.
+/// of line 3, a listed capability and the thread's own three, of which the last is empty.
 #[tactic(auto, unfolding(crate::proofs::Opened::opened))]
 pub fn solo_slots_hold()
     ensures untyped { (described solo_image).slots 0 ≡ Some (record { capability = Untyped 0x8000 15 0x4310; parent = None }) }
@@ -33,7 +34,8 @@ pub fn solo_slots_hold()
         ≡ Some (record { capability = Notification 0xC300 (rights 2) 0; parent = Some 7 }) }
     ensures cspace { (described solo_image).slots 0xC00 ≡ Some (record { capability = CNode 0xC200 4 28; parent = Some 6 }) }
     ensures vspace { (described solo_image).slots 0xC01 ≡ Some (record { capability = RootTable 0x9000; parent = Some 2 }) }
-    ensures closed { (described solo_image).slots 0xC02 ≡ None }
+    ensures buffer { (described solo_image).slots 0xC02 ≡ Some empty_entry }
+    ensures closed { (described solo_image).slots 0xC03 ≡ None }
 {}
 
 /// The first word of the program lies in the code page, and the thread is ready at its priority.

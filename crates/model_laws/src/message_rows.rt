@@ -54,7 +54,7 @@ pub fn a_right_to_reply_is_used_once()
     ensures void { (thread_at resumed server).caller ≡ None }
 {}
 
-/// A length above 8 counts as 8.
+/// Between threads without buffers a length above 8 counts as 8.
 #[tactic(auto, unfolding(crate::proofs::Opened::opened))]
 pub fn a_length_counts_up_to_eight()
     ensures seven { read (thread_at (called_with 7) server).registers (register 21) ≡ 31 }

@@ -229,7 +229,7 @@ module _ (o n : Contents) (before after : Slots) (old new : List ℕ) (kind : Ob
   if-none true x none = none refl
   if-none false x none = refl
 
-  keep : (base : ℕ) → 32 ≤ base → base ≤ 256 → (is_thread_kind (Some q) ≡ true → link_at base new offset 0 ≡ None) → KeepThreads base p (places_of n) old new
+  keep : (base : ℕ) → 48 ≤ base → base ≤ 256 → (is_thread_kind (Some q) ≡ true → link_at base new offset 0 ≡ None) → KeepThreads base p (places_of n) old new
   keep base least most none thread = elim (eqb_tells thread offset) [
     | inl here ↦ inr (record {
       was = ap (link_in base p.threads old 0) here.1 ∙ ap (λ (k : Option NewObject). if is_thread_kind k then link_at base old offset 0 else None) kind-old;

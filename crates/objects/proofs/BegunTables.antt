@@ -92,7 +92,7 @@ module _ (o : Tables) (slots : Slots) (memory : List ℕ) (kind : ObjectKind) (o
   unfolding state_of
   empty place none = ap (λ (f : Slots). f (place / 16)) (sym (tellings.own-slots (contents_of o memory) slots memory)) ∙ none
 
-  thread-room : kind ≡ kinds.Thread → (offset + 512 ≤ length memory) × OutsideSlots slots (offset + 32) 480
+  thread-room : kind ≡ kinds.Thread → (offset + 512 ≤ length memory) × OutsideSlots slots (offset + 48) 464
   thread-room is =
       let may' = subst (λ (x : ObjectKind). MayStand (state_of o slots memory).memory_bits x offset) is may in
       let room' = subst (λ (x : ObjectKind). IsRoom (state_of o slots memory) (kind_of (new_object x)) offset) is room in

@@ -1,10 +1,13 @@
 mod Beginning
 mod Begun
 mod BegunTables
+mod BufferSlots
+mod CopiedWords
 mod Endpoints
 mod Doing
 mod Ends
 mod Following
+mod FrameCopies
 mod FramePlaces
 mod Frames
 mod Fresh

@@ -66,7 +66,7 @@ module _ (o : Tables) (before after : Slots) (old new : List ℕ) (kind : Object
   still : (place : ℕ) → IsInRecord s.objects place → slice_index new place ≡ slice_index old place
   still place held = bytes.bytes place (λ from below kept. room.records place (omega (arith, from)) below held)
 
-  thread-byte : (thread : ℕ) → kind_in o thread ≡ Some NewThread → (place : ℕ) → thread + 32 ≤ place → place < thread + 512 →
+  thread-byte : (thread : ℕ) → kind_in o thread ≡ Some NewThread → (place : ℕ) → thread + 48 ≤ place → place < thread + 512 →
       slice_index new place ≡ slice_index old place
   thread-byte thread is place from below = still place (in-thread s thread place (kind-state o thread before old ∙ is) from below)
 

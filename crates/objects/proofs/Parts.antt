@@ -108,13 +108,13 @@ module _ (o : Tables) (slots : Slots) (memory : List ℕ) (fits : FitsMemory (st
   point-is : (queue : ℕ) → has_waiting (kind_in o queue) ≡ true → has_waiting (kind_at s queue) ≡ true
   point-is queue is = ap has_waiting (kind-state o queue slots memory) ∙ is
 
-  pub same-thread : (one two place : ℕ) → kind_in o one ≡ Some NewThread → kind_in o two ≡ Some NewThread → IsPart one 32 512 place → IsPart two 32 512 place →
+  pub same-thread : (one two place : ℕ) → kind_in o one ≡ Some NewThread → kind_in o two ≡ Some NewThread → IsPart one 48 512 place → IsPart two 48 512 place →
       one ≡ two
   unfolding in-thread
   same-thread one two place is is' held held' =
       fits.alone place (in-thread s one place (thread-is one is) held.0 held.1) (in-thread s two place (thread-is two is') held'.0 held'.1)
 
-  pub never-both : (thread queue place : ℕ) → kind_in o thread ≡ Some NewThread → has_waiting (kind_in o queue) ≡ true → IsPart thread 32 512 place →
+  pub never-both : (thread queue place : ℕ) → kind_in o thread ≡ Some NewThread → has_waiting (kind_in o queue) ≡ true → IsPart thread 48 512 place →
       IsPart queue 0 16 place → ⊥
   unfolding in-thread
   never-both thread queue place is waits held held' =

@@ -128,7 +128,7 @@ point-kind (Some NewRootTable) is = absurd (let clash : false ≡ true = is in c
 
 -- ---- bytes of links lie in records
 
-unfoldable pub in-thread : (s : State) (thread place : ℕ) → kind_at s thread ≡ Some NewThread → thread + 32 ≤ place → place < thread + 512 →
+unfoldable pub in-thread : (s : State) (thread place : ℕ) → kind_at s thread ≡ Some NewThread → thread + 48 ≤ place → place < thread + 512 →
     IsInRecord s.objects place
 in-thread s thread place is from below = record { offset = thread; kind = NewThread; there = is; kept = refl; from = from; below = below }
 
@@ -268,7 +268,7 @@ module _ (o : Contents) (slots : Slots) (old new : List ℕ) (stands : Linked o 
   abbrev p : Places
   p = places_of o
 
-  kept : (base : ℕ) → 32 ≤ base → base ≤ 256 → KeepThreads base p p old new
+  kept : (base : ℕ) → 48 ≤ base → base ≤ 256 → KeepThreads base p p old new
   kept base least most thread = inl (record {
     there = refl;
     bytes = λ is place held. records place (in-thread (contents_state o slots old) thread place (kind-state o thread slots old ∙ has-thread o thread is)

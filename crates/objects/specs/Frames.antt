@@ -1,6 +1,8 @@
 -- How the state and the bytes of memory are kept beside one another.
-use Rattle.std.specs.Prelude.{ℕ, ◌≡◌, ◌+◌, ◌/◌, ◌^◌, ◌<◌, ◌≤◌, ◌⊎◌, Bool, true, false, Option, Some, None, option_map, List, length, slice_index}
-use Rattle.model.specs.Capabilities.Slots.{IsOpen}
+use Rattle.std.specs.Prelude.{ℕ, ◌≡◌, ◌+◌, ◌-◌, ◌/◌, ◌^◌, ◌<◌, ◌≤◌, ◌⊎◌, Bool, true, false, IsSome, if◌then◌else◌, Option, Some, None, option_map, List, length}
+use Rattle.std.specs.Prelude.{slice_index}
+use Rattle.model.specs.Capabilities.Slots.{IsOpen, is_within}
+use Rattle.model.specs.Kernel.AddressSpaces.{page_size}
 use Rattle.model.specs.Kernel.Kinds.{kind_at, kind_of}
 use Rattle.model.specs.Kernel.Retype.{NewObject, NewUntyped, NewThread, NewEndpoint, NewNotification, NewCNode, NewFrame, NewPageTable, NewRootTable}
 use Rattle.model.specs.Kernel.Retype.{object_bits}
@@ -28,9 +30,9 @@ has_slots NewFrame = false
 has_slots NewPageTable = false
 has_slots NewRootTable = false
 
--- how many bytes of such an object lie before its record: a thread begins with its two slots
+-- how many bytes of such an object lie before its record: a thread begins with its three slots
 abbrev pub slot_bytes : NewObject → ℕ
-slot_bytes NewThread = 32
+slot_bytes NewThread = 48
 slot_bytes NewEndpoint = 0
 slot_bytes NewNotification = 0
 slot_bytes (NewUntyped bits) = 0
@@ -83,6 +85,16 @@ pub record SameKept (s : State) (old new : List ℕ) : Type 0 where
 pub record SameBesideFrames (s : State) (old new : List ℕ) : Type 0 where
   pub size : length new ≡ length old
   pub bytes : (place : ℕ) → s.bytes place ≡ None → slice_index new place ≡ slice_index old place
+
+-- a page of bytes that is there
+abbrev pub IsFramed : State → ℕ → Type 0
+IsFramed s frame = (place : ℕ) → frame ≤ place → place < frame + page_size → IsSome (s.bytes place)
+
+-- so many bytes from a place on are those that were at another, and the others are the same
+pub record AreCopied (old new : List ℕ) (source target count : ℕ) : Type 0 where
+  pub size : length new ≡ length old
+  pub bytes : (place : ℕ) → slice_index new place
+      ≡ (if is_within target count place then slice_index old (source + (place - target)) else slice_index old place)
 
 -- the memory is as large as the state says; neither a byte of a frame nor one of a record lies in an open slot, no record in a frame, and none in another
 pub record FitsMemory (s : State) (memory : List ℕ) : Type 0 where

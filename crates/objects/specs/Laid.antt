@@ -55,7 +55,7 @@ pub record SameBesideThreads (table : List Entry) (old new : List ℕ) : Type 0 
 -- where a new object of a kind may come: its record lies in memory, and in no open slot
 pub record IsRoomAt (kind : ObjectKind) (slots : Slots) (size offset : ℕ) : Type 0 where
   pub few : size ≤ 2 ^ 24
-  pub thread : kind ≡ kinds.Thread → (offset + 512 ≤ size) × OutsideSlots slots (offset + 32) 480
+  pub thread : kind ≡ kinds.Thread → (offset + 512 ≤ size) × OutsideSlots slots (offset + 48) 464
   pub point : has_waiting (Some (kind_of (new_object kind))) ≡ true → (offset + 16 ≤ size) × OutsideSlots slots offset 16
 
 -- A new object of a kind has begun: nobody is linked to it, a thread is new, a word is 0, and all bytes beside its record are the same.

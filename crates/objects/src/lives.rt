@@ -6,6 +6,7 @@ ghost use Rattle.model.specs.Kernel.Setup.{is_frame_object};
 ghost use Rattle.model.specs.Kernel.State.{as_thread, binding_slot};
 ghost use Rattle.objects.specs.Lives.{state};
 
+mod buffer_calls;
 mod line_calls;
 mod queue_calls;
 mod scheduling_calls;

@@ -1,8 +1,9 @@
 //! The tables that the kernel keeps beside slots and memory.
 
-ghost use Rattle.std.specs.Prelude.{ℕ, ◌≡◌, ◌*◌, ◌^◌, ◌<◌, ◌≤◌, Some, IfOk, List, true, false, if◌then◌else◌, is_some, length, replicate};
+ghost use Rattle.std.specs.Prelude.{ℕ, ◌≡◌, ◌+◌, ◌*◌, ◌^◌, ◌<◌, ◌≤◌, Some, IfOk, List, true, false, if◌then◌else◌, is_some, length, replicate};
 ghost use Rattle.std.specs.Option.{option_map_or};
 ghost use Rattle.model.specs.Capabilities.Slots.{Slots};
+ghost use Rattle.model.specs.Kernel.AddressSpaces.{page_size};
 ghost use Rattle.model.specs.Kernel.Kinds.{frame_around, kind_at};
 ghost use Rattle.model.specs.Kernel.Removal.{slot_count};
 ghost use Rattle.model.specs.Kernel.Retype.{NewThread};
@@ -12,7 +13,7 @@ ghost use Rattle.model.specs.Kernel.State.{binding_slot, with_slots};
 ghost use Rattle.model.specs.Shared.Lists.{times_in};
 ghost use Rattle.objects.specs.Changes.{vacated};
 ghost use Rattle.objects.specs.Contents.{is_frame, is_thread_kind, object_in};
-ghost use Rattle.objects.specs.Frames.{SameBesideRecords};
+ghost use Rattle.objects.specs.Frames.{IsFramed, SameBesideRecords};
 ghost use Rattle.objects.specs.Premises.{HasLeft, IsThere};
 ghost use Rattle.objects.specs.Rights.{has_right};
 ghost use Rattle.objects.specs.Standing.{Standing};
@@ -122,7 +123,7 @@ impl Objects {
         ensures { (memory : List ℕ) (waiting : ℕ → List ℕ) → result ≡ slot_count (object_in (contents_of self.now memory) waiting offset) }
     {
         match self.held.get(offset) {
-            Entry::Thread => 2,
+            Entry::Thread => 3,
             Entry::CNode { radix } => 1 << radix,
             Entry::Nothing
             | Entry::Endpoint
@@ -168,6 +169,15 @@ impl Objects {
     {
         let frame = place - place % PAGE_SIZE;
         matches!(self.held.get(frame), Entry::Frame)
+    }
+
+    /// How many bytes memory has, 2^24 at most. Frames lie in it.
+    pub(crate) fn memory_size(&self) -> u32
+        ensures value { result ≡ 2 ^ self.now.bits }
+        ensures most { result ≤ 2 ^ 24 }
+        ensures frames { (slots : Slots) (memory : List ℕ) (frame : ℕ) → IsFramed (state_of self.now slots memory) frame → frame + page_size ≤ result }
+    {
+        power(self.bits)
     }
 
     /// A thread leaves every queue and the ready list, and nobody has the right to reply to it any more.

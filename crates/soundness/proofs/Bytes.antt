@@ -5,7 +5,7 @@ use Rattle.model.specs.Kernel.AddressSpaces.{with_content}
 use Rattle.model.specs.Kernel.Soundness.{HasSlot, of_boot_area, of_object, IsSound}
 use Rattle.model.specs.Kernel.State.{State}
 use Rattle.model.specs.Machine.ProgramMemory.{Content}
-use Rattle.soundness.proofs.Rest.{rest-kept, rest-of, sound-of}
+use Rattle.soundness.proofs.Rest.{RestIsSound, rest-kept, rest-of, sound-of}
 
 pub lines-whole : (s : State) (masked pending : ℕ → Bool) → IsSound s → IsSound (record s { masked = masked; pending = pending })
 lines-whole s masked pending whole =
@@ -22,6 +22,11 @@ lines-whole s masked pending whole =
       one_right = threads.one_right;
     })
 
+-- bytes at the same places
+pub record AreBytes (s : State) (bytes : ℕ → Option ℕ) : Type 0 where
+  pub there : (place : ℕ) → is_some (bytes place) ≡ is_some (s.bytes place)
+  pub small : (place byte : ℕ) → bytes place ≡ Some byte → byte < 2 ^ 8
+
 module _ (s : State) (bytes : ℕ → Option ℕ) where
   abbrev filled : State
   filled = record s { bytes = bytes }
@@ -34,53 +39,59 @@ module _ (s : State) (bytes : ℕ → Option ℕ) where
   had-slot slot (of_boot_area less) = of_boot_area less
   had-slot slot (of_object offset is) = of_object offset is
 
-  -- at the same places
+  pub bytes-rest : RestIsSound s → AreBytes s bytes → RestIsSound filled
+  bytes-rest rest fine = record {
+    shape = record {
+      least_bits = rest.shape.least_bits;
+      most_bits = rest.shape.most_bits;
+      least_radix = rest.shape.least_radix;
+      most_radix = rest.shape.most_radix;
+      room = rest.shape.room;
+    };
+    slots = record {
+      derivation = rest.slots.derivation;
+      there = λ slot. ((λ is. has-slot slot ((rest.slots.there slot).0 is)), (λ has. (rest.slots.there slot).1 (had-slot slot has)));
+      cspace = rest.slots.cspace;
+      vspace = rest.slots.vspace;
+      buffer = rest.slots.buffer;
+      bindings = rest.slots.bindings;
+    };
+    memory = record {
+      inside = rest.memory.inside;
+      lies = rest.memory.lies;
+      named = rest.memory.named;
+      live = rest.memory.live;
+      bytes = λ place. (
+        (λ is. (rest.memory.bytes place).0 (sym (fine.there place) ∙ is)),
+        (λ is. fine.there place ∙ (rest.memory.bytes place).1 is),
+      );
+      small = fine.small;
+    };
+    mappings = record {
+      frame_root = rest.mappings.frame_root;
+      frame_table = rest.mappings.frame_table;
+      table_root = rest.mappings.table_root;
+      one_page = rest.mappings.one_page;
+      one_region = rest.mappings.one_region;
+      one_table = rest.mappings.one_table;
+    };
+  }
+
   pub bytes-whole : IsSound s → ((place : ℕ) → is_some (bytes place) ≡ is_some (s.bytes place)) → ((place byte : ℕ) → bytes place ≡ Some byte → byte < 2 ^ 8)
       → IsSound filled
   bytes-whole whole same small =
-      record {
-        shape = record {
-          least_bits = whole.shape.least_bits;
-          most_bits = whole.shape.most_bits;
-          least_radix = whole.shape.least_radix;
-          most_radix = whole.shape.most_radix;
-          room = whole.shape.room;
-        };
-        slots = record {
-          derivation = whole.slots.derivation;
-          there = λ slot. ((λ is. has-slot slot ((whole.slots.there slot).0 is)), (λ has. (whole.slots.there slot).1 (had-slot slot has)));
-          cspace = whole.slots.cspace;
-          vspace = whole.slots.vspace;
-          bindings = whole.slots.bindings;
-        };
-        memory = record {
-          inside = whole.memory.inside;
-          lies = whole.memory.lies;
-          named = whole.memory.named;
-          live = whole.memory.live;
-          bytes = λ place. ((λ is. (whole.memory.bytes place).0 (sym (same place) ∙ is)), (λ is. same place ∙ (whole.memory.bytes place).1 is));
-          small = small;
-        };
-        mappings = record {
-          frame_root = whole.mappings.frame_root;
-          frame_table = whole.mappings.frame_table;
-          table_root = whole.mappings.table_root;
-          one_page = whole.mappings.one_page;
-          one_region = whole.mappings.one_region;
-          one_table = whole.mappings.one_table;
-        };
-        threads = record {
-          threads = whole.threads.threads;
-          ready = whole.threads.ready;
-          queued = whole.threads.queued;
-          one_sided = whole.threads.one_sided;
-          senders = whole.threads.senders;
-          words = whole.threads.words;
-          idle = whole.threads.idle;
-          callers = whole.threads.callers;
-          one_right = whole.threads.one_right;
-        };
-      }
+      let threads = whole.threads in
+      sound-of filled (bytes-rest (rest-of s whole) (record { there = same; small = small })) (record {
+        threads = threads.threads;
+        ready = threads.ready;
+        queued = threads.queued;
+        one_sided = threads.one_sided;
+        senders = threads.senders;
+        words = threads.words;
+        idle = threads.idle;
+        callers = threads.callers;
+        one_right = threads.one_right;
+      })
 
 -- what a thread's stores left in its frames
 content-some : (o : Option ℕ) (byte : ℕ) → is_some (option_map_or (λ _. Some byte) o None) ≡ is_some o

@@ -45,6 +45,7 @@ slots-carried s new slots tree there_too may = record {
   );
   cspace = λ thread t is full. (may _ full).cspace thread t is refl;
   vspace = λ thread t is full. (may _ full).vspace thread t is refl;
+  buffer = λ thread t is full. (may _ full).buffer thread t is refl;
   bindings = λ number less full. (may _ full).line number less refl;
 }
 

@@ -1,19 +1,23 @@
 -- What copies of capabilities, and those with another badge or guard, have of their source.
-use Rattle.std.proofs.Common.{is_some, Some, ℕ, ◌≡◌, ◌≢◌, ◌∙◌, ◌^◌, Bool, true, false, bit_and, Option, None, refl, sym, ap, arith}
+use Rattle.std.proofs.Common.{is_some, Some, ℕ, ◌≡◌, ◌≢◌, ◌∙◌, ◌==◌, ◌^◌, Bool, true, false, if◌then◌else◌, bit_and, Option, None, refl, sym, ap, subst, arith}
 use Rattle.std.proofs.lemmas.Bool.{ltb-true}
 use Rattle.std.proofs.lemmas.Bool.Decides.{nat_tests}
 use Rattle.std.proofs.lemmas.Nat.{and_assoc, and_comm, and_le_l}
 use Rattle.model.specs.declared.capabilities.Cap.{Cap}
 use Rattle.model.specs.declared.capabilities.Cap.TheVariants.{Empty, Untyped, Endpoint, Notification, CNode, Frame, PageTable, Tcb, RootTable, InterruptControl}
 use Rattle.model.specs.declared.capabilities.Cap.TheVariants.{InterruptHandler}
+use Rattle.model.specs.declared.capabilities.FrameMapping.{FrameMapping}
 use Rattle.model.specs.declared.capabilities.TableMapping.{TableMapping}
-use Rattle.model.specs.Capabilities.CapabilityKinds.{badge_fits, carries_messages, cnode_of, copied, frame_mapping, guard_fits, is_guard_word, may_be_copied}
-use Rattle.model.specs.Capabilities.CapabilityKinds.{root_of, table_mapping, with_payload, Node}
+use Rattle.model.specs.declared.rights.Rights.{Rights}
+use Rattle.model.specs.Capabilities.CapabilityKinds.{badge_fits, carries_messages, cnode_of, copied, frame_mapping, frame_of, guard_fits, is_guard_word}
+use Rattle.model.specs.Capabilities.CapabilityKinds.{may_be_copied, root_of, table_mapping, with_payload, Node}
 use Rattle.model.specs.Capabilities.CapabilityWords.{IsCapability, IsGuardWord}
+use Rattle.model.specs.Capabilities.Rights.{frame_rights}
 use Rattle.model.specs.Capabilities.Slots.{is_empty}
 use Rattle.model.specs.Kernel.InterruptCalls.{may_be_bound}
 use Rattle.model.specs.Kernel.Interrupts.{signal_of}
 use Rattle.model.specs.Kernel.Kinds.{object_named, piece_of, used_of}
+use Rattle.model.specs.Kernel.ThreadCalls.{buffer_frame}
 
 -- untyped memory and page tables have one capability
 abbrev pub is_single : Cap → Bool
@@ -291,3 +295,40 @@ bindable (Tcb a) is = let e : false ≡ true = is in absurd cc
 bindable (RootTable a) is = let e : false ≡ true = is in absurd cc
 bindable InterruptControl is = let e : false ≡ true = is in absurd cc
 bindable (InterruptHandler a) is = let e : false ≡ true = is in absurd cc
+
+-- ---- frames
+
+pub frame-is : (c : Cap) (offset : ℕ) → frame_of c ≡ Some offset → (r : Rights) × (mapping : Option FrameMapping) × (c ≡ Frame offset r mapping)
+frame-is (Frame a r m) offset is = let e : a ≡ offset = cc is in (r, m, ap (λ (n : ℕ). Frame n r m) e)
+frame-is Empty offset is = let e : ◌≡◌ {A = Option ℕ} None (Some offset) = is in absurd cc
+frame-is (Untyped a b d) offset is = let e : ◌≡◌ {A = Option ℕ} None (Some offset) = is in absurd cc
+frame-is (Endpoint a r b) offset is = let e : ◌≡◌ {A = Option ℕ} None (Some offset) = is in absurd cc
+frame-is (Notification a r b) offset is = let e : ◌≡◌ {A = Option ℕ} None (Some offset) = is in absurd cc
+frame-is (CNode a r g) offset is = let e : ◌≡◌ {A = Option ℕ} None (Some offset) = is in absurd cc
+frame-is (PageTable a m) offset is = let e : ◌≡◌ {A = Option ℕ} None (Some offset) = is in absurd cc
+frame-is (Tcb a) offset is = let e : ◌≡◌ {A = Option ℕ} None (Some offset) = is in absurd cc
+frame-is (RootTable a) offset is = let e : ◌≡◌ {A = Option ℕ} None (Some offset) = is in absurd cc
+frame-is InterruptControl offset is = let e : ◌≡◌ {A = Option ℕ} None (Some offset) = is in absurd cc
+frame-is (InterruptHandler a) offset is = let e : ◌≡◌ {A = Option ℕ} None (Some offset) = is in absurd cc
+
+-- a frame's capability to read and write is one of a frame
+pub whole-frame : (c : Cap) (frame : ℕ) → buffer_frame c ≡ Some frame → frame_of c ≡ Some frame
+whole-frame (Frame a r m) frame is =
+    elim (r.0 == frame_rights.0) as (λ b. ◌≡◌ {A = Option ℕ} (if b then Some a else None) (Some frame) → ◌≡◌ {A = Option ℕ} (Some a) (Some frame)) [
+      | true ↦ λ so. so
+      | false ↦ λ so. let e : ◌≡◌ {A = Option ℕ} None (Some frame) = so in absurd cc
+    ] is
+whole-frame Empty frame is = let e : ◌≡◌ {A = Option ℕ} None (Some frame) = is in absurd cc
+whole-frame (Untyped a b d) frame is = let e : ◌≡◌ {A = Option ℕ} None (Some frame) = is in absurd cc
+whole-frame (Endpoint a r b) frame is = let e : ◌≡◌ {A = Option ℕ} None (Some frame) = is in absurd cc
+whole-frame (Notification a r b) frame is = let e : ◌≡◌ {A = Option ℕ} None (Some frame) = is in absurd cc
+whole-frame (CNode a r g) frame is = let e : ◌≡◌ {A = Option ℕ} None (Some frame) = is in absurd cc
+whole-frame (PageTable a m) frame is = let e : ◌≡◌ {A = Option ℕ} None (Some frame) = is in absurd cc
+whole-frame (Tcb a) frame is = let e : ◌≡◌ {A = Option ℕ} None (Some frame) = is in absurd cc
+whole-frame (RootTable a) frame is = let e : ◌≡◌ {A = Option ℕ} None (Some frame) = is in absurd cc
+whole-frame InterruptControl frame is = let e : ◌≡◌ {A = Option ℕ} None (Some frame) = is in absurd cc
+whole-frame (InterruptHandler a) frame is = let e : ◌≡◌ {A = Option ℕ} None (Some frame) = is in absurd cc
+
+pub frame-alike : (c : Cap) (frame : ℕ) (r : Rights) (mapping : Option FrameMapping) → frame_of c ≡ Some frame → IsAlike c (Frame frame r mapping)
+frame-alike c frame r mapping is =
+    let held = frame-is c frame is in subst (λ (d : Cap). IsAlike d (Frame frame r mapping)) (sym held.2) (alike refl refl refl refl refl refl)

@@ -1,13 +1,14 @@
--- Calls that put copies into slots: Configure, Get, and SetNotification where nothing was bound.
+-- Calls that put copies into slots: Configure, SetBuffer, Get, and SetNotification where nothing was bound.
 use Rattle.std.proofs.Common.{ℕ, ◌≡◌, ◌≢◌, ◌∙◌, ◌&&◌, ◌^◌, ◌<◌, true, false, not, is_some, nat_le, Option, Some, None, Ok, refl, sym, ap, subst, arith}
 use Rattle.std.proofs.lemmas.Bool.{and_parts, leb-true, not-true}
 use Rattle.model.specs.declared.capabilities.Cap.{Cap}
-use Rattle.model.specs.declared.capabilities.Cap.TheVariants.{InterruptControl, InterruptHandler}
+use Rattle.model.specs.declared.capabilities.Cap.TheVariants.{Frame, InterruptControl, InterruptHandler}
 use Rattle.model.specs.declared.errors.KError.TheVariants.{DeleteFirst, IllegalOperation, InvalidCapability, RangeError, RevokeFirst}
 use Rattle.model.specs.declared.invocations.SlotName.{SlotName}
 use Rattle.model.proofs.SlotChanges.{capability_of}
-use Rattle.model.specs.Capabilities.CapabilityKinds.{cnode_of, frame_mapping, is_handler_of, root_of, Node}
+use Rattle.model.specs.Capabilities.CapabilityKinds.{cnode_of, frame_mapping, frame_of, is_handler_of, root_of, Node}
 use Rattle.model.specs.Capabilities.CapabilityWords.{IsCapability}
+use Rattle.model.specs.Capabilities.Rights.{frame_rights}
 use Rattle.model.specs.Capabilities.Slots.{IsFull, Slots, capability_at, depth_of, inserted, is_empty, is_full}
 use Rattle.model.specs.Images.Boot.{boot_root}
 use Rattle.model.specs.Kernel.Arguments.{Call, check, destination_slot, may_have_child, source_slot, wanted}
@@ -15,16 +16,17 @@ use Rattle.model.specs.Kernel.InterruptCalls.{get_handler, may_be_bound}
 use Rattle.model.specs.Kernel.Kinds.{kind_at}
 use Rattle.model.specs.Kernel.Retype.{NewThread}
 use Rattle.model.specs.Kernel.Soundness.{IsSound, ThreadIsSound}
-use Rattle.model.specs.Kernel.State.{State, ThreadObject, ThreadState, binding_slot, cspace_slot, holds_some, thread_at, vspace_slot, with_slots, with_thread}
-use Rattle.model.specs.Kernel.ThreadCalls.{configure, given_guard_fits, with_guard}
+use Rattle.model.specs.Kernel.State.{State, ThreadObject, ThreadState, binding_slot, buffer_slot, cspace_slot, holds_some, thread_at, vspace_slot, with_slots}
+use Rattle.model.specs.Kernel.State.{with_thread}
+use Rattle.model.specs.Kernel.ThreadCalls.{buffer_frame, configure, given_guard_fits, set_buffer, with_guard}
 use Rattle.soundness.specs.Calls.{IsCall, IsInvoked, held, boot}
 use Rattle.soundness.proofs.CNodeCalls.{room-below}
-use Rattle.soundness.proofs.Copies.{IsAlike, IsQuiet, alike-same, bindable, cnode-quiet, no-badge, payload-alike, payload-cnode, payload-mapping, payload-valid}
-use Rattle.soundness.proofs.Copies.{root-quiet}
+use Rattle.soundness.proofs.Copies.{IsAlike, IsQuiet, alike-same, bindable, cnode-quiet, frame-alike, frame-is, no-badge, payload-alike, payload-cnode}
+use Rattle.soundness.proofs.Copies.{payload-mapping, payload-valid, root-quiet, whole-frame}
 use Rattle.soundness.proofs.Inserted.{Inserts, empty-open, inserted-depth, inserted-other, inserted-sound}
 use Rattle.soundness.proofs.Lookups.{check-passes, destination-plain, passes-both, source-full, wanted-some}
-use Rattle.soundness.proofs.Places.{StandsIn, cspace-may_hold, line-may_hold, line-open, may-still, own-slot_open, plain-may_hold, plain-open, thread-slot}
-use Rattle.soundness.proofs.Places.{vspace-may_hold}
+use Rattle.soundness.proofs.Places.{StandsIn, buffer-may_hold, cspace-may_hold, line-may_hold, line-open, may-still, own-slot_open, plain-may_hold, plain-open}
+use Rattle.soundness.proofs.Places.{thread-slot, vspace-may_hold}
 use Rattle.soundness.proofs.Rest.{thread-kind}
 use Rattle.soundness.proofs.ThreadCalls.{fine-of, same-whole}
 
@@ -231,3 +233,38 @@ configure-whole s t root thread guard address cspace_name vspace_name whole is_t
     let e : with_thread s2 thread (record (thread_at s thread) { fault_address = address }) ≡ t = cc eight.rest in
     subst IsSound e (same-whole s2 whole2 thread is_thread (record (thread_at s thread) { fault_address = address })
     (address-fine (thread_at s thread) address (fine-of s whole thread is_thread) less) (λ _ f. f) refl refl)
+
+-- ---- SetBuffer
+
+copy-valid : (c : Cap) (frame : ℕ) → frame_of c ≡ Some frame → IsCapability c → IsCapability (Frame frame frame_rights None)
+copy-valid c frame is valid =
+    let held = frame-is c frame is in
+    let whole : IsCapability (Frame frame held.0 held.1) = subst IsCapability held.2 valid in
+    (whole.0, omega arith, tt)
+
+pub set_buffer-sound : (s t : State) (root : Cap) (thread : ℕ) (name : SlotName) → IsSound s → kind_at s thread ≡ Some NewThread
+    → set_buffer s root thread name ≡ Ok t → IsSound t
+set_buffer-sound s t root thread name sound is_thread is =
+    let one = passes-both (source_slot s.slots root name) _ t is in
+    let source = one.value in
+    let two = passes-both (wanted (buffer_frame (capability_at s.slots source)) InvalidCapability) _ t one.rest in
+    let three = passes-both (check (not (is_full s.slots (buffer_slot thread))) DeleteFirst) _ t two.rest in
+    let four = passes-both (may_have_child s.slots source) _ t three.rest in
+    let c = capability_at s.slots source in
+    let frame = two.value in
+    let named = whole-frame c frame (wanted-some (buffer_frame c) InvalidCapability frame two.first) in
+    let own = thread-kind (s.objects thread) is_thread in
+    let stands = thread-slot s thread (buffer_slot thread) 2 own.0 own.1 (omega arith) refl in
+    let own_full = is_full s.slots (buffer_slot thread) in
+    let free = not-true own_full (check-passes (not own_full) DeleteFirst three.value three.first) in
+    let e : with_slots s (inserted s.slots (buffer_slot thread) (Frame frame frame_rights None) (Some source)) ≡ t = cc four.rest in
+    subst IsSound e (inserted-sound s (buffer_slot thread) source (Frame frame frame_rights None) sound (record {
+      empty = empty-open s.slots (buffer_slot thread) sound.slots.derivation (own-slot_open s sound.slots thread (buffer_slot thread) stands) free;
+      full = source-full s.slots root name source one.first;
+      room = room-below s source four.value four.first;
+      valid = copy-valid c frame named (sound.slots.derivation.valid source);
+      alike = frame-alike c frame frame_rights None named;
+      shared = refl;
+      unmapped = refl;
+      may = buffer-may_hold s sound.memory thread own.0 (Frame frame frame_rights None) own.1 refl;
+    }))

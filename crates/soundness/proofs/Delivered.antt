@@ -3,20 +3,22 @@ use Rattle.std.proofs.Common.{ℕ, ◌≡◌, ◌==◌, ◌^◌, ◌<◌, ◌≤
 use Rattle.std.proofs.Common.{refl, arith}
 use Rattle.std.specs.Prelude.{All}
 use Rattle.std.proofs.lemmas.Bool.{cases_lt}
-use Rattle.std.proofs.lemmas.List.{get_or_past, length-map, length-take}
+use Rattle.std.proofs.lemmas.List.{get_or_past}
 use Rattle.std.proofs.lemmas.List.Elements.{All-cons, All-get_or, All-nil}
 use Rattle.model.specs.declared.faults.FaultKind.{FaultKind}
 use Rattle.model.specs.declared.faults.FaultKind.TheVariants.{Capability, UnknownCall, Instruction, Memory}
 use Rattle.model.specs.declared.instructions.Register.{Register}
-use Rattle.model.specs.Kernel.Messages.{Message, a0, a1, deliver, deliver_word, delivered, info_word, length_of, message_of, message_sent, passes, passes_with}
-use Rattle.model.specs.Kernel.Messages.{with_registers, word_registers}
+use Rattle.model.specs.Kernel.Messages.{Message, a0, a1, bytes_sent, deliver, deliver_sent, deliver_with, deliver_word, delivered, info_word, length_of}
+use Rattle.model.specs.Kernel.Messages.{message_between, message_of, message_to, passes, passes_with, with_registers, word_registers}
 use Rattle.model.specs.Kernel.Retype.{NewObject, NewThread}
-use Rattle.model.specs.Kernel.Soundness.{ThreadIsSound, SentIsSound}
+use Rattle.model.specs.Kernel.Soundness.{ThreadIsSound, SenderIsSound, SentIsSound}
 use Rattle.model.specs.Kernel.State.{Sender, Sent, BySend, ByCall, ByFault, State, ThreadState, thread_at}
 use Rattle.model.specs.Machine.Effects.{advanced}
 use Rattle.model.specs.Machine.ProgramMemory.{RegisterFile, read, write}
 use Rattle.model.specs.Shared.Labels.{fault_number}
 use Rattle.soundness.specs.Running.{RegistersAreSound}
+use Rattle.soundness.proofs.Buffers.{length-less, sent-bytes}
+use Rattle.soundness.proofs.Bytes.{AreBytes, bytes-rest}
 use Rattle.soundness.proofs.Moving.{Moving, rewritten}
 use Rattle.soundness.proofs.Registers.{advanced-sound, registers-of, with-registers, words-sound, written-sound}
 use Rattle.soundness.proofs.Steps.{own-fine}
@@ -26,7 +28,7 @@ use Rattle.soundness.proofs.Steps.{own-fine}
 pub record MessageIsSound (message : Message) : Type 0 where
   pub label : message.label < 2 ^ 20
   pub words : All (λ word. word < 2 ^ 32) message.words
-  pub count : length message.words ≤ 8
+  pub count : message.count ≤ 127
 
 pub read-less : (words : List ℕ) (index : ℕ) → All (λ word. word < 2 ^ 32) words → get_or words index 0 < 2 ^ 32
 read-less words index less = elim (cases_lt index (length words)) [
@@ -44,13 +46,6 @@ all-read : (r : RegisterFile) (registers : List Register) → RegistersAreSound 
 all-read r [] sound = All-nil (λ (n : ℕ). n < 2 ^ 32)
 all-read r (x ∷ registers) sound = All-cons (λ (n : ℕ). n < 2 ^ 32) (read r x) (map (read r) registers) (read-sound r x sound) (all-read r registers sound)
 
-few-words : (r : RegisterFile) (count : ℕ) → count ≤ 8 → length (map (read r) (take count word_registers)) ≤ 8
-unfolding word_registers
-few-words r count few =
-    let e = length-map (take count word_registers) (read r) in
-    let f = length-take count word_registers in
-    omega (arith, e, f, few)
-
 pub own-message : (t : ThreadState) → ThreadIsSound t → MessageIsSound (message_of t)
 own-message t fine =
     let r = t.registers in
@@ -60,8 +55,12 @@ own-message t fine =
     record {
       label = omega (arith, less);
       words = all-read r (take (length_of info) word_registers) sound;
-      count = few-words r (length_of info) (omega arith);
+      count = omega arith;
     }
+
+pub between-message : (s : State) (from to : ℕ) → ThreadIsSound (thread_at s from) → MessageIsSound (message_between s from to)
+between-message s from to fine =
+    let own = own-message (thread_at s from) fine in record { label = own.label; words = own.words; count = length-less s from to }
 
 fault-less : (kind : FaultKind) → fault_number kind < 2 ^ 20
 fault-less Capability = omega arith
@@ -69,19 +68,20 @@ fault-less UnknownCall = omega arith
 fault-less Instruction = omega arith
 fault-less Memory = omega arith
 
-pub sent-message : (s : State) (sender : Sender) (sent : Sent) → ThreadIsSound (thread_at s sender.thread) → SentIsSound sent
-    → MessageIsSound (message_sent s sender sent)
-sent-message s sender BySend fine sound = own-message (thread_at s sender.thread) fine
-sent-message s sender ByCall fine sound = own-message (thread_at s sender.thread) fine
-sent-message s sender (ByFault fault) fine sound = record { label = fault-less fault.kind; words = sound.0; count = sound.1 }
+pub sent-message : (s : State) (sender : Sender) (sent : Sent) (receiver : ℕ) → ThreadIsSound (thread_at s sender.thread) → SentIsSound sent
+    → MessageIsSound (message_to s sender sent receiver)
+sent-message s sender BySend receiver fine sound = between-message s sender.thread receiver fine
+sent-message s sender ByCall receiver fine sound = between-message s sender.thread receiver fine
+sent-message s sender (ByFault fault) receiver fine sound =
+    let few = sound.1 in record { label = fault-less fault.kind; words = sound.0; count = omega (arith, few) }
 
 pub delivered-sound : (r : RegisterFile) (badge : ℕ) (message : Message) → RegistersAreSound r → badge < 2 ^ 32 → MessageIsSound message
     → RegistersAreSound (delivered r badge message)
 delivered-sound r badge message sound less fine =
     let label = fine.label in
     let count = fine.count in
-    words-sound (write (write r a0 badge) a1 (info_word message.label (length message.words))) word_registers message.words
-    (written-sound (write r a0 badge) a1 (info_word message.label (length message.words)) (written-sound r a0 badge sound less) (omega (arith, label, count)))
+    words-sound (write (write r a0 badge) a1 (info_word message.label message.count)) word_registers message.words
+    (written-sound (write r a0 badge) a1 (info_word message.label message.count) (written-sound r a0 badge sound less) (omega (arith, label, count)))
     fine.words
 
 -- ---- deliveries to a thread, while another or itself is on its way
@@ -121,3 +121,40 @@ pub deliver_word-moving : (kinds : ℕ → Option NewObject) (s : State) (x : �
 deliver_word-moving kinds s x r w awaits y word is_thread moving less =
     passes_with-moving kinds s x r w awaits y (write (thread_at s y).registers a0 word) is_thread moving
     (written-sound (thread_at s y).registers a0 word (own-registers kinds s x r w awaits y is_thread moving) less)
+
+-- other bytes
+pub bytes-moving : (kinds : ℕ → Option NewObject) (s : State) (x : ℕ) (r w : ℕ → ℕ) (awaits : Bool) (bytes : ℕ → Option ℕ)
+    → Moving kinds s x r w awaits → AreBytes s bytes → Moving kinds (record s { bytes = bytes }) x r w awaits
+bytes-moving kinds s x r w awaits bytes moving fine = record {
+  listed = record {
+    kind = moving.listed.kind;
+    rest = bytes-rest s bytes moving.listed.rest fine;
+    threads = moving.listed.threads;
+    ready = moving.listed.ready;
+    queued = moving.listed.queued;
+    here = moving.listed.here;
+    there = moving.listed.there;
+    one_sided = moving.listed.one_sided;
+    senders = moving.listed.senders;
+    words = moving.listed.words;
+    idle = moving.listed.idle;
+  };
+  rights = record { callers = moving.rights.callers; answer = moving.rights.answer; one_right = moving.rights.one_right };
+}
+
+pub deliver_with-moving : (kinds : ℕ → Option NewObject) (s : State) (x : ℕ) (r w : ℕ → ℕ) (awaits : Bool) (bytes : ℕ → Option ℕ) (y badge : ℕ)
+    (message : Message) → kinds y ≡ Some NewThread
+    → Moving kinds s x r w awaits → AreBytes s bytes → badge < 2 ^ 32 → MessageIsSound message
+    → Moving kinds (deliver_with s bytes y badge message) x r w awaits
+deliver_with-moving kinds s x r w awaits bytes y badge message is_thread moving fine less sound =
+    deliver-moving kinds (record s { bytes = bytes }) x r w awaits y badge message is_thread (bytes-moving kinds s x r w awaits bytes moving fine) less sound
+
+-- what a sender says, which is on its way itself or not
+pub deliver_sent-moving : (kinds : ℕ → Option NewObject) (s : State) (x : ℕ) (r w : ℕ → ℕ) (awaits : Bool) (sender : Sender) (receiver : ℕ)
+    → kinds sender.thread ≡ Some NewThread → kinds receiver ≡ Some NewThread
+    → Moving kinds s x r w awaits → SenderIsSound sender → Moving kinds (deliver_sent s sender receiver) x r w awaits
+deliver_sent-moving kinds s x r w awaits sender receiver one other moving sound =
+    let badge = sound.badge in
+    deliver_with-moving kinds s x r w awaits (bytes_sent s sender sender.sent receiver) receiver sender.badge (message_to s sender sender.sent receiver) other
+    moving (sent-bytes s moving.listed.rest sender sender.sent receiver) (omega (arith, badge))
+    (sent-message s sender sender.sent receiver (own-fine kinds s x r w sender.thread moving.listed one) sound.sent)

@@ -63,6 +63,7 @@ module _ (s : State) (bare : IsBare s) where
     );
     cspace = λ thread t is. absurd (no-object thread _ (s.objects thread) (bare.objects thread) is);
     vspace = λ thread t is. absurd (no-object thread _ (s.objects thread) (bare.objects thread) is);
+    buffer = λ thread t is. absurd (no-object thread _ (s.objects thread) (bare.objects thread) is);
     bindings = λ line less full. absurd (not-full _ full);
   }
 

@@ -14,8 +14,8 @@ use Rattle.model.specs.Capabilities.CapabilityWords.{IsCapability}
 use Rattle.model.specs.Kernel.Arguments.{Call, argument_slot, check, wanted}
 use Rattle.model.specs.Kernel.CallForms.{CallForm, acknowledge_label, clear_label, cnode_form, configure_label, copy_label, decode, delete_label, form_called}
 use Rattle.model.specs.Kernel.CallForms.{form_of, get_handler_label, handler_form, map_frame_label, map_table_label, mint_label, move_label, mutate_label}
-use Rattle.model.specs.Kernel.CallForms.{resume_label, retype_label, revoke_label, set_notification_label, set_priority_label, set_register_label, slot_name}
-use Rattle.model.specs.Kernel.CallForms.{suspend_label, thread_form, unmap_frame_label, unmap_table_label, untyped_form, word}
+use Rattle.model.specs.Kernel.CallForms.{resume_label, retype_label, revoke_label, set_buffer_label, set_notification_label, set_priority_label}
+use Rattle.model.specs.Kernel.CallForms.{set_register_label, slot_name, suspend_label, thread_form, unmap_frame_label, unmap_table_label, untyped_form, word}
 use Rattle.model.specs.Kernel.Interrupts.{acknowledge}
 use Rattle.model.specs.Kernel.Invocations.{invoke, perform}
 use Rattle.model.specs.Kernel.Kinds.{kind_at, object_named}
@@ -25,7 +25,7 @@ use Rattle.model.specs.Kernel.ThreadCalls.{resume, suspend}
 use Rattle.soundness.specs.Calls.{IsCall}
 use Rattle.model.specs.Kernel.Soundness.{IsSound}
 use Rattle.soundness.proofs.CNodeCalls.{copy-sound, mint-sound, move-sound, mutate-sound}
-use Rattle.soundness.proofs.CopyingCalls.{configure-whole, get-sound}
+use Rattle.soundness.proofs.CopyingCalls.{configure-whole, get-sound, set_buffer-sound}
 use Rattle.soundness.proofs.Delivered.{read-less}
 use Rattle.soundness.proofs.Events.{acknowledge-whole}
 use Rattle.soundness.proofs.Lookups.{passes-both, wanted-some}
@@ -72,7 +72,9 @@ module _ (s t : State) (call : Call) (words : List ℕ) (whole : IsSound s) (is_
       (chosen Does (label == set_register_label) _ _ form
       (λ so. set_register-whole s whole thread is_thread t call.caller (word words 0) (word words 1) (word-less 1) so)
       (chosen Does (label == resume_label) _ _ form (λ so. done (resume s thread) so (resume-whole s whole thread is_thread))
-      (chosen Does (label == suspend_label) _ _ form (λ so. done (suspend s thread) so (suspend-whole s whole thread is_thread)) (none-left form)))))
+      (chosen Does (label == suspend_label) _ _ form (λ so. done (suspend s thread) so (suspend-whole s whole thread is_thread))
+      (chosen Does (label == set_buffer_label) _ _ form (λ so. set_buffer-sound s t call.root thread (slot_name words 0) whole is_thread so)
+      (none-left form))))))
 
   cnode-does : (label : ℕ) (form : CallForm) → cnode_form label ≡ Some form → Does form
   cnode-does label form =

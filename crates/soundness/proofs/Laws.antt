@@ -5,7 +5,7 @@ pub use Rattle.soundness.proofs.Carried.{full-near, held-at, held-by}
 pub use Rattle.soundness.proofs.Copies.{IsAlike, IsQuiet, alike-both, alike-same, bindable, cnode-quiet, copied-alike, copied-badge_fits, copied-guard_fits}
 pub use Rattle.soundness.proofs.Copies.{copied-unmapped, copied-valid, copies-shared, is_single, no-badge, payload-alike, payload-mapping, payload-valid}
 pub use Rattle.soundness.proofs.Copies.{root-quiet}
-pub use Rattle.soundness.proofs.CopyingCalls.{configure-whole, get-sound}
+pub use Rattle.soundness.proofs.CopyingCalls.{configure-whole, get-sound, set_buffer-sound}
 pub use Rattle.soundness.proofs.Delivered.{read-less}
 pub use Rattle.soundness.proofs.Events.{acknowledge-whole, fault-whole, raise-whole}
 pub use Rattle.soundness.proofs.FreshMachines.{fresh-sound}
@@ -38,11 +38,11 @@ pub use Rattle.soundness.proofs.ThreadCalls.{tick-whole}
 pub use Rattle.soundness.proofs.UnusedMemory.{unused-free}
 pub use Rattle.soundness.proofs.Waking.{AreApart, apart-filter, in-filter, is_in, places-apart}
 pub use Rattle.soundness.proofs.boot_laws.Laws.{AreFormed, CapabilityKept, CountsAreLengths, FrameKept, IsWithin, ReadsBoot, ReadsObjects, TableKept}
-pub use Rattle.soundness.proofs.boot_laws.Laws.{ThreadKept, any-taken, are-formed, boot-slots-suffice, boots-well, bytes-long, cnode-slot, cnode-type}
-pub use Rattle.soundness.proofs.boot_laws.Laws.{contents-fit, counts-are, cspace-slot, described-sound, each-all, entry, filtered-all, find-get, find-no}
-pub use Rattle.soundness.proofs.boot_laws.Laws.{first-at, first_of_type, flat-all, frame-type, goes, has-type, held-append, held-here, held-later, kept-before}
-pub use Rattle.soundness.proofs.boot_laws.Laws.{kept-behind, kept-of, limited-frame, limited-table, listed-behind, listed-untyped, loaded-end, mapped_by}
-pub use Rattle.soundness.proofs.boot_laws.Laws.{mapping_of, no-thread, not-refused, numbered-at, numbered-back, object-at, object-stands, objects-apart}
-pub use Rattle.soundness.proofs.boot_laws.Laws.{offsets-apart, original-untyped, passes, range-at, range-from, reads-boot, reads-cspace, reads-listed}
-pub use Rattle.soundness.proofs.boot_laws.Laws.{reads-objects, reads-vspace, slot-behind-boot, slot-in-memory, slot-of-one, source-untyped, stand-apart}
-pub use Rattle.soundness.proofs.boot_laws.Laws.{table-type, thread-behind, thread-type, used_with, vspace-slot}
+pub use Rattle.soundness.proofs.boot_laws.Laws.{ThreadKept, any-taken, are-formed, boot-slots-suffice, boots-well, buffer-slot, bytes-long, cnode-slot}
+pub use Rattle.soundness.proofs.boot_laws.Laws.{cnode-type, contents-fit, counts-are, cspace-slot, described-sound, each-all, entry, filtered-all}
+pub use Rattle.soundness.proofs.boot_laws.Laws.{find-get, find-no, first-at, first_of_type, flat-all, frame-type, goes, has-type, held-append, held-here}
+pub use Rattle.soundness.proofs.boot_laws.Laws.{held-later, kept-before, kept-behind, kept-of, limited-frame, limited-table, listed-behind, listed-untyped}
+pub use Rattle.soundness.proofs.boot_laws.Laws.{loaded-end, mapped_by, mapping_of, no-thread, not-refused, numbered-at, numbered-back, object-at}
+pub use Rattle.soundness.proofs.boot_laws.Laws.{object-stands, objects-apart, offsets-apart, original-untyped, passes, range-at, range-from, reads-boot}
+pub use Rattle.soundness.proofs.boot_laws.Laws.{reads-buffer, reads-cspace, reads-listed, reads-objects, reads-vspace, slot-behind-boot, slot-in-memory}
+pub use Rattle.soundness.proofs.boot_laws.Laws.{slot-of-one, source-untyped, stand-apart, table-type, thread-behind, thread-type, used_with, vspace-slot}

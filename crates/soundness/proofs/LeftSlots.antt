@@ -10,7 +10,7 @@ use Rattle.model.specs.declared.capabilities.FrameMapping.{FrameMapping}
 use Rattle.model.specs.declared.capabilities.TableMapping.{TableMapping}
 use Rattle.model.specs.declared.rights.Rights.{Rights}
 use Rattle.model.specs.declared.slot_entries.Entry.{Entry}
-use Rattle.model.specs.Capabilities.CapabilityKinds.{cnode_of, root_of}
+use Rattle.model.specs.Capabilities.CapabilityKinds.{cnode_of, frame_of, root_of}
 use Rattle.model.specs.Capabilities.CapabilityWords.{IsCapability}
 use Rattle.model.specs.Capabilities.Slots.{Descendant, IsDerivation, IsFull, IsOpen, capability_at, depth_of, is_empty, is_full, parent_at}
 use Rattle.model.specs.Kernel.Interrupts.{signal_of}
@@ -211,6 +211,10 @@ module _ (s : State) (set : SlotSet) (r : Removes s set) where
         let was = thread-was thread t is in
         ap is_some (held root_of (λ o b v w. refl) (λ f q m n. refl) (λ o m n. refl) _ (full-stays _ full))
         ∙ r.sound.slots.vspace thread was.0 was.1 (full-was _ full);
+    buffer = λ thread t is full.
+        let was = thread-was thread t is in
+        ap is_some (held frame_of (λ o b v w. refl) (λ f q m n. refl) (λ o m n. refl) _ (full-stays _ full))
+        ∙ r.sound.slots.buffer thread was.0 was.1 (full-was _ full);
     bindings = λ line less full.
         ap is_some (held signal_of (λ o b v w. refl) (λ f q m n. refl) (λ o m n. refl) _ (full-stays _ full))
         ∙ r.sound.slots.bindings line less (full-was _ full);

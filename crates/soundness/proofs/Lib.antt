@@ -1,3 +1,4 @@
+mod Buffers
 mod Bytes
 mod CNodeCalls
 mod Carried

@@ -4,7 +4,7 @@ use Rattle.std.specs.Option.{option_map_or}
 use Rattle.model.specs.Kernel.AddressSpaces.{with_content}
 use Rattle.model.specs.Kernel.Faults.{fault, handler, tell}
 use Rattle.model.specs.Kernel.Interrupts.{Signal, acknowledge, binding, interrupt, raise, with_pending}
-use Rattle.model.specs.Kernel.Messages.{Message, deliver, deliver_word, message_of, message_sent, passes, passes_with, poll, receive, received}
+use Rattle.model.specs.Kernel.Messages.{Message, deliver_sent, deliver_word, message_between, passes, passes_with, poll, receive, received}
 use Rattle.model.specs.Kernel.Messages.{received_waiting, receives, replied, reply, resumption, send, sends, signal, signals, takes_word, tries_to_send}
 use Rattle.model.specs.Kernel.Messages.{try_to_receive, try_to_send, wait, waits_for_signal, waits_to_receive, with_caller, with_registers}
 use Rattle.model.specs.Kernel.Scheduling.{at_tail, block, current, is_runnable, leaves, tick, ticked, unready, wake, yielded}
@@ -57,7 +57,7 @@ sends-machine : (s : State) (endpoint : ℕ) (sender : Sender) (receivers : List
 sends-machine s endpoint sender [] = record { memory_bits = refl; boot_radix = refl; slots = refl }
 sends-machine s endpoint sender (receiver ∷ others) =
     let one = with_endpoint s endpoint (record (endpoint_at s endpoint) { receivers = others }) in
-    let two = wake (deliver one receiver sender.badge (message_sent one sender sender.sent)) receiver in
+    let two = wake (deliver_sent one sender receiver) receiver in
     then-machine s two (received two sender sender.sent receiver) (record { memory_bits = refl; boot_radix = refl; slots = refl })
     (received-machine two sender sender.sent receiver)
 
@@ -79,7 +79,7 @@ receives-machine : (s t : State) (endpoint receiver : ℕ) (otherwise : State) (
 receives-machine s t endpoint receiver otherwise [] same other = other
 receives-machine s t endpoint receiver otherwise (sender ∷ others) same other =
     let one = with_endpoint t endpoint (record (endpoint_at t endpoint) { senders = others }) in
-    let two = deliver one receiver sender.badge (message_sent one sender sender.sent) in
+    let two = deliver_sent one sender receiver in
     then-machine s two (received_waiting two sender sender.sent receiver)
     (record { memory_bits = same.memory_bits; boot_radix = same.boot_radix; slots = same.slots })
     (received_waiting-machine two sender sender.sent receiver)
@@ -98,24 +98,24 @@ try_to_receive-machine s endpoint receiver =
 
 -- ---- replies
 
-replied-machine : (s : State) (caller : ℕ) (status : Status) (message : Message) → SameBase s (replied s caller status message)
-replied-machine s caller AwaitsReply message = record { memory_bits = refl; boot_radix = refl; slots = refl }
-replied-machine s caller AwaitsHandler message =
+replied-machine : (s : State) (thread caller : ℕ) (status : Status) (message : Message) → SameBase s (replied s thread caller status message)
+replied-machine s thread caller AwaitsReply message = record { memory_bits = refl; boot_radix = refl; slots = refl }
+replied-machine s thread caller AwaitsHandler message =
     let r = (thread_at s caller).registers in
     let resumed : RegisterFile = record r { pc = resumption r.pc message.words } in
     either-machine s (wake (with_registers s caller resumed) caller) (block s caller Inactive) (message.label == 0)
     (record { memory_bits = refl; boot_radix = refl; slots = refl }) (record { memory_bits = refl; boot_radix = refl; slots = refl })
-replied-machine s caller Inactive message = record { memory_bits = refl; boot_radix = refl; slots = refl }
-replied-machine s caller Runnable message = record { memory_bits = refl; boot_radix = refl; slots = refl }
-replied-machine s caller (Blocked queue) message = record { memory_bits = refl; boot_radix = refl; slots = refl }
+replied-machine s thread caller Inactive message = record { memory_bits = refl; boot_radix = refl; slots = refl }
+replied-machine s thread caller Runnable message = record { memory_bits = refl; boot_radix = refl; slots = refl }
+replied-machine s thread caller (Blocked queue) message = record { memory_bits = refl; boot_radix = refl; slots = refl }
 
 pub reply-machine : (s : State) (thread : ℕ) → SameBase s (reply s thread)
 reply-machine s thread =
     let one = with_caller s thread None in
-    let message = message_of (thread_at s thread) in
-    option-machine s s (λ caller. replied one caller (thread_at s caller).status message) (thread_at s thread).caller
-    (λ caller. then-machine s one (replied one caller (thread_at s caller).status message) (record { memory_bits = refl; boot_radix = refl; slots = refl })
-    (replied-machine one caller (thread_at s caller).status message))
+    option-machine s s (λ caller. replied one thread caller (thread_at s caller).status (message_between s thread caller)) (thread_at s thread).caller
+    (λ caller. then-machine s one (replied one thread caller (thread_at s caller).status (message_between s thread caller))
+    (record { memory_bits = refl; boot_radix = refl; slots = refl })
+    (replied-machine one thread caller (thread_at s caller).status (message_between s thread caller)))
     (record { memory_bits = refl; boot_radix = refl; slots = refl })
 
 -- ---- notifications

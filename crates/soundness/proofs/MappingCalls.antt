@@ -103,7 +103,7 @@ module _ (s : State) (slot offset : ℕ) (allowed : Rights) (before : Option Fra
   frame-may : (after : Option FrameMapping) → MayHold s slot (Frame offset allowed after)
   frame-may after =
       let may : MayHold s slot (Frame offset allowed before) = subst (MayHold s slot) is (full-may_hold s sound.slots slot full) in
-      record { cspace = may.cspace; vspace = may.vspace; line = may.line }
+      record { cspace = may.cspace; vspace = may.vspace; buffer = may.buffer; line = may.line }
 
   frame-recaps : (after : Option FrameMapping) → IsCapability (Frame offset allowed after) → Recaps s slot (Frame offset allowed after)
   frame-recaps after valid = record {
@@ -189,7 +189,7 @@ table-mapped s slot offset m sound full is root less free =
       piece = ap piece_of (sym is);
       used = ap used_of (sym is);
       filled = refl;
-      may = record { cspace = may.cspace; vspace = may.vspace; line = may.line };
+      may = record { cspace = may.cspace; vspace = may.vspace; buffer = may.buffer; line = may.line };
     }) m offset refl is (IsTableRoot.there root) free
 
 table-unmapped : (s : State) (call : Call) (offset : ℕ) (before : Option TableMapping) → IsSound s → IsAt s call (PageTable offset before)

@@ -7,10 +7,10 @@ use Rattle.std.proofs.lemmas.Bool.{eqb-true}
 use Rattle.std.proofs.lemmas.List.Elements.{All-head}
 use Rattle.std.proofs.lemmas.Nat.{or_lt}
 use Rattle.model.specs.Kernel.Kinds.{kind_at, kind_of}
-use Rattle.model.specs.Kernel.Messages.{Message, a0, deliver, deliver_word, delivered, message_of, message_sent, passes, poll, receive, received}
-use Rattle.model.specs.Kernel.Messages.{received_waiting, receives, replied, reply, reply_to_call, reply_to_fault, resumption, send, send_to, sends, signal}
-use Rattle.model.specs.Kernel.Messages.{signals, takes_word, tries_to_send, try_to_receive, try_to_send, wait, waits_for_signal, waits_to_receive, with_caller}
-use Rattle.model.specs.Kernel.Messages.{with_registers}
+use Rattle.model.specs.Kernel.Messages.{Message, a0, bytes_between, bytes_sent, deliver, deliver_sent, deliver_with, deliver_word, delivered, message_between}
+use Rattle.model.specs.Kernel.Messages.{message_to, passes, poll, receive, received, received_waiting, receives, replied, reply, reply_to_call, reply_to_fault}
+use Rattle.model.specs.Kernel.Messages.{resumption, send, send_to, sends, signal, signals, takes_word, tries_to_send, try_to_receive, try_to_send, wait}
+use Rattle.model.specs.Kernel.Messages.{waits_for_signal, waits_to_receive, with_caller, with_registers}
 use Rattle.model.specs.Kernel.Retype.{NewObject, NewThread, NewEndpoint, NewNotification}
 use Rattle.model.specs.Kernel.Scheduling.{block, full_slice, is_runnable, wake}
 use Rattle.model.specs.Kernel.Soundness.{awaits_answer, IsSound, SenderIsSound}
@@ -21,14 +21,16 @@ use Rattle.model.specs.Kernel.State.{with_endpoint, with_notification, with_obje
 use Rattle.model.specs.Machine.Effects.{advanced}
 use Rattle.model.specs.Machine.ProgramMemory.{RegisterFile, write}
 use Rattle.soundness.specs.Running.{IsRunning}
-use Rattle.soundness.proofs.Delivered.{MessageIsSound, deliver-moving, deliver_word-moving, own-message, passes-moving, registers-moving, sent-message}
+use Rattle.soundness.proofs.Buffers.{between-bytes}
+use Rattle.soundness.proofs.Delivered.{MessageIsSound, between-message, deliver_sent-moving, deliver_with-moving, deliver_word-moving, passes-moving}
+use Rattle.soundness.proofs.Delivered.{registers-moving}
 use Rattle.soundness.proofs.Grants.{awaiting-whole, thread-kinds}
 use Rattle.soundness.proofs.Moving.{Moving, own_of, put-either, put-here, put-other, rights-none, runs_of}
 use Rattle.soundness.proofs.QueueSteps.{first-receiver, first-sender, first-waiter, in_queue, listed-as, running, standing, with-receiver, with-sender}
 use Rattle.soundness.proofs.QueueSteps.{with-waiter, with-word, without-receiver, without-sender, without-waiter}
 use Rattle.soundness.proofs.Registers.{registers-of, with-pc, written-sound}
 use Rattle.soundness.proofs.Rest.{endpoint-kind, notification-kind}
-use Rattle.soundness.proofs.Steps.{caller-fine, own-fine, stopped-whole, woken-whole}
+use Rattle.soundness.proofs.Steps.{caller-fine, stopped-whole, woken-whole}
 use Rattle.soundness.proofs.ThreadCalls.{fine-of, passes-whole, registers-whole, same-whole}
 
 -- ---- what objects are
@@ -58,6 +60,10 @@ deliver-other s x badge message y other =
     let r = delivered (thread_at s x).registers badge message in
     let one = with_registers s x r in
     registers-other one x y (advanced (thread_at one x).registers) other ∙ registers-other s x y r other
+
+pub deliver_sent-other : (s : State) (sender : Sender) (receiver y : ℕ) → y ≢ receiver → (deliver_sent s sender receiver).objects y ≡ s.objects y
+deliver_sent-other s sender receiver y other =
+    deliver-other (record s { bytes = bytes_sent s sender sender.sent receiver }) receiver sender.badge (message_to s sender sender.sent receiver) y other
 
 pub wake-other : (s : State) (x y : ℕ) → y ≢ x → (wake s x).objects y ≡ s.objects y
 wake-other s x y other = put-other s.objects x (Some (ThreadObject (record (thread_at s x) { status = Runnable; slice = full_slice }))) y other
@@ -122,18 +128,15 @@ module _ (s : State) (q : ℕ) (sender : Sender) (whole : IsSound s) (is : kind_
       let s1 = with_endpoint s q (record e { receivers = others }) in
       let waits = first-receiver s whole q e receiver others object first in
       let one = without-receiver s whole q e receiver others object first in
-      let message = message_sent s1 sender sender.sent in
-      let fine = sent-message s1 sender sender.sent (own-fine (kind_at s) s1 receiver r (λ _. 0) x one.listed runs.kind) sound.sent in
-      let badge = sound.badge in
-      let two = deliver-moving (kind_at s) s1 receiver r (λ _. 0) false receiver sender.badge message waits.kind one (omega (arith, badge)) fine in
-      let s2 = deliver s1 receiver sender.badge message in
+      let two = deliver_sent-moving (kind_at s) s1 receiver r (λ _. 0) false sender receiver runs.kind waits.kind one sound in
+      let s2 = deliver_sent s1 sender receiver in
       let three = woken-whole (kind_at s) s2 receiver r two waits.kind in
       let s3 = wake s2 receiver in
       let apart : x ≢ receiver = λ same. (let clash : false ≡ true = sym (ap is_runnable waits.status)
       ∙ sym (ap (λ (y : ℕ). is_runnable (thread_at s y).status) same) ∙ runs.runs in cc) in
       let distinct : x ≢ q = λ same. (let clash : Some NewThread ≡ Some NewEndpoint = sym runs.kind ∙ ap (kind_at s) same ∙ is in cc) in
       let stays : s3.objects x ≡ s.objects x =
-      wake-other s2 receiver x apart ∙ deliver-other s1 receiver sender.badge message x apart
+      wake-other s2 receiver x apart ∙ deliver_sent-other s1 sender receiver x apart
       ∙ put-other s.objects q (Some (EndpointObject (record e { receivers = others }))) x distinct in
       received-whole s3 sender sender.sent receiver three (running-object s s3 x stays runs)
       (thread-kinds s2 receiver _ (two.listed.kind receiver ∙ waits.kind) receiver ∙ two.listed.kind receiver ∙ waits.kind)
@@ -188,11 +191,8 @@ module _ (s : State) (q receiver : ℕ) (whole : IsSound s) (is : kind_at s q �
       let waits = first-sender s whole q e sender others object first in
       let one = without-sender s whole q e sender others object first in
       let sound = All-head SenderIsSound sender others (subst (All SenderIsSound) first (whole.threads.senders q e object)) in
-      let message = message_sent s1 sender sender.sent in
-      let fine = sent-message s1 sender sender.sent (own-fine (kind_at s) s1 x r (λ _. 0) x one.listed waits.kind) sound.sent in
-      let badge = sound.badge in
-      let two = deliver-moving (kind_at s) s1 x r (λ _. 0) false receiver sender.badge message runs.kind one (omega (arith, badge)) fine in
-      waited-whole (kind_at s) (deliver s1 receiver sender.badge message) sender sender.sent receiver r two waits.kind runs.kind
+      let two = deliver_sent-moving (kind_at s) s1 x r (λ _. 0) false sender receiver waits.kind runs.kind one sound in
+      waited-whole (kind_at s) (deliver_sent s1 sender receiver) sender sender.sent receiver r two waits.kind runs.kind
 
   waits-whole : (endpoint_at s q).senders ≡ [] → IsSound (waits_to_receive s q receiver)
   waits-whole none =
@@ -289,8 +289,8 @@ resumption-less pc [] less small = less
 resumption-less pc (word ∷ words) less small = let first = All-head (λ (n : ℕ). n < 2 ^ 32) word words small in omega (arith, first)
 
 -- the caller, for whom nobody holds a right any more
-module _ (s : State) (caller : ℕ) (message : Message) (whole : IsSound s) (is_thread : kind_at s caller ≡ Some NewThread) (sound : MessageIsSound message)
-    (free : (thread : ℕ) → (thread_at s thread).caller ≢ Some caller) where
+module _ (s : State) (thread caller : ℕ) (message : Message) (whole : IsSound s) (is_thread : kind_at s caller ≡ Some NewThread)
+    (sound : MessageIsSound message) (free : (other : ℕ) → (thread_at s other).caller ≢ Some caller) where
   -- it is in no queue
   alone : (status : Status) → (thread_at s caller).status ≡ status → ((queue : ℕ) → ◌≡◌ {A = ℕ} (in_queue status queue) 0) →
       Moving (kind_at s) s caller (runs_of (s.objects caller)) (λ _. 0) false
@@ -300,11 +300,13 @@ module _ (s : State) (caller : ℕ) (message : Message) (whole : IsSound s) (is_
       record { listed = moving.listed; rights = rights-none s caller (awaits_answer status) moving.rights free } in
       listed-as (kind_at s) s caller (runs_of (s.objects caller)) (in_queue status) (λ _. 0) false false known nowhere refl
 
-  called_back-whole : Moving (kind_at s) s caller (runs_of (s.objects caller)) (λ _. 0) false → IsSound (reply_to_call s caller message)
+  called_back-whole : Moving (kind_at s) s caller (runs_of (s.objects caller)) (λ _. 0) false → IsSound (reply_to_call s thread caller message)
   called_back-whole moving =
       let r = runs_of (s.objects caller) in
-      woken-whole (kind_at s) (deliver s caller 0 message) caller r
-      (deliver-moving (kind_at s) s caller r (λ _. 0) false caller 0 message is_thread moving (omega arith) sound) is_thread
+      let bytes = bytes_between s thread caller message.count in
+      woken-whole (kind_at s) (deliver_with s bytes caller 0 message) caller r
+      (deliver_with-moving (kind_at s) s caller r (λ _. 0) false bytes caller 0 message is_thread moving
+      (between-bytes s moving.listed.rest thread caller message.count sound.count) (omega arith) sound) is_thread
 
   handled-whole : Moving (kind_at s) s caller (runs_of (s.objects caller)) (λ _. 0) false → IsSound (reply_to_fault s caller message)
   handled-whole moving =
@@ -322,7 +324,7 @@ module _ (s : State) (caller : ℕ) (message : Message) (whole : IsSound s) (is_
         | false ↦ stopped-whole (kind_at s) s caller r (λ _. 0) false moving is_thread Inactive refl (λ _. refl) (λ e. e)
       ]
 
-  replied-whole : (status : Status) → (thread_at s caller).status ≡ status → IsSound (replied s caller status message)
+  replied-whole : (status : Status) → (thread_at s caller).status ≡ status → IsSound (replied s thread caller status message)
   replied-whole AwaitsReply is = called_back-whole (alone AwaitsReply is (λ _. refl))
   replied-whole AwaitsHandler is = handled-whole (alone AwaitsHandler is (λ _. refl))
   replied-whole Inactive is = whole
@@ -345,12 +347,12 @@ module _ (s : State) (thread : ℕ) (whole : IsSound s) (is_thread : kind_at s t
       (λ other apart e. apart (whole.threads.one_right other thread caller e is))
 
   reply-by : (o : Option ℕ) → (thread_at s thread).caller ≡ o
-      → IsSound (option_map_or (λ caller. replied without_right caller (thread_at s caller).status (message_of (thread_at s thread))) o s)
+      → IsSound (option_map_or (λ caller. replied without_right thread caller (thread_at s caller).status (message_between s thread caller)) o s)
   reply-by None is = whole
   reply-by (Some caller) is =
-      replied-whole without_right caller (message_of (thread_at s thread)) (dropped-whole s thread whole is_thread)
+      replied-whole without_right thread caller (message_between s thread caller) (dropped-whole s thread whole is_thread)
       (dropped-kinds s thread whole is_thread caller ∙ answering-kind (s.objects caller) (whole.threads.callers thread caller is))
-      (own-message (thread_at s thread) (fine-of s whole thread is_thread)) (right-gone caller is) (thread_at s caller).status (status-still caller)
+      (between-message s thread caller (fine-of s whole thread is_thread)) (right-gone caller is) (thread_at s caller).status (status-still caller)
 
   pub reply-whole : IsSound (reply s thread)
   reply-whole = reply-by (thread_at s thread).caller refl

@@ -474,12 +474,12 @@ module _ (s : State) (sound : IsSound s) (slot offset bits watermark : ℕ) (kin
   -- a slot that was open holds what it might hold before
   may-after : (x : ℕ) (c : Cap) → IsOpen s.slots x → MayHold s x c → MayHold state x c
   may-after x c was may =
-      let new_thread : (thread index : ℕ) → index < 2 → (i : ℕ) → i < count → place i ≡ thread → option_map kind_of (object kind) ≡ Some NewThread →
+      let new_thread : (thread index : ℕ) → index < 3 → (i : ℕ) → i < count → place i ≡ thread → option_map kind_of (object kind) ≡ Some NewThread →
       x ≡ thread / 16 + index → ⊥ = λ thread index few i less at is here.
       (let same_kind : kind ≡ NewThread = new-kind kind NewThread is in
-      let two : slots_of_kind kind ≡ 2 = ap slots_of_kind same_kind in
+      let three : slots_of_kind kind ≡ 3 = ap slots_of_kind same_kind in
       let sixteenth : place i / 16 ≡ thread / 16 = ap (λ (o : ℕ). o / 16) at in
-      closed-there i x less (omega (arith, here, sixteenth)) (omega (arith, here, sixteenth, two, few)) was) in
+      closed-there i x less (omega (arith, here, sixteenth)) (omega (arith, here, sixteenth, three, few)) was) in
       record {
         cspace = λ thread t is at. elim (kind-was thread NewThread (ap (option_map kind_of) is)) [
           | inl old ↦ let own = thread-kind (s.objects thread) old in may.cspace thread own.0 own.1 at
@@ -489,13 +489,17 @@ module _ (s : State) (sound : IsSound s) (slot offset bits watermark : ℕ) (kin
           | inl old ↦ let own = thread-kind (s.objects thread) old in may.vspace thread own.0 own.1 at
           | inr found ↦ absurd (new_thread thread 1 (omega arith) found.0 found.1 found.2 found.3 at)
         ];
+        buffer = λ thread t is at. elim (kind-was thread NewThread (ap (option_map kind_of) is)) [
+          | inl old ↦ let own = thread-kind (s.objects thread) old in may.buffer thread own.0 own.1 at
+          | inr found ↦ absurd (new_thread thread 2 (omega arith) found.0 found.1 found.2 found.3 at)
+        ];
         line = may.line;
       }
 
   slot-may : MayHold s slot (Untyped offset bits mark)
   slot-may =
       let may : MayHold s slot (Untyped offset bits watermark) = subst (MayHold s slot) known.memory (full-may_hold s sound.slots slot slot-full) in
-      record { cspace = may.cspace; vspace = may.vspace; line = may.line }
+      record { cspace = may.cspace; vspace = may.vspace; buffer = may.buffer; line = may.line }
 
   may-hold : (x : ℕ) → IsFull after x → MayHold state x (capability_at after x)
   may-hold x full = elim (place-of x) [
@@ -520,6 +524,7 @@ module _ (s : State) (sound : IsSound s) (slot offset bits watermark : ℕ) (kin
     there = λ x. (open-has x, has-open x);
     cspace = λ thread t is full. (may-hold _ full).cspace thread t is refl;
     vspace = λ thread t is full. (may-hold _ full).vspace thread t is refl;
+    buffer = λ thread t is full. (may-hold _ full).buffer thread t is refl;
     bindings = λ number less full. (may-hold _ full).line number less refl;
   }
 

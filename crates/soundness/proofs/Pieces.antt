@@ -59,7 +59,7 @@ piece-named (InterruptHandler a) p unused is = object-some None p is
 -- how many slots objects of a type have, which fit into their memory
 abbrev pub slots_of_kind : NewObject → ℕ
 slots_of_kind (NewUntyped bits) = 0
-slots_of_kind NewThread = 2
+slots_of_kind NewThread = 3
 slots_of_kind NewEndpoint = 0
 slots_of_kind NewNotification = 0
 slots_of_kind (NewCNode radix) = 2 ^ radix

@@ -6,7 +6,7 @@ use Rattle.std.proofs.lemmas.Bool.Decides.{eqb_tells}
 use Rattle.std.proofs.lemmas.Nat.{pow-add}
 use Rattle.std.proofs.Math.Pow.{pow_mono}
 use Rattle.model.proofs.SlotChanges.{bounds-within, within-bounds}
-use Rattle.model.specs.Capabilities.CapabilityKinds.{cnode_of, root_of}
+use Rattle.model.specs.Capabilities.CapabilityKinds.{cnode_of, frame_of, root_of}
 use Rattle.model.specs.Capabilities.Slots.{IsFull, IsOpen, Slots, capability_at}
 use Rattle.model.specs.Kernel.Interrupts.{signal_of}
 use Rattle.model.specs.declared.capabilities.Cap.{Cap}
@@ -14,7 +14,8 @@ use Rattle.model.specs.Kernel.Kinds.{AreApart, Names, kind_at, kind_of, object_n
 use Rattle.model.specs.Kernel.Removal.{is_slot_of, slot_count}
 use Rattle.model.specs.Kernel.Retype.{NewObject, NewThread, NewCNode, object_bits}
 use Rattle.model.specs.Kernel.Soundness.{HasShape, HasSlot, of_boot_area, of_object, MemoryIsSound, SlotsAreSound, Lies, apart, same, within, around}
-use Rattle.model.specs.Kernel.State.{State, ThreadObject, ThreadState, binding_slot, boot_area_end, boot_area_slots, cspace_slot, vspace_slot, with_slots}
+use Rattle.model.specs.Kernel.State.{State, ThreadObject, ThreadState, binding_slot, boot_area_end, boot_area_slots, buffer_slot, cspace_slot, vspace_slot}
+use Rattle.model.specs.Kernel.State.{with_slots}
 use Rattle.soundness.proofs.Pieces.{named-piece, named-unused, slots-by_kind, slots-fit, slots_of_kind}
 
 -- a slot of an object, by the object's type
@@ -132,9 +133,10 @@ plain-open s slots slot (of_cnode offset radix is low high) =
 pub record MayHold (s : State) (slot : ℕ) (capability : Cap) : Type 0 where
   pub cspace : (thread : ℕ) (t : ThreadState) → s.objects thread ≡ Some (ThreadObject t) → slot ≡ cspace_slot thread → IsSome (cnode_of capability)
   pub vspace : (thread : ℕ) (t : ThreadState) → s.objects thread ≡ Some (ThreadObject t) → slot ≡ vspace_slot thread → IsSome (root_of capability)
+  pub buffer : (thread : ℕ) (t : ThreadState) → s.objects thread ≡ Some (ThreadObject t) → slot ≡ buffer_slot thread → IsSome (frame_of capability)
   pub line : (number : ℕ) → number < 64 → slot ≡ binding_slot s number → IsSome (signal_of capability)
 
-pub thread-slot : (s : State) (thread slot index : ℕ) (t : ThreadState) → s.objects thread ≡ Some (ThreadObject t) → index < 2
+pub thread-slot : (s : State) (thread slot index : ℕ) (t : ThreadState) → s.objects thread ≡ Some (ThreadObject t) → index < 3
     → slot ≡ thread / 16 + index → StandsIn s thread slot
 thread-slot s thread slot index t is less at =
     record { kind = NewThread; is = ap (option_map kind_of) is; low = omega (arith, at); high = omega (arith, at, less) }
@@ -158,6 +160,7 @@ unfolding thread-slot
 plain-may_hold s memory slot capability plain = record {
   cspace = λ thread t is at. absurd (plain-no_thread s memory slot thread plain (thread-slot s thread slot 0 t is (omega arith) at) refl);
   vspace = λ thread t is at. absurd (plain-no_thread s memory slot thread plain (thread-slot s thread slot 1 t is (omega arith) at) refl);
+  buffer = λ thread t is at. absurd (plain-no_thread s memory slot thread plain (thread-slot s thread slot 2 t is (omega arith) at) refl);
   line = λ number less at. absurd (plain-no_line s memory slot number less plain at);
 }
 
@@ -167,6 +170,8 @@ full-may_hold s slots slot full = record {
   cspace = λ thread t is at. subst (λ (x : ℕ). IsSome (cnode_of (capability_at s.slots x))) (sym at)
       (slots.cspace thread t is (subst (IsFull s.slots) at full));
   vspace = λ thread t is at. subst (λ (x : ℕ). IsSome (root_of (capability_at s.slots x))) (sym at) (slots.vspace thread t is (subst (IsFull s.slots) at full));
+  buffer = λ thread t is at. subst (λ (x : ℕ). IsSome (frame_of (capability_at s.slots x))) (sym at)
+      (slots.buffer thread t is (subst (IsFull s.slots) at full));
   line = λ number less at. subst (λ (x : ℕ). IsSome (signal_of (capability_at s.slots x))) (sym at)
       (slots.bindings number less (subst (IsFull s.slots) at full));
 }
@@ -177,44 +182,58 @@ plain-still s new slot (of_boot_cnode less) = of_boot_cnode less
 plain-still s new slot (of_cnode offset radix is low high) = of_cnode offset radix is low high
 
 pub may-still : (s : State) (new : Slots) (slot : ℕ) (capability : Cap) → MayHold s slot capability → MayHold (with_slots s new) slot capability
-may-still s new slot capability may = record { cspace = may.cspace; vspace = may.vspace; line = may.line }
+may-still s new slot capability may = record { cspace = may.cspace; vspace = may.vspace; buffer = may.buffer; line = may.line }
 
 -- ---- slots of threads and lines
 
 pub own-slot_open : (s : State) → SlotsAreSound s → (thread slot : ℕ) → StandsIn s thread slot → IsOpen s.slots slot
 own-slot_open s slots thread slot stands = (slots.there slot).1 (of_object thread (stands-slot s thread slot stands))
 
-not-two : (s : State) → MemoryIsSound s → (a b slot : ℕ) → StandsIn s a slot → StandsIn s b slot → slot ≡ a / 16 → slot ≡ b / 16 + 1 → ⊥
-not-two s memory a b slot one other first second = let e = one-object s memory a b slot one other in omega (arith, ap (λ (n : ℕ). n / 16) e, first, second)
+-- a slot is one thread's slot of one number
+not-two : (s : State) (memory : MemoryIsSound s) (a b slot i j : ℕ) (t u : ThreadState) → s.objects a ≡ Some (ThreadObject t)
+    → s.objects b ≡ Some (ThreadObject u) → i < 3 → j < 3 → i ≢ j → slot ≡ a / 16 + i → slot ≡ b / 16 + j → ⊥
+not-two s memory a b slot i j t u one other few less differ first second =
+    let same = one-object s memory a b slot (thread-slot s a slot i t one few first) (thread-slot s b slot j u other less second) in
+    differ (omega (arith, ap (λ (n : ℕ). n / 16) same, first, second))
 
 not-line : (s : State) → MemoryIsSound s → (thread slot number : ℕ) → StandsIn s thread slot → number < 64 → slot ≡ binding_slot s number → ⊥
 not-line s memory thread slot number stands less is = let behind = behind-boot_area s memory thread slot stands in omega (arith, behind, less, is)
 
--- the first slot of a thread may hold a CNode, and the second a root table
+-- the first slot of a thread may hold a CNode, the second a root table, and the third a frame
 pub cspace-may_hold : (s : State) → MemoryIsSound s → (thread : ℕ) (t : ThreadState) (capability : Cap)
     → s.objects thread ≡ Some (ThreadObject t) → IsSome (cnode_of capability)
     → MayHold s (cspace_slot thread) capability
 cspace-may_hold s memory thread t capability is some =
-    let stands = thread-slot s thread (cspace_slot thread) 0 t is (omega arith) refl in
+    let own = cspace_slot thread in
     record {
       cspace = λ _ _ _ _. some;
-      vspace = λ other u there at.
-          absurd (not-two s memory thread other (cspace_slot thread) stands (thread-slot s other (cspace_slot thread) 1 u there (omega arith) at) (omega arith)
-          (omega (arith, at)));
-      line = λ number less at. absurd (not-line s memory thread (cspace_slot thread) number stands less at);
+      vspace = λ other u there at. absurd (not-two s memory thread other own 0 1 t u is there (omega arith) (omega arith) (λ e. omega (arith, e)) refl at);
+      buffer = λ other u there at. absurd (not-two s memory thread other own 0 2 t u is there (omega arith) (omega arith) (λ e. omega (arith, e)) refl at);
+      line = λ number less at. absurd (not-line s memory thread own number (thread-slot s thread own 0 t is (omega arith) refl) less at);
     }
 
 pub vspace-may_hold : (s : State) → MemoryIsSound s → (thread : ℕ) (t : ThreadState) (capability : Cap)
     → s.objects thread ≡ Some (ThreadObject t) → IsSome (root_of capability)
     → MayHold s (vspace_slot thread) capability
 vspace-may_hold s memory thread t capability is some =
-    let stands = thread-slot s thread (vspace_slot thread) 1 t is (omega arith) refl in
+    let own = vspace_slot thread in
     record {
-      cspace = λ other u there at.
-          absurd (not-two s memory other thread (vspace_slot thread) (thread-slot s other (vspace_slot thread) 0 u there (omega arith) at) stands
-          (omega (arith, at)) (omega arith));
+      cspace = λ other u there at. absurd (not-two s memory thread other own 1 0 t u is there (omega arith) (omega arith) (λ e. omega (arith, e)) refl at);
       vspace = λ _ _ _ _. some;
-      line = λ number less at. absurd (not-line s memory thread (vspace_slot thread) number stands less at);
+      buffer = λ other u there at. absurd (not-two s memory thread other own 1 2 t u is there (omega arith) (omega arith) (λ e. omega (arith, e)) refl at);
+      line = λ number less at. absurd (not-line s memory thread own number (thread-slot s thread own 1 t is (omega arith) refl) less at);
+    }
+
+pub buffer-may_hold : (s : State) → MemoryIsSound s → (thread : ℕ) (t : ThreadState) (capability : Cap)
+    → s.objects thread ≡ Some (ThreadObject t) → IsSome (frame_of capability)
+    → MayHold s (buffer_slot thread) capability
+buffer-may_hold s memory thread t capability is some =
+    let own = buffer_slot thread in
+    record {
+      cspace = λ other u there at. absurd (not-two s memory thread other own 2 0 t u is there (omega arith) (omega arith) (λ e. omega (arith, e)) refl at);
+      vspace = λ other u there at. absurd (not-two s memory thread other own 2 1 t u is there (omega arith) (omega arith) (λ e. omega (arith, e)) refl at);
+      buffer = λ _ _ _ _. some;
+      line = λ number less at. absurd (not-line s memory thread own number (thread-slot s thread own 2 t is (omega arith) refl) less at);
     }
 
 pub line-may_hold : (s : State) → MemoryIsSound s → (number : ℕ) (capability : Cap) → number < 64 → IsSome (signal_of capability)
@@ -224,6 +243,8 @@ line-may_hold s memory number capability less some = record {
       absurd (not-line s memory thread (binding_slot s number) number (thread-slot s thread (binding_slot s number) 0 t is (omega arith) at) less refl);
   vspace = λ thread t is at.
       absurd (not-line s memory thread (binding_slot s number) number (thread-slot s thread (binding_slot s number) 1 t is (omega arith) at) less refl);
+  buffer = λ thread t is at.
+      absurd (not-line s memory thread (binding_slot s number) number (thread-slot s thread (binding_slot s number) 2 t is (omega arith) at) less refl);
   line = λ _ _ _. some;
 }
 

@@ -48,8 +48,8 @@ some-thread test (Some RootTableObject) is = let clash : false ≡ true = is in 
 -- a thread is at one of the places
 thread-place : (s : State) → IsSound s → (o : ℕ) (t : ThreadState) → s.objects o ≡ Some (ThreadObject t) → is_in (thread_places s) o ≡ true
 thread-place s sound o t is =
-    let inner : is_slot_of s o (o / 16) ≡ true = bounds-within (o / 16) (slot_count (s.objects o)) (o / 16) (omega arith) (let two : slot_count
-    (s.objects o) ≡ 2 = ap slot_count is in omega (arith, two)) in
+    let inner : is_slot_of s o (o / 16) ≡ true = bounds-within (o / 16) (slot_count (s.objects o)) (o / 16) (omega arith) (let three : slot_count
+    (s.objects o) ≡ 3 = ap slot_count is in omega (arith, three)) in
     let h = holder s sound o (o / 16) inner in
     let whole : 16 * (o / 16) ≡ o = (let sixteenth = holder-aligned s sound o (o / 16) h in omega (arith, sixteenth)) in
     ap (is_in (thread_places s)) (sym whole) ∙ place-in s (o / 16) (in-memory s sound o (o / 16) h)

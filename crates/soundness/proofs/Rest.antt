@@ -95,6 +95,7 @@ module _ (s : State) (objects : ℕ → Option Object) (ready : ℕ → List ℕ
       );
       cspace = λ thread t is full. let was = was-thread thread t is in rest.slots.cspace thread was.0 was.1 full;
       vspace = λ thread t is full. let was = was-thread thread t is in rest.slots.vspace thread was.0 was.1 full;
+      buffer = λ thread t is full. let was = was-thread thread t is in rest.slots.buffer thread was.0 was.1 full;
       bindings = rest.slots.bindings;
     };
     memory = record {

@@ -21,8 +21,8 @@ use Rattle.model.specs.Kernel.Arguments.{Call}
 use Rattle.model.specs.Kernel.Faults.{capability_fault, unknown_call}
 use Rattle.model.specs.Kernel.Invocations.{invoke}
 use Rattle.model.specs.Kernel.Kinds.{kind_at, kind_of, object_named}
-use Rattle.model.specs.Kernel.Messages.{Message, a0, a1, a7, deliver, deliver_word, extra_capabilities_of, info_word, message_of, passes, passes_with, replied}
-use Rattle.model.specs.Kernel.Messages.{reply, resumption, signal, signals, with_caller, with_registers}
+use Rattle.model.specs.Kernel.Messages.{Message, a0, a1, a7, bytes_between, deliver_with, deliver_word, extra_capabilities_of, info_word, message_between}
+use Rattle.model.specs.Kernel.Messages.{message_of, passes, passes_with, replied, reply, resumption, signal, signals, with_caller, with_registers}
 use Rattle.model.specs.Kernel.Retype.{NewThread, NewEndpoint, NewNotification}
 use Rattle.model.specs.Kernel.Scheduling.{block, is_runnable, wake}
 use Rattle.model.specs.Kernel.Soundness.{awaits_answer, IsSound}
@@ -270,20 +270,21 @@ signaled-object s q badge thread (waiter ∷ others) whole is runs first =
     ∙ put-other s.objects q (Some (NotificationObject (record n { waiters = others }))) thread
     (λ e. let clash : Some NewThread ≡ Some NewNotification = sym runs.kind ∙ ap (kind_at s) e ∙ is in cc)
 
-replied-object : (s : State) (caller thread : ℕ) (status : Status) (message : Message) → thread ≢ caller
-    → (replied s caller status message).objects thread ≡ s.objects thread
-replied-object s caller thread AwaitsReply message other = wake-other (deliver s caller 0 message) caller thread other
-    ∙ deliver-other s caller 0 message thread other
-replied-object s caller thread AwaitsHandler message other =
+replied-object : (s : State) (thread caller other : ℕ) (status : Status) (message : Message) → other ≢ caller
+    → (replied s thread caller status message).objects other ≡ s.objects other
+replied-object s thread caller other AwaitsReply message apart =
+    let bytes = bytes_between s thread caller message.count in
+    wake-other (deliver_with s bytes caller 0 message) caller other apart ∙ deliver-other (record s { bytes = bytes }) caller 0 message other apart
+replied-object s thread caller other AwaitsHandler message apart =
     let r = (thread_at s caller).registers in
     let resumed : RegisterFile = record r { pc = resumption r.pc message.words } in
-    elim (message.label == 0) as (λ b. (if b then wake (with_registers s caller resumed) caller else block s caller Inactive).objects thread ≡ s.objects thread) [
-      | true ↦ wake-other (with_registers s caller resumed) caller thread other ∙ registers-other s caller thread resumed other
-      | false ↦ put-other s.objects caller (Some (ThreadObject (record (thread_at s caller) { status = Inactive }))) thread other
+    elim (message.label == 0) as (λ b. (if b then wake (with_registers s caller resumed) caller else block s caller Inactive).objects other ≡ s.objects other) [
+      | true ↦ wake-other (with_registers s caller resumed) caller other apart ∙ registers-other s caller other resumed apart
+      | false ↦ put-other s.objects caller (Some (ThreadObject (record (thread_at s caller) { status = Inactive }))) other apart
     ]
-replied-object s caller thread Inactive message other = refl
-replied-object s caller thread Runnable message other = refl
-replied-object s caller thread (Blocked queue) message other = refl
+replied-object s thread caller other Inactive message apart = refl
+replied-object s thread caller other Runnable message apart = refl
+replied-object s thread caller other (Blocked queue) message apart = refl
 
 runs-or-awaits : (status : Status) → is_runnable status ≡ true → awaits_answer status ≡ true → ⊥
 runs-or-awaits Runnable runs awaits = let e : false ≡ true = awaits in cc
@@ -294,7 +295,8 @@ runs-or-awaits AwaitsHandler runs awaits = let e : false ≡ true = runs in cc
 
 -- a thread that replies runs on
 pub reply-runs : (s : State) (thread : ℕ) (o : Option ℕ) → IsSound s → IsRunning s thread → (thread_at s thread).caller ≡ o
-    → IsRunning (option_map_or (λ caller. replied (with_caller s thread None) caller (thread_at s caller).status (message_of (thread_at s thread))) o s) thread
+    → IsRunning (option_map_or (λ caller. replied (with_caller s thread None) thread caller (thread_at s caller).status (message_between s thread caller)) o s)
+    thread
 reply-runs s thread None whole runs is = runs
 reply-runs s thread (Some caller) whole runs is =
     let one = with_caller s thread None in
@@ -302,8 +304,9 @@ reply-runs s thread (Some caller) whole runs is =
     (let awaits : awaits_answer (thread_at s thread).status ≡ true = ap (λ (z : ℕ). awaits_answer (thread_at s z).status) e
     ∙ whole.threads.callers thread caller is in
     runs-or-awaits (thread_at s thread).status runs.runs awaits) in
-    running-object one (replied one caller (thread_at s caller).status (message_of (thread_at s thread))) thread
-    (replied-object one caller thread (thread_at s caller).status (message_of (thread_at s thread)) other) (dropped-runs s thread whole runs.kind runs.runs)
+    let message = message_between s thread caller in
+    running-object one (replied one thread caller (thread_at s caller).status message) thread
+    (replied-object one thread caller thread (thread_at s caller).status message other) (dropped-runs s thread whole runs.kind runs.runs)
 
 -- and goes on after its ECALL
 pub reply-passes-whole : (s : State) (thread : ℕ) → IsSound s → IsRunning s thread → IsSound (passes (reply s thread) thread)

@@ -14,7 +14,7 @@ use Rattle.model.specs.declared.capabilities.FrameMapping.{FrameMapping}
 use Rattle.model.specs.declared.capabilities.TableMapping.{TableMapping}
 use Rattle.model.specs.declared.rights.Rights.{Rights}
 use Rattle.model.specs.declared.slot_entries.Entry.{Entry}
-use Rattle.model.specs.Capabilities.CapabilityKinds.{cnode_of, frame_mapping, root_of, table_mapping, unmapped}
+use Rattle.model.specs.Capabilities.CapabilityKinds.{cnode_of, frame_mapping, frame_of, root_of, table_mapping, unmapped}
 use Rattle.model.specs.Capabilities.CapabilityWords.{IsCapability}
 use Rattle.model.specs.Capabilities.Slots.{Descendant, child, deeper, IsDerivation, IsFull, Slots, capability_at, is_empty, is_full, parent_at, recapped}
 use Rattle.model.specs.Kernel.AddressSpaces.{is_page, is_region, is_region_taken, maps_region, region_pages}
@@ -44,6 +44,7 @@ record IsLeft (table : TableMapping) (c d : Cap) : Type 0 where
   valid : IsCapability c → IsCapability d
   cnode : cnode_of d ≡ cnode_of c
   root : root_of d ≡ root_of c
+  frame_named : frame_of d ≡ frame_of c
   signal : signal_of d ≡ signal_of c
 
 left-same : (table : TableMapping) (c : Cap) → frame_mapping c ≡ None → IsLeft table c c
@@ -58,6 +59,7 @@ left-same table c none = record {
   valid = λ v. v;
   cnode = refl;
   root = refl;
+  frame_named = refl;
   signal = refl;
 }
 
@@ -74,6 +76,7 @@ left-frame table a r m true is = record {
   valid = λ v. (v.0, v.1, tt);
   cnode = refl;
   root = refl;
+  frame_named = refl;
   signal = refl;
 }
 left-frame table a r m false is = record {
@@ -87,6 +90,7 @@ left-frame table a r m false is = record {
   valid = λ v. v;
   cnode = refl;
   root = refl;
+  frame_named = refl;
   signal = refl;
 }
 
@@ -217,10 +221,12 @@ module _ (s : State) (slot offset : ℕ) (table : TableMapping) (sound : IsSound
       let may = full-may_hold s sound.slots x (sym (full-still x) ∙ filled) in
       let cnode = IsLeft.cnode (facts x) ∙ by-slot cnode_of refl x in
       let root = IsLeft.root (facts x) ∙ by-slot root_of refl x in
+      let frame = IsLeft.frame_named (facts x) ∙ by-slot frame_of refl x in
       let signal = IsLeft.signal (facts x) ∙ by-slot signal_of refl x in
       record {
         cspace = λ thread t there at. ap is_some cnode ∙ may.cspace thread t there at;
         vspace = λ thread t there at. ap is_some root ∙ may.vspace thread t there at;
+        buffer = λ thread t there at. ap is_some frame ∙ may.buffer thread t there at;
         line = λ number less at. ap is_some signal ∙ may.line number less at;
       }
 

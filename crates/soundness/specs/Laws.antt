@@ -31,7 +31,7 @@ use Rattle.model.specs.Kernel.Setup.{boot_area, fill, put_control, put_untyped}
 use Rattle.model.specs.Kernel.Soundness.{IsSound, SenderIsSound, SentIsSound}
 use Rattle.model.specs.Kernel.State.{State, ByFault, FaultMessage, Sender}
 use Rattle.model.specs.Kernel.Steps.{state_after, system_call}
-use Rattle.model.specs.Kernel.ThreadCalls.{configure, resume, set_priority, set_register, suspend}
+use Rattle.model.specs.Kernel.ThreadCalls.{configure, resume, set_buffer, set_priority, set_register, suspend}
 use Rattle.model.specs.Machine.ProgramMemory.{Content, RegisterFile}
 use Rattle.soundness.specs.Calls.{IsCall, IsRoot}
 use Rattle.soundness.specs.Running.{IsRunning, RegistersAreSound}
@@ -105,6 +105,11 @@ ConfigureKeepsSoundness =
     (s t : State) (root : Cap) (thread : ℕ) (guard : Option ℕ) (fault_address : ℕ) (cspace vspace : SlotName)
     → IsSound s → kind_at s thread ≡ Some NewThread → fault_address < 2 ^ 32
     → configure s root thread guard fault_address cspace vspace ≡ Ok t → IsSound t
+
+abbrev pub SetBufferKeepsSoundness : Type 0
+SetBufferKeepsSoundness =
+    (s t : State) (root : Cap) (thread : ℕ) (frame : SlotName) → IsSound s → kind_at s thread ≡ Some NewThread
+    → set_buffer s root thread frame ≡ Ok t → IsSound t
 
 abbrev pub GetHandlerKeepsSoundness : Type 0
 GetHandlerKeepsSoundness =

@@ -1,10 +1,15 @@
 //! Calls that put copies into slots keep soundness.
 
-ghost use Rattle.soundness.specs.Laws.{BindKeepsSoundness, ConfigureKeepsSoundness, GetHandlerKeepsSoundness};
+ghost use Rattle.soundness.specs.Laws.{BindKeepsSoundness, ConfigureKeepsSoundness, GetHandlerKeepsSoundness, SetBufferKeepsSoundness};
 
 /// Copies of a CNode's and a root table's capability come into a thread's slots.
 pub fn configure_keeps_soundness()
     ensures { ConfigureKeepsSoundness }
+{}
+
+/// A copy of a frame's capability comes into a thread's slot for its message buffer.
+pub fn set_buffer_keeps_soundness()
+    ensures { SetBufferKeepsSoundness }
 {}
 
 /// Interrupt control makes a handler.

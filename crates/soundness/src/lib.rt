@@ -24,6 +24,7 @@ pub use cnode_laws::{
 };
 pub use copying_laws::{
     bind_keeps_soundness, configure_keeps_soundness, get_handler_keeps_soundness,
+    set_buffer_keeps_soundness,
 };
 pub use fresh_laws::a_fresh_machine_is_sound;
 pub use invocation_laws::invocations_keep_soundness;

@@ -3,7 +3,7 @@ use Rattle.std.proofs.Common.{ℕ, ◌≡◌, ◌∙◌, ◌&&◌, ◌+◌, ◌/
 use Rattle.std.proofs.lemmas.Bool.{and_parts, not-true}
 use Rattle.model.specs.Capabilities.CapabilityKinds.{cnode_of, root_of}
 use Rattle.model.specs.Capabilities.Slots.{IsFull, Slots, capability_at, empty_entry, is_full}
-use Rattle.model.specs.Kernel.Arguments.{◌>>=◌, argument_slot, check, may_have_child, source_slot, wanted}
+use Rattle.model.specs.Kernel.Arguments.{◌>>=◌, check, may_have_child, source_slot, wanted}
 use Rattle.model.specs.Kernel.Kinds.{kind_at}
 use Rattle.model.specs.Kernel.Retype.{NewThread}
 use Rattle.model.specs.Kernel.Soundness.{IsSound}
@@ -11,7 +11,7 @@ use Rattle.model.specs.Kernel.State.{State, cspace_slot, thread_at, vspace_slot,
 use Rattle.model.specs.Kernel.ThreadCalls.{configure, given_guard_fits}
 use Rattle.model.specs.declared.capabilities.Cap.{Cap}
 use Rattle.model.specs.declared.errors.KError.{KError}
-use Rattle.model.specs.declared.errors.KError.TheVariants.{DeleteFirst, FailedLookup, IllegalOperation, InvalidCapability}
+use Rattle.model.specs.declared.errors.KError.TheVariants.{DeleteFirst, IllegalOperation, InvalidCapability}
 use Rattle.model.specs.declared.invocations.SlotName.{SlotName}
 use Rattle.soundness.proofs.Laws.{check-passes, empty-open, own-slot_open, passes-both, room-below, source-full, thread-kind, thread-slot, wanted-some}
 use Rattle.tcb_ops.specs.Configuring.{MayConfigure, cnode_source, room_for_spaces, root_source, sources, spaces_put}
@@ -83,7 +83,7 @@ source-wanted {B} slots root name kind slot is =
     })
 
 module _ (s : State) (thread : ℕ) (sound : IsSound s) (there : kind_at s thread ≡ Some NewThread) where
-  own-empty : (index : ℕ) (slot : ℕ) → index < 2 → slot ≡ thread / 16 + index → is_full s.slots slot ≡ false → s.slots slot ≡ Some empty_entry
+  pub own-empty : (index : ℕ) (slot : ℕ) → index < 3 → slot ≡ thread / 16 + index → is_full s.slots slot ≡ false → s.slots slot ≡ Some empty_entry
   own-empty index slot less at none =
       let own = thread-kind (s.objects thread) there in
       empty-open s.slots slot sound.slots.derivation (own-slot_open s sound.slots thread slot (thread-slot s thread slot index own.0 own.1 less at)) none

@@ -1,3 +1,4 @@
+pub mod Buffered
 pub mod Checks
 pub mod Configured
 pub mod Passed

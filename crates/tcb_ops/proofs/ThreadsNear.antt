@@ -22,7 +22,7 @@ pub held-inside : {S : Type 0} (slots : S → Slots) (thread : ℕ) {parts kerne
     → Holds (slots parts.store) (Tcb thread)
 held-inside slots thread is held = subst (λ k. Holds (slots k.store) (Tcb thread)) (sym is) held
 
-pub slots-near : (s : State) (thread : ℕ) → IsSound s → kind_at s thread ≡ Some NewThread → thread / 16 + 1 < 2 ^ 20
+pub slots-near : (s : State) (thread : ℕ) → IsSound s → kind_at s thread ≡ Some NewThread → thread / 16 + 2 < 2 ^ 20
 slots-near s thread sound there =
     let held = sound.memory.live thread NewThread there in
     let inside = sound.memory.inside held.0 (piece_of_object (NewThread, thread)) (named-piece (capability_at s.slots held.0) (NewThread, thread) held.1) in

@@ -90,7 +90,7 @@ pub(crate) fn with_guard(capability: Cap, guard: Option<u32>) -> Cap
 }
 
 /// Whether a capability may be derived from the one in a full slot: no slot is deeper than 255.
-fn may_have_child<S: SlotStore>(store: &S, slot: Slot) -> bool
+pub(crate) fn may_have_child<S: SlotStore>(store: &S, slot: Slot) -> bool
     requires { IsFull (S.slots store.now) slot }
     ensures { result ≡ nat_lt (depth_of (S.slots store.now) slot) 255 }
 {

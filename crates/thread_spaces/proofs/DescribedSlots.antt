@@ -3,11 +3,11 @@ use Rattle.std.proofs.Common.{ℕ, ◌≡◌, ◌∙◌, ◌<◌, true, Option, 
 use Rattle.std.specs.Prelude.{slice_get}
 use Rattle.std.specs.Option.{option_map_or}
 use Rattle.std.proofs.lemmas.Option.{slice_get_within}
-use Rattle.format_laws.specs.Fitting.{IsFitting}
+use Rattle.format_laws.specs.Fitting.{IsFitting, ThreadFits}
 use Rattle.format_laws.proofs.Laws.{is-fitting}
 use Rattle.soundness.specs.boot_laws.Loading.{all_loaded, loaded}
-use Rattle.soundness.proofs.Laws.{AreFormed, IsWithin, ReadsBoot, are-formed, counts-are, described-sound, entry, loaded-end, reads-boot, reads-cspace}
-use Rattle.soundness.proofs.Laws.{reads-listed}
+use Rattle.soundness.proofs.Laws.{AreFormed, IsWithin, ReadsBoot, ThreadKept, are-formed, counts-are, described-sound, entry, loaded-end, reads-boot}
+use Rattle.soundness.proofs.Laws.{reads-buffer, reads-cspace, reads-listed}
 use Rattle.model.specs.declared.capabilities.Cap.{Cap}
 use Rattle.model.specs.declared.capabilities.Cap.TheVariants.{Empty}
 use Rattle.model.specs.declared.entries.CapabilityEntry.{CapabilityEntry}
@@ -15,11 +15,11 @@ use Rattle.model.specs.declared.slot_entries.Entry.{Entry}
 use Rattle.model.specs.Acceptance.Accepted.{IsWellFormed}
 use Rattle.model.specs.Capabilities.CapabilityKinds.{with_payload}
 use Rattle.model.specs.Capabilities.CapabilityWords.{IsCapability}
-use Rattle.model.specs.Capabilities.Slots.{capability_at, parent_at}
+use Rattle.model.specs.Capabilities.Slots.{capability_at, empty_entry, parent_at}
 use Rattle.model.specs.Images.Described.{described, listed_capability, listed_parent, original}
 use Rattle.model.specs.Images.Image.{Image, Thread, whole_image}
 use Rattle.model.specs.Images.Places.{cnode_slot, offset_of, original_slot}
-use Rattle.model.specs.Kernel.State.{State, cspace_slot}
+use Rattle.model.specs.Kernel.State.{State, buffer_slot, cspace_slot}
 use Rattle.thread_spaces.specs.Given.{IsEntry, IsListed}
 
 pub all-within : (image : Image) → IsWithin image (all_loaded image)
@@ -73,6 +73,14 @@ module _ (image : Image) (fits : whole_image.fits image ≡ true) (well : IsWell
       let less : k < image.header.threads = subst (λ (n : ℕ). k < n) (IsFitting.threads (is-fitting image fits)) (slice_get_within image.threads k t at) in
       from-loaded image (cspace_slot (offset_of image t.header.tcb)) _ (is-fitting image fits)
       (reads-cspace image (is-fitting image fits) (are-formed image well) (all_loaded image) (all-within image) refl k t less at)
+
+  -- no thread has a message buffer
+  pub buffer-shown : (k : ℕ) (t : Thread) → slice_get image.threads k ≡ Some t
+      → (described image).slots (buffer_slot (offset_of image t.header.tcb)) ≡ Some empty_entry
+  buffer-shown k t at =
+      from-loaded image (buffer_slot (offset_of image t.header.tcb)) _ (is-fitting image fits)
+      (reads-buffer image (is-fitting image fits) (are-formed image well) (all_loaded image) (all-within image) refl t.header.tcb
+      (ThreadFits.tcb (IsFitting.thread (is-fitting image fits) k t at)) (ThreadKept.tcb (AreFormed.thread (are-formed image well) k t at)))
 
   valid-at : (slot : ℕ) (held : Entry) → (described image).slots slot ≡ Some held → IsCapability held.capability
   valid-at slot held is =

@@ -5,14 +5,15 @@ use Rattle.std.specs.List.{find}
 use Rattle.std.specs.Prelude.{option_and_then}
 use Rattle.std.specs.Option.{option_map_or}
 use Rattle.std.proofs.Math.Pow.{pow_mono}
-use Rattle.std.proofs.lemmas.Bool.{eq-eqb}
+use Rattle.std.proofs.lemmas.Bool.{eq-eqb, false≢true}
 use Rattle.std.proofs.lemmas.Nat.{pow-add}
+use Rattle.std.proofs.lemmas.Option.{none-some}
 use Rattle.format_laws.specs.Fitting.{IsFitting}
 use Rattle.soundness.proofs.Laws.{AreFormed, slot-behind-boot, slot-in-memory, slot-of-one}
 use Rattle.model.specs.Acceptance.NotedKernel.{key_of, slots_of_cnode, stands_in}
 use Rattle.model.specs.Acceptance.NotedStates.{SlotKey}
 use Rattle.model.specs.Acceptance.ThreadRules.{is_member, reached}
-use Rattle.model.specs.Acceptance.WellFormed.{radix_of}
+use Rattle.model.specs.Acceptance.WellFormed.{is_thread_type, radix_of}
 use Rattle.model.specs.Capabilities.Slots.{is_within}
 use Rattle.model.specs.Images.Described.{is_object_slot}
 use Rattle.model.specs.Images.Image.{Image, Thread}
@@ -40,6 +41,17 @@ count-of (Some NewRootTable) radix is = absurd (let no : None ≡ Some radix = i
 object-slot : (image : Image) (cnode slot : ℕ) → IsCNode image cnode → stands_in image slot cnode ≡ true → is_object_slot image slot cnode ≡ true
 object-slot image cnode slot is there =
     ap (λ (count : ℕ). is_within (slot_of (offset_of image cnode) 0) count slot) (sym (count-of (type_at image cnode) is.radix is.is)) ∙ there
+
+thread-no-cnode : (kind : Option NewObject) (radix : ℕ) → is_thread_type kind ≡ true → radix_of kind ≡ Some radix → ⊥
+thread-no-cnode None radix is of = none-some radix of
+thread-no-cnode (Some (NewUntyped bits)) radix is of = none-some radix of
+thread-no-cnode (Some NewThread) radix is of = none-some radix of
+thread-no-cnode (Some NewEndpoint) radix is of = none-some radix of
+thread-no-cnode (Some NewNotification) radix is of = none-some radix of
+thread-no-cnode (Some (NewCNode r)) radix is of = false≢true is
+thread-no-cnode (Some NewFrame) radix is of = none-some radix of
+thread-no-cnode (Some NewPageTable) radix is of = none-some radix of
+thread-no-cnode (Some NewRootTable) radix is of = none-some radix of
 
 -- ---- the CNode that a slot lies in
 
@@ -115,6 +127,16 @@ module _ (image : Image) (t : Thread) (fitting : IsFitting image) (formed : AreF
       let cnode = own-cnode owned.cnode owned.member in
       let behind = slot-behind-boot image fitting formed owned.cnode slot cnode.inside (object-slot image owned.cnode slot cnode owned.there) in
       omega (arith, less, behind))
+
+  -- a slot of a control block is in no CNode
+  pub block-not-own : (tcb slot : ℕ) → tcb < image.header.objects → is_thread_type (type_at image tcb) ≡ true → is_object_slot image slot tcb ≡ true
+      → key_of image (reached image t) slot ≡ None
+  block-not-own tcb slot less is there = not-some (key_of image (reached image t) slot) (λ key at.
+      let owned = key-owned image (reached image t) slot key at in
+      let cnode = own-cnode owned.cnode owned.member in
+      let same : owned.cnode ≡ tcb =
+      slot-of-one image fitting formed owned.cnode tcb slot cnode.inside less (object-slot image owned.cnode slot cnode owned.there) there in
+      thread-no-cnode (type_at image tcb) cnode.radix is (ap (λ (n : ℕ). radix_of (type_at image n)) (sym same) ∙ cnode.is))
 
 -- the boot area leaves room
 pub boot-room : (image : Image) → IsFitting image → boot_area_slots image.header.boot_radix ≤ 2 ^ image.header.memory_bits / 16

@@ -22,7 +22,8 @@ use Rattle.model.specs.Images.Image.{Image, Thread}
 use Rattle.model.specs.Kernel.Arguments.{◌>>=◌, check, wanted}
 use Rattle.model.specs.Kernel.CallForms.{CallForm, acknowledge_label, clear_label, configure_label, copy_label, decode, delete_label, form_of}
 use Rattle.model.specs.Kernel.CallForms.{get_handler_label, map_frame_label, map_table_label, mint_label, move_label, mutate_label, resume_label, retype_label}
-use Rattle.model.specs.Kernel.CallForms.{revoke_label, set_notification_label, set_priority_label, set_register_label, suspend_label, unmap_frame_label}
+use Rattle.model.specs.Kernel.CallForms.{revoke_label, set_buffer_label, set_notification_label, set_priority_label, set_register_label, suspend_label}
+use Rattle.model.specs.Kernel.CallForms.{unmap_frame_label}
 use Rattle.model.specs.Kernel.CallForms.{unmap_table_label}
 use Rattle.typestate.specs.CNodeCalls.{cnode_after}
 use Rattle.typestate.specs.Invocations.{IsCallOn, held_after}
@@ -57,7 +58,8 @@ forms-on (Tcb offset) label =
     let c : Cap = Tcb offset in
     one-of c (label == configure_label) _ _ (λ words. tt)
     (one-of c (label == set_priority_label) _ _ (λ words. tt) (one-of c (label == set_register_label) _ _ (λ words. tt)
-    (one-of c (label == resume_label) _ _ (λ words. tt) (one-of c (label == suspend_label) _ _ (λ words. tt) tt))))
+    (one-of c (label == resume_label) _ _ (λ words. tt) (one-of c (label == suspend_label) _ _ (λ words. tt)
+    (one-of c (label == set_buffer_label) _ _ (λ words. tt) tt)))))
 forms-on (RootTable _) label = tt
 forms-on InterruptControl label = one-of InterruptControl (label == get_handler_label) _ _ (λ words. tt) tt
 forms-on (InterruptHandler line) label =

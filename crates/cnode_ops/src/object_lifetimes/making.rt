@@ -20,6 +20,9 @@ use slots::SlotStore;
 /// How many bytes a page has.
 const PAGE_SIZE: u32 = 4096;
 
+/// How many slots a thread has.
+const THREAD_SLOTS: u32 = 3;
+
 /// Where an object of a type is to begin: at a multiple of its size, which the type may have, in the largest memory.
 #[derive(Clone, Copy)]
 pub(crate) struct ObjectPlace {
@@ -62,7 +65,7 @@ fn make_object_room<S: SlotStore>(store: &mut S, kind: ObjectKind, place: u32)
     ensures { RoomMade (S.slots store.old) (S.slots store.new) (S.memory store.old) (S.memory store.new) (kind_of (new_object kind)) place }
 {
     match kind {
-        ObjectKind::Thread => open_slots(store, place, 2),
+        ObjectKind::Thread => open_slots(store, place, THREAD_SLOTS),
         ObjectKind::CNode { radix } => open_slots(store, place, node_slots(radix)),
         ObjectKind::Frame => store.zero(place, PAGE_SIZE),
         ObjectKind::PageTable => store.zero(place, PAGE_SIZE),

@@ -14,7 +14,7 @@ use Rattle.model.specs.Capabilities.Lookup.{called_slot}
 use Rattle.model.specs.Images.Image.{Image, Thread}
 use Rattle.model.specs.Kernel.Deliveries.{MayReply, as_before, to_sender, Reason, receiver, sender, waiter, caller as answered, faulted, set_back, Signals}
 use Rattle.model.specs.Kernel.Deliveries.{by_right, by_line, woken}
-use Rattle.model.specs.Kernel.Messages.{Message, a0, deliver, delivered, message_of, with_caller}
+use Rattle.model.specs.Kernel.Messages.{Message, a0, deliver, delivered, message_between, with_caller}
 use Rattle.model.specs.Kernel.Scheduling.{is_runnable, wake}
 use Rattle.model.specs.Kernel.Soundness.{IsSound}
 use Rattle.model.specs.Kernel.State.{State, Runnable, Blocked, AwaitsReply, Object, ThreadObject, EndpointObject, NotificationObject, EndpointState}
@@ -27,6 +27,7 @@ use Rattle.model.specs.Shared.Lists.{times_in}
 use Rattle.headline.proofs.facts.Laws.{at-place}
 use Rattle.headline.proofs.moves.Laws.{caller-here, caller-there, delivered-here, delivered-there, woke, woke-there}
 use Rattle.headline.proofs.authority.Changes.{ChangesObjects, OtherChange, stays, of_thread, of_endpoint, of_notification}
+use Rattle.headline.proofs.authority.Deliveries.{between-same}
 use Rattle.headline.proofs.authority.Gains.{Gains, gains-both, one-ready, only-one, wake-gains, woken_at}
 use Rattle.headline.proofs.authority.Awaited.{resting-absent, resting-apart}
 
@@ -59,7 +60,7 @@ module _ (image : Image) (t : Thread) (s : State) (sound : IsSound s) (own : Thr
   cleared = record own { caller = None }
 
   abbrev message : Message
-  message = message_of (thread_at s self)
+  message = message_between s self caller
 
   abbrev one : State
   one = with_caller s self None
@@ -88,8 +89,8 @@ module _ (image : Image) (t : Thread) (s : State) (sound : IsSound s) (own : Thr
   after-caller : after.objects caller ≡ Some (ThreadObject changed)
   after-caller = woke two caller (record u { registers = advanced written }) two-caller
 
-  pub after-self : (wake (deliver (with_caller s (self_of image t) None) caller 0 (message_of (thread_at s (self_of image t)))) caller).objects (self_of image t)
-      ≡ Some (ThreadObject (record own { caller = None }))
+  pub after-self : (wake (deliver (with_caller s (self_of image t) None) caller 0 (message_between s (self_of image t) caller)) caller).objects
+      (self_of image t) ≡ Some (ThreadObject (record own { caller = None }))
   after-self =
       woke-there two caller self (λ same. apart (sym same)) ∙ delivered-there one caller 0 message self (λ same. apart (sym same))
       ∙ caller-here s self None own is
@@ -101,6 +102,9 @@ module _ (image : Image) (t : Thread) (s : State) (sound : IsSound s) (own : Thr
   right-is : (thread_at s self).caller ≡ Some caller
   right-is = ap (λ (v : ThreadState). v.caller) (at-place s self own is) ∙ right
 
+  answered-so : (y : ℕ) → y ≡ caller → changed ≡ woken u (advanced (delivered u.registers 0 (message_between s self y)))
+  answered-so y here = ap (λ (n : ℕ). woken u (advanced (delivered u.registers 0 (message_between s self n)))) (sym here)
+
   after-ready : (priority : ℕ) → Gains self (s.ready priority) (after.ready priority) (woken_at caller u.priority priority)
   after-ready = wake-gains two self caller (record u { registers = advanced written }) two-caller apart (resting-absent s sound caller u there rests)
 
@@ -109,7 +113,7 @@ module _ (image : Image) (t : Thread) (s : State) (sound : IsSound s) (own : Thr
   woken-there later now priority here = record { before = u; changed = changed; was = there; rested = rests; is = now; runs = refl; at = sym here }
 
   pub answer-changes : ChangesObjects image t s
-      (wake (deliver (with_caller s (self_of image t) None) caller 0 (message_of (thread_at s (self_of image t)))) caller)
+      (wake (deliver (with_caller s (self_of image t) None) caller 0 (message_between s (self_of image t) caller)) caller)
   answer-changes = record {
     store = record { memory_bits = refl; boot_radix = refl; slots = λ slot. refl; bytes = λ place. refl };
     own = own;
@@ -120,7 +124,7 @@ module _ (image : Image) (t : Thread) (s : State) (sound : IsSound s) (own : Thr
     others = λ y not_self. elim (eqb_tells y caller) [
       | inl here ↦
           of_thread u changed (ap s.objects here.1 ∙ there) (ap after.objects here.1 ∙ after-caller)
-          (answered (right-is ∙ ap (λ (n : ℕ). Some n) (sym here.1)) awaits refl)
+          (answered (right-is ∙ ap (λ (n : ℕ). Some n) (sym here.1)) awaits (answered-so y here.1))
       | inr other ↦ stays (after-there y not_self other.1)
     ];
     lines = λ number either. elim either [ inl differs ↦ absurd (differs refl) | inr differs ↦ absurd (differs refl) ];
@@ -134,11 +138,11 @@ module _ (image : Image) (t : Thread) (s : State) (sound : IsSound s) (own : Thr
       ap (λ (v : ThreadState). v.registers) (at-place after self cleared after-self)
       ∙ sym (ap (λ (v : ThreadState). v.registers) (at-place s self own is))
 
-  message-same : message_of (thread_at after self) ≡ message_of (thread_at s self)
-  message-same = ap message_of (at-place after self cleared after-self) ∙ sym (ap message_of (at-place s self own is))
+  message-same : (y : ℕ) → message_between after self y ≡ message_between s self y
+  message-same y = between-same s after self y refl registers-same
 
-  pub named-same : named_slot (wake (deliver (with_caller s (self_of image t) None) caller 0 (message_of (thread_at s (self_of image t)))) caller) (self_of image t)
-      ≡ named_slot s (self_of image t)
+  pub named-same : named_slot (wake (deliver (with_caller s (self_of image t) None) caller 0 (message_between s (self_of image t) caller)) caller)
+      (self_of image t) ≡ named_slot s (self_of image t)
   named-same = ap (λ (r : RegisterFile). called_slot s.slots (cspace_of s self) (read r a0)) registers-same
 
   names-back : {Such : Cap → Type 0} → CallNames image t after Such → CallNames image t s Such
@@ -179,7 +183,7 @@ module _ (image : Image) (t : Thread) (s : State) (sound : IsSound s) (own : Thr
       such-back (by_line number is_one bound pending) = by_line number is_one bound pending
 
   module _ (later : State) (second : ChangesObjects image t (wake (deliver (with_caller s (self_of image t) None) caller 0
-      (message_of (thread_at s (self_of image t)))) caller) later) where
+      (message_between s (self_of image t) caller)) caller) later) where
     replies-back : (endpoint badge : ℕ) (before now : Option ℕ) → MayReply later self (CallNames image t after) endpoint badge before now
         → MayReply later self (CallNames image t s) endpoint badge before now
     replies-back endpoint badge before now (as_before same) = as_before same
@@ -193,7 +197,7 @@ module _ (image : Image) (t : Thread) (s : State) (sound : IsSound s) (own : Thr
     reason-back y old new (receiver endpoint badge now list blocked names replies is_it) =
         receiver endpoint badge now (ap (λ (e : EndpointState). e.receivers) (sym (endpoints-same endpoint)) ∙ list) blocked (names-back names)
         (replies-back endpoint badge old.caller now replies)
-        (is_it ∙ ap (λ (m : Message). record (woken old (advanced (delivered old.registers badge m))) { caller = now }) message-same)
+        (is_it ∙ ap (λ (m : Message). record (woken old (advanced (delivered old.registers badge m))) { caller = now }) (message-same y))
     reason-back y old new (sender endpoint first list same blocked names is_it) =
         sender endpoint first (ap (λ (e : EndpointState). e.senders) (sym (endpoints-same endpoint)) ∙ list) same blocked (names-back names) is_it
     reason-back y old new (waiter notification badge list blocked names is_it) =
@@ -370,7 +374,7 @@ module _ (image : Image) (t : Thread) (s : State) (sound : IsSound s) (own : Thr
       others = λ y not_self. elim (eqb_tells y caller) [
         | inl here ↦
             of_thread u changed (ap s.objects here.1 ∙ there) (ap later.objects here.1 ∙ caller-later)
-            (answered (right-is ∙ ap (λ (n : ℕ). Some n) (sym here.1)) awaits refl)
+            (answered (right-is ∙ ap (λ (n : ℕ). Some n) (sym here.1)) awaits (answered-so y here.1))
         | inr other ↦ other-back y not_self other.1 (second.others y not_self)
       ];
       lines = λ number either. let line = second.lines number either in (names-back line.0, line-back number line.1);

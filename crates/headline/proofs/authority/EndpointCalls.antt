@@ -16,23 +16,26 @@ use Rattle.model.specs.Capabilities.Rights.{may_grant_reply, may_read, may_write
 use Rattle.model.specs.Images.Image.{Image, Thread}
 use Rattle.model.specs.Kernel.Deliveries.{once_received, ReceivesFrom, SendsTo}
 use Rattle.model.specs.Kernel.Kinds.{object_named}
-use Rattle.model.specs.Kernel.Messages.{Message, deliver, deliver_word, message_of, message_sent, passes, receive, received_waiting, receives, send, sends}
-use Rattle.model.specs.Kernel.Messages.{tries_to_send, try_to_receive, try_to_send, waits_to_receive, with_caller}
+use Rattle.model.specs.Kernel.Messages.{Message, bytes_between, bytes_sent, deliver, deliver_with, deliver_word, length_between, message_between, message_to}
+use Rattle.model.specs.Kernel.Messages.{passes, receive, received, received_waiting, receives, send, sends, tries_to_send, try_to_receive, try_to_send}
+use Rattle.model.specs.Kernel.Messages.{waits_to_receive, with_caller}
 use Rattle.model.specs.Kernel.Retype.{NewEndpoint}
 use Rattle.model.specs.Kernel.Scheduling.{block, wake}
 use Rattle.model.specs.Kernel.Soundness.{IsSound}
 use Rattle.model.specs.Kernel.State.{State, Inactive, AwaitsReply, AwaitsHandler, Object, ThreadObject, EndpointObject, EndpointState, Sender, Sent}
-use Rattle.model.specs.Kernel.State.{BySend, ByCall, ByFault, FaultMessage, ThreadState, as_thread, endpoint_at, new_thread, thread_at, with_endpoint}
+use Rattle.model.specs.Kernel.State.{BySend, ByCall, ByFault, FaultMessage, ThreadState, as_thread, endpoint_at, new_thread, with_endpoint}
 use Rattle.model.specs.Kernel.Steps.{Done, call_of, lacks_capability, receive_by, receive_named, receive_on_endpoint, refused, send_by, send_named}
 use Rattle.model.specs.Kernel.Steps.{send_on, sender, system_call}
+use Rattle.headline.proofs.kept.Laws.{bytes-from, bytes-received}
 use Rattle.headline.proofs.moves.Laws.{at-endpoint, caller-there, endpoint-there}
 use Rattle.headline.proofs.authority.Changes.{ChangesObjects, KeepsSlice, changes-within}
 use Rattle.headline.proofs.authority.CallsMade.{called-as, runs-apart}
+use Rattle.headline.proofs.authority.Deliveries.{between-same, told}
 use Rattle.headline.proofs.authority.OwnRegisters.{RunsApart, goes-on-within}
 use Rattle.headline.proofs.authority.Receiving.{call-received, receiver-waits, receives-nothing, sent-received, stopped-received}
 use Rattle.headline.proofs.authority.Sending.{called-changes, given-changes, halted-changes, waits-changes}
 use Rattle.headline.proofs.authority.Yielding.{nothing-changes}
-use Rattle.headline.specs.authority.Scenarios.{CallsOn}
+use Rattle.headline.specs.authority.Scenarios.{CallsOn, HasNoBuffer}
 use Rattle.soundness.proofs.Laws.{endpoint-kind}
 
 module _ (image : Image) (t : Thread) (s : State) (sound : IsSound s) (number e badge : ℕ) (allowed : Rights)
@@ -58,7 +61,7 @@ module _ (image : Image) (t : Thread) (s : State) (sound : IsSound s) (number e 
 
   -- ---- the thread sends
 
-  module _ (writes : may_write allowed ≡ true) where
+  module _ (quiet : HasNoBuffer image t s) (writes : may_write allowed ≡ true) where
     abbrev grants : Bool
     grants = may_grant_reply allowed
 
@@ -75,9 +78,16 @@ module _ (image : Image) (t : Thread) (s : State) (sound : IsSound s) (number e 
       sends = either;
     }
 
-    own-message : (fewer : EndpointState) → message_of (thread_at (with_endpoint s e fewer) self) ≡ message_of (thread_at s self)
-    own-message fewer = ap (λ (o : Option Object). message_of (option_map_or (λ (v : ThreadState). v) (as_thread o) new_thread))
-        (endpoint-there s e fewer self self-queue)
+    -- what a receiver gets, and no byte changes
+    told-so : (fewer : EndpointState) (r : ℕ) → deliver_with (with_endpoint s e fewer) (bytes_between (with_endpoint s e fewer) (self_of image t) r
+        (length_between (with_endpoint s e fewer) (self_of image t) r)) r badge (message_between (with_endpoint s e fewer) (self_of image t) r)
+        ≡ deliver (with_endpoint s e fewer) r badge (message_between s (self_of image t) r)
+    told-so fewer r =
+        let taken = with_endpoint s e fewer in
+        let count = length_between taken self r in
+        told taken (bytes_between taken self r count) r badge (message_between taken self r) (message_between s self r) (bytes-from taken self r count quiet)
+        (between-same s taken self r refl (ap (λ (o : Option Object). (option_map_or (λ (v : ThreadState). v) (as_thread o) new_thread).registers)
+        (endpoint-there s e fewer self self-queue)))
 
     abbrev fewer_of : List ℕ → EndpointState
     fewer_of others = record (endpoint_at s e) { receivers = others }
@@ -85,8 +95,9 @@ module _ (image : Image) (t : Thread) (s : State) (sound : IsSound s) (number e 
     given : (r : ℕ) (others : List ℕ) → (endpoint_at s e).receivers ≡ r ∷ others → WithinAuthority image t s
         (sends s e (sender (self_of image t) BySend badge (may_grant_reply allowed)) (r ∷ others))
     given r others first =
-        goes-on _ (given-changes image t s sound call.own call.is call.runs e queue.0 queue.1 badge r others
-        (sym (ap (λ (q : EndpointState). q.receivers) queue-is) ∙ first) names-to BySend grants (own-message (fewer_of others)))
+        subst (λ (m : State). WithinAuthority image t s (passes (wake m r) self)) (sym (told-so (fewer_of others) r))
+        (goes-on _ (given-changes image t s sound call.own call.is call.runs e queue.0 queue.1 badge r others
+        (sym (ap (λ (q : EndpointState). q.receivers) queue-is) ∙ first) names-to))
 
     send-within : WithinAuthority image t s (send s e (sender (self_of image t) BySend badge (may_grant_reply allowed)))
     send-within =
@@ -113,22 +124,22 @@ module _ (image : Image) (t : Thread) (s : State) (sound : IsSound s) (number e 
               changes-within image t s _ (waits-changes image t s sound call.own call.is call.runs e queue.0 queue.1 badge ByCall grants (asks ByCall (inr refl)))
           | r ∷ others ↦ λ first.
               let listed = sym (ap (λ (q : EndpointState). q.receivers) queue-is) ∙ first in
-              let taken = with_endpoint s e (fewer_of others) in
-              let three = wake (deliver taken r badge (message_sent taken (sender self ByCall badge grants) ByCall)) r in
-              elim (may_grant_reply allowed) as (λ (b : Bool). may_grant_reply allowed ≡ b
+              let three = wake (deliver (with_endpoint s e (fewer_of others)) r badge (message_between s self r)) r in
+              subst (λ (m : State). WithinAuthority image t s (received (wake m r) (sender self ByCall badge grants) ByCall r))
+              (sym (told-so (fewer_of others) r)) (elim (may_grant_reply allowed) as (λ (b : Bool). may_grant_reply allowed ≡ b
               → WithinAuthority image t s (if b then with_caller (block three self AwaitsReply) r (Some self) else block three self Inactive)) [
                 | true ↦ λ grant.
-                    changes-within image t s _ (called-changes image t s sound call.own call.is call.runs e queue.0 queue.1 badge r others listed names-to ByCall
-                    grants (own-message (fewer_of others)) (record {
+                    changes-within image t s _ (called-changes image t s sound call.own call.is call.runs e queue.0 queue.1 badge r others listed names-to
+                    (record {
                       slot = call.slot;
                       own = call.among;
                       named = call.named;
                       such = record { allowed = allowed; is = call.holds; writes = writes; replies = grant };
                     }))
                 | false ↦ λ none.
-                    changes-within image t s _ (halted-changes image t s sound call.own call.is call.runs e queue.0 queue.1 badge r others listed names-to ByCall
-                    grants (own-message (fewer_of others)) Inactive)
-              ] refl
+                    changes-within image t s _ (halted-changes image t s sound call.own call.is call.runs e queue.0 queue.1 badge r others listed names-to
+                    Inactive)
+              ] refl)
         ] refl
 
     by-kind : (kind : SendCall) → WithinAuthority image t s (send_on s (self_of image t) kind e badge (may_grant_reply allowed)).0
@@ -147,7 +158,7 @@ module _ (image : Image) (t : Thread) (s : State) (sound : IsSound s) (number e 
 
   -- ---- the thread receives
 
-  module _ (reads : may_read allowed ≡ true) where
+  module _ (quiet : HasNoBuffer image t s) (reads : may_read allowed ≡ true) where
     names-from : CallNames image t s (ReceivesFrom e)
     names-from = record {
       slot = call.slot;
@@ -202,7 +213,13 @@ module _ (image : Image) (t : Thread) (s : State) (sound : IsSound s) (number e 
         elim (endpoint_at ready e).senders as (λ (l : List Sender). (endpoint_at ready e).senders ≡ l
         → KeepsSlice image t s (receives ready e self after l)) [
           | [] ↦ λ none. nothing
-          | first ∷ others ↦ λ there. from-sent first others there (message_sent (taken_of others) first first.sent) first.sent refl
+          | first ∷ others ↦ λ there.
+              let taken = taken_of others in
+              let message = message_to taken first first.sent self in
+              subst (λ (m : State). KeepsSlice image t s (received_waiting m first first.sent self))
+              (sym (told taken (bytes_sent taken first first.sent self) self first.badge message message (bytes-received taken first first.sent self quiet)
+              refl))
+              (from-sent first others there message first.sent refl)
         ] refl
 
     pub receive-keeps : KeepsSlice image t s (receive s e (self_of image t))

@@ -39,7 +39,8 @@ use Rattle.model.specs.Kernel.CNodeCalls.{copy, mint, move, mutate, on_cnode}
 use Rattle.model.specs.Kernel.InterruptCalls.{bind, get_handler, may_be_bound, on_handler}
 use Rattle.model.specs.Kernel.Invocations.{invoke, perform}
 use Rattle.model.specs.Kernel.MappingCalls.{is_mapped, map_frame, map_table, on_frame, on_table, root_named, unmap_table, without_region}
-use Rattle.model.specs.Kernel.ThreadCalls.{configure, given_guard_fits, is_caller, on_thread, resume, set_priority, set_register, suspend, with_priority}
+use Rattle.model.specs.Kernel.ThreadCalls.{buffer_frame, configure, given_guard_fits, is_caller, on_thread, resume, set_buffer, set_priority, set_register}
+use Rattle.model.specs.Kernel.ThreadCalls.{suspend, with_priority}
 use Rattle.model.specs.declared.invocations.CNodeCall.{CNodeCall}
 use Rattle.model.specs.declared.invocations.CNodeCall.TheVariants.{Copy, Mint, Move, Mutate, Delete, Revoke}
 use Rattle.model.specs.declared.invocations.FrameCall.{FrameCall}
@@ -53,17 +54,17 @@ use Rattle.model.specs.declared.invocations.SlotName.{SlotName}
 use Rattle.model.specs.declared.invocations.TableCall.{TableCall}
 use Rattle.model.specs.declared.invocations.TableCall.TheVariants.{MapTable, UnmapTable}
 use Rattle.model.specs.declared.invocations.ThreadCall.{ThreadCall}
-use Rattle.model.specs.declared.invocations.ThreadCall.TheVariants.{Configure, SetPriority, SetRegister, Resume, Suspend}
+use Rattle.model.specs.declared.invocations.ThreadCall.TheVariants.{Configure, SetPriority, SetRegister, Resume, Suspend, SetBuffer}
 use Rattle.model.specs.declared.invocations.UntypedMemory.{UntypedMemory}
-use Rattle.model.specs.Kernel.Messages.{Message, a7, waits_for_signal, deliver, deliver_word, message_of, message_sent, passes, resumption, waits_to_receive}
+use Rattle.model.specs.Kernel.Messages.{Message, a7, bytes_between, waits_for_signal, deliver_sent, deliver_with, deliver_word, message_between, passes}
 use Rattle.model.specs.Kernel.Messages.{with_caller, with_registers, receive, receives, received, received_waiting, replied, reply, reply_to_fault, sends}
-use Rattle.model.specs.Kernel.Messages.{signal, signals, takes_word, tries_to_send, try_to_receive}
+use Rattle.model.specs.Kernel.Messages.{resumption, signal, signals, takes_word, tries_to_send, try_to_receive, waits_to_receive}
 use Rattle.model.specs.Kernel.Removal.{SlotSet, closes, closing, delete, emptied, is_ending_thread, is_set_back, remove, thread_places, without_slots}
 use Rattle.model.specs.Kernel.Retype.{any_full, is_large_enough, is_small_enough, node, object_bits, retype, type_of}
 use Rattle.model.specs.Kernel.Scheduling.{at_tail, block, current, full_slice, is_runnable, leaves, tick, ticked, to_tail, unready, wake, yielded}
 use Rattle.model.specs.Kernel.State.{FaultMessage, NotificationState, Sender, Sent, BySend, ByCall, ByFault, State, Status, Inactive, Runnable, Blocked}
-use Rattle.model.specs.Kernel.State.{AwaitsReply, AwaitsHandler, as_thread, binding_slot, cspace_slot, endpoint_at, holds_some, slot_of, vspace_slot}
-use Rattle.model.specs.Kernel.State.{notification_at, put, thread_at, with_endpoint, with_notification, with_slots, with_thread}
+use Rattle.model.specs.Kernel.State.{AwaitsReply, AwaitsHandler, as_thread, binding_slot, buffer_slot, cspace_slot, endpoint_at, holds_some, slot_of}
+use Rattle.model.specs.Kernel.State.{notification_at, put, thread_at, vspace_slot, with_endpoint, with_notification, with_slots, with_thread}
 use Rattle.model.specs.Kernel.Steps.{Done, call_of, calls, calls_known, registers_of, lacks_capability, named_slot, signal_on, after_effect, after_invocation}
 use Rattle.model.specs.Kernel.Steps.{answered, completed, invokes, ran, receive_by, receive_named, receive_on_endpoint, receive_on_notification, refused, runs}
 use Rattle.model.specs.Kernel.Steps.{runs_decoded, runs_fetched, send_by, send_named, send_on, sender, sends_nothing, step, system_call}
@@ -152,7 +153,7 @@ sends-sound s endpoint sender [] before =
     block-sound (with_endpoint s endpoint (record e { senders = e.senders ++ sender ∷ [] })) sender.thread (Blocked endpoint) (same refl before)
 sends-sound s endpoint sender (receiver ∷ others) before =
     let taken : State = with_endpoint s endpoint (record (endpoint_at s endpoint) { receivers = others }) in
-    let told : State = deliver taken receiver sender.badge (message_sent taken sender sender.sent) in
+    let told : State = deliver_sent taken sender receiver in
     received-sound (wake told receiver) sender sender.sent receiver (wake-sound told receiver (same refl before))
 
 try_to_send-sound : (s : State) (endpoint : ℕ) (sender : Sender) (receivers : List ℕ) → Sound s → Sound (tries_to_send s endpoint sender receivers)
@@ -169,7 +170,7 @@ receives-sound : (s : State) (endpoint receiver : ℕ) (otherwise : State) (send
 receives-sound s endpoint receiver otherwise [] before other = other
 receives-sound s endpoint receiver otherwise (sender ∷ others) before other =
     let taken : State = with_endpoint s endpoint (record (endpoint_at s endpoint) { senders = others }) in
-    let told : State = deliver taken receiver sender.badge (message_sent taken sender sender.sent) in
+    let told : State = deliver_sent taken sender receiver in
     received_waiting-sound told sender sender.sent receiver (same refl before)
 
 receive-sound : (s : State) (endpoint receiver : ℕ) → Sound s → Sound (receive s endpoint receiver)
@@ -191,17 +192,19 @@ reply_to_fault-sound s thread message before =
     either (message.label == 0) (wake resumed thread) (block s thread Inactive) (wake-sound resumed thread (same refl before))
     (block-sound s thread Inactive before)
 
-replied-sound : (s : State) (caller : ℕ) (status : Status) (message : Message) → Sound s → Sound (replied s caller status message)
-replied-sound s caller AwaitsReply message before = wake-sound (deliver s caller 0 message) caller (same refl before)
-replied-sound s caller AwaitsHandler message before = reply_to_fault-sound s caller message (same refl before)
-replied-sound s caller Inactive message before = (same refl before)
-replied-sound s caller Runnable message before = (same refl before)
-replied-sound s caller (Blocked queue) message before = (same refl before)
+replied-sound : (s : State) (thread caller : ℕ) (status : Status) (message : Message) → Sound s → Sound (replied s thread caller status message)
+replied-sound s thread caller AwaitsReply message before =
+    wake-sound (deliver_with s (bytes_between s thread caller message.count) caller 0 message) caller (same refl before)
+replied-sound s thread caller AwaitsHandler message before = reply_to_fault-sound s caller message (same refl before)
+replied-sound s thread caller Inactive message before = (same refl before)
+replied-sound s thread caller Runnable message before = (same refl before)
+replied-sound s thread caller (Blocked queue) message before = (same refl before)
 
 reply-sound : (s : State) (thread : ℕ) → Sound s → Sound (reply s thread)
 reply-sound s thread before =
-    perhaps (λ caller. replied (with_caller s thread None) caller (thread_at s caller).status (message_of (thread_at s thread))) (thread_at s thread).caller s
-    (λ caller. replied-sound (with_caller s thread None) caller (thread_at s caller).status (message_of (thread_at s thread)) (same refl before)) before
+    perhaps (λ caller. replied (with_caller s thread None) thread caller (thread_at s caller).status (message_between s thread caller))
+    (thread_at s thread).caller s
+    (λ caller. replied-sound (with_caller s thread None) thread caller (thread_at s caller).status (message_between s thread caller) (same refl before)) before
 
 signals-sound : (s : State) (notification badge : ℕ) (n : NotificationState) (waiters : List ℕ) → Sound s → Sound (signals s notification badge n waiters)
 signals-sound s notification badge n [] before = (same refl before)
@@ -319,12 +322,20 @@ set_register-sound s caller thread index value before =
     (λ _. bind-sound (check (nat_le index 31) RangeError) _
     (λ _. bind-sound (check (not (index == 0) || value % 4 == 0) AlignmentError) _ (λ _. fine (same refl before))))
 
+set_buffer-sound : (s : State) (root : Cap) (thread : ℕ) (frame_name : SlotName) → Sound s → SoundResult (set_buffer s root thread frame_name)
+set_buffer-sound s root thread frame_name before =
+    bind-sound (source_slot s.slots root frame_name) _
+    (λ source. bind-sound (wanted (buffer_frame (capability_at s.slots source)) InvalidCapability) _
+    (λ frame. bind-sound (check (not (is_full s.slots (buffer_slot thread))) DeleteFirst) _
+    (λ _. bind-sound (may_have_child s.slots source) _ (λ _. fine (same refl before)))))
+
 on_thread-sound : (s : State) (call : Call) (thread : ℕ) (c : ThreadCall) → Sound s → SoundResult (on_thread s call thread c)
 on_thread-sound s call thread (Configure fault_address cspace vspace) before = configure-sound s call.root thread None fault_address cspace vspace before
 on_thread-sound s call thread (SetPriority priority) before = set_priority-sound s thread priority (same refl before)
 on_thread-sound s call thread (SetRegister index value) before = set_register-sound s call.caller thread index value (same refl before)
 on_thread-sound s call thread Resume before = fine (resume-sound s thread before)
 on_thread-sound s call thread Suspend before = fine (suspend-sound s thread before)
+on_thread-sound s call thread (SetBuffer frame) before = set_buffer-sound s call.root thread frame before
 
 copy-sound : (s : State) (call : Call) (destination_name source_name : SlotName) (rights_word : ℕ) → Sound s
     → SoundResult (copy s call destination_name source_name rights_word)

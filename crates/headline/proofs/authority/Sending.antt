@@ -7,7 +7,7 @@ use Rattle.model.specs.Acceptance.Authority.{AsksAs, CallNames, waits_to_send, t
 use Rattle.model.specs.Acceptance.Authority.{self_of}
 use Rattle.model.specs.Images.Image.{Image, Thread}
 use Rattle.model.specs.Kernel.Deliveries.{as_before, CallsTo, receiver, SendsTo, to_sender, woken}
-use Rattle.model.specs.Kernel.Messages.{Message, deliver, delivered, message_of, message_sent, waits_to_send as waits_in_queue, with_caller}
+use Rattle.model.specs.Kernel.Messages.{Message, deliver, delivered, message_between, waits_to_send as waits_in_queue, with_caller}
 use Rattle.model.specs.Kernel.Scheduling.{block, wake}
 use Rattle.model.specs.Kernel.Soundness.{IsSound, awaits_answer, waiting_at}
 use Rattle.model.specs.Kernel.State.{State, Status, Runnable, Blocked, AwaitsReply, Object, ThreadObject, EndpointObject, EndpointState, Sender, Sent}
@@ -93,12 +93,7 @@ module _ (image : Image) (t : Thread) (s : State) (sound : IsSound s) (own : Thr
 
   -- ---- the first receiver gets the message
 
-  module _ (r : ℕ) (others : List ℕ) (first : old.receivers ≡ r ∷ others) (names : CallNames image t s (SendsTo e badge)) (sent : Sent) (grants : Bool)
-      (own-message : message_sent (with_endpoint s e (record (endpoint_at s e) { receivers = others })) (sender (self_of image t) sent badge grants) sent
-      ≡ message_of (thread_at s (self_of image t))) where
-    abbrev y : Sender
-    y = sender self sent badge grants
-
+  module _ (r : ℕ) (others : List ℕ) (first : old.receivers ≡ r ∷ others) (names : CallNames image t s (SendsTo e badge)) where
     abbrev fewer : EndpointState
     fewer = record (endpoint_at s e) { receivers = others }
 
@@ -122,7 +117,7 @@ module _ (image : Image) (t : Thread) (s : State) (sound : IsSound s) (own : Thr
     r-queue = not-queue r waits.own waits.is
 
     abbrev message : Message
-    message = message_sent taken y sent
+    message = message_between s self r
 
     abbrev written : RegisterFile
     written = delivered waits.own.registers badge message
@@ -165,8 +160,8 @@ module _ (image : Image) (t : Thread) (s : State) (sound : IsSound s) (own : Thr
         ap (λ (q : EndpointState). q.receivers) queue-is ∙ first
         ∙ ap (λ (o : Option Object). r ∷ (option_map_or (λ (q : EndpointState). q) (as_endpoint o) new_endpoint).receivers) (sym queue)
 
-    registers-are : changed ≡ woken waits.own (advanced (delivered waits.own.registers badge (message_of (thread_at s self))))
-    registers-are = ap (λ (m : Message). woken waits.own (advanced (delivered waits.own.registers badge m))) own-message
+    registers-are : (z : ℕ) → z ≡ r → changed ≡ woken waits.own (advanced (delivered waits.own.registers badge (message_between s self z)))
+    registers-are z here = ap (λ (q : ℕ). woken waits.own (advanced (delivered waits.own.registers badge (message_between s self q)))) (sym here)
 
     -- who runs in a state afterwards waits no more
     runs-there : (after : State) (u : ThreadState) → after.objects r ≡ Some (ThreadObject u) → u.status ≡ Runnable →
@@ -188,8 +183,7 @@ module _ (image : Image) (t : Thread) (s : State) (sound : IsSound s) (own : Thr
 
     -- the thread goes on, before its own registers change
     pub given-changes : ChangesObjects image t s
-        (wake (deliver (with_endpoint s e (record (endpoint_at s e) { receivers = others })) r badge
-        (message_sent (with_endpoint s e (record (endpoint_at s e) { receivers = others })) (sender (self_of image t) sent badge grants) sent)) r)
+        (wake (deliver (with_endpoint s e (record (endpoint_at s e) { receivers = others })) r badge (message_between s (self_of image t) r)) r)
     given-changes = record {
       store = record { memory_bits = refl; boot_radix = refl; slots = λ slot. refl; bytes = λ place. refl };
       own = own;
@@ -206,7 +200,7 @@ module _ (image : Image) (t : Thread) (s : State) (sound : IsSound s) (own : Thr
         | inl here ↦
             of_thread waits.own changed (ap s.objects here.1 ∙ waits.is) (ap three.objects here.1 ∙ three-r)
             (receiver e badge waits.own.caller (shorter three three-queue ∙ ap (λ (q : ℕ). q ∷ (endpoint_at three e).receivers) (sym here.1))
-            waits.blocked names (as_before refl) registers-are)
+            waits.blocked names (as_before refl) (registers-are z here.1))
         | inr apart ↦ elim (eqb_tells z e) [
           | inl here ↦
               of_endpoint old fewer (ap s.objects here.1 ∙ was) (ap three.objects here.1 ∙ three-queue)
@@ -241,8 +235,7 @@ module _ (image : Image) (t : Thread) (s : State) (sound : IsSound s) (own : Thr
           (three-ready priority) (block-gains three self status priority))
 
       pub halted-changes : ChangesObjects image t s
-          (block (wake (deliver (with_endpoint s e (record (endpoint_at s e) { receivers = others })) r badge
-          (message_sent (with_endpoint s e (record (endpoint_at s e) { receivers = others })) (sender (self_of image t) sent badge grants) sent)) r)
+          (block (wake (deliver (with_endpoint s e (record (endpoint_at s e) { receivers = others })) r badge (message_between s (self_of image t) r)) r)
           (self_of image t) status)
       halted-changes = record {
         store = record { memory_bits = refl; boot_radix = refl; slots = λ slot. refl; bytes = λ place. refl };
@@ -261,7 +254,7 @@ module _ (image : Image) (t : Thread) (s : State) (sound : IsSound s) (own : Thr
           | inl here ↦
               of_thread waits.own changed (ap s.objects here.1 ∙ waits.is) (ap halted.objects here.1 ∙ halted-r)
               (receiver e badge waits.own.caller (shorter halted halted-queue ∙ ap (λ (q : ℕ). q ∷ (endpoint_at halted e).receivers) (sym here.1))
-              waits.blocked names (as_before refl) registers-are)
+              waits.blocked names (as_before refl) (registers-are z here.1))
           | inr apart ↦ elim (eqb_tells z e) [
             | inl here ↦
                 of_endpoint old fewer (ap s.objects here.1 ∙ was) (ap halted.objects here.1 ∙ halted-queue)
@@ -310,8 +303,7 @@ module _ (image : Image) (t : Thread) (s : State) (sound : IsSound s) (own : Thr
 
       pub called-changes : ChangesObjects image t s
           (with_caller (block (wake (deliver (with_endpoint s e (record (endpoint_at s e) { receivers = others })) r badge
-          (message_sent (with_endpoint s e (record (endpoint_at s e) { receivers = others })) (sender (self_of image t) sent badge grants) sent)) r)
-          (self_of image t) AwaitsReply) r (Some (self_of image t)))
+          (message_between s (self_of image t) r)) r) (self_of image t) AwaitsReply) r (Some (self_of image t)))
       called-changes = record {
         store = record { memory_bits = refl; boot_radix = refl; slots = λ slot. refl; bytes = λ place. refl };
         own = own;
@@ -330,7 +322,7 @@ module _ (image : Image) (t : Thread) (s : State) (sound : IsSound s) (own : Thr
               of_thread waits.own replying (ap s.objects here.1 ∙ waits.is) (ap last.objects here.1 ∙ last-r)
               (receiver e badge (Some self) (shorter last last-queue ∙ ap (λ (q : ℕ). q ∷ (endpoint_at last e).receivers) (sym here.1))
               waits.blocked names (to_sender calls refl (ap (λ (u : ThreadState). u.status) (at-place last self waiting-so last-self)))
-              (ap (λ (u : ThreadState). record u { caller = Some self }) registers-are))
+              (ap (λ (u : ThreadState). record u { caller = Some self }) (registers-are z here.1)))
           | inr apart ↦ elim (eqb_tells z e) [
             | inl here ↦
                 of_endpoint old fewer (ap s.objects here.1 ∙ was) (ap last.objects here.1 ∙ last-queue)

@@ -7,7 +7,7 @@ use Rattle.headline.specs.facts.Standing.{AllStand}
 use Rattle.headline.specs.moves.Laws.{Laws}
 use Rattle.headline.specs.moves.Moving.{CallsAt}
 use Rattle.headline.specs.moves.Steps.{InvokesNothing, MakesCall}
-use Rattle.headline.specs.authority.Scenarios.{CallsOn, RunsAt}
+use Rattle.headline.specs.authority.Scenarios.{CallsOn, HasNoBuffer, RunsAt}
 use Rattle.model.specs.declared.capabilities.Cap.{Cap}
 use Rattle.model.specs.declared.capabilities.Cap.TheVariants.{Endpoint, Notification}
 use Rattle.model.specs.declared.events.Event.TheVariants.{Step}
@@ -32,6 +32,7 @@ use Rattle.model.specs.Kernel.State.{State, Status, Inactive, Runnable, AwaitsHa
 use Rattle.model.specs.Kernel.Steps.{call_of, named_slot, step, system_call}
 use Rattle.model.specs.Machine.ProgramMemory.{read}
 use Rattle.headline.proofs.facts.Laws.{is-listed}
+use Rattle.headline.proofs.kept.Laws.{no-buffer}
 use Rattle.headline.proofs.moves.Laws.{call-leaves, named-here, one-thread}
 use Rattle.headline.proofs.starts.Laws.{contains}
 use Rattle.headline.proofs.authority.EndpointCalls.{receives-within, sends-within}
@@ -59,6 +60,9 @@ module _ (laws : Laws) (bytes : List ℕ) (image : Image) (s : State) (labels : 
   runs-here : RunsAt image t.thread s number
   runs-here = record { own = own; is = at.there; runs = at.status; calls = refl }
 
+  without : HasNoBuffer image t.thread s
+  without = no-buffer bytes image s labels accepted all t listed
+
   -- nobody waits for its handler
   never-handled : (caller : ℕ) (u : ThreadState) → s.objects caller ≡ Some (ThreadObject u) → u.status ≡ AwaitsHandler → (v : Numbered)
       → caller ≡ tcb_of image v → ThreadInvariant image v s labels → ⊥
@@ -83,11 +87,11 @@ module _ (laws : Laws) (bytes : List ℕ) (image : Image) (s : State) (labels : 
       → (IsInvoked (capability_at s.slots slot) → ⊥)
       → SendsBy image t.thread (point_of t point) state kind slot (capability_at s.slots slot) left → Within
   by-send kind slot call named mine quiet (SendsBy.calls offset r badge kind_is is writes grants keeps asks) =
-      sends-within image t.thread s all.sound number offset badge r (calls-here (Endpoint offset r badge) slot named mine is) writes kind call
+      sends-within image t.thread s all.sound number offset badge r (calls-here (Endpoint offset r badge) slot named mine is) without writes kind call
   by-send kind slot call named mine quiet (SendsBy.sends offset r badge kind_is is writes keeps asks) =
-      sends-within image t.thread s all.sound number offset badge r (calls-here (Endpoint offset r badge) slot named mine is) writes kind call
+      sends-within image t.thread s all.sound number offset badge r (calls-here (Endpoint offset r badge) slot named mine is) without writes kind call
   by-send kind slot call named mine quiet (SendsBy.tries offset r badge kind_is is writes keeps asks) =
-      sends-within image t.thread s all.sound number offset badge r (calls-here (Endpoint offset r badge) slot named mine is) writes kind call
+      sends-within image t.thread s all.sound number offset badge r (calls-here (Endpoint offset r badge) slot named mine is) without writes kind call
   by-send kind slot call named mine quiet (SendsBy.signals offset r badge is writes asks) =
       signals-within image t.thread s all.sound number offset badge r (calls-here (Notification offset r badge) slot named mine is) writes kind call
   by-send kind slot call named mine quiet (SendsBy.invokes invoked asks) = absurd (quiet invoked)
@@ -95,7 +99,7 @@ module _ (laws : Laws) (bytes : List ℕ) (image : Image) (s : State) (labels : 
   by-receive : (kind : ReceiveCall) (slot : ℕ) (is_wait : Bool) → call_of number ≡ Some (Receives kind) → named_slot s tcb ≡ Ok slot
       → IsOwnSlot image t.thread slot → ReceivesBy image state is_wait (capability_at s.slots slot) left → Within
   by-receive kind slot is_wait call named mine (ReceivesBy.on_endpoint offset r badge is reads asks) =
-      receives-within image t.thread s all.sound number offset badge r (calls-here (Endpoint offset r badge) slot named mine is) reads kind call
+      receives-within image t.thread s all.sound number offset badge r (calls-here (Endpoint offset r badge) slot named mine is) without reads kind call
   by-receive kind slot is_wait call named mine (ReceivesBy.on_notification offset r badge is reads asks) =
       waits-within image t.thread s all.sound number offset badge r (calls-here (Notification offset r badge) slot named mine is) reads kind call
 
@@ -103,9 +107,10 @@ module _ (laws : Laws) (bytes : List ℕ) (image : Image) (s : State) (labels : 
       → ReceivesBy image state is_wait (capability_at s.slots slot) left → Within
   unfolding calls-here
   by-reply slot is_wait call named mine (ReceivesBy.on_endpoint offset r badge is reads asks) =
-      reply-endpoint image t.thread s all.sound number call offset badge r reads (calls-here (Endpoint offset r badge) slot named mine is) handles-nobody
+      reply-endpoint image t.thread s all.sound without number call offset badge r reads (calls-here (Endpoint offset r badge) slot named mine is)
+      handles-nobody
   by-reply slot is_wait call named mine (ReceivesBy.on_notification offset r badge is reads asks) =
-      reply-notification image t.thread s all.sound number call offset badge r reads (calls-here (Notification offset r badge) slot named mine is)
+      reply-notification image t.thread s all.sound without number call offset badge r reads (calls-here (Notification offset r badge) slot named mine is)
       handles-nobody
 
   -- ---- whatever the call
@@ -130,7 +135,7 @@ module _ (laws : Laws) (bytes : List ℕ) (image : Image) (s : State) (labels : 
       let names = named-here laws bytes image s labels accepted t listed own point state left at (λ slot. receive_rule image (point_of t point) state true) rule in
       by-reply names.slot true is names.named names.own
       (laws.receives image (point_of t point) state true (capability_at s.slots names.slot) left names.rule)
-  calls-within Replies is rule quiet = reply-within image t.thread s all.sound number is own at.there at.status handles-nobody refl
+  calls-within Replies is rule quiet = reply-within image t.thread s all.sound without number is own at.there at.status handles-nobody refl
   calls-within Yields is rule quiet = yield-within image t.thread s number all.sound is runs-here
   calls-within PutsCharacter is rule quiet = character-within image t.thread s number all.sound is runs-here
 

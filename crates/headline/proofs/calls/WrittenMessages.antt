@@ -85,11 +85,11 @@ module _ (registers : RegisterFile) (ranges : List Range) (count : length regist
   start = record { count = count; small = words-small; long = long; within = within }
 
   pub message-fits : (badge : ℕ) (out : Range) (message : Message) (promised : List PromisedWord) → badge < 2 ^ 32 → LiesIn badge out
-      → All IsSmall message.words → KeepWords message.words promised → info_word message.label (length message.words) < 2 ^ 32
+      → All IsSmall message.words → KeepWords message.words promised → info_word message.label message.count < 2 ^ 32
       → LieWithin (delivered registers badge message) (with_message ranges out promised)
       × WritesOnly registers (delivered registers badge message) message_registers
   message-fits badge out message promised low inside words kept info =
-      let number : ℕ = info_word message.label (length message.words) in
+      let number : ℕ = info_word message.label message.count in
       let first : RegisterFile = write registers a0 badge in
       let second : RegisterFile = write first a1 number in
       let one : Fits first (with_range ranges a0 out) = wrote registers ranges a0 badge out badge-writable low inside start in

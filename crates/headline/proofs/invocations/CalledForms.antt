@@ -6,8 +6,8 @@ use Rattle.model.specs.declared.capabilities.Cap.TheVariants.{Empty, Untyped, En
 use Rattle.model.specs.declared.capabilities.Cap.TheVariants.{InterruptHandler}
 use Rattle.model.specs.Kernel.CallForms.{CallForm, acknowledge_label, clear_label, configure_label, copy_label, delete_label, form_of, get_handler_label}
 use Rattle.model.specs.Kernel.CallForms.{map_frame_label, map_table_label, mint_label, move_label, mutate_label, resume_label, retype_label, revoke_label}
-use Rattle.model.specs.Kernel.CallForms.{set_notification_label, set_priority_label, set_register_label, suspend_label, unmap_frame_label, unmap_table_label}
-use Rattle.model.specs.Kernel.CallForms.{word}
+use Rattle.model.specs.Kernel.CallForms.{set_buffer_label, set_notification_label, set_priority_label, set_register_label, suspend_label, unmap_frame_label}
+use Rattle.model.specs.Kernel.CallForms.{unmap_table_label, word}
 use Rattle.headline.specs.invocations.Performed.{IsOn}
 
 -- the first words are the same
@@ -84,7 +84,11 @@ forms-fit (Tcb offset) label =
       on = λ words. tt;
     })
     (chosen c (label == resume_label) _ _ (record { reads = λ words others same. refl; on = λ words. tt })
-    (chosen c (label == suspend_label) _ _ (record { reads = λ words others same. refl; on = λ words. tt }) tt))))
+    (chosen c (label == suspend_label) _ _ (record { reads = λ words others same. refl; on = λ words. tt })
+    (chosen c (label == set_buffer_label) _ _ (record {
+      reads = λ words others same. let zero = same 0 (omega arith) in let one = same 1 (omega arith) in cc;
+      on = λ words. tt;
+    }) tt)))))
 forms-fit (PageTable offset mapping) label =
     let c = PageTable offset mapping in
     chosen c (label == map_table_label) _ _ (record {

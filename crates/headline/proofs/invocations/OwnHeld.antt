@@ -17,7 +17,7 @@ use Rattle.model.specs.declared.capabilities.Cap.TheVariants.{InterruptHandler}
 
 -- how many slots an object of a type has
 abbrev pub slots_of_kind : NewObject → ℕ
-slots_of_kind NewThread = 2
+slots_of_kind NewThread = 3
 slots_of_kind (NewCNode radix) = 2 ^ radix
 slots_of_kind _ = 0
 

@@ -35,8 +35,8 @@ module _ (image : Image) (t : Numbered) (s : State) (slots : List NotedSlot) (m 
       by-held (OwnHeld.nothing none) = sym (ap (λ (n : Option ℕ). option_map_or (λ named. named == offset) n false) none) ∙ names
       by-held (OwnHeld.plain kind o named of few) =
           let same : kind ≡ NewThread = same_Some kind NewThread (sym (m.all.sound.memory.named slot kind o named) ∙ ap (kind_at s) (place o of) ∙ is) in
-          let two : 2 ≡ 0 = sym (ap slots_of_kind same) ∙ few in
-          absurd (omega (arith, two))
+          let three : 3 ≡ 0 = sym (ap slots_of_kind same) ∙ few in
+          absurd (omega (arith, three))
       by-held (OwnHeld.cnode radix o named of own) =
           let same : NewCNode radix ≡ NewThread =
           same_Some (NewCNode radix) NewThread (sym (m.all.sound.memory.named slot (NewCNode radix) o named) ∙ ap (kind_at s) (place o of) ∙ is) in

@@ -58,13 +58,13 @@ module _ (image : Image) (fits : whole_image.fits image ≡ true) (well : IsWell
       false≢true (sym shares ∙ member-passes (λ c. is_member c earlier) cnode (reached image t.thread) here among)
 
   -- the CNode of an own slot
-  pub record StandsIn (t : Numbered) (slot : ℕ) : Type 0 where
+  record StandsIn (t : Numbered) (slot : ℕ) : Type 0 where
     pub cnode : ℕ
     pub member : is_member cnode (reached image t.thread) ≡ true
     pub inside : cnode < image.header.objects
     pub there : is_object_slot image slot cnode ≡ true
 
-  pub stands-in : (t : Numbered) (slot : ℕ) → Contains (numbered_threads image) t → IsOwnSlot image t.thread slot → StandsIn t slot
+  stands-in : (t : Numbered) (slot : ℕ) → Contains (numbered_threads image) t → IsOwnSlot image t.thread slot → StandsIn t slot
   stands-in t slot listed own =
       let cnodes = reached image t.thread in
       let of = key-found image cnodes slot own in

@@ -24,7 +24,7 @@ use Rattle.model.specs.Acceptance.ThreadInvariants.{tcb_of}
 use Rattle.model.specs.Capabilities.Slots.{capability_at}
 use Rattle.model.specs.Images.Described.{Numbered, numbered_threads}
 use Rattle.model.specs.Images.Image.{Image, ImagePromise}
-use Rattle.model.specs.Kernel.Messages.{Message, a0, deliver, deliver_word, message_sent, poll, receive, receive_from, received_waiting, receives}
+use Rattle.model.specs.Kernel.Messages.{a0, deliver_sent, deliver_word, poll, receive, receive_from, received_waiting, receives}
 use Rattle.model.specs.Kernel.Messages.{try_to_receive, wait, waits_to_receive, with_caller}
 use Rattle.model.specs.Kernel.Scheduling.{block}
 use Rattle.model.specs.Kernel.Soundness.{IsSound}
@@ -38,12 +38,14 @@ use Rattle.model.specs.Machine.Effects.{advanced}
 use Rattle.model.specs.Machine.ProgramMemory.{write}
 use Rattle.headline.specs.moves.Laws.{Laws}
 use Rattle.headline.specs.moves.Moving.{CallsAt, PassesWith}
+use Rattle.headline.proofs.kept.Laws.{bytes-received, no-buffer}
 use Rattle.headline.proofs.moves.Calling.{IsCounted, counted, own-registers}
 use Rattle.headline.proofs.moves.NamedSlots.{endpoint-named, named-here, notification-named}
 use Rattle.headline.proofs.moves.NotificationCalls.{poll-stands, wait-stands}
 use Rattle.headline.proofs.moves.Places.{caller-here, caller-there, passed, passed-there}
 use Rattle.headline.proofs.moves.Receives.{blocks-stand, receives-stand}
 use Rattle.headline.proofs.moves.SimpleCalls.{it-passes}
+use Rattle.headline.proofs.moves.Standing.{ground-stays}
 
 -- ---- what a step leaves that goes well
 
@@ -70,17 +72,32 @@ module _ (laws : Laws) (bytes : List ℕ) (image : Image) (s : State) (labels : 
     abbrev ready : State
     ready = with_caller s tcb None
 
-    store-received : (x : Sender) (f : EndpointState) (b : ℕ) (m : Message) (kind : Sent) →
-        SameGround image s (received_waiting (deliver (with_endpoint ready e f) tcb b m) x kind tcb)
-    store-received x f b m BySend = record { memory_bits = refl; boot_radix = refl; slots = λ slot. refl; bytes = λ frame place code low high. refl }
-    store-received x f b m ByCall =
-        elim x.grant_reply as (λ g.
-        SameGround image s (if g then with_caller (block (deliver (with_endpoint ready e f) tcb b m) x.thread AwaitsReply) tcb (Some x.thread) else
-        block (deliver (with_endpoint ready e f) tcb b m) x.thread Inactive)) [
-          | true ↦ record { memory_bits = refl; boot_radix = refl; slots = λ slot. refl; bytes = λ frame place code low high. refl }
-          | false ↦ record { memory_bits = refl; boot_radix = refl; slots = λ slot. refl; bytes = λ frame place code low high. refl }
+    -- what becomes of the sender changes neither slots nor bytes
+    store-received : (x : Sender) (got : State) → SameGround image s got → (kind : Sent) → SameGround image s (received_waiting got x kind tcb)
+    store-received x got same BySend = record {
+      memory_bits = same.memory_bits;
+      boot_radix = same.boot_radix;
+      slots = same.slots;
+      bytes = same.bytes;
+    }
+    store-received x got same ByCall =
+        elim x.grant_reply as (λ g. SameGround image s (if g then with_caller (block got x.thread AwaitsReply) tcb (Some x.thread) else
+        block got x.thread Inactive)) [
+          | true ↦ record { memory_bits = same.memory_bits; boot_radix = same.boot_radix; slots = same.slots; bytes = same.bytes }
+          | false ↦ record { memory_bits = same.memory_bits; boot_radix = same.boot_radix; slots = same.slots; bytes = same.bytes }
         ]
-    store-received x f b m (ByFault fault) = record { memory_bits = refl; boot_radix = refl; slots = λ slot. refl; bytes = λ frame place code low high. refl }
+    store-received x got same (ByFault fault) = record {
+      memory_bits = same.memory_bits;
+      boot_radix = same.boot_radix;
+      slots = same.slots;
+      bytes = same.bytes;
+    }
+
+    -- the thread has no buffer
+    store-delivered : (f : EndpointState) (x : Sender) → SameGround image s (deliver_sent (with_endpoint ready e f) x tcb)
+    store-delivered f x =
+        ground-stays image s (deliver_sent (with_endpoint ready e f) x tcb) refl refl refl
+        (bytes-received (with_endpoint ready e f) x x.sent tcb (no-buffer bytes image s labels accepted all t listed))
 
     some-sends : (outcome : Outcome) → is_waited outcome ≡ left.is_wait →
         (promise : Option ImagePromise) → ((p : ImagePromise) → promise ≡ Some p → promise_at image e ≡ Some p)
@@ -91,8 +108,7 @@ module _ (laws : Laws) (bytes : List ℕ) (image : Image) (s : State) (labels : 
         let f = record (endpoint_at ready e) { senders = others } in
         let after = receive_from (with_endpoint ready e f) x tcb in
         receives-stand laws bytes image s labels (behind outcome) accepted all t listed own point state left at (counts outcome waited) e old was after
-        sound
-        (store-received x f x.badge (message_sent (with_endpoint ready e f) x x.sent) x.sent) x others first (λ y. refl) promise of_image asks
+        sound (store-received x (deliver_sent (with_endpoint ready e f) x tcb) (store-delivered f x) x.sent) x others first (λ y. refl) promise of_image asks
 
     receive-waits : left ≡ behind_receive image e state → (capability : Cap) → NamesThere image t state capability → NamesQueue e capability
         → IsSound (receive s e tcb) → AllStand image (receive s e tcb) (behind Waited)

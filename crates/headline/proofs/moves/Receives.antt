@@ -6,7 +6,6 @@ use Rattle.std.proofs.lemmas.Bool.{eqb-true, eqb-false}
 use Rattle.headline.specs.facts.Standing.{AllStand}
 use Rattle.headline.specs.calls.Messages.{KnownToKeepAt}
 use Rattle.headline.specs.facts.Waiting.{NamesQueue, NamesThere, SendsAs, WaitsAsAsked, WaitsSo, behind_receive}
-use Rattle.headline.proofs.facts.Laws.{at-place}
 use Rattle.model.specs.declared.capabilities.Cap.{Cap}
 use Rattle.model.specs.declared.labels.Label.{Label}
 use Rattle.model.specs.Acceptance.Accepted.{IsAccepted}
@@ -18,12 +17,12 @@ use Rattle.model.specs.Acceptance.ThreadInvariants.{IsWaiting, ThreadInvariant, 
 use Rattle.model.specs.Images.Described.{Numbered, numbered_threads}
 use Rattle.model.specs.Images.Image.{Image, ImagePromise}
 use Rattle.model.specs.Kernel.Deliveries.{woken}
-use Rattle.model.specs.Kernel.Messages.{Message, deliver, delivered, message_of, message_sent, passes, receive_from, received_waiting, waits_to_receive}
-use Rattle.model.specs.Kernel.Messages.{with_caller}
+use Rattle.model.specs.Kernel.Messages.{Message, deliver_sent, delivered, message_between, message_to, passes, receive_from, received_waiting}
+use Rattle.model.specs.Kernel.Messages.{waits_to_receive, with_caller}
 use Rattle.model.specs.Kernel.Scheduling.{block}
 use Rattle.model.specs.Kernel.Soundness.{IsSound, SenderIsSound, waiting_at}
 use Rattle.model.specs.Kernel.State.{State, Inactive, Runnable, Blocked, AwaitsReply, Object, ThreadObject, EndpointObject, EndpointState, NotificationObject}
-use Rattle.model.specs.Kernel.State.{Sender, Sent, BySend, ByCall, ByFault, ThreadState, endpoint_at, thread_at, with_endpoint}
+use Rattle.model.specs.Kernel.State.{Sender, Sent, BySend, ByCall, ByFault, ThreadState, endpoint_at, with_endpoint}
 use Rattle.model.specs.Kernel.Waits.{open_count}
 use Rattle.model.specs.Machine.Effects.{advanced}
 use Rattle.model.specs.Shared.Lists.{times_in}
@@ -39,7 +38,7 @@ use Rattle.headline.proofs.moves.Places.{at-endpoint, blocked, blocked-there, ca
 use Rattle.headline.proofs.moves.Places.{endpoint-there, went-here, went-there, woke, woke-there}
 use Rattle.headline.proofs.moves.Queued.{IsBlockedAt, contains-before, contains-more, first-times, queued-there}
 use Rattle.headline.proofs.moves.Standing.{all-stand, touches-none}
-use Rattle.headline.proofs.moves.Waiters.{StandsWaiting, called-so, delivered-pc, no-fault, own-message, sent-so, stands-waiting}
+use Rattle.headline.proofs.moves.Waiters.{StandsWaiting, called-so, delivered-pc, message-fine, message-keeps, no-fault, sent-so, stands-waiting}
 use Rattle.headline.proofs.moves.Woken.{FitsBehind, wakes-up}
 
 -- the threads of senders, the first first
@@ -169,10 +168,10 @@ module _ (laws : Laws) (bytes : List ℕ) (image : Image) (s : State) (labels la
     taken = with_endpoint ready e fewer
 
     abbrev message : Message
-    message = message_sent taken x x.sent
+    message = message_to taken x x.sent tcb
 
     abbrev two : State
-    two = deliver taken tcb x.badge message
+    two = deliver_sent taken x tcb
 
     blocked-from : IsBlockedAt s from e
     blocked-from =
@@ -268,14 +267,12 @@ module _ (laws : Laws) (bytes : List ℕ) (image : Image) (s : State) (labels la
         let less : 0 < length ep.senders = subst (λ (xs : List Sender). 0 < length xs) (sym first) (omega arith) in
         (subst (λ (xs : List Sender). SenderIsSound (get_or xs 0 x)) first (each 0 x less)).badge
 
-    sender-message : IsMessage (message_of (thread_at taken from))
-    sender-message =
-        subst (λ (u : ThreadState). IsMessage (message_of u)) (sym (at-place taken from sender taken-from))
-        (own-message sender (all.sound.threads.threads from sender blocked-from.is))
+    sender-message : IsMessage (message_between taken from tcb)
+    sender-message = message-fine taken from tcb sender taken-from (all.sound.threads.threads from sender blocked-from.is)
 
-    sender-keeps : KeptHere (message_of (thread_at taken from))
+    sender-keeps : KeptHere (message_between taken from tcb)
     sender-keeps p is =
-        subst (λ (u : ThreadState). KeepsPromise p x.badge (message_of u)) (sym (at-place taken from sender taken-from))
+        message-keeps taken from tcb x.badge sender p taken-from
         (laws.sent sender waits-so.state x.badge p waits-so.stands.registers
         (keeps-so waits-so.thread waits-so.state waits-so.left waits-so.is waits-so.so p (of_image p is)))
 
@@ -317,8 +314,8 @@ module _ (laws : Laws) (bytes : List ℕ) (image : Image) (s : State) (labels la
         let apart : (y : ℕ) → y ≢ from → after.objects y ≡ two.objects y = λ y other. sent-by BySend kind y ∙ woke-there three from y other
         ∙ went-there two from y other in
         let own_is : after.objects tcb ≡ Some (ThreadObject received) = apart tcb (λ is. from-apart (sym is)) ∙ two-own in
-        let fine : IsMessage message = subst (λ (k : Sent). IsMessage (message_sent taken x k)) (sym kind) sender-message in
-        let kept : KeptHere message = subst (λ (k : Sent). KeptHere (message_sent taken x k)) (sym kind) sender-keeps in
+        let fine : IsMessage message = subst (λ (k : Sent). IsMessage (message_to taken x k tcb)) (sym kind) sender-message in
+        let kept : KeptHere message = subst (λ (k : Sent). KeptHere (message_to taken x k tcb)) (sym kind) sender-keeps in
         pair-stands received gone own_is from_is (λ y other beside. apart y beside) (own-receives received own_is refl refl fine kept)
         (wakes-up laws bytes image s labels later accepted all after sound store waits-so.thread waits-so.listed count-from sender there-from sender.registers
         gone
@@ -344,8 +341,8 @@ module _ (laws : Laws) (bytes : List ℕ) (image : Image) (s : State) (labels la
         granted tcb ∙ caller-here three tcb (Some from) received (blocked-there two from AwaitsReply tcb (λ is. from-apart (sym is)) ∙ two-own) in
         let from_is : after.objects from ≡ Some (ThreadObject gone) = granted from ∙ caller-there three tcb (Some from) from from-apart
         ∙ blocked two from AwaitsReply sender two-from in
-        let fine : IsMessage message = subst (λ (k : Sent). IsMessage (message_sent taken x k)) (sym kind) sender-message in
-        let kept : KeptHere message = subst (λ (k : Sent). KeptHere (message_sent taken x k)) (sym kind) sender-keeps in
+        let fine : IsMessage message = subst (λ (k : Sent). IsMessage (message_to taken x k tcb)) (sym kind) sender-message in
+        let kept : KeptHere message = subst (λ (k : Sent). KeptHere (message_to taken x k tcb)) (sym kind) sender-keeps in
         let from_here : after.objects (tcb_of image waits-so.thread) ≡ Some (ThreadObject gone) = ap after.objects (sym waits-so.is) ∙ from_is in
         pair-stands next gone own_is from_is
         (λ y other beside. granted y ∙ caller-there three tcb (Some from) y other ∙ blocked-there two from AwaitsReply y beside)

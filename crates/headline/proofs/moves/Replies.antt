@@ -15,7 +15,7 @@ use Rattle.model.specs.Acceptance.ThreadInvariants.{IsWaiting, ThreadInvariant, 
 use Rattle.model.specs.Images.Described.{Numbered, numbered_threads}
 use Rattle.model.specs.Images.Image.{Image}
 use Rattle.model.specs.Kernel.Deliveries.{woken}
-use Rattle.model.specs.Kernel.Messages.{Message, deliver, delivered, message_of, replied, reply, reply_to_call, with_caller}
+use Rattle.model.specs.Kernel.Messages.{Message, deliver, delivered, message_between, replied, reply, reply_to_call, with_caller}
 use Rattle.model.specs.Kernel.Scheduling.{wake}
 use Rattle.model.specs.Kernel.Soundness.{IsSound, awaits_answer}
 use Rattle.model.specs.Kernel.State.{State, Status, Inactive, Runnable, Blocked, AwaitsReply, AwaitsHandler, Object, ThreadObject, EndpointObject}
@@ -26,12 +26,13 @@ use Rattle.model.specs.Machine.ProgramMemory.{RegisterFile}
 use Rattle.headline.specs.moves.Moving.{CallsAt}
 use Rattle.headline.specs.moves.Laws.{Laws}
 use Rattle.headline.proofs.moves.Calling.{rest-by-threads}
-use Rattle.headline.specs.calls.Laws.{AreRegisters}
+use Rattle.headline.specs.calls.Laws.{AreRegisters, IsMessage}
+use Rattle.headline.proofs.kept.Laws.{bytes-from, no-buffer}
 use Rattle.headline.proofs.moves.LeftAlone.{one-thread}
 use Rattle.headline.proofs.moves.Places.{caller-here, caller-there, delivered-here, delivered-there, woke, woke-there}
 use Rattle.headline.proofs.moves.SimpleCalls.{calls-on}
-use Rattle.headline.proofs.moves.Standing.{all-stand}
-use Rattle.headline.proofs.moves.Waiters.{delivered-pc, own-message}
+use Rattle.headline.proofs.moves.Standing.{all-stand, ground-stays}
+use Rattle.headline.proofs.moves.Waiters.{delivered-pc, message-fine}
 use Rattle.headline.proofs.moves.Woken.{FitsBehind, runs-free, wakes-up}
 
 -- ---- who awaits an answer
@@ -117,13 +118,10 @@ module _ (laws : Laws) (bytes : List ℕ) (image : Image) (s : State) (labels : 
   -- it has a caller
   module _ (caller : ℕ) (other : ThreadState) (other-there : s.objects caller ≡ Some (ThreadObject other))
       (u : Numbered) (member : Contains (numbered_threads image) u) (block : caller ≡ tcb_of image u) (status : other.status ≡ AwaitsReply)
-      (after : State) (sound : IsSound after) (store : SameGround image s after)
-      (objects : (y : ℕ) → after.objects y ≡ (wake (deliver (with_caller s (tcb_of image t) None) caller 0 (message_of own)) caller).objects y) where
+      (message : Message) (fine : IsMessage message) (after : State) (sound : IsSound after) (store : SameGround image s after)
+      (objects : (y : ℕ) → after.objects y ≡ (wake (deliver (with_caller s (tcb_of image t) None) caller 0 message) caller).objects y) where
     abbrev one : State
     one = with_caller s tcb None
-
-    abbrev message : Message
-    message = message_of own
 
     abbrev written : RegisterFile
     written = delivered other.registers 0 message
@@ -152,7 +150,7 @@ module _ (laws : Laws) (bytes : List ℕ) (image : Image) (s : State) (labels : 
         → FitsBehind found behind other.registers written
     fits found behind so registers =
         let behind_is : behind ≡ behind_reply found = subst (WaitsSo image u s found behind) status so in
-        let fit = laws.answer other.registers found.ranges message registers (own-message own (all.sound.threads.threads tcb own at.there)) in
+        let fit = laws.answer other.registers found.ranges message registers fine in
         subst (λ (l : AfterCall). FitsBehind found l other.registers written) (sym behind_is)
         (record { slots = refl; pc = delivered-pc other.registers 0 message; only = fit.1; within = fit.0 })
 
@@ -208,7 +206,7 @@ module _ (laws : Laws) (bytes : List ℕ) (image : Image) (s : State) (labels : 
   ]
 
   abbrev ToCaller : ℕ → State
-  ToCaller caller = replied (with_caller s tcb None) caller (thread_at s caller).status (message_of (thread_at s tcb))
+  ToCaller caller = replied (with_caller s tcb None) tcb caller (thread_at s caller).status (message_between s tcb caller)
 
   to-caller : (caller : ℕ) → (thread_at s tcb).caller ≡ Some caller → IsSound (ToCaller caller) →
       HasReplied image t (ToCaller caller) labels own point state left
@@ -220,12 +218,15 @@ module _ (laws : Laws) (bytes : List ℕ) (image : Image) (s : State) (labels : 
       reply-awaited image block.thread s labels other (ap s.objects (sym block.is) ∙ AwaitsThere.is there) (AwaitsThere.awaits there)
       (all.stand block.thread block.listed) in
       let same : (thread_at s caller).status ≡ AwaitsReply = ap (λ (x : ThreadState). x.status) (at-place s caller other (AwaitsThere.is there)) ∙ status in
-      let by = λ (x : Status). replied (with_caller s tcb None) caller x (message_of (thread_at s tcb)) in
-      let one : State = reply_to_call (with_caller s tcb None) caller (message_of (thread_at s tcb)) in
+      let message = message_between s tcb caller in
+      let by = λ (x : Status). replied (with_caller s tcb None) tcb caller x message in
+      let one : State = reply_to_call (with_caller s tcb None) tcb caller message in
       subst (λ (x : Status). HasReplied image t (by x) labels own point state left) (sym same)
-      (replied-so caller other (AwaitsThere.is there) block.thread block.listed block.is status one (subst (λ (x : Status). IsSound (by x)) same sound)
-      (record { memory_bits = refl; boot_radix = refl; slots = λ slot. refl; bytes = λ frame place code low high. refl })
-      (λ y. ap (λ (x : ThreadState). (wake (deliver (with_caller s tcb None) caller 0 (message_of x)) caller).objects y) (at-place s tcb own at.there)))
+      (replied-so caller other (AwaitsThere.is there) block.thread block.listed block.is status message
+      (message-fine s tcb caller own at.there (all.sound.threads.threads tcb own at.there)) one (subst (λ (x : Status). IsSound (by x)) same sound)
+      (ground-stays image s one refl refl refl
+      (bytes-from (with_caller s tcb None) tcb caller message.count (no-buffer bytes image s labels accepted all t listed)))
+      (λ y. refl))
 
   -- it has none, and nothing changes
   no-caller : (thread_at s tcb).caller ≡ None → HasReplied image t s labels own point state left

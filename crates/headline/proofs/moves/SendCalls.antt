@@ -23,7 +23,8 @@ use Rattle.model.specs.Capabilities.Slots.{capability_at}
 use Rattle.model.specs.Images.Described.{Numbered, numbered_threads}
 use Rattle.model.specs.Images.Image.{Image}
 use Rattle.model.specs.Kernel.Kinds.{kind_of}
-use Rattle.model.specs.Kernel.Messages.{a0, a1, passes, send, send_to, sends, signal, tries_to_send, try_to_send, waits_to_send}
+use Rattle.model.specs.Kernel.Messages.{a0, a1, bytes_between, length_between, passes, send, send_to, sends, signal, tries_to_send, try_to_send}
+use Rattle.model.specs.Kernel.Messages.{waits_to_send}
 use Rattle.model.specs.Kernel.Soundness.{IsSound}
 use Rattle.model.specs.Kernel.State.{State, BySend, ByCall, EndpointObject, EndpointState, NotificationObject, NotificationState, ThreadState, endpoint_at}
 use Rattle.model.specs.Kernel.State.{with_endpoint}
@@ -33,12 +34,14 @@ use Rattle.model.specs.declared.system_calls.SendCall.TheVariants.{Calling, Send
 use Rattle.model.specs.Kernel.Waits.{is_waited}
 use Rattle.headline.specs.moves.Moving.{CallsAt}
 use Rattle.headline.specs.moves.Laws.{Laws}
+use Rattle.headline.proofs.kept.Laws.{bytes-from, no-buffer}
 use Rattle.headline.proofs.moves.Calling.{IsCounted, counted}
 use Rattle.headline.proofs.moves.NamedSlots.{endpoint-named, named-here, notification-named}
 use Rattle.headline.proofs.moves.NotificationCalls.{HasSignalled, signal-leaves}
 use Rattle.headline.proofs.moves.ReceiveCalls.{IsFine}
 use Rattle.headline.proofs.moves.Sends.{called-stands, sent-stands, waits-stand}
 use Rattle.headline.proofs.moves.SimpleCalls.{passes-stand, result-stands}
+use Rattle.headline.proofs.moves.Standing.{ground-stays}
 
 module _ (laws : Laws) (bytes : List ℕ) (image : Image) (s : State) (labels : List Label) (accepted : IsAccepted bytes image) (all : AllStand image s labels)
     (t : Numbered) (listed : Contains (numbered_threads image) t) (own : ThreadState) (point : ℕ) (state : PointState) (left : AfterCall)
@@ -56,6 +59,11 @@ module _ (laws : Laws) (bytes : List ℕ) (image : Image) (s : State) (labels : 
 
   module _ (e : ℕ) (r : Rights) (badge : ℕ) (small : badge < 2 ^ 28) (old : EndpointState) (was : s.objects e ≡ Some (EndpointObject old))
       (named : NamesThere image t state (Endpoint e r badge)) (keeps : KnownToKeepAt image e state badge) where
+    -- the thread has no buffer
+    bytes-stay : (f : EndpointState) (r : ℕ) → bytes_between (with_endpoint s e f) tcb r (length_between (with_endpoint s e f) tcb r) ≡ s.bytes
+    bytes-stay f r =
+        bytes-from (with_endpoint s e f) tcb r (length_between (with_endpoint s e f) tcb r) (no-buffer bytes image s labels accepted all t listed)
+
     by-call : (grants : Bool) → grants ≡ may_grant_reply r → grants ≡ true → left ≡ behind_reply state → IsSound (send s e (sender tcb ByCall badge grants)) →
         AllStand image (send s e (sender tcb ByCall badge grants)) (behind Waited)
     by-call grants same grant asks =
@@ -69,12 +77,13 @@ module _ (laws : Laws) (bytes : List ℕ) (image : Image) (s : State) (labels : 
               (record { memory_bits = refl; boot_radix = refl; slots = λ slot. refl; bytes = λ frame place code low high. refl }) none (λ y. refl) (sym wait)
               (Endpoint e r badge) named (inl refl) (record { badge = refl; grants = same; kind = SendsAs.by_call refl grant asks; keeps = keeps })
           | r ∷ others ↦ λ first sound.
-              let one = with_endpoint s e (record (endpoint_at s e) { receivers = others }) in
+              let fewer = record (endpoint_at s e) { receivers = others } in
+              let one = with_endpoint s e fewer in
               called-stands laws bytes image s labels (behind Waited) accepted all t listed own point state left at (counts Waited wait) e old was ByCall
               badge grants (send_to one x r) sound
               (elim grants as (λ g. SameGround image s (send_to one (sender tcb ByCall badge g) r)) [
-                | true ↦ record { memory_bits = refl; boot_radix = refl; slots = λ slot. refl; bytes = λ frame place code low high. refl }
-                | false ↦ record { memory_bits = refl; boot_radix = refl; slots = λ slot. refl; bytes = λ frame place code low high. refl }
+                | true ↦ ground-stays image s (send_to one (sender tcb ByCall badge true) r) refl refl refl (bytes-stay fewer r)
+                | false ↦ ground-stays image s (send_to one (sender tcb ByCall badge false) r) refl refl refl (bytes-stay fewer r)
               ]) keeps r others first small (λ y. refl) refl grant asks
         ] refl
 
@@ -98,11 +107,10 @@ module _ (laws : Laws) (bytes : List ℕ) (image : Image) (s : State) (labels : 
             → IsSound (sends s e (sender tcb BySend badge grants) (r ∷ others)) →
             AllStand image (sends s e (sender tcb BySend badge grants) (r ∷ others)) (behind outcome)
         to-receiver outcome waited grants r others first asks sound =
+            let fewer = record (endpoint_at s e) { receivers = others } in
+            let after = send_to (with_endpoint s e fewer) (sender tcb BySend badge grants) r in
             sent-stands laws bytes image s labels (behind outcome) accepted all t listed own point state left at (counts outcome waited) e old was BySend
-            badge grants
-            (send_to (with_endpoint s e (record (endpoint_at s e) { receivers = others })) (sender tcb BySend badge grants) r) sound
-            (record { memory_bits = refl; boot_radix = refl; slots = λ slot. refl; bytes = λ frame place code low high. refl }) keeps r others first small (λ y. refl)
-            refl asks
+            badge grants after sound (ground-stays image s after refl refl refl (bytes-stay fewer r)) keeps r others first small (λ y. refl) refl asks
 
     by-try : (grants : Bool) → left ≡ changes_nothing state false → IsSound (try_to_send s e (sender tcb BySend badge grants)) →
         AllStand image (try_to_send s e (sender tcb BySend badge grants)) (behind Plain)
@@ -114,11 +122,11 @@ module _ (laws : Laws) (bytes : List ℕ) (image : Image) (s : State) (labels : 
           | [] ↦ λ none sound. passes-stand laws bytes image s labels (behind Plain) accepted all t listed own point state left at (counts Plain wait) asks
               sound
           | r ∷ others ↦ λ first sound.
+              let fewer = record (endpoint_at s e) { receivers = others } in
+              let after = send_to (with_endpoint s e fewer) x r in
               sent-stands laws bytes image s labels (behind Plain) accepted all t listed own point state left at (counts Plain wait) e old was BySend badge
-              grants
-              (send_to (with_endpoint s e (record (endpoint_at s e) { receivers = others })) x r) sound
-              (record { memory_bits = refl; boot_radix = refl; slots = λ slot. refl; bytes = λ frame place code low high. refl }) keeps r others first small
-              (λ y. refl) refl (asks ∙ ap (changes_nothing state) wait)
+              grants after sound (ground-stays image s after refl refl refl (bytes-stay fewer r)) keeps r others first small (λ y. refl) refl
+              (asks ∙ ap (changes_nothing state) wait)
         ] refl
 
   -- ---- notifications

@@ -6,7 +6,6 @@ use Rattle.std.proofs.lemmas.Bool.{eqb-true, eqb-false}
 use Rattle.headline.specs.facts.Standing.{AllStand}
 use Rattle.headline.specs.facts.Waiting.{NamesQueue, NamesThere, SendsSo, WaitsAsAsked, WaitsSo, behind_receive, behind_reply}
 use Rattle.headline.specs.calls.Messages.{KnownToKeepAt}
-use Rattle.headline.proofs.facts.Laws.{at-place}
 use Rattle.model.specs.declared.capabilities.Cap.{Cap}
 use Rattle.model.specs.declared.labels.Label.{Label}
 use Rattle.model.specs.Acceptance.Accepted.{IsAccepted}
@@ -18,11 +17,11 @@ use Rattle.model.specs.Acceptance.ThreadInvariants.{IsWaiting, ThreadInvariant, 
 use Rattle.model.specs.Images.Described.{Numbered, numbered_threads}
 use Rattle.model.specs.Images.Image.{Image, ImagePromise}
 use Rattle.model.specs.Kernel.Deliveries.{woken}
-use Rattle.model.specs.Kernel.Messages.{Message, deliver, delivered, message_of, message_sent, received, send_to, waits_to_send, with_caller}
+use Rattle.model.specs.Kernel.Messages.{Message, deliver_sent, delivered, message_between, message_to, received, send_to, waits_to_send, with_caller}
 use Rattle.model.specs.Kernel.Scheduling.{block, wake}
 use Rattle.model.specs.Kernel.Soundness.{IsSound, waiting_at}
 use Rattle.model.specs.Kernel.State.{State, Inactive, Runnable, Blocked, AwaitsReply, Object, ThreadObject, EndpointObject, EndpointState, NotificationObject}
-use Rattle.model.specs.Kernel.State.{Sender, Sent, BySend, ByCall, ThreadState, endpoint_at, thread_at, with_endpoint}
+use Rattle.model.specs.Kernel.State.{Sender, Sent, BySend, ByCall, ThreadState, endpoint_at, with_endpoint}
 use Rattle.model.specs.Kernel.Steps.{sender}
 use Rattle.model.specs.Kernel.Waits.{open_count}
 use Rattle.model.specs.Machine.Effects.{advanced}
@@ -41,7 +40,7 @@ use Rattle.headline.proofs.moves.Places.{endpoint-there, went-here, went-there, 
 use Rattle.headline.proofs.moves.Queued.{IsBlockedAt, contains-before, contains-last, contains-more, first-times, more-times, queued-there, times-before}
 use Rattle.headline.proofs.moves.Queued.{times-behind}
 use Rattle.headline.proofs.moves.Standing.{all-stand, touches-none}
-use Rattle.headline.proofs.moves.Waiters.{StandsWaiting, delivered-pc, own-message, stands-waiting}
+use Rattle.headline.proofs.moves.Waiters.{StandsWaiting, delivered-pc, message-fine, message-keeps, stands-waiting}
 use Rattle.headline.proofs.moves.Woken.{FitsBehind, wakes-up}
 
 -- a sender among others is a thread among their threads
@@ -190,7 +189,7 @@ module _ (laws : Laws) (bytes : List ℕ) (image : Image) (s : State) (labels la
     taken = with_endpoint s e fewer
 
     abbrev message : Message
-    message = message_sent taken x sent
+    message = message_to taken x sent r
 
     blocked-at : IsBlockedAt s r e
     blocked-at =
@@ -220,7 +219,7 @@ module _ (laws : Laws) (bytes : List ℕ) (image : Image) (s : State) (labels la
     written = delivered receiver.registers badge message
 
     abbrev two : State
-    two = deliver taken r badge message
+    two = deliver_sent taken x r
 
     abbrev three : State
     three = wake two r
@@ -249,17 +248,14 @@ module _ (laws : Laws) (bytes : List ℕ) (image : Image) (s : State) (labels la
       waits = λ n is among. absurd cc;
     }
 
-    own-sends : IsMessage (message_of (thread_at taken tcb))
-    own-sends = subst (λ (u : ThreadState). IsMessage (message_of u)) (sym (at-place taken tcb own taken-own))
-        (own-message own (all.sound.threads.threads tcb own at.there))
+    own-sends : IsMessage (message_between taken tcb r)
+    own-sends = message-fine taken tcb r own taken-own (all.sound.threads.threads tcb own at.there)
 
     abbrev KeptAt : Message → Type 0
     KeptAt m = (p : ImagePromise) → promise_at image e ≡ Some p → KeepsPromise p badge m
 
-    own-keeps : KeptAt (message_of (thread_at taken tcb))
-    own-keeps p is =
-        subst (λ (u : ThreadState). KeepsPromise p badge (message_of u)) (sym (at-place taken tcb own taken-own))
-        (laws.sent own state badge p at.stands.registers (keeps p is))
+    own-keeps : KeptAt (message_between taken tcb r)
+    own-keeps p is = message-keeps taken tcb r badge own p taken-own (laws.sent own state badge p at.stands.registers (keeps p is))
 
     there-r : s.objects (tcb_of image waits-so.thread) ≡ Some (ThreadObject receiver)
     there-r = ap s.objects (sym waits-so.is) ∙ blocked-at.is
@@ -305,8 +301,8 @@ module _ (laws : Laws) (bytes : List ℕ) (image : Image) (s : State) (labels la
         let gone : ThreadState = woken receiver (advanced written) in
         let own_is : after.objects tcb ≡ Some (ThreadObject next) = sent-by BySend kind tcb ∙ went-here three tcb own three-own in
         let r_is : after.objects r ≡ Some (ThreadObject gone) = sent-by BySend kind r ∙ went-there three tcb r r-apart ∙ three-r in
-        let fine : IsMessage message = subst (λ (k : Sent). IsMessage (message_sent taken x k)) (sym kind) own-sends in
-        let kept : KeptAt message = subst (λ (k : Sent). KeptAt (message_sent taken x k)) (sym kind) own-keeps in
+        let fine : IsMessage message = subst (λ (k : Sent). IsMessage (message_to taken x k r)) (sym kind) own-sends in
+        let kept : KeptAt message = subst (λ (k : Sent). KeptAt (message_to taken x k r)) (sym kind) own-keeps in
         let fit = subst (λ (l : AfterCall). FitsBehind state l own.registers own.registers) (sym asks)
         (record { slots = refl; pc = refl; only = λ k less none. refl; within = at.stands.registers }) in
         pair-stands next gone own_is r_is (λ y own_apart r_apart. sent-by BySend kind y ∙ went-there three tcb y own_apart)
@@ -328,8 +324,8 @@ module _ (laws : Laws) (bytes : List ℕ) (image : Image) (s : State) (labels la
         granted tcb ∙ caller-there four r (Some tcb) tcb (λ is. r-apart (sym is)) ∙ blocked three tcb AwaitsReply own three-own in
         let r_is : after.objects r ≡ Some (ThreadObject gone) =
         granted r ∙ caller-here four r (Some tcb) (woken receiver (advanced written)) (blocked-there three tcb AwaitsReply r r-apart ∙ three-r) in
-        let fine : IsMessage message = subst (λ (k : Sent). IsMessage (message_sent taken x k)) (sym kind) own-sends in
-        let kept : KeptAt message = subst (λ (k : Sent). KeptAt (message_sent taken x k)) (sym kind) own-keeps in
+        let fine : IsMessage message = subst (λ (k : Sent). IsMessage (message_to taken x k r)) (sym kind) own-sends in
+        let kept : KeptAt message = subst (λ (k : Sent). KeptAt (message_to taken x k r)) (sym kind) own-keeps in
         let wait = ap (λ (l : AfterCall). l.is_wait) asks in
         pair-stands next gone own_is r_is (λ y own_apart r_apart. granted y ∙ caller-there four r (Some tcb) y r_apart
         ∙ blocked-there three tcb AwaitsReply y own_apart) (

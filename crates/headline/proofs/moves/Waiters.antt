@@ -1,21 +1,23 @@
 -- A thread that waits, and the message that a thread sends.
 use Rattle.std.proofs.Common.{ℕ, zero, suc, ◌≡◌, ◌∙◌, ◌==◌, ◌^◌, ◌<◌, ◌≤◌, inl, inr, true, false, if◌then◌else◌, Some, Ok, List, [], ◌∷◌, length, take, map}
 use Rattle.std.proofs.Common.{All, refl, sym, ap, subst, arith}
-use Rattle.std.specs.Prelude.{Contains, slice_set}
+use Rattle.std.specs.Prelude.{Contains, is_some, slice_set}
 use Rattle.std.proofs.lemmas.List.Elements.{All-cons, All-nil}
 use Rattle.headline.specs.facts.Standing.{AllStand, IsControlBlock}
 use Rattle.headline.specs.facts.Waiting.{SendsAs, WaitsSo, behind_reply}
-use Rattle.headline.proofs.facts.Laws.{read-less}
+use Rattle.headline.proofs.facts.Laws.{at-place, read-less}
 use Rattle.model.specs.declared.instructions.Instr.TheVariants.{Ecall}
 use Rattle.model.specs.declared.instructions.Register.{Register}
 use Rattle.model.specs.declared.labels.Label.{Label}
 use Rattle.model.specs.Acceptance.CallRules.{AfterCall, changes_nothing}
 use Rattle.model.specs.Acceptance.NotedStates.{PointState}
 use Rattle.model.specs.Acceptance.PointStates.{call_at, instruction_at}
+use Rattle.model.specs.Acceptance.Promises.{KeepWords, KeepsPromise}
 use Rattle.model.specs.Acceptance.ThreadInvariants.{IsWaiting, StandsAt, ThreadInvariant, runs as runs_so, waits as waits_so, tcb_of}
 use Rattle.model.specs.Images.Described.{Numbered, numbered_threads}
-use Rattle.model.specs.Images.Image.{Image}
-use Rattle.model.specs.Kernel.Messages.{Message, a0, a1, delivered, info_word, label_of, length_of, message_of, word_registers, write_words}
+use Rattle.model.specs.Images.Image.{Image, ImagePromise}
+use Rattle.model.specs.Kernel.Messages.{Message, a0, a1, buffer_of, delivered, greatest_length, info_word, label_of, length_between, length_of}
+use Rattle.model.specs.Kernel.Messages.{message_between, message_of, register_words, word_registers, write_words}
 use Rattle.model.specs.Kernel.Soundness.{ThreadIsSound}
 use Rattle.model.specs.Kernel.State.{State, Status, Inactive, Runnable, Blocked, AwaitsReply, AwaitsHandler, Sender, BySend, ByCall, ByFault, FaultMessage}
 use Rattle.model.specs.Kernel.State.{ThreadObject, ThreadState}
@@ -116,20 +118,40 @@ eight : length word_registers ≡ 8
 unfolding word_registers
 eight = refl
 
-info-less : (info count : ℕ) → info < 2 ^ 32 → count ≤ 8 → info_word (label_of info) count < 2 ^ 32
+info-less : (info count : ℕ) → info < 2 ^ 32 → count ≤ 120 → info_word (label_of info) count < 2 ^ 32
 info-less info count less few = omega (arith, less, few)
 
-pub own-message : (t : ThreadState) → ThreadIsSound t → IsMessage (message_of t)
-own-message t sound =
+-- of so many words, of which registers hold some
+own-message : (t : ThreadState) (count : ℕ) → count ≤ 120 → ThreadIsSound t → IsMessage (record (message_of t) { count = count })
+own-message t count most sound =
     let r = t.registers in
-    let count = length_of (read r a1) in
-    let few : length (map (read r) (take count word_registers)) ≤ 8 =
-    subst (λ (n : ℕ). length (map (read r) (take count word_registers)) ≤ n) eight (taken-few r count word_registers) in
+    let held = length_of (read r a1) in
     record {
-      words = all-read r (take count word_registers) sound.words;
-      few = few;
-      info = info-less (read r a1) (length (map (read r) (take count word_registers))) (read-less r a1 sound.words) few;
+      words = all-read r (take held word_registers) sound.words;
+      few = subst (λ (n : ℕ). length (map (read r) (take held word_registers)) ≤ n) eight (taken-few r held word_registers);
+      info = info-less (read r a1) count (read-less r a1 sound.words) most;
     }
+
+most-words : (s : State) (thread : ℕ) → greatest_length s thread ≤ 120
+most-words s thread = elim (is_some (buffer_of s thread)) as (λ b. (if b then 120 else register_words) ≤ 120) [ true ↦ omega arith | false ↦ omega arith ]
+
+-- a sound thread's message to another one
+pub message-fine : (s : State) (from to : ℕ) (t : ThreadState) → s.objects from ≡ Some (ThreadObject t) → ThreadIsSound t
+    → IsMessage (message_between s from to)
+message-fine s from to t is sound =
+    let most = most-words s to in
+    let few : length_between s from to ≤ 120 = omega (arith, most) in
+    subst (λ (u : ThreadState). IsMessage (record (message_of u) { count = length_between s from to })) (sym (at-place s from t is))
+    (own-message t (length_between s from to) few sound)
+
+-- promised are words in registers alone
+pub message-keeps : (s : State) (from to badge : ℕ) (t : ThreadState) (p : ImagePromise) → s.objects from ≡ Some (ThreadObject t)
+    → KeepsPromise p badge (message_of t) → KeepsPromise p badge (message_between s from to)
+message-keeps s from to badge t p is keeps = record {
+  badge_low = keeps.badge_low;
+  badge_high = keeps.badge_high;
+  words = subst (λ (u : ThreadState). KeepWords (message_of u).words p.words) (sym (at-place s from t is)) keeps.words;
+}
 
 -- a delivery leaves the pc
 write-pc : (r : RegisterFile) (x : Register) (value : ℕ) → (write r x value).pc ≡ r.pc
@@ -142,5 +164,5 @@ words-pc r (x ∷ xs) (word ∷ words) = words-pc (write r x word) xs words ∙ 
 
 pub delivered-pc : (r : RegisterFile) (badge : ℕ) (message : Message) → (delivered r badge message).pc ≡ r.pc
 delivered-pc r badge message =
-    let info = info_word message.label (length message.words) in
+    let info = info_word message.label message.count in
     words-pc (write (write r a0 badge) a1 info) word_registers message.words ∙ write-pc (write r a0 badge) a1 info ∙ write-pc r a0 badge

@@ -19,7 +19,7 @@ use Rattle.model.specs.Kernel.CallForms.{decode}
 use Rattle.model.specs.Kernel.Invocations.{invoke}
 use Rattle.model.specs.Kernel.Kinds.{kind_at}
 use Rattle.model.specs.Kernel.MappingCalls.{root_named}
-use Rattle.model.specs.Kernel.Messages.{a1, a7, extra_capabilities_of, message_of}
+use Rattle.model.specs.Kernel.Messages.{a1, a7, buffer_of, extra_capabilities_of, message_of}
 use Rattle.model.specs.Kernel.Removal.{SlotSet, ends, with_bindings}
 use Rattle.model.specs.Kernel.Retype.{NewObject, NewObjects, NewEndpoint, object_bits, with_new}
 use Rattle.model.specs.Kernel.State.{State, Runnable, ThreadObject, ThreadState, thread_at, with_slots}
@@ -41,6 +41,10 @@ pub record CallsOn (image : Image) (t : Thread) (s : State) (number : ℕ) (capa
   pub named : named_slot s (self_of image t) ≡ Ok slot
   pub among : IsOwnSlot image t slot
   pub holds : capability_at s.slots slot ≡ capability
+
+-- the thread has no message buffer, so that no message from it or to it changes a byte
+abbrev pub HasNoBuffer : Image → Thread → State → Type 0
+HasNoBuffer image t s = buffer_of s (self_of image t) ≡ None
 
 -- the thread runs, and is at the system call of this number
 pub record RunsAt (image : Image) (t : Thread) (s : State) (number : ℕ) : Type 0 where

@@ -92,7 +92,7 @@ pub record AreRegisters (registers : RegisterFile) (ranges : List Range) : Type 
 pub record IsMessage (message : Message) : Type 0 where
   pub words : All (λ word. word < 2 ^ 32) message.words
   pub few : length message.words ≤ 8
-  pub info : info_word message.label (length message.words) < 2 ^ 32
+  pub info : info_word message.label message.count < 2 ^ 32
 
 -- what is written lies in the ranges after it, and only these registers are
 abbrev pub Fits : RegisterFile → RegisterFile → List Range → List Register → Type 0

@@ -10,7 +10,7 @@ use Rattle.model.specs.Kernel.State.{State, cspace_slot, vspace_slot}
 
 pub record IsUntouched (image : Image) (t : Numbered) (s after : State) : Type 0 where
   pub boot_radix : after.boot_radix ≡ s.boot_radix
-  -- the slots of its CNodes, and its own two
+  -- the slots of its CNodes, and those of its control block that hold something
   pub slots : (slot : ℕ) → IsOwnSlot image t.thread slot → after.slots slot ≡ s.slots slot
   pub cspace : after.slots (cspace_slot (tcb_of image t)) ≡ s.slots (cspace_slot (tcb_of image t))
   pub vspace : after.slots (vspace_slot (tcb_of image t)) ≡ s.slots (vspace_slot (tcb_of image t))

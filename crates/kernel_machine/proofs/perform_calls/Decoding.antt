@@ -4,8 +4,8 @@ use Rattle.kernel_machine.specs.perform_calls.Calls.{AppliesTo}
 use Rattle.model.specs.Kernel.Arguments.{◌>>=◌, Call, check, wanted}
 use Rattle.model.specs.Kernel.CallForms.{CallForm, acknowledge_label, clear_label, cnode_form, configure_label, copy_label, decode, delete_label, form_called}
 use Rattle.model.specs.Kernel.CallForms.{form_of, get_handler_label, handler_form, map_frame_label, map_table_label, mint_label, move_label, mutate_label}
-use Rattle.model.specs.Kernel.CallForms.{resume_label, retype_label, revoke_label, set_notification_label, set_priority_label, set_register_label}
-use Rattle.model.specs.Kernel.CallForms.{suspend_label, thread_form, unmap_frame_label, unmap_table_label}
+use Rattle.model.specs.Kernel.CallForms.{resume_label, retype_label, revoke_label, set_buffer_label, set_notification_label, set_priority_label}
+use Rattle.model.specs.Kernel.CallForms.{set_register_label, suspend_label, thread_form, unmap_frame_label, unmap_table_label}
 use Rattle.model.specs.Kernel.Invocations.{invoke, perform}
 use Rattle.model.specs.Kernel.State.{State}
 use Rattle.model.specs.declared.capabilities.Cap.{Cap}
@@ -35,7 +35,8 @@ module _ (words : List ℕ) where
       (chosen (Applies (Tcb thread)) (label == set_priority_label) _ _ form refl
       (chosen (Applies (Tcb thread)) (label == set_register_label) _ _ form refl
       (chosen (Applies (Tcb thread)) (label == resume_label) _ _ form refl
-      (chosen (Applies (Tcb thread)) (label == suspend_label) _ _ form refl (none-left (Tcb thread) form)))))
+      (chosen (Applies (Tcb thread)) (label == suspend_label) _ _ form refl
+      (chosen (Applies (Tcb thread)) (label == set_buffer_label) _ _ form refl (none-left (Tcb thread) form))))))
 
   cnode-applies : (offset radix guard label : ℕ) (form : CallForm) → cnode_form label ≡ Some form → Applies (CNode offset radix guard) form
   cnode-applies offset radix guard label form =

@@ -12,9 +12,9 @@ use crate::perform_calls::KernelCall;
 use cnode_ops::Kernel;
 use model::{KError, ThreadCall};
 use slots::SlotStore;
-use tcb_ops::{Spaces, configure, resume, set_priority, set_register, suspend};
+use tcb_ops::{Spaces, configure, resume, set_buffer, set_priority, set_register, suspend};
 
-/// Gives a thread its spaces, its priority or a register, lets it run, or stops it.
+/// Gives a thread its spaces, its message buffer, its priority or a register, lets it run, or stops it.
 ///
 /// seL4 Reference Manual, seL4_TCB.
 pub(crate) fn on_thread<S: SlotStore>(
@@ -55,5 +55,6 @@ pub(crate) fn on_thread<S: SlotStore>(
             suspend(kernel, thread);
             Ok(())
         }
+        ThreadCall::SetBuffer { frame } => set_buffer(kernel, call.root, thread, frame),
     }
 }

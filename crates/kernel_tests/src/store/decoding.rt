@@ -11,7 +11,7 @@ use std::process::Abort;
 /// The words of each message.
 const WORDS: [u32; 8] = [0xa0, 0xa1, 0xa2, 0xa3, 0xa4, 0xa5, 0xa6, 0xa7];
 
-/// `of` names the capability of the rows after it, and `only` the first and the last of its labels. A `label` lists so
+/// `of` names the capability of the rows after it, and `only` the first and the last of its labels, and one more. A `label` lists so
 /// many words, which are in the call in this order; `says` has what the capability says in its calls.
 const ROWS: &str = "of = untyped 20000 10 40
 label 1 6 = retype a0 a1 a2 a3 a4 a5
@@ -23,7 +23,8 @@ label 3 1 = priority a0
 label 4 2 = register a0 a1
 label 5 0 = resume
 label 6 0 = suspend
-only 2 6 = labels
+label 15 2 = buffer a0 a1
+only 2 6 15 = labels
 says 3 = thread 600
 of = cnode 4000 4 1c
 label 7 5 = copy a0 a1 a2 a3 a4
@@ -85,6 +86,7 @@ fn of_thread(call: ThreadCall) -> Listed {
         ThreadCall::SetRegister { index, value } => ("register", [index, value, 0, 0, 0, 0]),
         ThreadCall::Resume => ("resume", [0; 6]),
         ThreadCall::Suspend => ("suspend", [0; 6]),
+        ThreadCall::SetBuffer { frame } => ("buffer", [frame.address, frame.depth, 0, 0, 0, 0]),
     }
 }
 
@@ -238,9 +240,9 @@ fn lists(rt: &impl Abort, held: Cap, label: u32, count: usize, wanted: &str) -> 
 
 /// No other labels than these name a call, whatever the words, and capabilities that come along are
 /// looked at first.
-fn has_only(held: Cap, first: u32, last: u32) -> bool {
+fn has_only(held: Cap, first: u32, last: u32, other: u32) -> bool {
     for label in 0..24 {
-        let is_named = label >= first && label <= last;
+        let is_named = label >= first && label <= last || label != 0 && label == other;
         if !is_named
             && !(fails(held, label, 0, 0, KError::IllegalOperation)
                 && fails(held, label, 0, 8, KError::IllegalOperation)
@@ -268,7 +270,7 @@ fn messages_make_calls(rt: HostRuntime) {
     let mut held = Cap::Empty;
     for row in ROWS.lines() {
         let (asked, wanted) = row.split_once(" = ").unwrap_or((row, "?"));
-        let (verb, [first, second, ..]) = words(&rt, asked);
+        let (verb, [first, second, third, ..]) = words(&rt, asked);
         let holds = match verb {
             "of" => {
                 let (kind, fields) = words(&rt, wanted);
@@ -276,7 +278,7 @@ fn messages_make_calls(rt: HostRuntime) {
                 true
             }
             "label" => lists(&rt, held, first, second as usize, wanted),
-            "only" => has_only(held, first, second),
+            "only" => has_only(held, first, second, third),
             "says" => says(&rt, held, first, wanted),
             _ => false,
         };

@@ -5,7 +5,7 @@ use crate::store::rows::capability;
 use invoke::{Method, listed_words};
 use model::Cap;
 
-const ROWS: [(&str, &str, u32); 20] = [
+const ROWS: [(&str, &str, u32); 21] = [
     ("untyped", "Retype", 0x1006),
     ("thread", "Configure", 0x2005),
     ("thread", "SetPriority", 0x3001),
@@ -26,6 +26,7 @@ const ROWS: [(&str, &str, u32); 20] = [
     ("handler", "Ack", 0x12000),
     ("handler", "SetNotification", 0x13002),
     ("handler", "Clear", 0x14000),
+    ("thread", "SetBuffer", 0x15002),
 ];
 
 /// The call of a label, which is on a capability and lists so many words.

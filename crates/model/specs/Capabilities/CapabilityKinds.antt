@@ -45,6 +45,10 @@ abbrev pub root_of : Cap → Option ℕ
 root_of (RootTable offset) = Some offset
 root_of _ = None
 
+abbrev pub frame_of : Cap → Option ℕ
+frame_of (Frame offset r mapping) = Some offset
+frame_of _ = None
+
 abbrev pub thread_of : Cap → Option ℕ
 thread_of (Tcb offset) = Some offset
 thread_of _ = None

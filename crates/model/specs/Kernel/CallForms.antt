@@ -13,7 +13,7 @@ use Rattle.model.specs.declared.invocations.Invocation.{Invocation}
 use Rattle.model.specs.declared.invocations.Invocation.TheVariants.{OnUntyped, OnThread, OnCNode, OnFrame, OnTable, OnControl, OnHandler}
 use Rattle.model.specs.declared.invocations.SlotName.{SlotName}
 use Rattle.model.specs.declared.invocations.TableCall.TheVariants.{MapTable, UnmapTable}
-use Rattle.model.specs.declared.invocations.ThreadCall.TheVariants.{Configure, SetPriority, SetRegister, Resume, Suspend}
+use Rattle.model.specs.declared.invocations.ThreadCall.TheVariants.{Configure, SetPriority, SetRegister, Resume, Suspend, SetBuffer}
 use Rattle.model.specs.declared.invocations.UntypedMemory.{UntypedMemory}
 use Rattle.model.specs.declared.rights.Rights.{Rights}
 use Rattle.model.specs.Kernel.Arguments.{◌>>=◌, check, wanted}
@@ -80,6 +80,9 @@ set_notification_label = 19
 abbrev pub clear_label : ℕ
 clear_label = 20
 
+abbrev pub set_buffer_label : ℕ
+set_buffer_label = 21
+
 -- ---- words
 
 abbrev pub word : List ℕ → ℕ → ℕ
@@ -117,7 +120,8 @@ thread_form thread label =
     if label == set_priority_label then lists 1 (λ words. OnThread thread (SetPriority (word words 0))) else
     if label == set_register_label then lists 2 (λ words. OnThread thread (SetRegister (word words 0) (word words 1))) else
     if label == resume_label then lists 0 (λ words. OnThread thread Resume) else
-    if label == suspend_label then lists 0 (λ words. OnThread thread Suspend) else None
+    if label == suspend_label then lists 0 (λ words. OnThread thread Suspend) else
+    if label == set_buffer_label then lists 2 (λ words. OnThread thread (SetBuffer (slot_name words 0))) else None
 
 -- the destination comes first, then the source
 abbrev pub cnode_form : ℕ → Option CallForm

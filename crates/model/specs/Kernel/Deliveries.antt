@@ -8,7 +8,7 @@ use Rattle.model.specs.declared.capabilities.Cap.TheVariants.{Endpoint, Notifica
 use Rattle.model.specs.declared.rights.Rights.{Rights}
 use Rattle.model.specs.Capabilities.Rights.{may_grant_reply, may_read, may_write}
 use Rattle.model.specs.Kernel.Interrupts.{binding}
-use Rattle.model.specs.Kernel.Messages.{a0, delivered, message_of, resumption}
+use Rattle.model.specs.Kernel.Messages.{a0, delivered, message_between, message_of, resumption}
 use Rattle.model.specs.Kernel.Scheduling.{full_slice}
 use Rattle.model.specs.Kernel.State.{State, Inactive, Runnable, Blocked, AwaitsReply, AwaitsHandler, Sender, Sent, BySend, ByCall, ByFault, ThreadState}
 use Rattle.model.specs.Kernel.State.{endpoint_at, notification_at, thread_at}
@@ -79,7 +79,7 @@ pub data Reason (s after : State) (self : ℕ) (Named : (Cap → Type 0) → Typ
   receiver : (endpoint badge : ℕ) (caller : Option ℕ)
       → (endpoint_at s endpoint).receivers ≡ other ∷ (endpoint_at after endpoint).receivers → before.status ≡ Blocked endpoint
       → Named (SendsTo endpoint badge) → MayReply after self Named endpoint badge before.caller caller
-      → changed ≡ record (woken before (advanced (delivered before.registers badge (message_of (thread_at s self))))) { caller = caller }
+      → changed ≡ record (woken before (advanced (delivered before.registers badge (message_between s self other)))) { caller = caller }
       → Reason s after self Named other before changed
   -- this thread received the message of the first sender
   sender : (endpoint : ℕ) (first : Sender)
@@ -93,7 +93,7 @@ pub data Reason (s after : State) (self : ℕ) (Named : (Cap → Type 0) → Typ
       → Reason s after self Named other before changed
   -- this thread replied to its caller
   caller : (thread_at s self).caller ≡ Some other → before.status ≡ AwaitsReply
-      → changed ≡ woken before (advanced (delivered before.registers 0 (message_of (thread_at s self))))
+      → changed ≡ woken before (advanced (delivered before.registers 0 (message_between s self other)))
       → Reason s after self Named other before changed
   -- or to one whose fault it handles
   faulted : (thread_at s self).caller ≡ Some other → before.status ≡ AwaitsHandler → changed ≡ once_handled (thread_at s self) before

@@ -1,14 +1,16 @@
 -- Messages between threads: endpoints, replies and notifications.
 -- seL4 Reference Manual, "Message Passing (IPC)" and "Notifications"; ours keeps the right to reply in the thread that
 -- received a call, and sends no capabilities.
-use Rattle.std.specs.Prelude.{ℕ, ◌==◌, ◌+◌, ◌-◌, ◌*◌, ◌/◌, ◌%◌, ◌^◌, min, bit_or, if◌then◌else◌, Option, Some, None, List, [], ◌∷◌, ◌++◌, length, take, map}
+use Rattle.std.specs.Prelude.{ℕ, ◌==◌, ◌+◌, ◌-◌, ◌*◌, ◌/◌, ◌%◌, ◌^◌, min, is_some, bit_or, if◌then◌else◌, Option, Some, None, List, [], ◌∷◌, ◌++◌, length, take, map}
 use Rattle.std.specs.Option.{option_map_or}
 use Rattle.model.specs.declared.instructions.Register.{Register}
+use Rattle.model.specs.Capabilities.CapabilityKinds.{frame_of}
+use Rattle.model.specs.Capabilities.Slots.{capability_at, is_within}
 use Rattle.model.specs.Machine.ProgramMemory.{RegisterFile, read, write}
 use Rattle.model.specs.Machine.Effects.{advanced}
 use Rattle.model.specs.Shared.Labels.{fault_number}
-use Rattle.model.specs.Kernel.State.{State, Status, Inactive, Runnable, Blocked, AwaitsReply, AwaitsHandler, ThreadState, Sender, Sent, BySend, ByCall, ByFault}
-use Rattle.model.specs.Kernel.State.{NotificationState, thread_at, with_thread, endpoint_at, with_endpoint, notification_at, with_notification}
+use Rattle.model.specs.Kernel.State.{State, Status, Inactive, Runnable, Blocked, AwaitsReply, AwaitsHandler, FaultMessage, ThreadState, Sender, Sent}
+use Rattle.model.specs.Kernel.State.{BySend, ByCall, ByFault, NotificationState, buffer_slot, thread_at, with_thread, endpoint_at, with_endpoint, notification_at, with_notification}
 use Rattle.model.specs.Kernel.Scheduling.{block, wake}
 
 -- ---- registers of a call, in the names of the RISC-V calling convention
@@ -35,9 +37,13 @@ word_registers =
 
 -- ---- the info word: length in bits 0 to 6, extra capabilities in 7 to 8, the label in 12 to 31
 
--- a length above 8 counts as 8
+-- so many words go by registers
+abbrev pub register_words : ℕ
+register_words = 8
+
+-- how many words the registers of a message hold: a length above 8 counts as 8
 abbrev pub length_of : ℕ → ℕ
-length_of info = min 8 (info % 2 ^ 7)
+length_of info = min register_words (info % 2 ^ 7)
 
 abbrev pub extra_capabilities_of : ℕ → ℕ
 extra_capabilities_of info = info / 2 ^ 7 % 2 ^ 2
@@ -49,23 +55,72 @@ label_of info = info / 2 ^ 12
 abbrev pub info_word : ℕ → ℕ → ℕ
 info_word label count = 2 ^ 12 * label + count
 
--- ---- deliveries
+-- ---- messages in registers
 
+-- a message: how many words it has, and those of them that registers hold
 pub record Message : Type 0 where
   pub label : ℕ
+  pub count : ℕ
   pub words : List ℕ
 
 -- the message in a thread's registers
 abbrev pub message_of : ThreadState → Message
 message_of t =
     let info = read t.registers a1 in
-    record { label = label_of info; words = map (read t.registers) (take (length_of info) word_registers) }
+    record { label = label_of info; count = length_of info; words = map (read t.registers) (take (length_of info) word_registers) }
 
--- what a sender's message is at its delivery
+-- the message that a fault is
+abbrev pub fault_message : FaultMessage → Message
+fault_message fault = record { label = fault_number fault.kind; count = length fault.words; words = fault.words }
+
+-- what a sender says, as far as registers hold it
 abbrev pub message_sent : State → Sender → Sent → Message
 message_sent s sender BySend = message_of (thread_at s sender.thread)
 message_sent s sender ByCall = message_of (thread_at s sender.thread)
-message_sent s sender (ByFault fault) = record { label = fault_number fault.kind; words = fault.words }
+message_sent s sender (ByFault fault) = fault_message fault
+
+-- ---- message buffers
+
+-- the frame of a thread's buffer, if it has one
+abbrev pub buffer_of : State → ℕ → Option ℕ
+buffer_of s thread = frame_of (capability_at s.slots (buffer_slot thread))
+
+-- how many words the messages of a thread have at most
+abbrev pub greatest_length : State → ℕ → ℕ
+greatest_length s thread = if is_some (buffer_of s thread) then 120 else register_words
+
+-- how many words a message has from one thread to another
+abbrev pub length_between : State → ℕ → ℕ → ℕ
+length_between s from to =
+    min (read (thread_at s from).registers a1 % 2 ^ 7) (min (greatest_length s from) (greatest_length s to))
+
+abbrev pub message_between : State → ℕ → ℕ → Message
+message_between s from to = record (message_of (thread_at s from)) { count = length_between s from to }
+
+-- what a sender's message is at its delivery to a thread
+abbrev pub message_to : State → Sender → Sent → ℕ → Message
+message_to s sender BySend receiver = message_between s sender.thread receiver
+message_to s sender ByCall receiver = message_between s sender.thread receiver
+message_to s sender (ByFault fault) receiver = fault_message fault
+
+-- the bytes with so many words after those of the registers copied from one frame to another, as they are: word i is at byte 4 * i
+abbrev pub with_copied : (ℕ → Option ℕ) → ℕ → ℕ → ℕ → ℕ → Option ℕ
+with_copied bytes source target count place =
+    if is_within (target + 4 * register_words) (4 * count) place then bytes (source + (place - target)) else bytes place
+
+-- the bytes after a delivery of so many words: where both threads have buffers, those that no register holds are copied
+abbrev pub bytes_between : State → ℕ → ℕ → ℕ → ℕ → Option ℕ
+bytes_between s from to count =
+    option_map_or (λ source. option_map_or (λ target. with_copied s.bytes source target (count - register_words)) (buffer_of s to) s.bytes)
+    (buffer_of s from) s.bytes
+
+-- the same for what a sender says; a fault is in registers alone
+abbrev pub bytes_sent : State → Sender → Sent → ℕ → ℕ → Option ℕ
+bytes_sent s sender BySend receiver = bytes_between s sender.thread receiver (length_between s sender.thread receiver)
+bytes_sent s sender ByCall receiver = bytes_between s sender.thread receiver (length_between s sender.thread receiver)
+bytes_sent s sender (ByFault fault) receiver = s.bytes
+
+-- ---- deliveries
 
 -- words written into registers, one after another
 abbrev pub write_words : RegisterFile → List Register → List ℕ → RegisterFile
@@ -76,7 +131,7 @@ write_words r (x ∷ registers) (word ∷ words) = write_words (write r x word) 
 -- the registers of a thread that is delivered a message: badge, info and words, and no other
 abbrev pub delivered : RegisterFile → ℕ → Message → RegisterFile
 delivered r badge message =
-    write_words (write (write r a0 badge) a1 (info_word message.label (length message.words))) word_registers message.words
+    write_words (write (write r a0 badge) a1 (info_word message.label message.count)) word_registers message.words
 
 abbrev pub with_registers : State → ℕ → RegisterFile → State
 with_registers s thread registers = with_thread s thread (record (thread_at s thread) { registers = registers })
@@ -89,9 +144,18 @@ passes s thread = with_registers s thread (advanced (thread_at s thread).registe
 abbrev pub passes_with : State → ℕ → RegisterFile → State
 passes_with s thread registers = passes (with_registers s thread registers) thread
 
--- the thread gets a message, and goes on
+-- the thread gets a message in its registers, and goes on
 abbrev pub deliver : State → ℕ → ℕ → Message → State
 deliver s thread badge message = passes_with s thread (delivered (thread_at s thread).registers badge message)
+
+-- the same, with these bytes
+abbrev pub deliver_with : State → (ℕ → Option ℕ) → ℕ → ℕ → Message → State
+deliver_with s bytes thread badge message = deliver (record s { bytes = bytes }) thread badge message
+
+-- the thread gets what a sender says, in its registers and its buffer, and goes on
+abbrev pub deliver_sent : State → Sender → ℕ → State
+deliver_sent s sender receiver =
+    deliver_with s (bytes_sent s sender sender.sent receiver) receiver sender.badge (message_to s sender sender.sent receiver)
 
 -- the thread gets a word in a0 alone, and goes on
 abbrev pub deliver_word : State → ℕ → ℕ → State
@@ -127,7 +191,7 @@ waits_to_send s endpoint sender =
 -- a thread that runs sends to a receiver that waits
 abbrev pub send_to : State → Sender → ℕ → State
 send_to s sender receiver =
-    received (wake (deliver s receiver sender.badge (message_sent s sender sender.sent)) receiver) sender sender.sent receiver
+    received (wake (deliver_sent s sender receiver) receiver) sender sender.sent receiver
 
 -- a thread that runs sends: the first receiver gets the message, or the sender waits
 abbrev pub sends : State → ℕ → Sender → List ℕ → State
@@ -153,7 +217,7 @@ waits_to_receive s endpoint receiver =
 
 abbrev pub receive_from : State → Sender → ℕ → State
 receive_from s sender receiver =
-    received_waiting (deliver s receiver sender.badge (message_sent s sender sender.sent)) sender sender.sent receiver
+    received_waiting (deliver_sent s sender receiver) sender sender.sent receiver
 
 -- a thread that runs receives from the first sender, or does what it does where none is
 abbrev pub receives : State → ℕ → ℕ → State → List Sender → State
@@ -175,9 +239,9 @@ try_to_receive s endpoint receiver =
 
 -- ---- replies
 
--- a caller gets the reply as a message with badge 0
-abbrev pub reply_to_call : State → ℕ → Message → State
-reply_to_call s caller message = wake (deliver s caller 0 message) caller
+-- a caller gets the reply of a thread as a message with badge 0
+abbrev pub reply_to_call : State → ℕ → ℕ → Message → State
+reply_to_call s thread caller message = wake (deliver_with s (bytes_between s thread caller message.count) caller 0 message) caller
 
 -- where a thread goes on that its handler resumes: at word 0 with its low two bits cleared, or where it was
 abbrev pub resumption : ℕ → List ℕ → ℕ
@@ -192,17 +256,18 @@ reply_to_fault s thread message =
     then wake (with_registers s thread (record r { pc = resumption r.pc message.words })) thread
     else block s thread Inactive
 
-abbrev pub replied : State → ℕ → Status → Message → State
-replied s caller AwaitsReply message = reply_to_call s caller message
-replied s caller AwaitsHandler message = reply_to_fault s caller message
-replied s caller Inactive message = s
-replied s caller Runnable message = s
-replied s caller (Blocked queue) message = s
+-- a thread replies with this message to another one that has this status
+abbrev pub replied : State → ℕ → ℕ → Status → Message → State
+replied s thread caller AwaitsReply message = reply_to_call s thread caller message
+replied s thread caller AwaitsHandler message = reply_to_fault s caller message
+replied s thread caller Inactive message = s
+replied s thread caller Runnable message = s
+replied s thread caller (Blocked queue) message = s
 
 -- the thread answers its caller, if it has one, and gives the right away
 abbrev pub reply : State → ℕ → State
 reply s thread =
-    option_map_or (λ caller. replied (with_caller s thread None) caller (thread_at s caller).status (message_of (thread_at s thread)))
+    option_map_or (λ caller. replied (with_caller s thread None) thread caller (thread_at s caller).status (message_between s thread caller))
     (thread_at s thread).caller s
 
 -- ---- notifications

@@ -47,7 +47,7 @@ ends s set offset = takes_last s set (names_object offset)
 -- how many slots an object has
 abbrev pub slot_count : Option Object → ℕ
 slot_count None = 0
-slot_count (Some (ThreadObject t)) = 2
+slot_count (Some (ThreadObject t)) = 3
 slot_count (Some (EndpointObject e)) = 0
 slot_count (Some (NotificationObject n)) = 0
 slot_count (Some (CNodeObject radix)) = 2 ^ radix

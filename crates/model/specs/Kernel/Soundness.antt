@@ -6,7 +6,7 @@ use Rattle.std.specs.Option.{option_map_or}
 use Rattle.model.specs.declared.capabilities.Cap.TheVariants.{PageTable}
 use Rattle.model.specs.declared.capabilities.FrameMapping.{FrameMapping}
 use Rattle.model.specs.declared.capabilities.TableMapping.{TableMapping}
-use Rattle.model.specs.Capabilities.CapabilityKinds.{cnode_of, frame_mapping, root_of, table_mapping}
+use Rattle.model.specs.Capabilities.CapabilityKinds.{cnode_of, frame_mapping, frame_of, root_of, table_mapping}
 use Rattle.model.specs.Capabilities.Slots.{Descendant, IsDerivation, IsFull, IsOpen, Slots, capability_at}
 use Rattle.model.specs.Kernel.AddressSpaces.{is_region_taken, maps_page, maps_region, region_pages}
 use Rattle.model.specs.Kernel.Interrupts.{binding}
@@ -17,8 +17,8 @@ use Rattle.model.specs.Kernel.Retype.{NewObject, NewFrame, NewRootTable}
 use Rattle.model.specs.Kernel.Scheduling.{full_slice, is_runnable}
 use Rattle.model.specs.Kernel.State.{State, Status, Inactive, Runnable, Blocked, AwaitsReply, AwaitsHandler, Object, ThreadObject, EndpointObject}
 use Rattle.model.specs.Kernel.State.{NotificationObject, CNodeObject, FrameObject, PageTableObject, RootTableObject, EndpointState, NotificationState, Sender}
-use Rattle.model.specs.Kernel.State.{Sent, BySend, ByCall, ByFault, ThreadState, as_thread, binding_slot, boot_area_end, boot_area_slots, cspace_slot}
-use Rattle.model.specs.Kernel.State.{thread_at, vspace_slot}
+use Rattle.model.specs.Kernel.State.{Sent, BySend, ByCall, ByFault, ThreadState, as_thread, binding_slot, boot_area_end, boot_area_slots, buffer_slot}
+use Rattle.model.specs.Kernel.State.{cspace_slot, thread_at, vspace_slot}
 
 -- ---- the machine
 
@@ -41,11 +41,13 @@ pub record SlotsAreSound (s : State) : Type 0 where
   pub derivation : IsDerivation s.slots
   -- slots are open exactly where there are some
   pub there : (slot : ℕ) → IsOpen s.slots slot ↔ HasSlot s slot
-  -- a thread's own slots hold a CNode and a root table, and a line's slot a notification, if anything
+  -- a thread's own slots hold a CNode, a root table and a frame, and a line's slot a notification, if anything
   pub cspace : (thread : ℕ) (t : ThreadState) → s.objects thread ≡ Some (ThreadObject t) → IsFull s.slots (cspace_slot thread)
       → IsSome (cnode_of (capability_at s.slots (cspace_slot thread)))
   pub vspace : (thread : ℕ) (t : ThreadState) → s.objects thread ≡ Some (ThreadObject t) → IsFull s.slots (vspace_slot thread)
       → IsSome (root_of (capability_at s.slots (vspace_slot thread)))
+  pub buffer : (thread : ℕ) (t : ThreadState) → s.objects thread ≡ Some (ThreadObject t) → IsFull s.slots (buffer_slot thread)
+      → IsSome (frame_of (capability_at s.slots (buffer_slot thread)))
   pub bindings : (line : ℕ) → line < 64 → IsFull s.slots (binding_slot s line) → IsSome (binding s line)
 
 -- ---- memory and objects

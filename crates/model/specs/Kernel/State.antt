@@ -183,12 +183,16 @@ with_notification s offset n = with_object s offset (NotificationObject n)
 abbrev pub slot_of : ℕ → ℕ → ℕ
 slot_of offset i = offset / 16 + i
 
--- a thread's slot 0 holds the root of its capability space, slot 1 the root table of its address space
+-- a thread's slot 0 holds the root of its capability space, slot 1 the root table of its address space, slot 2 the frame of its
+-- message buffer
 abbrev pub cspace_slot : ℕ → ℕ
 cspace_slot thread = slot_of thread 0
 
 abbrev pub vspace_slot : ℕ → ℕ
 vspace_slot thread = slot_of thread 1
+
+abbrev pub buffer_slot : ℕ → ℕ
+buffer_slot thread = slot_of thread 2
 
 -- The boot CNode lies at offset 0, and the interrupt table with a slot for each of 64 lines after it: a line's slot, and
 -- how many slots both have.

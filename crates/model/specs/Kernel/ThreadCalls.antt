@@ -3,17 +3,19 @@
 use Rattle.std.specs.Prelude.{ℕ, ◌==◌, ◌%◌, ◌&&◌, ◌||◌, Bool, true, false, not, nat_le, if◌then◌else◌, Option, Some, None, Result, Ok}
 use Rattle.std.specs.Option.{option_map_or}
 use Rattle.model.specs.declared.capabilities.Cap.{Cap}
+use Rattle.model.specs.declared.capabilities.Cap.TheVariants.{Frame}
 use Rattle.model.specs.declared.errors.KError.{KError}
 use Rattle.model.specs.declared.errors.KError.TheVariants.{AlignmentError, DeleteFirst, IllegalOperation, InvalidCapability, RangeError}
 use Rattle.model.specs.declared.invocations.SlotName.{SlotName}
 use Rattle.model.specs.declared.invocations.ThreadCall.{ThreadCall}
-use Rattle.model.specs.declared.invocations.ThreadCall.TheVariants.{Configure, SetPriority, SetRegister, Resume, Suspend}
+use Rattle.model.specs.declared.invocations.ThreadCall.TheVariants.{Configure, SetPriority, SetRegister, Resume, Suspend, SetBuffer}
 use Rattle.model.specs.Capabilities.CapabilityKinds.{cnode_of, guard_fits, root_of, with_payload}
+use Rattle.model.specs.Capabilities.Rights.{frame_rights}
 use Rattle.model.specs.Capabilities.Slots.{capability_at, inserted, is_full}
 use Rattle.model.specs.Kernel.Arguments.{◌>>=◌, Call, check, may_have_child, source_slot, wanted}
 use Rattle.model.specs.Kernel.Messages.{register, with_registers}
 use Rattle.model.specs.Kernel.Scheduling.{at_tail, block, is_runnable, leaves, unready, wake}
-use Rattle.model.specs.Kernel.State.{State, Inactive, cspace_slot, thread_at, vspace_slot, with_slots, with_thread}
+use Rattle.model.specs.Kernel.State.{State, Inactive, buffer_slot, cspace_slot, thread_at, vspace_slot, with_slots, with_thread}
 use Rattle.model.specs.Machine.ProgramMemory.{write}
 
 -- the capability with a guard word, if one is given
@@ -76,9 +78,24 @@ resume s thread = if is_runnable (thread_at s thread).status then s else wake (l
 abbrev pub suspend : State → ℕ → State
 suspend s thread = block (leaves s thread) thread Inactive
 
+-- the frame of a capability to read and write
+abbrev pub buffer_frame : Cap → Option ℕ
+buffer_frame (Frame offset r mapping) = if r.0 == frame_rights.0 then Some offset else None
+buffer_frame _ = None
+
+-- an unmapped copy of a frame's capability comes into the thread's slot for its buffer
+abbrev pub set_buffer : State → Cap → ℕ → SlotName → Result State KError
+set_buffer s root thread frame_name = do
+  source ← source_slot s.slots root frame_name
+  frame ← wanted (buffer_frame (capability_at s.slots source)) InvalidCapability
+  _ ← check (not (is_full s.slots (buffer_slot thread))) DeleteFirst
+  _ ← may_have_child s.slots source
+  Ok (with_slots s (inserted s.slots (buffer_slot thread) (Frame frame frame_rights None) (Some source)))
+
 abbrev pub on_thread : State → Call → ℕ → ThreadCall → Result State KError
 on_thread s call thread (Configure fault_address cspace vspace) = configure s call.root thread None fault_address cspace vspace
 on_thread s call thread (SetPriority priority) = set_priority s thread priority
 on_thread s call thread (SetRegister index value) = set_register s call.caller thread index value
 on_thread s call thread Resume = Ok (resume s thread)
 on_thread s call thread Suspend = Ok (suspend s thread)
+on_thread s call thread (SetBuffer frame) = set_buffer s call.root thread frame

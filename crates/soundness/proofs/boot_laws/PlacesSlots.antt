@@ -17,7 +17,7 @@ use Rattle.model.specs.Images.Places.{bits_of, boot_slots, cnode_slot, object_at
 use Rattle.model.specs.Kernel.Removal.{slot_count}
 use Rattle.model.specs.Kernel.Retype.{NewObject, NewUntyped, NewThread, NewEndpoint, NewNotification, NewCNode, NewFrame, NewPageTable, NewRootTable, object}
 use Rattle.model.specs.Kernel.Retype.{object_bits}
-use Rattle.model.specs.Kernel.State.{boot_area_slots, cspace_slot, slot_of, vspace_slot}
+use Rattle.model.specs.Kernel.State.{boot_area_slots, buffer_slot, cspace_slot, slot_of, vspace_slot}
 
 -- a multiple of a power of two is one of each lower power
 pub lower-power : (n low bits : ℕ) → low ≤ bits → n % 2 ^ bits ≡ 0 → n % 2 ^ low ≡ 0
@@ -100,16 +100,16 @@ has-radix (Some NewFrame) index is = absurd (false≢true is)
 has-radix (Some NewPageTable) index is = absurd (false≢true is)
 has-radix (Some NewRootTable) index is = absurd (false≢true is)
 
-two-slots : (t : Option NewObject) → is_thread_type t ≡ true → slot_count (option_and_then object t) ≡ 2
-two-slots None is = absurd (false≢true is)
-two-slots (Some (NewUntyped bits)) is = absurd (false≢true is)
-two-slots (Some NewThread) is = refl
-two-slots (Some NewEndpoint) is = absurd (false≢true is)
-two-slots (Some NewNotification) is = absurd (false≢true is)
-two-slots (Some (NewCNode radix)) is = absurd (false≢true is)
-two-slots (Some NewFrame) is = absurd (false≢true is)
-two-slots (Some NewPageTable) is = absurd (false≢true is)
-two-slots (Some NewRootTable) is = absurd (false≢true is)
+three-slots : (t : Option NewObject) → is_thread_type t ≡ true → slot_count (option_and_then object t) ≡ 3
+three-slots None is = absurd (false≢true is)
+three-slots (Some (NewUntyped bits)) is = absurd (false≢true is)
+three-slots (Some NewThread) is = refl
+three-slots (Some NewEndpoint) is = absurd (false≢true is)
+three-slots (Some NewNotification) is = absurd (false≢true is)
+three-slots (Some (NewCNode radix)) is = absurd (false≢true is)
+three-slots (Some NewFrame) is = absurd (false≢true is)
+three-slots (Some NewPageTable) is = absurd (false≢true is)
+three-slots (Some NewRootTable) is = absurd (false≢true is)
 
 slot-at : (image : Image) (number index : ℕ) → index < slot_count (option_and_then object (type_at image number))
     → is_object_slot image (slot_of (offset_of image number) index) number ≡ true
@@ -121,7 +121,10 @@ pub cnode-slot : (image : Image) (cnode index : ℕ) → has_slot image cnode in
 cnode-slot image cnode index is = slot-at image cnode index (has-radix (type_at image cnode) index is)
 
 pub cspace-slot : (image : Image) (tcb : ℕ) → is_thread_type (type_at image tcb) ≡ true → is_object_slot image (cspace_slot (offset_of image tcb)) tcb ≡ true
-cspace-slot image tcb is = let two = two-slots (type_at image tcb) is in slot-at image tcb 0 (omega (arith, two))
+cspace-slot image tcb is = let three = three-slots (type_at image tcb) is in slot-at image tcb 0 (omega (arith, three))
 
 pub vspace-slot : (image : Image) (tcb : ℕ) → is_thread_type (type_at image tcb) ≡ true → is_object_slot image (vspace_slot (offset_of image tcb)) tcb ≡ true
-vspace-slot image tcb is = let two = two-slots (type_at image tcb) is in slot-at image tcb 1 (omega (arith, two))
+vspace-slot image tcb is = let three = three-slots (type_at image tcb) is in slot-at image tcb 1 (omega (arith, three))
+
+pub buffer-slot : (image : Image) (tcb : ℕ) → is_thread_type (type_at image tcb) ≡ true → is_object_slot image (buffer_slot (offset_of image tcb)) tcb ≡ true
+buffer-slot image tcb is = let three = three-slots (type_at image tcb) is in slot-at image tcb 2 (omega (arith, three))

@@ -11,18 +11,19 @@ use Rattle.model.specs.declared.slot_entries.Entry.{Entry}
 use Rattle.format_laws.specs.Fitting.{CapabilityFits, ThreadFits}
 use Rattle.format_laws.specs.Fitting.{IsFitting}
 use Rattle.soundness.proofs.boot_laws.PlacesRules.{AreFormed, CapabilityKept, ThreadKept}
-use Rattle.soundness.proofs.boot_laws.PlacesSlots.{cnode-slot, cspace-slot, slot-of-one, vspace-slot}
+use Rattle.soundness.proofs.boot_laws.PlacesSlots.{buffer-slot, cnode-slot, cspace-slot, slot-behind-boot, slot-of-one, vspace-slot}
 use Rattle.soundness.proofs.boot_laws.Readings.{IsWithin, Reads, ReadsRoom, entry}
 use Rattle.soundness.proofs.boot_laws.ReadingsLists.{flat-at, flat-none, held-here, held-later, mapped-at, mapped-none}
 use Rattle.soundness.proofs.boot_laws.ReadingsOpen.{open-room, read-open, shown}
 use Rattle.soundness.proofs.boot_laws.ReadingsSections.{cspace_holding, listed-behind, listed_part, read-room, thread-behind, threads_part, vspace_holding}
 use Rattle.soundness.specs.boot_laws.Loading.{Progress}
 use Rattle.model.specs.Acceptance.WellFormed.{has_slot, is_thread_type, radix_of}
+use Rattle.model.specs.Capabilities.Slots.{empty_entry}
 use Rattle.model.specs.Images.Described.{held_in, is_object_slot, listed_capability, listed_holding, listed_parent, thread_holdings}
 use Rattle.model.specs.Images.Image.{Image, Thread}
 use Rattle.model.specs.Images.Places.{cnode_slot, offset_of, type_at}
 use Rattle.model.specs.Kernel.Retype.{NewObject, NewUntyped, NewThread, NewEndpoint, NewNotification, NewCNode, NewFrame, NewPageTable, NewRootTable}
-use Rattle.model.specs.Kernel.State.{boot_area_slots, cspace_slot, vspace_slot}
+use Rattle.model.specs.Kernel.State.{boot_area_slots, buffer_slot, cspace_slot, vspace_slot}
 
 -- a CNode is no thread
 pub no-thread : (t : Option NewObject) (index : ℕ) → option_map_or (λ radix. nat_lt index (2 ^ radix)) (radix_of t) false ≡ true → is_thread_type t ≡ true → ⊥
@@ -68,15 +69,19 @@ module _ (image : Image) (fitting : IsFitting image) (formed : AreFormed image) 
       omega (arith, same, offsets, cnodes, rises)
 
   -- a slot of a CNode is none of a thread
+  cnode-no-thread : (j number slot : ℕ) (c : CapabilityEntry) → slice_get image.capabilities j ≡ Some c → number < image.header.objects
+      → is_thread_type (type_at image number) ≡ true → cnode_slot image c.cnode c.index ≡ slot → is_object_slot image slot number ≡ true → ⊥
+  cnode-no-thread j number slot c one less thread same is =
+      let there : is_object_slot image slot c.cnode ≡ true = subst (λ slot. is_object_slot image slot c.cnode ≡ true) same (listed-slot j c one) in
+      let one_object : c.cnode ≡ number =
+      slot-of-one image fitting formed c.cnode number slot (CapabilityFits.cnode (fitting.capability j c one)) less there is in
+      no-thread (type_at image number) c.index (subst (λ n. has_slot image n c.index ≡ true) one_object (CapabilityKept.slot (formed.capability j c one)))
+      thread
+
   thread-or-cnode : (j k : ℕ) (c : CapabilityEntry) (t : Thread) (slot : ℕ) → slice_get image.capabilities j ≡ Some c → slice_get image.threads k ≡ Some t
       → cnode_slot image c.cnode c.index ≡ slot → is_object_slot image slot t.header.tcb ≡ true → ⊥
   thread-or-cnode j k c t slot one two same is =
-      let there : is_object_slot image slot c.cnode ≡ true = subst (λ slot. is_object_slot image slot c.cnode ≡ true) same (listed-slot j c one) in
-      let one_object : c.cnode ≡ t.header.tcb =
-      slot-of-one image fitting formed c.cnode t.header.tcb slot (CapabilityFits.cnode (fitting.capability j c one)) (ThreadFits.tcb (fitting.thread k t two))
-      there is in
-      no-thread (type_at image t.header.tcb) c.index (subst (λ n. has_slot image n c.index ≡ true) one_object (CapabilityKept.slot (formed.capability j c one)))
-      (ThreadKept.tcb (formed.thread k t two))
+      cnode-no-thread j t.header.tcb slot c one (ThreadFits.tcb (fitting.thread k t two)) (ThreadKept.tcb (formed.thread k t two)) same is
 
   pub listed-no-cspace : (j k : ℕ) (c : CapabilityEntry) (t : Thread) → slice_get image.capabilities j ≡ Some c → slice_get image.threads k ≡ Some t
       → cnode_slot image c.cnode c.index ≢ cspace_slot (offset_of image t.header.tcb)
@@ -117,6 +122,19 @@ module _ (image : Image) (fitting : IsFitting image) (formed : AreFormed image) 
 
   pub two-apart : (t : Thread) → cspace_slot (offset_of image t.header.tcb) ≢ vspace_slot (offset_of image t.header.tcb)
   two-apart t same = omega (arith, same)
+
+  -- no listed thread fills a slot for a buffer
+  buffer-none : (k number : ℕ) (t : Thread) → number < image.header.objects → is_thread_type (type_at image number) ≡ true
+      → slice_get image.threads k ≡ Some t → held_in (thread_holdings image t) (buffer_slot (offset_of image number)) ≡ None
+  buffer-none k number t less is at =
+      let slot = buffer_slot (offset_of image number) in
+      let one_offset : is_object_slot image slot t.header.tcb ≡ true → offset_of image t.header.tcb ≡ offset_of image number = λ inside.
+      ap (offset_of image)
+      (slot-of-one image fitting formed t.header.tcb number slot (ThreadFits.tcb (fitting.thread k t at)) less inside (buffer-slot image number is)) in
+      held-later (cspace_holding image t) (vspace_holding image t ∷ []) slot
+      (λ same. let offsets = one_offset (subst (λ s. is_object_slot image s t.header.tcb ≡ true) same (first-slot k t at)) in omega (arith, same, offsets))
+      ∙ held-later (vspace_holding image t) [] slot
+      (λ same. let offsets = one_offset (subst (λ s. is_object_slot image s t.header.tcb ≡ true) same (second-slot k t at)) in omega (arith, same, offsets))
 
   module _ (p : Progress) (within : IsWithin image p) (all : p.objects ≡ image.header.objects) where
     room-reads : (slot number : ℕ) (a b : Option Entry) → number < image.header.objects → is_object_slot image slot number ≡ true →
@@ -164,6 +182,17 @@ module _ (image : Image) (fitting : IsFitting image) (formed : AreFormed image) 
         (flat-at (thread_holdings image) image.threads p.threads k t slot (vspace_holding image t).1 at less
         (held-later (cspace_holding image t) (vspace_holding image t ∷ []) slot (two-apart t) ∙ held-here (vspace_holding image t) [] slot refl)
         (λ j u below there. earlier-apart j k u t slot below there at (second-slot k t at)))
+
+    -- a thread's slot for a buffer stays empty
+    pub reads-buffer : (number : ℕ) → number < image.header.objects → is_thread_type (type_at image number) ≡ true
+        → Reads image p (buffer_slot (offset_of image number)) empty_entry
+    reads-buffer number less is =
+        let slot = buffer_slot (offset_of image number) in
+        let inside = buffer-slot image number is in
+        room-reads slot number None None less inside (slot-behind-boot image fitting formed number slot less inside)
+        (mapped-none (listed_holding image) image.capabilities p.capabilities slot
+        (λ j c below there same. cnode-no-thread j number slot c there less is same inside))
+        (flat-none (thread_holdings image) image.threads p.threads slot (λ j t below there. buffer-none j number t less is there))
 
     pub reads-room : ReadsRoom image p
     reads-room = record {

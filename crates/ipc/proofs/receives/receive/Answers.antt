@@ -1,5 +1,7 @@
 -- Who runs is there, waits nowhere, and still does without its right to reply.
 use Rattle.std.proofs.Common.{None, subst, sym}
+use Rattle.ipc.specs.Buffers.{HaveBuffers}
+use Rattle.ipc.proofs.BufferFrames.{have-buffers}
 use Rattle.ipc.proofs.Premises.{caller-endpoint, caller-nowhere, nowhere-still, one-sided, runs-nowhere, runs-there}
 use Rattle.objects.proofs.Laws.{beside-then}
 use Rattle.ipc.proofs.receives.receive.Goals as goal
@@ -25,6 +27,11 @@ receive_or_wait-requires-clause-apart g c =
     nowhere-still _ _ c.args.thread c.set_caller.ensures.state
     (caller-nowhere before c.args.thread None (runs-there before c.args.thread c.requires.runs) c.args.thread
     (runs-nowhere before c.args.thread c.requires.sound c.requires.runs))
+
+pub receive_or_wait-requires-clause-buffers : goal.receive_or_wait-requires-clause-buffers
+receive_or_wait-requires-clause-buffers g c =
+    subst (λ (s : State). HaveBuffers s) (sym c.set_caller.ensures.state)
+    (have-buffers (state_in g.S.SlotMap.slots g.S.SlotStore.memory c.args.live.now) c.requires.sound)
 
 pub returns-clause-beside : goal.returns-clause-beside
 returns-clause-beside g c = beside-then c.set_caller.ensures.beside c.receive_or_wait.ensures.beside

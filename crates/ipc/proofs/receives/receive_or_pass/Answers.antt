@@ -1,8 +1,11 @@
 -- The first sender is served.
+use Rattle.std.proofs.Common.{◌∙◌, subst, sym}
+use Rattle.ipc.specs.Buffers.{HaveBuffers}
 use Rattle.ipc.proofs.Taken.{received-from}
 use Rattle.objects.proofs.Laws.{beside-then}
 use Rattle.ipc.proofs.receives.receive_or_pass.Goals as goal
 use Rattle.model.specs.Kernel.Messages.{deliver_word}
+use Rattle.model.specs.Kernel.State.{State}
 use Rattle.objects.specs.Lives.{state_in}
 use Rattle.objects.specs.thread_records.Threads.{sender_of}
 
@@ -11,6 +14,13 @@ returns-in-Some-clause-state g c =
     let before = state_in g.S.SlotMap.slots g.S.SlotStore.memory c.args.live.now in
     received-from before _ _ (deliver_word before c.args.thread 0) c.args.endpoint c.args.thread (sender_of c.in-Some.sender.thread c.in-Some.sender.sending)
     c.in-Some.ensures.state c.receive_from.ensures.state
+
+pub receive_from-requires : goal.receive_from-requires
+receive_from-requires g c = record {
+  giver = c.in-Some.ensures.state.there;
+  taker = c.take_sender.ensures.beside.bytes.kinds c.args.thread ∙ c.requires.there;
+  buffers = subst (λ (s : State). HaveBuffers s) (sym c.in-Some.ensures.state.state) c.requires.buffers;
+}
 
 pub returns-in-Some-clause-beside : goal.returns-in-Some-clause-beside
 returns-in-Some-clause-beside g c = beside-then c.take_sender.ensures.beside c.receive_from.ensures.beside

@@ -1,5 +1,6 @@
 -- The first sender is served, or nobody sends.
-use Rattle.std.proofs.Common.{◌∙◌, ap}
+use Rattle.std.proofs.Common.{◌∙◌, ap, subst, sym}
+use Rattle.ipc.specs.Buffers.{HaveBuffers}
 use Rattle.ipc.proofs.Taken.{received-from}
 use Rattle.objects.proofs.Laws.{beside-then}
 use Rattle.ipc.proofs.receives.receive_or_wait.Goals as goal
@@ -14,6 +15,13 @@ returns-in-Some-clause-state g c =
     received-from before _ _ (waits_to_receive before c.args.endpoint c.args.thread) c.args.endpoint c.args.thread
     (sender_of c.in-Some.sender.thread c.in-Some.sender.sending)
     c.in-Some.ensures.state c.receive_from.ensures.state
+
+pub receive_from-requires : goal.receive_from-requires
+receive_from-requires g c = record {
+  giver = c.in-Some.ensures.state.there;
+  taker = c.take_sender.ensures.beside.bytes.kinds c.args.thread ∙ c.requires.there;
+  buffers = subst (λ (s : State). HaveBuffers s) (sym c.in-Some.ensures.state.state) c.requires.buffers;
+}
 
 pub returns-in-Some-clause-beside : goal.returns-in-Some-clause-beside
 returns-in-Some-clause-beside g c = beside-then c.take_sender.ensures.beside c.receive_from.ensures.beside

@@ -1,5 +1,7 @@
 -- Who runs is there, waits nowhere, and still does without its right to reply.
 use Rattle.std.proofs.Common.{None, subst, sym}
+use Rattle.ipc.specs.Buffers.{HaveBuffers}
+use Rattle.ipc.proofs.BufferFrames.{have-buffers}
 use Rattle.ipc.proofs.Premises.{caller-endpoint, one-sided, runs-there}
 use Rattle.objects.proofs.Laws.{beside-then}
 use Rattle.ipc.proofs.receives.try_to_receive.Goals as goal
@@ -18,6 +20,11 @@ receive_or_pass-requires-clause-one_sided g c =
     subst (λ (s : State). IsOneSided (endpoint_at s c.args.endpoint)) (sym c.set_caller.ensures.state)
     (subst (λ (e : EndpointState). IsOneSided e) (sym (caller-endpoint before c.args.thread None there c.args.endpoint c.requires.endpoint))
     (one-sided before c.args.endpoint c.requires.sound c.requires.endpoint))
+
+pub receive_or_pass-requires-clause-buffers : goal.receive_or_pass-requires-clause-buffers
+receive_or_pass-requires-clause-buffers g c =
+    subst (λ (s : State). HaveBuffers s) (sym c.set_caller.ensures.state)
+    (have-buffers (state_in g.S.SlotMap.slots g.S.SlotStore.memory c.args.live.now) c.requires.sound)
 
 pub returns-clause-beside : goal.returns-clause-beside
 returns-clause-beside g c = beside-then c.set_caller.ensures.beside c.receive_or_pass.ensures.beside

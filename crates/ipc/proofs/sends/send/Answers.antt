@@ -1,5 +1,7 @@
 -- The first receiver gets the message, or the sender waits.
-use Rattle.std.proofs.Common.{◌∙◌, ap}
+use Rattle.std.proofs.Common.{◌∙◌, ap, subst, sym}
+use Rattle.ipc.specs.Buffers.{HaveBuffers}
+use Rattle.ipc.proofs.BufferFrames.{have-buffers}
 use Rattle.ipc.proofs.Premises.{nowhere-still, one-sided, runs-nowhere, runs-there}
 use Rattle.ipc.proofs.Taken.{sent-to}
 use Rattle.objects.proofs.Laws.{beside-then}
@@ -21,10 +23,14 @@ take_receiver-requires-clause-one_sided g c =
     one-sided (state_in g.S.SlotMap.slots g.S.SlotStore.memory c.args.live.now) c.args.endpoint
     c.requires.sound c.requires.endpoint
 
-pub send_to-requires-clause-sender : goal.send_to-requires-clause-sender
-send_to-requires-clause-sender g c =
-    c.take_receiver.ensures.beside.bytes.kinds c.args.thread
-    ∙ runs-there (state_in g.S.SlotMap.slots g.S.SlotStore.memory c.args.live.now) c.args.thread c.requires.runs
+pub send_to-requires : goal.send_to-requires
+send_to-requires g c =
+    let before = state_in g.S.SlotMap.slots g.S.SlotStore.memory c.args.live.now in
+    record {
+      giver = c.take_receiver.ensures.beside.bytes.kinds c.args.thread ∙ runs-there before c.args.thread c.requires.runs;
+      taker = c.in-Some.ensures.state.there;
+      buffers = subst (λ (s : State). HaveBuffers s) (sym c.in-Some.ensures.state.state) (have-buffers before c.requires.sound);
+    }
 
 pub wait_to_send-requires-clause-there : goal.wait_to_send-requires-clause-there
 wait_to_send-requires-clause-there g c =

@@ -18,7 +18,7 @@ named_sources-requires-clause-near g c =
     let whole = whole-of g.S.SlotMap.slots g.S.SlotStore.memory c.live.inside.objects c.live.inside.store c.kernel.invariant c.live.view_is c.live.invariant in
     let held = held-inside g.S.SlotMap.slots c.args.thread (c.live.view_is ∙ c.kernel.view_is) c.requires.held in
     let there = thread-there _ _ _ c.args.thread whole.sound held in
-    slots-near _ c.args.thread whole.sound there
+    omega (arith, slots-near _ c.args.thread whole.sound there)
 
 pub returns-in_err-from-clause-outcome : goal.returns-in_err-from-clause-outcome
 unfolding state_of
@@ -35,7 +35,7 @@ put_spaces-requires-clause-near g c =
     let whole = whole-of g.S.SlotMap.slots g.S.SlotStore.memory c.live.inside.objects c.live.inside.store c.kernel.invariant c.live.view_is c.live.invariant in
     let held = held-inside g.S.SlotMap.slots c.args.thread (c.live.view_is ∙ c.kernel.view_is) c.requires.held in
     let there = thread-there _ _ _ c.args.thread whole.sound held in
-    slots-near _ c.args.thread whole.sound there
+    omega (arith, slots-near _ c.args.thread whole.sound there)
 
 pub put_spaces-requires-clause-may : goal.put_spaces-requires-clause-may
 unfolding state_of

@@ -18,6 +18,14 @@ unfolding state_of
 configure-requires-clause-held g c = thread-held (state_in g.S.SlotMap.slots g.S.SlotStore.memory c.args.kernel.now) (call_of c.args.call) c.args.thread
     c.requires.call c.requires.applies
 
+pub set_buffer-requires-clause-valid : goal.set_buffer-requires-clause-valid
+set_buffer-requires-clause-valid g c sound = root-valid _ c.args.call.root sound c.requires.call.root
+
+pub set_buffer-requires-clause-held : goal.set_buffer-requires-clause-held
+unfolding state_of
+set_buffer-requires-clause-held g c = thread-held (state_in g.S.SlotMap.slots g.S.SlotStore.memory c.args.kernel.now) (call_of c.args.call) c.args.thread
+    c.requires.call c.requires.applies
+
 pub set_priority-requires : goal.set_priority-requires
 unfolding state_of
 set_priority-requires g c =
@@ -81,3 +89,9 @@ returns-in-Suspend-clause-outcome g c =
     subst (λ (a : ThreadCall). on_thread (state_in g.S.SlotMap.slots g.S.SlotStore.memory c.args.kernel.now) (call_of c.args.call) c.args.thread a ≡ Ok t)
     (sym c.in-Suspend.is)
     (ap (λ (x : State). Ok x) (sym c.suspend.ensures.state))
+
+pub returns-in-SetBuffer-clause-outcome : goal.returns-in-SetBuffer-clause-outcome
+returns-in-SetBuffer-clause-outcome g c =
+    subst (λ (a : ThreadCall). GivesState (on_thread (state_in g.S.SlotMap.slots g.S.SlotStore.memory c.args.kernel.now) (call_of c.args.call) c.args.thread a)
+    c.set_buffer.result
+    (state_in g.S.SlotMap.slots g.S.SlotStore.memory c.set_buffer.new.kernel)) (sym c.in-SetBuffer.is) c.set_buffer.ensures.outcome

@@ -1,0 +1,81 @@
+//! Message buffers of threads, and what is copied between them.
+
+ghost use Rattle.std.specs.Prelude.{◌≡◌, ◌*◌, ◌+◌, ◌≤◌, Some, length};
+ghost use Rattle.model.specs.Capabilities.CapabilityKinds.{frame_of};
+ghost use Rattle.model.specs.Capabilities.Slots.{OutsideSlots};
+ghost use Rattle.model.specs.Kernel.Kinds.{kind_at};
+ghost use Rattle.model.specs.Kernel.Messages.{buffer_of, with_copied};
+ghost use Rattle.model.specs.Kernel.Retype.{NewThread};
+ghost use Rattle.objects.specs.Frames.{AreCopied, IsFramed};
+ghost use Rattle.objects.specs.Lives.{Beside, state};
+
+use crate::lives::Live;
+use model::{Cap, Slot};
+use slots::SlotStore;
+
+/// Of a thread's own slots the one with the frame of its message buffer.
+const BUFFER_SLOT: u32 = 2;
+
+/// Where the first word is in a buffer that no register holds, in bytes.
+const FIRST_WORD: u32 = 32;
+
+/// How many words a buffer has at most that no register holds.
+const MOST_WORDS: usize = 112;
+
+/// The frame that a capability names, if it names one.
+fn frame_of(capability: Cap) -> Option<u32>
+    ensures { result ≡ frame_of capability }
+{
+    match capability {
+        Cap::Frame { offset, .. } => Some(offset),
+        _ => None,
+    }
+}
+
+/// Copies so many words from one place in memory to another, as they were before.
+fn copy_memory<S: SlotStore>(store: &mut S, source: u32, target: u32, count: u32)
+    requires few { count ≤ 112 }
+    requires source { source + 448 ≤ length (S.memory store.old) }
+    requires target { target + 448 ≤ length (S.memory store.old) }
+    requires outside { OutsideSlots (S.slots store.old) target (4 * count) }
+    ensures slots { S.slots store.new ≡ S.slots store.old }
+    ensures bytes { AreCopied (S.memory store.old) (S.memory store.new) source target (4 * count) }
+    ensures order { S.order store.new ≡ S.order store.old }
+{
+    let memory = store.mem();
+    let _size = memory.len();
+    let mut words = [0; MOST_WORDS];
+    memory.read_words(source, &mut words);
+    store.write_words(target, &words[..count as usize]);
+}
+
+impl<S: SlotStore> Live<S> {
+    /// The frame of a thread's message buffer, if it has one.
+    pub fn buffer(&self, thread: u32) -> Option<u32>
+        requires { kind_at (state S.SlotStore self.now) thread ≡ Some NewThread }
+        ensures { result ≡ buffer_of (state S.SlotStore self.now) thread }
+    {
+        let store = &self.store;
+        frame_of(store.capability(Slot::new(thread / 16 + BUFFER_SLOT)))
+    }
+
+    /// So many words, from the first on that no register holds, go from one frame to another, as they are. The two may be one.
+    pub fn copy_words(&mut self, source: u32, target: u32, count: u32)
+        requires few { count ≤ 112 }
+        requires source { IsFramed (state S.SlotStore self.old) source }
+        requires target { IsFramed (state S.SlotStore self.old) target }
+        ensures state { state S.SlotStore self.new
+            ≡ record (state S.SlotStore self.old) { bytes = with_copied (state S.SlotStore self.old).bytes source target count } }
+        ensures beside { Beside S.SlotStore self.old self.new }
+    {
+        let size = self.objects.memory_size();
+        prove!(source <= size);
+        prove!(target <= size);
+        copy_memory(
+            &mut self.store,
+            source + FIRST_WORD,
+            target + FIRST_WORD,
+            count,
+        );
+    }
+}
