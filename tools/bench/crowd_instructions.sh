@@ -10,12 +10,22 @@ instructions() {
         sed -n 's/.*I *refs: *\([0-9,]*\).*/\1/p' | tr -d ,
 }
 
+# How many instructions a step of a case takes beside other threads, in memory of so many bits.
+step() {
+    long=$(instructions $1 $2 120 $3)
+    short=$(instructions $1 $2 20 $3)
+    echo $(((long - short) / 100000))
+}
+
 for case in yield calls; do
     for others in "0 ready" "64 ready" "1024 ready" "1024 blocked"; do
         for bits in 22 24; do
-            long=$(instructions $case $others 120 $bits)
-            short=$(instructions $case $others 20 $bits)
-            echo "$case beside $others, memory of 2^$bits bytes: $(((long - short) / 100000)) instructions a step"
+            echo "$case beside $others, memory of 2^$bits bytes: $(step $case "$others" $bits) instructions a step"
         done
     done
+done
+
+# Of seven steps two are a Call and its reply.
+for case in words buffers; do
+    echo "$case: $(step $case "0 ready" 24) instructions a step"
 done
