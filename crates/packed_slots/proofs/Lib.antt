@@ -6,6 +6,7 @@ pub mod ChildTests
 pub mod Children
 pub mod Edges
 pub mod Counting
+pub mod FrameWords
 pub mod Inserting
 pub mod Keeping
 pub mod Moving

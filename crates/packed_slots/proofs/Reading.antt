@@ -1,6 +1,7 @@
 -- What reads of slots that are packed find.
 use Rattle.std.proofs.Common.{ℕ, zero, suc, ◌≡◌, ◌∙◌, ◌&&◌, ◌+◌, ◌-◌, ◌*◌, ◌/◌, ◌^◌, ◌<◌, ◌≤◌, nat_lt, inl, inr, Bool, true, false, not, if◌then◌else◌, Option}
-use Rattle.std.proofs.Common.{Some, None, is_some, List, [], length, replicate, slice_index, refl, sym, ap, subst, arith}
+use Rattle.std.proofs.Common.{Some, None, is_some, List, [], drop, take, length, replicate, slice_index, refl, sym, ap, subst, arith}
+use Rattle.std.specs.Prelude.{max}
 use Rattle.std.proofs.lemmas.Bool.{cases_lt, le-ltb}
 use Rattle.std.proofs.lemmas.List.{get_or-replicate, get_or_past, length-replicate}
 use Rattle.std.proofs.lemmas.Nat.{pow-add}
@@ -14,6 +15,7 @@ use Rattle.model.specs.Capabilities.Slots.{IsDerivation, IsFull, IsOpen, Outside
 use Rattle.model.specs.Capabilities.Slots.{parent_at}
 use Rattle.model.specs.Shared.Bytes.{written}
 use Rattle.model.specs.declared.capabilities.Cap.TheVariants.{Empty}
+use Rattle.pmem.proofs.Laws.{length-part}
 use Rattle.slots.proofs.Laws.{descends-back, linked-next, none-without, parents-back}
 use Rattle.slots.specs.preorder.Chains.{Links, back_above, rows_linked}
 use Rattle.slots.specs.preorder.Preorder.{descends_by, parents_of}
@@ -143,6 +145,13 @@ written-kept p offset piece m is within outside same =
       holds = slots-from q rows (packed_slots p) packs (same-slots w new o rows alike);
       order = order-from q new rows refl packs;
     }
+
+pub copied-kept : (p : Packed) (from at size : ℕ) (m : List ℕ) → IsPacked p → max from at + size ≤ length p.memory
+    → OutsideSlots (packed_slots p) at size → m ≡ written p.memory at (take size (drop from p.memory)) → IsKept p (packing m p.open_slots p.first)
+copied-kept p from at size m is within outside same =
+    let piece = take size (drop from p.memory) in
+    let long : length piece ≡ size = length-part p.memory from size (omega (arith, within)) in
+    written-kept p at piece m is (omega (arith, long, within)) (subst (λ (n : ℕ). OutsideSlots (packed_slots p) at n) (sym long) outside) same
 
 -- ---- new memory
 

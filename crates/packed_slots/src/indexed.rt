@@ -151,6 +151,10 @@ impl SlotStore for IndexedSlots {
         self.handlers.count(line) > 0
     }
 
+    fn frame(&self, slot: Slot) -> Option<u32> {
+        self.store.frame(slot)
+    }
+
     fn open_range(&mut self, first: Slot, count: u32) {
         self.store.open_range(first, count);
     }
@@ -199,6 +203,10 @@ impl SlotStore for IndexedSlots {
 
     fn write_words(&mut self, offset: u32, words: &[u32]) {
         self.store.write_words(offset, words);
+    }
+
+    fn copy_words(&mut self, source: u32, target: u32, count: u32) {
+        self.store.copy_words(source, target, count);
     }
 
     fn zero(&mut self, offset: u32, count: u32) {

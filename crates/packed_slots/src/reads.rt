@@ -3,7 +3,7 @@
 ghost use Rattle.std.specs.Prelude.{ℕ, ◌≡◌, None, IsTrue, length, true};
 ghost use Rattle.std.specs.Option.{ForSome};
 ghost use Rattle.model.specs.Capabilities.CapabilityFields.{fields_of};
-ghost use Rattle.model.specs.Capabilities.CapabilityKinds.{root_of};
+ghost use Rattle.model.specs.Capabilities.CapabilityKinds.{frame_of, root_of};
 ghost use Rattle.model.specs.Capabilities.CapabilityWords.{IsCapability};
 ghost use Rattle.model.specs.Capabilities.Orders.{descendants, next_in};
 ghost use Rattle.model.specs.Capabilities.Slots.{IsOpen, capability_at, is_descendant, is_full};
@@ -128,6 +128,21 @@ pub(crate) fn root_in(head: u32) -> Option<u32>
     ensures { (tail : ℕ) → result ≡ root_of (fields_of head tail) }
 {
     if head % 0x10 == ROOT_TABLE {
+        Some(head / 0x1000 * 0x10)
+    } else {
+        None
+    }
+}
+
+/// The kind of the capabilities of frames, in the first of their two words.
+const FRAME: u32 = 6;
+
+/// The frame that the first word of a capability names, whatever the second is.
+#[tactic(auto, using(crate::proofs::FrameWords::frame_by_kind))]
+pub(crate) fn frame_in(head: u32) -> Option<u32>
+    ensures { (tail : ℕ) → result ≡ frame_of (fields_of head tail) }
+{
+    if head % 0x10 == FRAME {
         Some(head / 0x1000 * 0x10)
     } else {
         None

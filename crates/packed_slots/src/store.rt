@@ -6,7 +6,7 @@ ghost use Rattle.packed_slots.specs.Packing.{packed_order, packed_slots};
 use crate::capability_words::{copy_capability, put_capability};
 use crate::links::{link_behind, link_first, lower, take_out};
 use crate::open_slots::OpenSlots;
-use crate::reads::root_in;
+use crate::reads::{frame_in, root_in};
 use crate::roots::RootStore;
 use crate::words::{SlotMemory, blank, depth, is_slot, next, word};
 use model::{Cap, Slot};
@@ -144,6 +144,15 @@ impl SlotStore for PackedSlots {
         Some(before)
     }
 
+    /// One word gives it.
+    fn frame(&self, slot: Slot) -> Option<u32> {
+        if self.open_slots.contains(slot) {
+            frame_in(word(&self.memory, slot, 0))
+        } else {
+            None
+        }
+    }
+
     fn open_range(&mut self, first: Slot, count: u32) {
         blank(&mut self.memory, first, count);
         self.open_slots.set(first, count, true);
@@ -198,6 +207,10 @@ impl SlotStore for PackedSlots {
 
     fn write_words(&mut self, offset: u32, words: &[u32]) {
         self.memory.write_words(offset, words);
+    }
+
+    fn copy_words(&mut self, source: u32, target: u32, count: u32) {
+        self.memory.copy_words(source, target, count);
     }
 
     fn zero(&mut self, offset: u32, count: u32) {

@@ -1,6 +1,6 @@
 //! The words of a slot.
 
-ghost use Rattle.std.specs.Prelude.{ℕ, ◌≡◌, ◌+◌, ◌*◌, ◌%◌, ◌^◌, ◌<◌, ◌≤◌, [], ◌∷◌, length, replicate};
+ghost use Rattle.std.specs.Prelude.{ℕ, ◌≡◌, ◌+◌, ◌*◌, ◌%◌, ◌^◌, ◌<◌, ◌≤◌, [], ◌∷◌, drop, length, max, replicate, take};
 ghost use Rattle.model.specs.Shared.Bytes.{word_bytes, written};
 ghost use Rattle.pmem.specs.Words.{words_bytes};
 ghost use Rattle.packed_slots.specs.Words.{back_word, blanked, depth_in, is_one, link_word, next_in, previous_in, with_back, with_back_at, with_link, with_next_at, with_word, word_of};
@@ -184,6 +184,14 @@ impl SlotMemory {
         ensures { self.new ≡ written self.old offset (words_bytes words.now) }
     {
         self.bytes.write_words(offset, words);
+    }
+
+    /// Copies `count` words of four bytes each from one place to another, as they were before.
+    pub(crate) fn copy_words(&mut self, source: u32, target: u32, count: u32)
+        requires { max source target + 4 * count ≤ length self.old }
+        ensures { self.new ≡ written self.old target (take (4 * count) (drop source self.old)) }
+    {
+        self.bytes.copy_words(source, target, count);
     }
 
     /// Writes zero into `count` bytes.

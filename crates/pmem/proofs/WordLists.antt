@@ -3,7 +3,7 @@ use Rattle.std.proofs.Common.{ℕ, zero, suc, ◌≡◌, ◌∙◌, ◌+◌, ◌
 use Rattle.std.proofs.Common.{append_assoc, length-append, arith}
 use Rattle.std.proofs.Math.Seq.{take-append_seam}
 use Rattle.std.proofs.lemmas.Grind.{common_steps, same_number_lists}
-use Rattle.std.proofs.lemmas.List.{get_or-drop, get_or-take, length-take-le}
+use Rattle.std.proofs.lemmas.List.{get_or-drop, get_or-take, length-drop, length-take-le}
 use Rattle.std.proofs.lemmas.Slice.{drop-append-drop}
 use Rattle.byteorder.specs.Endian.{little_number}
 use Rattle.model.proofs.BytesLemmas.{length-written, word_at-same, word_at-written, word_at-written_before}
@@ -91,3 +91,8 @@ read-part m src words at is reads =
     same_number_lists words (words_at m at (length words)) (sym (length-words_at m at (length words)))
     (λ k less. reads k less ∙ ap (λ (part : List ℕ). little_number 4 (drop (4 * k) part)) is ∙ part-word m at (length words) k less
     ∙ sym (words-index m at (length words) k less))
+
+-- ---- bytes that are copied
+
+pub length-part : (m : List ℕ) (from size : ℕ) → from + size ≤ length m → length (take size (drop from m)) ≡ size
+length-part m from size inside = length-take-le size (drop from m) (omega (arith, inside, length-drop from m))

@@ -1,6 +1,6 @@
 //! The bytes of the machine.
 
-ghost use Rattle.std.specs.Prelude.{◌≡◌, ◌+◌, ◌*◌, ◌^◌, ◌<◌, ◌≤◌, [], ◌∷◌, IfOk, OnOk, length, replicate, slice_index};
+ghost use Rattle.std.specs.Prelude.{◌≡◌, ◌+◌, ◌*◌, ◌^◌, ◌<◌, ◌≤◌, [], ◌∷◌, IfOk, OnOk, drop, length, max, replicate, slice_index, take};
 ghost use Rattle.model.specs.Shared.Bytes.{AreBytes, word_at, word_bytes, written};
 ghost use Rattle.pmem.specs.Words.{words_at, words_bytes};
 
@@ -107,6 +107,17 @@ impl Mem {
     {
         let start = offset as usize;
         LittleEndian::write_u32_into(words, &mut self.bytes[start..start + 4 * words.len()]);
+    }
+
+    /// Copies `count` words of four bytes each from `source` on to `target` on, as they were before. The two may overlap.
+    pub fn copy_words(&mut self, source: u32, target: u32, count: u32)
+        requires { max source target + 4 * count ≤ length self.old }
+        ensures bytes { self.new ≡ written self.old target (take (4 * count) (drop source self.old)) }
+        ensures length { length self.new ≡ length self.old }
+    {
+        let start = source as usize;
+        self.bytes
+            .copy_within(start..start + 4 * count as usize, target as usize);
     }
 
     /// Writes zero into the `count` bytes from `offset` on.

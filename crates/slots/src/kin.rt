@@ -2,7 +2,7 @@
 
 ghost use Rattle.std.specs.Prelude.{ℕ, ◌≡◌, ◌==◌, ◌&&◌, not, false};
 ghost use Rattle.std.specs.Option.{option_map_or};
-ghost use Rattle.model.specs.Capabilities.CapabilityKinds.{is_handler_of, names_object, object_of};
+ghost use Rattle.model.specs.Capabilities.CapabilityKinds.{frame_of, is_handler_of, names_object, object_of};
 
 use model::{Cap, Slot};
 
@@ -20,6 +20,16 @@ pub fn object_of(capability: Cap) -> Option<u32>
         | Cap::RootTable { offset } => Some(offset),
         Cap::Empty | Cap::Untyped { .. } | Cap::InterruptControl | Cap::InterruptHandler { .. } =>
             None,
+    }
+}
+
+/// The frame that a capability names, by its offset, if it names one.
+pub(crate) fn frame_of(capability: Cap) -> Option<u32>
+    ensures { result ≡ frame_of capability }
+{
+    match capability {
+        Cap::Frame { offset, .. } => Some(offset),
+        _ => None,
     }
 }
 

@@ -130,6 +130,10 @@ impl SlotStore for PlainSlots {
         self.memory.write_words(offset, words);
     }
 
+    fn copy_words(&mut self, source: u32, target: u32, count: u32) {
+        self.memory.copy_words(source, target, count);
+    }
+
     fn zero(&mut self, offset: u32, count: u32) {
         self.memory.zero(offset, count);
     }

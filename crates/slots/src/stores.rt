@@ -1,20 +1,20 @@
 //! A store of slots beside the bytes of the machine.
 
-ghost use Rattle.std.specs.Prelude.{ℕ, ◌≡◌, ◌≢◌, ◌↔◌, ◌+◌, ◌*◌, ◌/◌, ◌^◌, ◌<◌, ◌≤◌, [], ◌∷◌, List, Some, None, IfSome, IsTrue, true, false, length, replicate};
+ghost use Rattle.std.specs.Prelude.{ℕ, ◌≡◌, ◌≢◌, ◌↔◌, ◌+◌, ◌*◌, ◌/◌, ◌^◌, ◌<◌, ◌≤◌, [], ◌∷◌, List, Some, None, IfSome, IsTrue, true, false, drop, length, max, replicate, take};
 ghost use Rattle.std.specs.Option.{ForSome};
 ghost use Rattle.model.specs.Shared.Bytes.{word_bytes, written};
 ghost use Rattle.model.specs.Capabilities.CapabilityWords.{IsCapability, IsPlace};
-ghost use Rattle.model.specs.Capabilities.Slots.{IsDerivation, IsFull, IsOpen, OutsideSlots, SameOutside, closed, depth_of, empty_entry, inserted, is_descendant, opened, recapped, relocated, spliced};
+ghost use Rattle.model.specs.Capabilities.Slots.{IsDerivation, IsFull, IsOpen, OutsideSlots, SameOutside, capability_at, closed, depth_of, empty_entry, inserted, is_descendant, opened, recapped, relocated, spliced};
 ghost use Rattle.model.specs.Capabilities.Orders.{IsOrderOf, next_in, descendants};
 ghost use Rattle.model.specs.Shared.Lists.{without};
 ghost use Rattle.model.specs.declared.capabilities.Cap.{Cap};
 ghost use Rattle.model.specs.declared.capabilities.Cap.TheVariants.{Empty};
-ghost use Rattle.model.specs.Capabilities.CapabilityKinds.{object_of};
+ghost use Rattle.model.specs.Capabilities.CapabilityKinds.{frame_of, object_of};
 ghost use Rattle.pmem.specs.Words.{words_bytes};
 ghost use Rattle.slots.specs.Kin.{IsKin, IsShared, IsSharedBeside, LeavesChildless, object_at};
 ghost use Rattle.slots.specs.Listed.{is_handled, is_naming, naming};
 
-use crate::kin::{names, names_beside, names_too};
+use crate::kin::{frame_of, names, names_beside, names_too};
 use crate::{SlotMap, is_handler_of, object_of};
 use model::{Cap, Slot};
 use pmem::Mem;
@@ -202,6 +202,14 @@ pub trait SlotStore: SlotMap {
         false
     }
 
+    /// The offset of the frame that a slot's capability names, if it is one of a frame: by the capability, where the store
+    /// has no shorter way.
+    fn frame(&self, slot: Slot) -> Option<u32>
+        ensures { result ≡ frame_of (capability_at (Self.slots self.now) slot) }
+    {
+        frame_of(self.capability(slot))
+    }
+
     /// Opens `count` slots, all of them empty.
     fn open_range(&mut self, first: Slot, count: u32)
         requires within { 16 * (first + count) ≤ length (memory self.old) }
@@ -279,6 +287,14 @@ pub trait SlotStore: SlotMap {
         requires outside { OutsideSlots (Self.slots self.old) offset (4 * length words.now) }
         ensures slots { Self.slots self.new ≡ Self.slots self.old }
         ensures bytes { memory self.new ≡ written (memory self.old) offset (words_bytes words.now) }
+        ensures order { order self.new ≡ order self.old };
+
+    /// Copies `count` words of four bytes each from one place to another, where no slot is open, as they were before.
+    fn copy_words(&mut self, source: u32, target: u32, count: u32)
+        requires within { max source target + 4 * count ≤ length (memory self.old) }
+        requires outside { OutsideSlots (Self.slots self.old) target (4 * count) }
+        ensures slots { Self.slots self.new ≡ Self.slots self.old }
+        ensures bytes { memory self.new ≡ written (memory self.old) target (take (4 * count) (drop source (memory self.old))) }
         ensures order { order self.new ≡ order self.old };
 
     /// Writes zero into `count` bytes, where no slot is open.

@@ -1,7 +1,6 @@
 //! Message buffers of threads, and what is copied between them.
 
-ghost use Rattle.std.specs.Prelude.{◌≡◌, ◌*◌, ◌+◌, ◌≤◌, Some, length};
-ghost use Rattle.model.specs.Capabilities.CapabilityKinds.{frame_of};
+ghost use Rattle.std.specs.Prelude.{◌≡◌, ◌*◌, ◌+◌, ◌≤◌, Some, length, max};
 ghost use Rattle.model.specs.Capabilities.Slots.{OutsideSlots};
 ghost use Rattle.model.specs.Kernel.Kinds.{kind_at};
 ghost use Rattle.model.specs.Kernel.Messages.{buffer_of, with_copied};
@@ -10,7 +9,7 @@ ghost use Rattle.objects.specs.Frames.{AreCopied, IsFramed};
 ghost use Rattle.objects.specs.Lives.{Beside, state};
 
 use crate::lives::Live;
-use model::{Cap, Slot};
+use model::Slot;
 use slots::SlotStore;
 
 /// Of a thread's own slots the one with the frame of its message buffer.
@@ -19,34 +18,15 @@ const BUFFER_SLOT: u32 = 2;
 /// Where the first word is in a buffer that no register holds, in bytes.
 const FIRST_WORD: u32 = 32;
 
-/// How many words a buffer has at most that no register holds.
-const MOST_WORDS: usize = 112;
-
-/// The frame that a capability names, if it names one.
-fn frame_of(capability: Cap) -> Option<u32>
-    ensures { result ≡ frame_of capability }
-{
-    match capability {
-        Cap::Frame { offset, .. } => Some(offset),
-        _ => None,
-    }
-}
-
 /// Copies so many words from one place in memory to another, as they were before.
 fn copy_memory<S: SlotStore>(store: &mut S, source: u32, target: u32, count: u32)
-    requires few { count ≤ 112 }
-    requires source { source + 448 ≤ length (S.memory store.old) }
-    requires target { target + 448 ≤ length (S.memory store.old) }
+    requires within { max source target + 4 * count ≤ length (S.memory store.old) }
     requires outside { OutsideSlots (S.slots store.old) target (4 * count) }
     ensures slots { S.slots store.new ≡ S.slots store.old }
     ensures bytes { AreCopied (S.memory store.old) (S.memory store.new) source target (4 * count) }
     ensures order { S.order store.new ≡ S.order store.old }
 {
-    let memory = store.mem();
-    let _size = memory.len();
-    let mut words = [0; MOST_WORDS];
-    memory.read_words(source, &mut words);
-    store.write_words(target, &words[..count as usize]);
+    store.copy_words(source, target, count);
 }
 
 impl<S: SlotStore> Live<S> {
@@ -56,7 +36,7 @@ impl<S: SlotStore> Live<S> {
         ensures { result ≡ buffer_of (state S.SlotStore self.now) thread }
     {
         let store = &self.store;
-        frame_of(store.capability(Slot::new(thread / 16 + BUFFER_SLOT)))
+        store.frame(Slot::new(thread / 16 + BUFFER_SLOT))
     }
 
     /// So many words, from the first on that no register holds, go from one frame to another, as they are. The two may be one.

@@ -105,6 +105,10 @@ impl<S: SlotStore> SlotStore for CachedSlots<S> {
         self.store.is_handled(line)
     }
 
+    fn frame(&self, slot: Slot) -> Option<u32> {
+        self.store.frame(slot)
+    }
+
     fn open_range(&mut self, first: Slot, count: u32) {
         self.store.open_range(first, count);
     }
@@ -141,6 +145,10 @@ impl<S: SlotStore> SlotStore for CachedSlots<S> {
 
     fn write_words(&mut self, offset: u32, words: &[u32]) {
         self.store.write_words(offset, words);
+    }
+
+    fn copy_words(&mut self, source: u32, target: u32, count: u32) {
+        self.store.copy_words(source, target, count);
     }
 
     fn zero(&mut self, offset: u32, count: u32) {

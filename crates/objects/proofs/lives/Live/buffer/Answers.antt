@@ -1,5 +1,5 @@
 -- The slot is one of memory's, since the thread is.
-use Rattle.std.proofs.Common.{◌≡◌, ◌∙◌, Some, ap, subst, sym}
+use Rattle.std.proofs.Common.{ℕ, ◌≡◌, ◌∙◌, Some, ap, subst, sym}
 use Rattle.model.specs.Capabilities.CapabilityKinds.{frame_of}
 use Rattle.model.specs.Capabilities.Slots.{capability_at}
 use Rattle.model.specs.Kernel.Kinds.{kind_at}
@@ -18,6 +18,6 @@ new-requires g c =
 pub returns : goal.returns
 returns g c =
     let slots = g.S.SlotMap.slots c.self.inside.store in
-    c.frame_of.ensures ∙ ap frame_of (c.capability.ensures.value ∙ ap (capability_at slots) c.new.ensures)
+    c.frame.ensures ∙ ap (λ (slot : ℕ). frame_of (capability_at slots slot)) c.new.ensures
     ∙ sym (own-buffer c.self.inside.objects slots (g.S.SlotStore.memory c.self.inside.store) c.args.thread)
     ∙ ap (λ (live : Parts _). buffer_of (state_in g.S.SlotMap.slots g.S.SlotStore.memory live) c.args.thread) c.self.view_is

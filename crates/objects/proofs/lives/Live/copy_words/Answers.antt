@@ -27,23 +27,18 @@ prove-unreachable-requires-2 g c =
     let within = c.memory_size-size.ensures.frames (g.S.SlotMap.slots c.self.inside.store) (g.S.SlotStore.memory c.self.inside.store) c.args.target framed in
     omega (arith, within, c.if-prove-2.true)
 
-pub copy_memory-requires-clause-source : goal.copy_memory-requires-clause-source
-copy_memory-requires-clause-source g c =
+pub copy_memory-requires-clause-within : goal.copy_memory-requires-clause-within
+copy_memory-requires-clause-within g c =
     let slots = g.S.SlotMap.slots c.self.inside.store in
     let memory = g.S.SlotStore.memory c.self.inside.store in
-    let framed = framed-in g.S.SlotMap.slots g.S.SlotStore.memory _ _ c.args.source c.self.view_is c.requires.source in
-    let within = frame-in-bytes c.self.inside.objects slots memory c.args.source c.memory_size-size.result c.self.invariant c.memory_size-size.ensures.value
-    (c.memory_size-size.ensures.frames slots memory c.args.source framed) in
-    omega (arith, within)
-
-pub copy_memory-requires-clause-target : goal.copy_memory-requires-clause-target
-copy_memory-requires-clause-target g c =
-    let slots = g.S.SlotMap.slots c.self.inside.store in
-    let memory = g.S.SlotStore.memory c.self.inside.store in
-    let framed = framed-in g.S.SlotMap.slots g.S.SlotStore.memory _ _ c.args.target c.self.view_is c.requires.target in
-    let within = frame-in-bytes c.self.inside.objects slots memory c.args.target c.memory_size-size.result c.self.invariant c.memory_size-size.ensures.value
-    (c.memory_size-size.ensures.frames slots memory c.args.target framed) in
-    omega (arith, within)
+    let size = c.memory_size-size.result in
+    let from = framed-in g.S.SlotMap.slots g.S.SlotStore.memory _ _ c.args.source c.self.view_is c.requires.source in
+    let to = framed-in g.S.SlotMap.slots g.S.SlotStore.memory _ _ c.args.target c.self.view_is c.requires.target in
+    let first = frame-in-bytes c.self.inside.objects slots memory c.args.source size c.self.invariant c.memory_size-size.ensures.value
+    (c.memory_size-size.ensures.frames slots memory c.args.source from) in
+    let second = frame-in-bytes c.self.inside.objects slots memory c.args.target size c.self.invariant c.memory_size-size.ensures.value
+    (c.memory_size-size.ensures.frames slots memory c.args.target to) in
+    omega (arith, first, second, c.requires.few)
 
 pub copy_memory-requires-clause-outside : goal.copy_memory-requires-clause-outside
 copy_memory-requires-clause-outside g c =
