@@ -1,9 +1,9 @@
 -- What fits the format keeps to its limits: counts are lengths, and what entries name is there.
-use Rattle.std.proofs.Common.{ℕ, zero, suc, ◌≡◌, ◌==◌, ◌+◌, ◌<◌, ◌≤◌, ◌^◌, ◌&&◌, ◌||◌, true, false, List, [], ◌∷◌, length, refl, ap, arith}
+use Rattle.std.proofs.Common.{ℕ, zero, suc, ◌≡◌, ◌≢◌, ◌==◌, ◌+◌, ◌<◌, ◌≤◌, ◌^◌, ◌&&◌, ◌||◌, inl, inr, Bool, true, false, List, [], ◌∷◌, length, refl, ap, arith}
 use Rattle.std.specs.Int.{w64}
 use Rattle.std.specs.Prelude.{nat_le, nat_lt}
 use Rattle.std.specs.List.{AllByRecursion}
-use Rattle.std.proofs.lemmas.Bool.{and_parts, ltb-true, leb-true}
+use Rattle.std.proofs.lemmas.Bool.{and_parts, eqb-true, ltb-true, leb-true, or_cases}
 use Rattle.model.specs.declared.entries.ImageHeader.{ImageHeader}
 use Rattle.model.specs.Images.Format.{Format, field, many_fit, number, only_if}
 use Rattle.model.specs.Images.Image.{Image, ImageContent, Thread, anything, below, between, capability_format, content_format, frame_format, has_buffers}
@@ -65,6 +65,16 @@ content-fits h least c is =
     let frame = and_parts _ _ (field-parts (λ frame. nat_le least frame && nat_lt frame h.objects) c.header.frame a.0).1 in
     record { frame = ltb-true c.header.frame h.objects frame.1 }
 
+-- a thread's buffer is an object, if there is one
+buffer-below : (test : Bool) (objects n : ℕ) → (only_if test no_buffer (field (λ k. nat_lt k objects || (k == no_buffer)))).fits n ≡ true
+    → n ≢ no_buffer → n < objects
+buffer-below true objects n is some =
+    elim (or_cases (nat_lt n objects) (n == no_buffer) (field-parts (λ k. nat_lt k objects || (k == no_buffer)) n is).1) [
+      | inl less ↦ ltb-true n objects less
+      | inr none ↦ absurd (some (eqb-true n no_buffer none))
+    ]
+buffer-below false objects n is some = absurd (some (eqb-true n no_buffer is))
+
 thread-header-fits : (h : ImageHeader) (t : Thread) → (thread_header_format h.version h.objects).fits t.header ≡ true → length t.registers ≡ t.header.registers
     → length t.words ≡ t.header.words → ThreadFits h t
 unfolding thread_header_format
@@ -87,6 +97,7 @@ thread-header-fits h t is registers words =
       tcb = below-of h.objects t.header.tcb a.0;
       cnode = below-of h.objects t.header.cnode b.0;
       root = below-of h.objects t.header.root d.0;
+      buffer = buffer-below (has_buffers h.version) h.objects t.header.buffer absent.0;
       registers = omega (arith, few, registers);
       words = words;
       most_words = (field-between 1 65536 t.header.words n.0).1;

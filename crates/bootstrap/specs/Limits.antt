@@ -1,5 +1,5 @@
 -- The limits of an image that keeps to its format: how many entries there are, and that what they name is there.
-use Rattle.std.specs.Prelude.{ℕ, ◌≡◌, ◌+◌, ◌^◌, ◌≤◌, ◌<◌, Some, List, length, slice_get}
+use Rattle.std.specs.Prelude.{ℕ, ◌≡◌, ◌≢◌, ◌+◌, ◌^◌, ◌≤◌, ◌<◌, Some, List, length, slice_get}
 use Rattle.std.specs.List.{AllByRecursion}
 use Rattle.model.specs.declared.entries.CapabilityEntry.{CapabilityEntry}
 use Rattle.model.specs.declared.entries.FrameEntry.{FrameEntry}
@@ -8,7 +8,7 @@ use Rattle.model.specs.declared.entries.InterruptEntry.{InterruptEntry}
 use Rattle.model.specs.declared.entries.ObjectEntry.{ObjectEntry}
 use Rattle.model.specs.declared.entries.TableEntry.{TableEntry}
 use Rattle.model.specs.declared.entries.UntypedEntry.{UntypedEntry}
-use Rattle.model.specs.Images.Image.{Image, ImageContent, Thread, pair_key}
+use Rattle.model.specs.Images.Image.{Image, ImageContent, Thread, no_buffer, pair_key}
 
 -- how many entries there are at most
 pub record IsSmall (h : ImageHeader) : Type 0 where
@@ -68,6 +68,7 @@ pub record ThreadFits (h : ImageHeader) (t : Thread) : Type 0 where
   pub tcb : t.header.tcb < h.objects
   pub cnode : t.header.cnode < h.objects
   pub root : t.header.root < h.objects
+  pub buffer : t.header.buffer ≢ no_buffer → t.header.buffer < h.objects
   pub registers : length t.registers ≤ 31
   pub words : length t.words ≡ t.header.words
   pub most_words : t.header.words ≤ 65536

@@ -1,6 +1,6 @@
 -- How far the loader has come, and what comes of the calls and other operations that it makes, some of them at a time.
 -- seL4 Reference Manual, "System Bootstrapping".
-use Rattle.std.specs.Prelude.{ℕ, ◌+◌, Option, Some, None, option_and_then, Result, Ok, Err, List, [], ◌∷◌, ◌++◌, ◌*◌, ◌%◌, ◌^◌}
+use Rattle.std.specs.Prelude.{ℕ, ◌+◌, Option, Some, None, option_and_then, Result, Ok, Err, List, [], ◌∷◌, ◌++◌, ◌*◌, ◌%◌, ◌^◌, ◌==◌, if◌then◌else◌}
 use Rattle.kernel_machine.specs.Setups.{state_in}
 use Rattle.bootstrap.specs.declared.loading.Loader.{Loader}
 use Rattle.model.specs.declared.boot_faults.BootFault.{BootFault}
@@ -8,7 +8,9 @@ use Rattle.model.specs.declared.boot_faults.BootFault.TheVariants.{Kernel, Outsi
 use Rattle.model.specs.declared.errors.KError.{KError}
 use Rattle.model.specs.Images.Boot.{fill_all, made}
 use Rattle.model.specs.Images.BootCalls.{LoaderCall, Operation, PutsUntyped, PutsControl, Calls, Fills, boot_argument, loader_call}
-use Rattle.model.specs.Kernel.CallForms.{configure_label, set_priority_label, set_register_label}
+use Rattle.model.specs.Images.Image.{Image, no_buffer}
+use Rattle.model.specs.Images.Places.{original_slot}
+use Rattle.model.specs.Kernel.CallForms.{configure_label, set_buffer_label, set_priority_label, set_register_label}
 use Rattle.model.specs.declared.entries.RegisterEntry.{RegisterEntry}
 use Rattle.model.specs.declared.entries.ThreadHeader.{ThreadHeader}
 use Rattle.model.specs.Kernel.Setup.{put_control, put_untyped}
@@ -46,12 +48,20 @@ called p (c ∷ later) = counted p.calls (made p.state c) >>= λ q. called q lat
 abbrev pub register_call : ℕ → RegisterEntry → LoaderCall
 register_call tcb r = loader_call tcb set_register_label (r.register ∷ r.value ∷ [])
 
--- Configure, SetPriority and SetRegister for the program counter
-abbrev pub first_thread_calls : ℕ → ℕ → ℕ → ThreadHeader → List LoaderCall
-first_thread_calls tcb cspace vspace h =
-    loader_call tcb configure_label ((h.fault ∷ boot_argument cspace) ++ boot_argument vspace ++ h.guard ∷ []) ∷ loader_call tcb set_priority_label
-    (h.priority ∷ [])
-    ∷ loader_call tcb set_register_label (0 ∷ (h.base + 4 * h.entry) % 2 ^ 32 ∷ []) ∷ []
+-- SetBuffer, if there is a buffer, from the frame's boot slot
+abbrev pub buffer_calls : Image → ℕ → ℕ → List LoaderCall
+buffer_calls image tcb buffer =
+    if buffer == no_buffer then [] else loader_call tcb set_buffer_label (boot_argument (original_slot image buffer)) ∷ []
+
+-- Configure, and SetBuffer
+abbrev pub space_calls : Image → ℕ → ℕ → ℕ → ThreadHeader → List LoaderCall
+space_calls image tcb cspace vspace h =
+    loader_call tcb configure_label ((h.fault ∷ boot_argument cspace) ++ boot_argument vspace ++ h.guard ∷ []) ∷ buffer_calls image tcb h.buffer
+
+-- SetPriority, and SetRegister for the program counter
+abbrev pub start_calls : ℕ → ThreadHeader → List LoaderCall
+start_calls tcb h =
+    loader_call tcb set_priority_label (h.priority ∷ []) ∷ loader_call tcb set_register_label (0 ∷ (h.base + 4 * h.entry) % 2 ^ 32 ∷ []) ∷ []
 
 -- one operation in a system with so many untypeds
 abbrev pub performed : ℕ → Progress → Operation → Result Progress BootFault

@@ -1,13 +1,14 @@
 //! The kernel calls that load an image, section by section.
 
-ghost use Rattle.std.specs.Prelude.{ℕ, ◌≡◌, ◌+◌, ◌-◌, ◌≤◌, ◌<◌, ◌^◌, ◌∷◌, ◌++◌, [], map, flat_map, length};
+ghost use Rattle.std.specs.Prelude.{ℕ, ◌≡◌, ◌≢◌, ◌+◌, ◌-◌, ◌≤◌, ◌<◌, ◌^◌, ◌∷◌, ◌++◌, [], map, flat_map, length};
 ghost use Rattle.std.specs.List.{range_with_len};
 ghost use Rattle.bootstrap.specs.Limits.{CapabilityFits, FrameFits, InterruptFits, TableFits, ThreadFits};
-ghost use Rattle.bootstrap.specs.Loading.{called, first_thread_calls, progress_of, register_call};
+ghost use Rattle.bootstrap.specs.Loading.{buffer_calls, called, progress_of, register_call, space_calls, start_calls};
 ghost use Rattle.invoke.specs.Methods.{label_of};
 ghost use Rattle.model.specs.Kernel.Outcomes.{GivesState};
 ghost use Rattle.model.specs.Images.BootCalls.{capability_call, frame_calls, interrupt_call, loader_call, object_call, signal_calls, table_call, thread_calls};
 ghost use Rattle.model.specs.Images.Described.{numbered};
+ghost use Rattle.model.specs.Images.Image.{no_buffer};
 ghost use Rattle.model.specs.Kernel.CallForms.{resume_label};
 
 use crate::boot_images::BootImage;
@@ -36,6 +37,9 @@ const ALL_ENDPOINT_RIGHTS: u32 = 11;
 
 /// What SetRegister calls the program counter.
 const PC: u32 = 0;
+
+/// The number of the frame of a thread without a message buffer.
+const NO_BUFFER: u32 = u32::MAX;
 
 /// A machine that is being set up, and how many calls were made for it.
 #[derive(Drop)]
@@ -270,7 +274,7 @@ impl Loader {
     pub(crate) fn start_threads(&mut self, image: &BootImage<'_, '_>) -> Result<(), BootFault>
         requires room { self.old.calls ≤ 2 ^ 29 }
         ensures outcome { GivesState (called (progress_of self.old) (flat_map (thread_calls image.now.read.now) image.now.read.now.threads)) result (progress_of self.new) }
-        ensures counted { self.new.calls ≤ self.old.calls + 2240 }
+        ensures counted { self.new.calls ≤ self.old.calls + 2304 }
     {
         for thread in image.read.threads() {
             self.start_thread(image, &thread)?;
@@ -278,7 +282,7 @@ impl Loader {
         Ok(())
     }
 
-    /// Gives a thread its spaces, its priority and its registers, and lets it run.
+    /// Gives a thread its spaces, its message buffer, its priority and its registers, and lets it run.
     fn start_thread(
         &mut self,
         image: &BootImage<'_, '_>,
@@ -287,30 +291,61 @@ impl Loader {
         requires fits { ThreadFits image.now.read.now.header thread.now }
         requires room { self.old.calls ≤ 2 ^ 30 - 40 }
         ensures outcome { GivesState (called (progress_of self.old) (thread_calls image.now.read.now thread.now)) result (progress_of self.new) }
-        ensures counted { self.new.calls ≤ self.old.calls + 35 }
+        ensures counted { self.new.calls ≤ self.old.calls + 36 }
     {
         let header = thread.header();
         let tcb = original_slot(image, header.tcb);
         let cspace = original_slot(image, header.cnode);
         let vspace = original_slot(image, header.root);
-        self.configure(tcb, cspace, vspace, &header)?;
+        self.configure(image, tcb, cspace, vspace, &header)?;
+        self.set_start(tcb, &header)?;
         self.resume(tcb, thread)
     }
 
-    /// Gives a thread its spaces, its priority and its program counter.
+    /// Gives a thread its message buffer, if the image has one for it.
+    fn set_buffer(
+        &mut self,
+        image: &BootImage<'_, '_>,
+        tcb: u32,
+        buffer: u32,
+    ) -> Result<(), BootFault>
+        requires number { buffer ≢ no_buffer → buffer < image.now.read.now.header.objects }
+        requires room { self.old.calls ≤ 2 ^ 30 }
+        ensures outcome { GivesState (called (progress_of self.old) (buffer_calls image.now.read.now tcb buffer)) result (progress_of self.new) }
+        ensures counted { self.new.calls ≤ self.old.calls + 1 }
+    {
+        if buffer == NO_BUFFER {
+            return Ok(());
+        }
+        let frame = original_slot(image, buffer);
+        self.call(tcb, Method::SetBuffer, &[frame, DEPTH])
+    }
+
+    /// Gives a thread its spaces and its message buffer.
     fn configure(
         &mut self,
+        image: &BootImage<'_, '_>,
         tcb: u32,
         cspace: u32,
         vspace: u32,
         header: &ThreadHeader,
     ) -> Result<(), BootFault>
+        requires buffer { header.now.buffer ≢ no_buffer → header.now.buffer < image.now.read.now.header.objects }
         requires room { self.old.calls ≤ 2 ^ 30 - 40 }
-        ensures outcome { GivesState (called (progress_of self.old) (first_thread_calls tcb cspace vspace header.now)) result (progress_of self.new) }
-        ensures counted { self.new.calls ≤ self.old.calls + 3 }
+        ensures outcome { GivesState (called (progress_of self.old) (space_calls image.now.read.now tcb cspace vspace header.now)) result (progress_of self.new) }
+        ensures counted { self.new.calls ≤ self.old.calls + 2 }
     {
         let words = [header.fault, cspace, DEPTH, vspace, DEPTH, header.guard];
         self.call(tcb, Method::Configure, &words)?;
+        self.set_buffer(image, tcb, header.buffer)
+    }
+
+    /// Gives a thread its priority and its program counter.
+    fn set_start(&mut self, tcb: u32, header: &ThreadHeader) -> Result<(), BootFault>
+        requires room { self.old.calls ≤ 2 ^ 30 - 38 }
+        ensures outcome { GivesState (called (progress_of self.old) (start_calls tcb header.now)) result (progress_of self.new) }
+        ensures counted { self.new.calls ≤ self.old.calls + 2 }
+    {
         self.call(tcb, Method::SetPriority, &[header.priority])?;
         self.call(tcb, Method::SetRegister, &[PC, start_of(header)])
     }

@@ -4,7 +4,7 @@ ghost use Rattle.std.specs.Prelude.{◌≡◌};
 ghost use Rattle.model.specs.Images.Image.{between, has_buffers, has_promises, latest_version};
 
 /// The latest version that is read.
-const LATEST: u32 = 2;
+const LATEST: u32 = 3;
 
 /// Whether image files of this version are read.
 pub fn is_known_version(version: u32) -> bool

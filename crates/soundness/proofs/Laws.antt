@@ -37,12 +37,14 @@ pub use Rattle.soundness.proofs.ThreadCalls.{fine-of, passes-whole, registers-wh
 pub use Rattle.soundness.proofs.ThreadCalls.{tick-whole}
 pub use Rattle.soundness.proofs.UnusedMemory.{unused-free}
 pub use Rattle.soundness.proofs.Waking.{AreApart, apart-filter, in-filter, is_in, places-apart}
-pub use Rattle.soundness.proofs.boot_laws.Laws.{AreFormed, CapabilityKept, CountsAreLengths, FrameKept, IsWithin, ReadsBoot, ReadsObjects, TableKept}
-pub use Rattle.soundness.proofs.boot_laws.Laws.{ThreadKept, any-taken, are-formed, boot-slots-suffice, boots-well, buffer-slot, bytes-long, cnode-slot}
-pub use Rattle.soundness.proofs.boot_laws.Laws.{cnode-type, contents-fit, counts-are, cspace-slot, described-sound, each-all, entry, filtered-all}
-pub use Rattle.soundness.proofs.boot_laws.Laws.{find-get, find-no, first-at, first_of_type, flat-all, frame-type, goes, has-type, held-append, held-here}
-pub use Rattle.soundness.proofs.boot_laws.Laws.{held-later, kept-before, kept-behind, kept-of, limited-frame, limited-table, listed-behind, listed-untyped}
-pub use Rattle.soundness.proofs.boot_laws.Laws.{loaded-end, mapped_by, mapping_of, no-thread, not-refused, numbered-at, numbered-back, object-at}
-pub use Rattle.soundness.proofs.boot_laws.Laws.{object-stands, objects-apart, offsets-apart, original-untyped, passes, range-at, range-from, reads-boot}
-pub use Rattle.soundness.proofs.boot_laws.Laws.{reads-buffer, reads-cspace, reads-listed, reads-objects, reads-vspace, slot-behind-boot, slot-in-memory}
-pub use Rattle.soundness.proofs.boot_laws.Laws.{slot-of-one, source-untyped, stand-apart, table-type, thread-behind, thread-type, used_with, vspace-slot}
+pub use Rattle.soundness.proofs.boot_laws.Laws.{AreFormed, BufferKept, CapabilityKept, CountsAreLengths, FrameKept, IsWithin, ReadsBoot, ReadsObjects}
+pub use Rattle.soundness.proofs.boot_laws.Laws.{TableKept, ThreadKept, any-taken, are-formed, boot-slots-suffice, boots-well, buffer-kept}
+pub use Rattle.soundness.proofs.boot_laws.Laws.{buffer-slot, bytes-long, cnode-slot, cnode-type, contents-fit, counts-are, cspace-slot}
+pub use Rattle.soundness.proofs.boot_laws.Laws.{described-sound, each-all, entry, filtered-all, find-get, find-no, first-at, first_of_type, flat-all}
+pub use Rattle.soundness.proofs.boot_laws.Laws.{frame-listed, frame-type, goes, has-type, held-append, held-here, held-later, kept-before}
+pub use Rattle.soundness.proofs.boot_laws.Laws.{kept-behind, kept-of, limited-frame, limited-table, listed-behind, listed-untyped, loaded-end}
+pub use Rattle.soundness.proofs.boot_laws.Laws.{mapped_by, mapping_of, no-thread, not-refused, numbered-at, numbered-back, object-at, object-stands}
+pub use Rattle.soundness.proofs.boot_laws.Laws.{objects-apart, offsets-apart, original-untyped, passes, range-at, range-from, reads-boot}
+pub use Rattle.soundness.proofs.boot_laws.Laws.{reads-buffer, reads-cspace, reads-free_buffer, reads-listed, reads-no_buffer, reads-objects}
+pub use Rattle.soundness.proofs.boot_laws.Laws.{reads-vspace, slot-behind-boot, slot-in-memory, slot-of-one, source-untyped, stand-apart, table-type}
+pub use Rattle.soundness.proofs.boot_laws.Laws.{thread-behind, thread-type, used_with, vspace-slot}

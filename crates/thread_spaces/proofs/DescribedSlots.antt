@@ -1,13 +1,13 @@
 -- What single slots of the state that a well-formed image describes hold.
-use Rattle.std.proofs.Common.{ℕ, ◌≡◌, ◌∙◌, ◌<◌, true, Option, Some, None, refl, sym, ap, subst, arith}
+use Rattle.std.proofs.Common.{ℕ, ◌≡◌, ◌∙◌, ◌<◌, ◌==◌, true, false, Option, Some, None, refl, sym, ap, subst, arith}
 use Rattle.std.specs.Prelude.{slice_get}
 use Rattle.std.specs.Option.{option_map_or}
 use Rattle.std.proofs.lemmas.Option.{slice_get_within}
-use Rattle.format_laws.specs.Fitting.{IsFitting, ThreadFits}
+use Rattle.format_laws.specs.Fitting.{IsFitting}
 use Rattle.format_laws.proofs.Laws.{is-fitting}
 use Rattle.soundness.specs.boot_laws.Loading.{all_loaded, loaded}
-use Rattle.soundness.proofs.Laws.{AreFormed, IsWithin, ReadsBoot, ThreadKept, are-formed, counts-are, described-sound, entry, loaded-end, reads-boot}
-use Rattle.soundness.proofs.Laws.{reads-buffer, reads-cspace, reads-listed}
+use Rattle.soundness.proofs.Laws.{AreFormed, IsWithin, ReadsBoot, are-formed, counts-are, described-sound, entry, loaded-end, reads-boot}
+use Rattle.soundness.proofs.Laws.{reads-buffer, reads-cspace, reads-listed, reads-no_buffer}
 use Rattle.model.specs.declared.capabilities.Cap.{Cap}
 use Rattle.model.specs.declared.capabilities.Cap.TheVariants.{Empty}
 use Rattle.model.specs.declared.entries.CapabilityEntry.{CapabilityEntry}
@@ -17,7 +17,7 @@ use Rattle.model.specs.Capabilities.CapabilityKinds.{with_payload}
 use Rattle.model.specs.Capabilities.CapabilityWords.{IsCapability}
 use Rattle.model.specs.Capabilities.Slots.{capability_at, empty_entry, parent_at}
 use Rattle.model.specs.Images.Described.{described, listed_capability, listed_parent, original}
-use Rattle.model.specs.Images.Image.{Image, Thread, whole_image}
+use Rattle.model.specs.Images.Image.{Image, Thread, no_buffer, whole_image}
 use Rattle.model.specs.Images.Places.{cnode_slot, offset_of, original_slot}
 use Rattle.model.specs.Kernel.State.{State, buffer_slot, cspace_slot}
 use Rattle.thread_spaces.specs.Given.{IsEntry, IsListed}
@@ -74,13 +74,20 @@ module _ (image : Image) (fits : whole_image.fits image ≡ true) (well : IsWell
       from-loaded image (cspace_slot (offset_of image t.header.tcb)) _ (is-fitting image fits)
       (reads-cspace image (is-fitting image fits) (are-formed image well) (all_loaded image) (all-within image) refl k t less at)
 
-  -- no thread has a message buffer
-  pub buffer-shown : (k : ℕ) (t : Thread) → slice_get image.threads k ≡ Some t
-      → (described image).slots (buffer_slot (offset_of image t.header.tcb)) ≡ Some empty_entry
-  buffer-shown k t at =
+  -- the buffer of a thread that has one
+  pub buffer-shown : (k : ℕ) (t : Thread) → slice_get image.threads k ≡ Some t → (t.header.buffer == no_buffer) ≡ false
+      → (described image).slots (buffer_slot (offset_of image t.header.tcb)) ≡ Some
+      (entry (original image t.header.buffer) (Some (original_slot image t.header.buffer)))
+  buffer-shown k t at some =
+      let less : k < image.header.threads = subst (λ (n : ℕ). k < n) (IsFitting.threads (is-fitting image fits)) (slice_get_within image.threads k t at) in
       from-loaded image (buffer_slot (offset_of image t.header.tcb)) _ (is-fitting image fits)
-      (reads-buffer image (is-fitting image fits) (are-formed image well) (all_loaded image) (all-within image) refl t.header.tcb
-      (ThreadFits.tcb (IsFitting.thread (is-fitting image fits) k t at)) (ThreadKept.tcb (AreFormed.thread (are-formed image well) k t at)))
+      (reads-buffer image (is-fitting image fits) (are-formed image well) (all_loaded image) (all-within image) refl k t less at some)
+
+  pub no_buffer-shown : (k : ℕ) (t : Thread) → slice_get image.threads k ≡ Some t → (t.header.buffer == no_buffer) ≡ true
+      → (described image).slots (buffer_slot (offset_of image t.header.tcb)) ≡ Some empty_entry
+  no_buffer-shown k t at none =
+      from-loaded image (buffer_slot (offset_of image t.header.tcb)) _ (is-fitting image fits)
+      (reads-no_buffer image (is-fitting image fits) (are-formed image well) (all_loaded image) (all-within image) refl k t at none)
 
   valid-at : (slot : ℕ) (held : Entry) → (described image).slots slot ≡ Some held → IsCapability held.capability
   valid-at slot held is =

@@ -1,5 +1,5 @@
 -- What is true of each full slot that an image describes, section by section.
-use Rattle.std.proofs.Common.{ℕ, zero, suc, ◌≡◌, ◌∙◌, ◌⊎◌, ◌+◌, ◌<◌, inl, inr, Bool, true, false, not, if◌then◌else◌, cond, Some, None, List, [], ◌∷◌, ◌++◌}
+use Rattle.std.proofs.Common.{ℕ, zero, suc, ◌==◌, ◌≡◌, ◌∙◌, ◌⊎◌, ◌+◌, ◌<◌, inl, inr, Bool, true, false, not, if◌then◌else◌, cond, Some, None, List, [], ◌∷◌, ◌++◌}
 use Rattle.std.proofs.Common.{map, filter, refl, sym, subst, arith}
 use Rattle.std.specs.Prelude.{flat_map, slice_get}
 use Rattle.std.specs.Option.{option_map_or, option_or}
@@ -14,11 +14,26 @@ use Rattle.model.specs.declared.entries.InterruptEntry.{InterruptEntry}
 use Rattle.model.specs.declared.entries.UntypedEntry.{UntypedEntry}
 use Rattle.model.specs.declared.slot_entries.Entry.{Entry}
 use Rattle.model.specs.Capabilities.Slots.{empty_entry}
-use Rattle.model.specs.Images.Described.{Holding, binding_holding, boot_holdings, described, frame_holding, handler_holding, held_in, holding, holdings}
-use Rattle.model.specs.Images.Described.{is_listed_pool, is_open_slot, listed_holding, notification_holding, numbered, original_holding, originals}
+use Rattle.model.specs.Images.Described.{Holding, binding_holding, boot_holdings, buffer_holdings, described, frame_holding, handler_holding, held_in, holding, holdings}
+use Rattle.model.specs.Images.Described.{is_listed_pool, is_open_slot, listed_holding, notification_holding, numbered, original, original_holding, originals}
 use Rattle.model.specs.Images.Described.{thread_holdings, untyped_holding}
-use Rattle.model.specs.Images.Image.{Image, Thread}
-use Rattle.model.specs.Images.Places.{control_slot}
+use Rattle.model.specs.Images.Image.{Image, Thread, no_buffer}
+use Rattle.model.specs.Images.Places.{control_slot, offset_of, original_slot}
+use Rattle.model.specs.Kernel.State.{buffer_slot, cspace_slot, vspace_slot}
+use Rattle.model.specs.Capabilities.CapabilityKinds.{with_payload}
+
+-- the capabilities in a thread's own slots
+abbrev pub cspace_holding : Image → Thread → Holding
+cspace_holding image t =
+    holding (cspace_slot (offset_of image t.header.tcb)) (with_payload (original image t.header.cnode) t.header.guard)
+    (Some (original_slot image t.header.cnode))
+
+abbrev pub vspace_holding : Image → Thread → Holding
+vspace_holding image t = holding (vspace_slot (offset_of image t.header.tcb)) (original image t.header.root) (Some (original_slot image t.header.root))
+
+abbrev pub buffer_holding : Image → Thread → Holding
+buffer_holding image t =
+    holding (buffer_slot (offset_of image t.header.tcb)) (original image t.header.buffer) (Some (original_slot image t.header.buffer))
 
 module _ (P : ℕ → Entry → Type 0) where
   abbrev Is : Holding → Type 0
@@ -102,8 +117,16 @@ module _ (P : ℕ → Entry → Type 0) where
       (each-mapped (listed_holding image) image.capabilities of.listed))
       (each-flat (thread_holdings image) image.threads of.thread)
 
-  pub each-two : (one two : Holding) → Is one → Is two → Each (one ∷ two ∷ [])
-  each-two one two first second = each-more one (two ∷ []) first (each-more two [] second each-none)
+  each-if : (h : Holding) (absent : Bool) → (absent ≡ false → Is h) → Each (if absent then [] else h ∷ [])
+  each-if h true one = each-none
+  each-if h false one = each-more h [] (one refl) each-none
+
+  -- a thread's own slots: its CNode, its root table, and its buffer, if it has one
+  pub each-own : (image : Image) (t : Thread) → Is (cspace_holding image t) → Is (vspace_holding image t)
+      → ((t.header.buffer == no_buffer) ≡ false → Is (buffer_holding image t)) → Each (thread_holdings image t)
+  each-own image t cspace vspace buffer =
+      each-more (cspace_holding image t) (vspace_holding image t ∷ buffer_holdings image t) cspace
+      (each-more (vspace_holding image t) (buffer_holdings image t) vspace (each-if (buffer_holding image t) (t.header.buffer == no_buffer) buffer))
 
   -- what a slot of the described state holds that is open
   pub each-slot : (image : Image) → OfSections image → (slot : ℕ) (held : Entry) → (described image).slots slot ≡ Some held → (held ≡ empty_entry) ⊎ P slot held

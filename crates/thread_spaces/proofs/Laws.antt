@@ -1,8 +1,8 @@
 -- What the crates above use of these proofs.
 pub use Rattle.thread_spaces.proofs.BootParents.{find-passed, negated, original-below}
 pub use Rattle.thread_spaces.proofs.DescribedSlots.{all-within, boot-holds, buffer-shown, capability-shown, from-loaded, listed-shown, listed-valid}
-pub use Rattle.thread_spaces.proofs.DescribedSlots.{parent-shown, root-shown}
-pub use Rattle.thread_spaces.proofs.EachHolding.{OfSections, each-slot, each-two}
+pub use Rattle.thread_spaces.proofs.DescribedSlots.{no_buffer-shown, parent-shown, root-shown}
+pub use Rattle.thread_spaces.proofs.EachHolding.{OfSections, each-slot, each-own}
 pub use Rattle.thread_spaces.proofs.GivenRoots.{member-any, root-reached}
 pub use Rattle.thread_spaces.proofs.ListedCapabilities.{listed-handler, listed-object, original-plain}
 pub use Rattle.thread_spaces.proofs.ListedMappings.{find-at, mappings-listed}

@@ -20,7 +20,7 @@ use Rattle.model.specs.Images.Places.{boot_slots, handler_slot}
 use Rattle.model.specs.Kernel.State.{line_slot}
 use Rattle.typestate.specs.Spaces.{HeldInBoot}
 use Rattle.thread_spaces.proofs.DescribedSlots.{all-within, boot-holds, capability-shown, from-loaded}
-use Rattle.thread_spaces.proofs.EachHolding.{OfSections, each-slot, each-two}
+use Rattle.thread_spaces.proofs.EachHolding.{OfSections, each-slot, each-own}
 
 module _ (image : Image) (fits : whole_image.fits image ≡ true) (well : IsWellFormed image) (line : ℕ) (real : line ≤ 63) where
   abbrev IsBound : ℕ → Entry → Type 0
@@ -62,7 +62,8 @@ module _ (image : Image) (fits : whole_image.fits image ≡ true) (well : IsWell
         omega (arith, behind, same, real));
     thread = λ k t at.
         let behind = thread-behind image (is-fitting image fits) (are-formed image well) (all_loaded image) (all-within image) k t at in
-        each-two IsBound _ _ (λ same. absurd (omega (arith, behind, same, real))) (λ same. absurd (omega (arith, behind, same, real)));
+        each-own IsBound image t (λ same. absurd (omega (arith, behind, same, real))) (λ same. absurd (omega (arith, behind, same, real)))
+        (λ some same. absurd (omega (arith, behind, same, real)));
   }
 
   pub line-held : (capability_at (described image).slots (line_slot image.header.boot_radix line) ≡ Empty) ⊎ HeldInBoot image (is_handler_of line)

@@ -9,8 +9,8 @@ use Rattle.std.proofs.lemmas.Option.{none-some, same_Some, slice_get_within}
 use Rattle.format_laws.specs.Fitting.{FrameFits, IsFitting, TableFits, ThreadFits}
 use Rattle.format_laws.proofs.Laws.{is-fitting}
 use Rattle.soundness.specs.boot_laws.Loading.{all_loaded, is_moved, original_so_far}
-use Rattle.soundness.proofs.Laws.{AreFormed, CapabilityKept, CountsAreLengths, ReadsBoot, TableKept, ThreadKept, are-formed, boot-slots-suffice, counts-are}
-use Rattle.soundness.proofs.Laws.{first_of_type, limited-frame, limited-table, mapped_by, offsets-apart, original-untyped, range-from}
+use Rattle.soundness.proofs.Laws.{AreFormed, BufferKept, CapabilityKept, CountsAreLengths, ReadsBoot, TableKept, ThreadKept, are-formed, boot-slots-suffice, counts-are}
+use Rattle.soundness.proofs.Laws.{buffer-kept, first_of_type, limited-frame, limited-table, mapped_by, offsets-apart, original-untyped, range-from}
 use Rattle.model.specs.declared.capabilities.Cap.{Cap}
 use Rattle.model.specs.declared.capabilities.Cap.TheVariants.{Empty, Untyped, Endpoint, Notification, CNode, Frame, PageTable, Tcb, RootTable, InterruptControl}
 use Rattle.model.specs.declared.capabilities.Cap.TheVariants.{InterruptHandler}
@@ -21,7 +21,7 @@ use Rattle.model.specs.declared.slot_entries.Entry.{Entry}
 use Rattle.model.specs.Acceptance.Accepted.{IsWellFormed}
 use Rattle.model.specs.Acceptance.NotedKernel.{key_of}
 use Rattle.model.specs.Acceptance.ThreadRules.{reached}
-use Rattle.model.specs.Acceptance.WellFormed.{is_root_type, is_table_type, is_untyped_type, radix_of}
+use Rattle.model.specs.Acceptance.WellFormed.{is_frame_type, is_root_type, is_table_type, is_untyped_type, radix_of}
 use Rattle.model.specs.Capabilities.CapabilityKinds.{frame_mapping, table_mapping, with_payload}
 use Rattle.model.specs.Capabilities.Slots.{capability_at}
 use Rattle.model.specs.Images.Described.{binding_holding, described, frame_holding, handler_holding, listed_capability, notification_holding, original}
@@ -36,7 +36,7 @@ use Rattle.typestate.proofs.Laws.{decided}
 use Rattle.thread_spaces.specs.Given.{IsListed}
 use Rattle.thread_spaces.proofs.BootParents.{IsPassed, find-passed}
 use Rattle.thread_spaces.proofs.DescribedSlots.{boot-holds, capability-shown, from-loaded}
-use Rattle.thread_spaces.proofs.EachHolding.{OfSections, each-slot, each-two}
+use Rattle.thread_spaces.proofs.EachHolding.{OfSections, each-slot, each-own}
 use Rattle.thread_spaces.proofs.GivenCNodes.{root-radixed}
 use Rattle.thread_spaces.proofs.OwnPlaces.{boot-not-own, boot-room}
 
@@ -175,6 +175,17 @@ rooted-plain (Some NewFrame) is = refl
 rooted-plain (Some NewPageTable) is = absurd (let clash : false ≡ true = is in cc)
 rooted-plain (Some NewRootTable) is = refl
 
+framed-plain : (kind : Option NewObject) → is_frame_type kind ≡ true → is_table_type kind ≡ false
+framed-plain None is = refl
+framed-plain (Some (NewUntyped bits)) is = refl
+framed-plain (Some NewThread) is = refl
+framed-plain (Some NewEndpoint) is = refl
+framed-plain (Some NewNotification) is = refl
+framed-plain (Some (NewCNode r)) is = refl
+framed-plain (Some NewFrame) is = refl
+framed-plain (Some NewPageTable) is = absurd (let clash : false ≡ true = is in cc)
+framed-plain (Some NewRootTable) is = refl
+
 -- ---- the pages and regions of a thread
 
 module _ (image : Image) (t : Thread) (fits : whole_image.fits image ≡ true) (well : IsWellFormed image) (listed : IsListed image t) where
@@ -252,10 +263,11 @@ module _ (image : Image) (t : Thread) (fits : whole_image.fits image ≡ true) (
       notification = λ k i at. no-page (((notification_holding image (k, i)).1).capability) refl;
       binding = λ k i at. no-page (((binding_holding image (k, i)).1).capability) refl;
       listed = λ k c at. no-page (listed_capability image c) (listed-no-frame c);
-      thread = λ k u at. each-two PageListed _ _
+      thread = λ k u at. each-own PageListed image u
           (no-page (with_payload (original image u.header.cnode) u.header.guard)
           (payload-frame (original image u.header.cnode) u.header.guard ∙ original-no-frame u.header.cnode))
-          (no-page (original image u.header.root) (original-no-frame u.header.root));
+          (no-page (original image u.header.root) (original-no-frame u.header.root))
+          (λ some. no-page (original image u.header.buffer) (original-no-frame u.header.buffer));
     }
 
     page-of-slot : (slot : ℕ) → maps_page root page (capability_at (described image).slots slot) ≡ true → list_any (lists_page t page) image.frames ≡ true
@@ -366,12 +378,16 @@ module _ (image : Image) (t : Thread) (fits : whole_image.fits image ≡ true) (
       notification = λ k i at. no-region (((notification_holding image (k, i)).1).capability) refl;
       binding = λ k i at. no-region (((binding_holding image (k, i)).1).capability) refl;
       listed = λ k c at. no-region (listed_capability image c) (listed-no-table k c at);
-      thread = λ k u at. each-two RegionListed _ _
+      thread = λ k u at. each-own RegionListed image u
           (let cnode = cnode-plain k u at in no-region (with_payload (original image u.header.cnode) u.header.guard)
           (payload-table (original image u.header.cnode) u.header.guard ∙ original-no-table u.header.cnode cnode))
           (no-region (original image u.header.root)
           (original-no-table u.header.root
-          (rooted-plain (type_at image u.header.root) (ThreadKept.root (AreFormed.thread (are-formed image well) k u at)))));
+          (rooted-plain (type_at image u.header.root) (ThreadKept.root (AreFormed.thread (are-formed image well) k u at)))))
+          (λ some. no-region (original image u.header.buffer)
+          (original-no-table u.header.buffer
+          (framed-plain (type_at image u.header.buffer)
+          (BufferKept.frame (buffer-kept image k u (AreFormed.thread (are-formed image well) k u at) some)))));
     }
       where
         some-plain : (kind : Option NewObject) (r : Option ℕ) → radix_of kind ≡ r → is_some r ≡ true → is_table_type kind ≡ false

@@ -7,7 +7,7 @@ use Rattle.std.proofs.lemmas.List.{get_or_past}
 use Rattle.std.proofs.lemmas.Nat.{pow_pos}
 use Rattle.std.proofs.lemmas.Option.{none-some, same_Some, slice_get_within}
 use Rattle.format_laws.specs.Fitting.{CapabilityFits, FrameFits, InterruptFits, IsFitting, ObjectFits, ThreadFits}
-use Rattle.soundness.proofs.Laws.{AreFormed, boot-slots-suffice, object-at}
+use Rattle.soundness.proofs.Laws.{AreFormed, BufferKept, boot-slots-suffice, buffer-kept, frame-listed, object-at}
 use Rattle.model.specs.declared.entries.CapabilityEntry.{CapabilityEntry}
 use Rattle.model.specs.declared.entries.ObjectEntry.{ObjectEntry}
 use Rattle.model.specs.declared.slot_entries.Entry.{Entry}
@@ -16,7 +16,7 @@ use Rattle.model.specs.Capabilities.Slots.{parent_at}
 use Rattle.model.specs.Images.Described.{described, listed_capability, listed_parent}
 use Rattle.model.specs.Images.Image.{Image}
 use Rattle.model.specs.Images.Places.{boot_slots, handler_slot, interrupt_of, is_handler, object_at, original_slot, source_boot_slot}
-use Rattle.thread_spaces.proofs.EachHolding.{OfSections, each-slot, each-two}
+use Rattle.thread_spaces.proofs.EachHolding.{OfSections, each-slot, each-own}
 use Rattle.thread_spaces.proofs.DescribedSlots.{parent-shown}
 
 abbrev HangsInBoot : Image → ℕ → Entry → Type 0
@@ -69,9 +69,12 @@ module _ (image : Image) (fitting : IsFitting image) (formed : AreFormed image) 
         (let less : k < image.header.interrupts = subst (λ (n : ℕ). k < n) fitting.interrupts (slice_get_within image.interrupts k i at) in
         omega (arith, less, enough)) is;
     listed = λ k c at parent is. at-most _ parent (listed-parent-boot k c at) is;
-    thread = λ k t at. each-two (HangsInBoot image) _ _
+    thread = λ k t at. each-own (HangsInBoot image) image t
         (λ parent is. at-most _ parent (let less = ThreadFits.cnode (fitting.thread k t at) in omega (arith, less, enough)) is)
-        (λ parent is. at-most _ parent (let less = ThreadFits.root (fitting.thread k t at) in omega (arith, less, enough)) is);
+        (λ parent is. at-most _ parent (let less = ThreadFits.root (fitting.thread k t at) in omega (arith, less, enough)) is)
+        (λ some parent is. at-most _ parent
+        (let less = frame-listed image t.header.buffer fitting (BufferKept.frame (buffer-kept image k t (formed.thread k t at) some)) in
+        omega (arith, less, enough)) is);
   }
 
   -- what a slot was derived from is a boot slot

@@ -164,25 +164,13 @@ pub told_of : (rules : List Rule) (result : Result (Unit {0}) Refusal) (error re
     → Answers (first_broken rules) result
 told_of rules result error refusal is same answers = passed_on (first_broken rules) result refusal (is ∙ ap (λ (r : Refusal). Err r) same) answers
 
--- ---- two or three rules
+-- ---- a rule, and those after it
 
-pub first_of_two : (a b : Bool) (r s : Refusal) → a ≡ true → first_broken (refuse_if a r ∷ refuse_if b s ∷ []) ≡ Some r
-first_of_two a b r s is = ap (λ (x : Bool). first_broken (refuse_if x r ∷ refuse_if b s ∷ [])) is
+pub rule_broken : (b : Bool) (refusal : Refusal) (rules : List Rule) → b ≡ true → first_broken (refuse_if b refusal ∷ rules) ≡ Some refusal
+rule_broken b refusal rules is = ap (λ (x : Bool). first_broken (refuse_if x refusal ∷ rules)) is
 
-pub second_of_two : (a b : Bool) (r s : Refusal) → a ≡ false → b ≡ true → first_broken (refuse_if a r ∷ refuse_if b s ∷ []) ≡ Some s
-second_of_two a b r s kept is =
-    ap (λ (x : Bool). first_broken (refuse_if x r ∷ refuse_if b s ∷ [])) kept ∙ ap (λ (x : Bool). first_broken (refuse_if x s ∷ [])) is
-
-pub none_of_two : (a b : Bool) (r s : Refusal) → a ≡ false → b ≡ false → first_broken (refuse_if a r ∷ refuse_if b s ∷ []) ≡ None
-none_of_two a b r s kept is =
-    ap (λ (x : Bool). first_broken (refuse_if x r ∷ refuse_if b s ∷ [])) kept ∙ ap (λ (x : Bool). first_broken (refuse_if x s ∷ [])) is
-
-pub first_of_three : (a b c : Bool) (r s t : Refusal) → a ≡ true → first_broken (refuse_if a r ∷ refuse_if b s ∷ refuse_if c t ∷ []) ≡ Some r
-first_of_three a b c r s t is = ap (λ (x : Bool). first_broken (refuse_if x r ∷ refuse_if b s ∷ refuse_if c t ∷ [])) is
-
-pub later_of_three : (a b c : Bool) (r s t : Refusal) → a ≡ false →
-    first_broken (refuse_if a r ∷ refuse_if b s ∷ refuse_if c t ∷ []) ≡ first_broken (refuse_if b s ∷ refuse_if c t ∷ [])
-later_of_three a b c r s t is = ap (λ (x : Bool). first_broken (refuse_if x r ∷ refuse_if b s ∷ refuse_if c t ∷ [])) is
+pub rule_kept : (b : Bool) (refusal : Refusal) (rules : List Rule) → b ≡ false → first_broken (refuse_if b refusal ∷ rules) ≡ first_broken rules
+rule_kept b refusal rules is = ap (λ (x : Bool). first_broken (refuse_if x refusal ∷ rules)) is
 
 -- ---- the last phase, and all of them
 
@@ -250,6 +238,7 @@ pub only_memory : (breach : Option Refusal) (result : Result (Unit {0}) Refusal)
 only_memory breach (Ok x) none memory = none
 only_memory breach (Err refusal) none memory = inl memory
 
-pub ok_three : {A B C D : Type 0} (result : Result (Unit {0}) Refusal) → OnOk result A → OnOk result B → OnOk result C → (A → B → C → D) → OnOk result D
-ok_three (Ok x) a b c then = then a b c
-ok_three (Err refusal) a b c then = tt
+pub ok_four : {A B C D E : Type 0} (result : Result (Unit {0}) Refusal) → OnOk result A → OnOk result B → OnOk result C → OnOk result D → (A → B → C → D → E) →
+    OnOk result E
+ok_four (Ok x) a b c d then = then a b c d
+ok_four (Err refusal) a b c d then = tt

@@ -5,15 +5,17 @@ ghost use Rattle.std.specs.List.{list_all, list_any};
 ghost use Rattle.std.specs.Option.{option_map_or};
 ghost use Rattle.model.specs.declared.refusals.Refusal.TheVariants.{OutOfMemory};
 ghost use Rattle.model.specs.Acceptance.Rules.{first_broken};
-ghost use Rattle.model.specs.Acceptance.ThreadRules.{has_guard, holds_other_root, is_bad, is_code, is_in_use, is_member, program_end, reached, rules_of_thread, shares_cspace, shares_vspace, thread_rules};
+ghost use Rattle.model.specs.Acceptance.ThreadRules.{has_bad_buffer, has_guard, holds_other_root, is_bad, is_bad_buffer, is_code, is_in_use, is_member, program_end, reached, rules_of_thread, shares_cspace, shares_vspace, thread_rules};
 ghost use Rattle.model.specs.Acceptance.WellFormed.{executes, is_root_type, source_type};
 ghost use Rattle.model.specs.Images.Fills.{frame_at, program_pages};
 ghost use Rattle.model.specs.Kernel.AddressSpaces.{address_limit};
-ghost use Rattle.wellformed.specs.Answering.{AreEarlier, Answers, with_number};
+ghost use Rattle.wellformed.specs.Answering.{AreBuffers, AreEarlier, Answers, with_buffer, with_number};
 
 use crate::mappings::{ADDRESS_LIMIT, PAGE, executes};
 use crate::number_sets::NumberSet;
-use crate::object_types::{is_guard, is_root_table, is_thread, radix_of, source_type, type_at};
+use crate::object_types::{
+    is_frame, is_guard, is_root_table, is_thread, radix_of, source_type, type_at,
+};
 use crate::reach::reached;
 use image_reading::{ImageRef, ThreadRef, capability_of, frame_at, header_of, listed_in};
 use model::{CapabilityEntry, Refusal, ThreadHeader};
@@ -28,7 +30,12 @@ pub(crate) struct Earlier {
     roots: NumberSet,
     /// The CNodes that they reach.
     cnodes: NumberSet,
+    /// The frames of their message buffers.
+    buffers: NumberSet,
 }
+
+/// The number of the frame of a thread without a message buffer.
+const NO_BUFFER: u32 = u32::MAX;
 
 /// Whether the thread's root is a CNode, and its guard word is valid for it.
 fn has_guard(image: &ImageRef<'_>, thread: &ThreadRef<'_>) -> bool
@@ -139,6 +146,59 @@ fn shares_vspace(image: &ImageRef<'_>, root: u32, cnodes: &NumberSet, roots: &Nu
     roots.contains(root) || hold_other_root(image, cnodes, root)
 }
 
+/// Whether a capability has an object as its source.
+fn is_source(image: &ImageRef<'_>, object: u32) -> bool
+    ensures { result ≡ list_any (λ c. c.source == object) image.now.capabilities }
+{
+    for entry in image.capabilities() {
+        if entry.source == object {
+            return true;
+        }
+    }
+    false
+}
+
+/// Whether the image maps a frame with execute, under whatever root table.
+fn is_executed(image: &ImageRef<'_>, frame: u32) -> bool
+    ensures { result ≡ list_any (λ f. f.frame == frame && executes f) image.now.frames }
+{
+    for entry in image.frames() {
+        if entry.frame == frame && executes(entry) {
+            return true;
+        }
+    }
+    false
+}
+
+/// Whether a frame is no frame, an earlier thread's buffer, a capability's source, or code.
+fn is_bad_buffer(image: &ImageRef<'_>, number: u32, buffer: u32, buffers: &NumberSet) -> bool
+    requires { is_member buffer buffers.now ≡ list_any (λ u. u.header.buffer == buffer) (take number image.now.threads) }
+    ensures { result ≡ is_bad_buffer image.now number buffer }
+{
+    !is_frame(type_at(image, buffer))
+        || buffers.contains(buffer)
+        || is_source(image, buffer)
+        || is_executed(image, buffer)
+}
+
+/// Whether a thread has a message buffer that it may not have.
+#[tactic(auto, unfolding(model::specs::Acceptance::ThreadRules::has_bad_buffer))]
+fn has_bad_buffer(
+    image: &ImageRef<'_>,
+    number: u32,
+    thread: &ThreadRef<'_>,
+    buffers: &NumberSet,
+) -> bool
+    requires { AreBuffers (take number image.now.threads) buffers.now }
+    ensures { result ≡ has_bad_buffer image.now (record { number = number; thread = thread.now }) }
+{
+    let buffer = thread.header().buffer;
+    if buffer == NO_BUFFER {
+        return false;
+    }
+    is_bad_buffer(image, number, buffer, buffers)
+}
+
 /// Puts all numbers of a set into another.
 fn put_all(numbers: &NumberSet, into: &mut NumberSet) -> Result<(), Refusal>
     ensures put { OnOk result ((n : ℕ) → is_member n into.new ≡ (is_member n into.old || is_member n numbers.now)) }
@@ -150,6 +210,17 @@ fn put_all(numbers: &NumberSet, into: &mut NumberSet) -> Result<(), Refusal>
     Ok(())
 }
 
+/// Puts a thread's buffer, if it has one, into the set of those of earlier threads.
+fn note_buffer(buffer: u32, buffers: &mut NumberSet) -> Result<(), Refusal>
+    ensures put { OnOk result (buffers.new ≡ with_buffer buffer buffers.old) }
+    ensures memory { IfErr result (λ refusal. refusal ≡ OutOfMemory) }
+{
+    if buffer == NO_BUFFER {
+        return Ok(());
+    }
+    buffers.insert(buffer)
+}
+
 /// One earlier thread more, with the CNodes that it reaches.
 fn note_thread(
     header: &ThreadHeader,
@@ -158,11 +229,13 @@ fn note_thread(
 ) -> Result<(), Refusal>
     ensures tcbs { OnOk result (earlier.new.tcbs ≡ with_number header.now.tcb earlier.old.tcbs) }
     ensures roots { OnOk result (earlier.new.roots ≡ with_number header.now.root earlier.old.roots) }
+    ensures buffers { OnOk result (earlier.new.buffers ≡ with_buffer header.now.buffer earlier.old.buffers) }
     ensures cnodes { OnOk result ((n : ℕ) → is_member n earlier.new.cnodes ≡ (is_member n earlier.old.cnodes || is_member n found.now)) }
     ensures memory { IfErr result (λ refusal. refusal ≡ OutOfMemory) }
 {
     earlier.tcbs.insert(header.tcb)?;
     earlier.roots.insert(header.root)?;
+    note_buffer(header.buffer, &mut earlier.buffers)?;
     put_all(found, &mut earlier.cnodes)
 }
 
@@ -175,9 +248,9 @@ fn check_thread(
     earlier: &mut Earlier,
 ) -> Result<(), Refusal>
     requires there { slice_get image.now.threads number ≡ Some thread.now }
-    requires earlier { AreEarlier image.now (take number image.now.threads) earlier.old.tcbs earlier.old.roots earlier.old.cnodes }
+    requires earlier { AreEarlier image.now (take number image.now.threads) earlier.old.tcbs earlier.old.roots earlier.old.cnodes earlier.old.buffers }
     ensures rules { Answers (first_broken (rules_of_thread image.now (record { number = number; thread = thread.now }))) result }
-    ensures earlier { OnOk result (AreEarlier image.now (take (number + 1) image.now.threads) earlier.new.tcbs earlier.new.roots earlier.new.cnodes) }
+    ensures earlier { OnOk result (AreEarlier image.now (take (number + 1) image.now.threads) earlier.new.tcbs earlier.new.roots earlier.new.cnodes earlier.new.buffers) }
 {
     let header = thread.header();
     if is_bad(image, number, thread, &earlier.tcbs) {
@@ -190,6 +263,9 @@ fn check_thread(
     if shares_vspace(image, header.root, &found, &earlier.roots) {
         return Err(Refusal::SharedVSpace { thread: number });
     }
+    if has_bad_buffer(image, number, thread, &earlier.buffers) {
+        return Err(Refusal::BadBuffer { thread: number });
+    }
     note_thread(&header, &found, earlier)
 }
 
@@ -200,7 +276,7 @@ fn check_each_thread(
     image: &ImageRef<'_>,
     earlier: &mut Earlier,
 ) -> Result<(), Refusal>
-    requires { AreEarlier image.now [] earlier.old.tcbs earlier.old.roots earlier.old.cnodes }
+    requires { AreEarlier image.now [] earlier.old.tcbs earlier.old.roots earlier.old.cnodes earlier.old.buffers }
     ensures { Answers (first_broken (thread_rules image.now)) result }
 {
     let _ = header_of(image);
@@ -220,6 +296,7 @@ pub(crate) fn check_threads(alloc: Global, image: &ImageRef<'_>) -> Result<(), R
         tcbs: NumberSet::new(alloc),
         roots: NumberSet::new(alloc),
         cnodes: NumberSet::new(alloc),
+        buffers: NumberSet::new(alloc),
     };
     check_each_thread(alloc, image, &mut earlier)
 }

@@ -1,7 +1,7 @@
 -- Authority: what an event may change. A thread holds what the slots of the CNodes that the image gives it hold, before
 -- its step.
 -- seL4 Reference Manual, "Capability-based Access Control"; the clauses are our own.
-use Rattle.std.specs.Prelude.{ℕ, ◌≡◌, ◌≢◌, ◌+◌, ◌^◌, ◌<◌, ◌≤◌, ◌⊎◌, Bool, true, false, IsSome, IsTrue, bit_and, bit_or, Contains, Option, Some, None, Ok, List}
+use Rattle.std.specs.Prelude.{ℕ, ◌≡◌, ◌≢◌, ◌+◌, ◌*◌, ◌^◌, ◌<◌, ◌≤◌, ◌⊎◌, Bool, true, false, IsSome, IsTrue, bit_and, bit_or, Contains, Option, Some, None, Ok, List}
 use Rattle.std.specs.Prelude.{[], ◌∷◌, ◌++◌}
 use Rattle.std.specs.List.{list_any}
 use Rattle.model.specs.declared.capabilities.Cap.{Cap}
@@ -24,10 +24,10 @@ use Rattle.model.specs.Kernel.Deliveries.{Reason, ReceivesFrom, SendsTo, Signals
 use Rattle.model.specs.Kernel.Interrupts.{binding}
 use Rattle.model.specs.Shared.Lists.{times_in, without}
 use Rattle.model.specs.Kernel.Kinds.{Names, frame_around, kind_at}
-use Rattle.model.specs.Kernel.Messages.{a0}
+use Rattle.model.specs.Kernel.Messages.{a0, buffer_of, length_between, register_words}
 use Rattle.model.specs.Kernel.Retype.{NewObject, NewFrame, object, object_bits}
 use Rattle.model.specs.Kernel.Scheduling.{current, full_slice, head_of, is_runnable}
-use Rattle.model.specs.Kernel.State.{State, Runnable, Blocked, ThreadObject, EndpointObject, NotificationObject, EndpointState, NotificationState, Sender}
+use Rattle.model.specs.Kernel.State.{State, Runnable, Blocked, AwaitsReply, ThreadObject, EndpointObject, NotificationObject, EndpointState, NotificationState, Sender}
 use Rattle.model.specs.Kernel.State.{Sent, BySend}
 use Rattle.model.specs.Kernel.State.{ByCall, ByFault, ThreadState, endpoint_at, notification_at, thread_at}
 use Rattle.model.specs.Kernel.Steps.{named_slot}
@@ -222,7 +222,19 @@ pub data ObjectChange (image : Image) (t : Thread) (s after : State) (offset : �
   ends : (kind : NewObject) → kind_at s offset ≡ Some kind → after.objects offset ≡ None
       → Holds image t s (IsUntypedAround offset (2 ^ object_bits kind)) → ObjectChange image t s after offset
 
--- a byte changes: the thread wrote it into a frame that stays, or it comes with a frame, as 0, or goes with it
+-- The deliveries of a step of the thread from one thread to another, one of which it is: to the first receiver of the endpoint that its
+-- call names; from the first sender of one, if that reports no fault, which is in registers alone; or to its caller.
+pub data Delivers (image : Image) (t : Thread) (s after : State) (from to : ℕ) : Type 0 where
+  sends : (endpoint badge : ℕ) → from ≡ self_of image t → CallNames image t s (SendsTo endpoint badge)
+      → (endpoint_at s endpoint).receivers ≡ to ∷ (endpoint_at after endpoint).receivers → Delivers image t s after from to
+  receives : (endpoint : ℕ) (first : Sender) → to ≡ self_of image t → CallNames image t s (ReceivesFrom endpoint)
+      → (endpoint_at s endpoint).senders ≡ first ∷ (endpoint_at after endpoint).senders → first.thread ≡ from
+      → (first.sent ≡ BySend) ⊎ (first.sent ≡ ByCall) → Delivers image t s after from to
+  replies : from ≡ self_of image t → (thread_at s from).caller ≡ Some to → (thread_at s to).status ≡ AwaitsReply
+      → (thread_at after to).status ≡ Runnable → Delivers image t s after from to
+
+-- A byte changes: the thread wrote it into a frame that stays; or it comes with a frame, as 0, or goes with it; or it is of a word from the
+-- eighth on of a message that is delivered, in the buffer of who gets it, which stays, and becomes what the sender's buffer holds.
 pub data ByteChange (image : Image) (t : Thread) (s after : State) (place : ℕ) : Type 0 where
   written : IsSome (s.bytes place) → IsSome (after.bytes place) → (address : ℕ)
       → (content_of s (self_of image t)).place Store address ≡ Some place → ByteChange image t s after place
@@ -230,6 +242,9 @@ pub data ByteChange (image : Image) (t : Thread) (s after : State) (place : ℕ)
       → after.bytes place ≡ Some 0 → ByteChange image t s after place
   goes_with_frame : kind_at s (frame_around place) ≡ Some NewFrame → kind_at after (frame_around place) ≢ Some NewFrame
       → after.bytes place ≡ None → ByteChange image t s after place
+  delivered : IsSome (s.bytes place) → IsSome (after.bytes place) → (from to index source target : ℕ) → Delivers image t s after from to
+      → buffer_of s from ≡ Some source → buffer_of s to ≡ Some target → 4 * register_words ≤ index → index < 4 * length_between s from to
+      → place ≡ target + index → after.bytes place ≡ s.bytes (source + index) → ByteChange image t s after place
 
 -- ---- the ready list
 
@@ -268,7 +283,7 @@ pub record WithinAuthority (image : Image) (t : Thread) (s after : State) : Type
   pub memory_bits : after.memory_bits ≡ s.memory_bits
   -- the boot CNode keeps its size
   pub boot_radix : after.boot_radix ≡ s.boot_radix
-  -- a byte changes only where the thread wrote it, or with its frame
+  -- a byte changes only where the thread wrote it, with its frame, or by a message that is delivered
   pub bytes : (place : ℕ) → s.bytes place ≢ after.bytes place → ByteChange image t s after place
   -- objects appear and end only inside untyped memory that it holds
   pub objects : (offset : ℕ) → kind_at s offset ≢ kind_at after offset → ObjectChange image t s after offset

@@ -4,15 +4,15 @@ use Rattle.std.specs.Prelude.{fold, length, take, if◌then◌else◌}
 use Rattle.std.specs.Option.{option_map_or}
 use Rattle.std.specs.List.{list_any, list_all}
 use Rattle.model.specs.declared.entries.CapabilityEntry.{CapabilityEntry}
-use Rattle.model.specs.declared.refusals.Refusal.TheVariants.{SharedCSpace, SharedVSpace, BadThread}
+use Rattle.model.specs.declared.refusals.Refusal.TheVariants.{SharedCSpace, SharedVSpace, BadThread, BadBuffer}
 use Rattle.model.specs.Kernel.AddressSpaces.{address_limit, page_size}
 use Rattle.model.specs.Capabilities.CapabilityKinds.{is_guard_word}
 use Rattle.model.specs.Images.Described.{Numbered, numbered_threads}
 use Rattle.model.specs.Images.Fills.{frame_at, program_pages}
-use Rattle.model.specs.Images.Image.{Image, Thread}
+use Rattle.model.specs.Images.Image.{Image, Thread, no_buffer}
 use Rattle.model.specs.Images.Places.{type_at}
 use Rattle.model.specs.Acceptance.Rules.{Rule, refuse_if}
-use Rattle.model.specs.Acceptance.WellFormed.{executes, is_root_type, is_thread_type, radix_of, source_type}
+use Rattle.model.specs.Acceptance.WellFormed.{executes, is_frame_type, is_root_type, is_thread_type, radix_of, source_type}
 
 abbrev pub is_member : ℕ → List ℕ → Bool
 is_member number numbers = list_any (nat_eq number) numbers
@@ -79,10 +79,19 @@ unfoldable pub shares_vspace : Image → Numbered → Bool
 shares_vspace image t =
     list_any (λ u. u.header.root == t.thread.header.root) (take t.number image.threads) || holds_other_root image t.thread
 
+-- no frame, an earlier thread's buffer, a capability's source, or a frame that the image maps with execute, under whatever root table
+abbrev pub is_bad_buffer : Image → ℕ → ℕ → Bool
+is_bad_buffer image number buffer =
+    not (is_frame_type (type_at image buffer)) || list_any (λ u. u.header.buffer == buffer) (take number image.threads)
+    || list_any (λ c. c.source == buffer) image.capabilities || list_any (λ f. f.frame == buffer && executes f) image.frames
+
+unfoldable pub has_bad_buffer : Image → Numbered → Bool
+has_bad_buffer image t = not (t.thread.header.buffer == no_buffer) && is_bad_buffer image t.number t.thread.header.buffer
+
 abbrev pub rules_of_thread : Image → Numbered → List Rule
 rules_of_thread image t =
     refuse_if (is_bad image t) (BadThread t.number) ∷ refuse_if (shares_cspace image t) (SharedCSpace t.number)
-    ∷ refuse_if (shares_vspace image t) (SharedVSpace t.number) ∷ []
+    ∷ refuse_if (shares_vspace image t) (SharedVSpace t.number) ∷ refuse_if (has_bad_buffer image t) (BadBuffer t.number) ∷ []
 
 unfoldable pub thread_rules : Image → List Rule
 thread_rules image = flat_map (rules_of_thread image) (numbered_threads image)

@@ -10,9 +10,9 @@ use Rattle.model.specs.declared.entries.UntypedEntry.{UntypedEntry}
 use Rattle.model.specs.Kernel.AddressSpaces.{page_size}
 use Rattle.model.specs.Images.Described.{Numbered, numbered, numbered_threads, start_of}
 use Rattle.model.specs.Images.Fills.{Fill, content_fill, frame_at, program_fills, program_pages}
-use Rattle.model.specs.Images.Image.{Image, Thread, ImageContent}
+use Rattle.model.specs.Images.Image.{Image, Thread, ImageContent, no_buffer}
 use Rattle.model.specs.Kernel.CallForms.{configure_label, copy_label, get_handler_label, map_frame_label, map_table_label, mint_label, move_label, resume_label}
-use Rattle.model.specs.Kernel.CallForms.{retype_label, set_notification_label, set_priority_label, set_register_label}
+use Rattle.model.specs.Kernel.CallForms.{retype_label, set_buffer_label, set_notification_label, set_priority_label, set_register_label}
 use Rattle.model.specs.Images.Places.{control_slot, frame_copy_slot, handler_slot, notification_copy_slot, object_at, original_slot, source_boot_slot, type_at}
 use Rattle.model.specs.Acceptance.WellFormed.{is_frame_type, is_root_type, is_untyped_type, source_type}
 
@@ -84,14 +84,20 @@ signal_calls image i =
     loader_call boot_cnode mint_label (boot_argument copy ++ boot_argument (original_slot image (i.1).notification) ++ 11 ∷ (i.1).badge ∷ [])
     ∷ loader_call (handler_slot image i.0) set_notification_label (boot_argument copy) ∷ []
 
--- Configure with the thread's guard word as a sixth word, SetPriority, SetRegister for the pc and each listed register, Resume
+-- SetBuffer, of a thread that has a buffer: from the frame's original
+abbrev pub buffer_calls : Image → Thread → List LoaderCall
+buffer_calls image t =
+    if t.header.buffer == no_buffer then []
+    else loader_call (original_slot image t.header.tcb) set_buffer_label (boot_argument (original_slot image t.header.buffer)) ∷ []
+
+-- Configure with the thread's guard word as a sixth word, SetBuffer, SetPriority, SetRegister for the pc and each listed register, Resume
 abbrev pub thread_calls : Image → Thread → List LoaderCall
 thread_calls image t =
     let tcb = original_slot image t.header.tcb in
     let cspace = boot_argument (original_slot image t.header.cnode) in
     let vspace = boot_argument (original_slot image t.header.root) in
-    (loader_call tcb configure_label ((t.header.fault ∷ cspace) ++ vspace ++ t.header.guard ∷ []) ∷ loader_call tcb set_priority_label (t.header.priority ∷ [])
-    ∷ loader_call tcb set_register_label (0 ∷ start_of t ∷ []) ∷ [])
+    (loader_call tcb configure_label ((t.header.fault ∷ cspace) ++ vspace ++ t.header.guard ∷ []) ∷ buffer_calls image t)
+    ++ (loader_call tcb set_priority_label (t.header.priority ∷ []) ∷ loader_call tcb set_register_label (0 ∷ start_of t ∷ []) ∷ [])
     ++ map (λ r. loader_call tcb set_register_label (r.register ∷ r.value ∷ [])) t.registers ++ loader_call tcb resume_label [] ∷ []
 
 -- ---- fills

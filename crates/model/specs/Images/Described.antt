@@ -15,7 +15,7 @@ use Rattle.model.specs.declared.slot_entries.Entry.{Entry}
 use Rattle.model.specs.Kernel.AddressSpaces.{page_size, region_pages}
 use Rattle.model.specs.Capabilities.CapabilityKinds.{is_untyped, with_payload, with_table_mapping}
 use Rattle.model.specs.Images.Fills.{described_bytes}
-use Rattle.model.specs.Images.Image.{Image, Thread}
+use Rattle.model.specs.Images.Image.{Image, Thread, no_buffer}
 use Rattle.model.specs.Images.Places.{control_slot, cnode_slot, frame_copy_slot, handler_slot, interrupt_of, is_handler, notification_copy_slot, object_at}
 use Rattle.model.specs.Images.Places.{offset_of, original_slot, source_boot_slot, type_at, watermark_of}
 use Rattle.model.specs.Kernel.Removal.{slot_count}
@@ -23,7 +23,7 @@ use Rattle.model.specs.Kernel.Retype.{first_capability, object}
 use Rattle.model.specs.Capabilities.Rights.{rights, endpoint_rights, frame_rights, mapping_rights}
 use Rattle.model.specs.Kernel.Scheduling.{full_slice}
 use Rattle.model.specs.Capabilities.Slots.{Slots, empty_entry, is_within}
-use Rattle.model.specs.Kernel.State.{State, ThreadState, Object, ThreadObject, Runnable, boot_area_slots, cspace_slot, line_slot, vspace_slot, slot_of}
+use Rattle.model.specs.Kernel.State.{State, ThreadState, Object, ThreadObject, Runnable, boot_area_slots, buffer_slot, cspace_slot, line_slot, vspace_slot, slot_of}
 use Rattle.model.specs.Machine.ProgramMemory.{RegisterFile}
 
 -- a full slot
@@ -131,12 +131,18 @@ abbrev pub listed_holding : Image → CapabilityEntry → Holding
 listed_holding image c =
     holding (cnode_slot image c.cnode c.index) (listed_capability image c) (Some (listed_parent image c))
 
--- a thread's own two slots: its CNode, with the thread's guard word, and its root table
+-- the capability to a thread's buffer, if it has one: a child of the original
+abbrev pub buffer_holdings : Image → Thread → List Holding
+buffer_holdings image t =
+    if t.header.buffer == no_buffer then []
+    else holding (buffer_slot (offset_of image t.header.tcb)) (original image t.header.buffer) (Some (original_slot image t.header.buffer)) ∷ []
+
+-- a thread's own slots: its CNode, with the thread's guard word, its root table, and its buffer
 abbrev pub thread_holdings : Image → Thread → List Holding
 thread_holdings image t =
     let tcb = offset_of image t.header.tcb in
     holding (cspace_slot tcb) (with_payload (original image t.header.cnode) t.header.guard) (Some (original_slot image t.header.cnode))
-    ∷ holding (vspace_slot tcb) (original image t.header.root) (Some (original_slot image t.header.root)) ∷ []
+    ∷ holding (vspace_slot tcb) (original image t.header.root) (Some (original_slot image t.header.root)) ∷ buffer_holdings image t
 
 -- ---- all slots
 

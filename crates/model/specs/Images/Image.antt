@@ -119,7 +119,7 @@ header_of (
 
 -- the latest version of image files that is read
 abbrev pub latest_version : ℕ
-latest_version = 2
+latest_version = 3
 
 -- the versions whose images have promises, and those whose threads have buffers
 abbrev pub has_promises : ℕ → Bool

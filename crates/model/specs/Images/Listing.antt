@@ -1,6 +1,6 @@
 -- The text of an image: one line for each of its entries, by which it can be built again.
-use Rattle.std.specs.Prelude.{ℕ, suc, ◌==◌, ◌||◌, ℤ, pos, negsuc, codes, decimal, List, [], ◌∷◌, ◌++◌, map, flat_map, slice_index, if◌then◌else◌}
-use Rattle.std.specs.List.{join_with_byte, range_with_len}
+use Rattle.std.specs.Prelude.{ℕ, suc, ◌==◌, ◌||◌, Bool, not, ℤ, pos, negsuc, codes, decimal, List, [], ◌∷◌, ◌++◌, map, flat_map, slice_index, if◌then◌else◌}
+use Rattle.std.specs.List.{join_with_byte, list_any, range_with_len}
 use Rattle.std.specs.Option.{option_map_or}
 use Rattle.model.specs.declared.entries.UntypedEntry.{UntypedEntry}
 use Rattle.model.specs.declared.entries.ObjectEntry.{ObjectEntry}
@@ -14,7 +14,7 @@ use Rattle.model.specs.declared.entries.RangeEntry.{RangeEntry}
 use Rattle.model.specs.declared.entries.SlotEntry.{SlotEntry}
 use Rattle.model.specs.declared.entries.TermEntry.{TermEntry}
 use Rattle.model.specs.Images.Described.{numbered}
-use Rattle.model.specs.Images.Image.{Image, Thread, ImageContent, ImagePromise, StateRecord, no_parent}
+use Rattle.model.specs.Images.Image.{Image, Thread, ImageContent, ImagePromise, StateRecord, no_buffer, no_parent}
 use Rattle.model.specs.Acceptance.NotedStates.{record_of}
 use Rattle.model.specs.Images.Places.{interrupt_of, is_handler}
 
@@ -109,6 +109,10 @@ thread_line t =
     line (codes "thread" ∷ object_name t.header.tcb ∷ object_name t.header.cnode ∷ decimal t.header.guard ∷ object_name t.header.root
     ∷ decimal t.header.priority ∷ decimal t.header.budget ∷ decimal t.header.fault ∷ codes "l" ∷ decimal t.header.base ∷ [])
 
+-- the thread's buffer, if it has one
+abbrev pub buffer_lines : Thread → List Text
+buffer_lines t = if t.header.buffer == no_buffer then [] else line (codes "buffer" ∷ object_name t.header.buffer ∷ []) ∷ []
+
 abbrev pub register_line : RegisterEntry → Text
 register_line r = line (codes "reg" ∷ register_name r.register ∷ decimal r.value ∷ [])
 
@@ -144,15 +148,21 @@ point_lines t point =
 
 abbrev pub thread_lines : Thread → List Text
 thread_lines t =
-    (thread_line t ∷ map register_line t.registers) ++ flat_map (point_lines t) (range_with_len 0 t.header.words)
+    (thread_line t ∷ buffer_lines t) ++ map register_line t.registers ++ flat_map (point_lines t) (range_with_len 0 t.header.words)
     ++ codes "end" ∷ []
 
 -- ---- the whole
 
--- the version of an image with such promises: the first that has a field for them; in another version it has no listing
-abbrev pub version_listed : List ImagePromise → ℕ
-version_listed [] = 1
-version_listed (p ∷ promises) = 2
+-- the version of an image with such promises and threads: the first that has fields for them; in another version it has no listing
+abbrev pub some_buffered : List Thread → Bool
+some_buffered threads = list_any (λ t. not (t.header.buffer == no_buffer)) threads
+
+abbrev pub version_promised : List ImagePromise → ℕ
+version_promised [] = 1
+version_promised (p ∷ promises) = 2
+
+abbrev pub version_listed : List ImagePromise → List Thread → ℕ
+version_listed promises threads = if some_buffered threads then 3 else version_promised promises
 
 unfoldable pub listing_lines : Image → List Text
 listing_lines image =

@@ -1,19 +1,21 @@
--- Calls on threads by the loader: Configure with a guard word, SetPriority, SetRegister and Resume, on a thread that does not run.
+-- Calls on threads by the loader: Configure with a guard word, SetBuffer, SetPriority, SetRegister and Resume, on a thread that does not run.
 use Rattle.std.proofs.Common.{ℕ, ◌≡◌, ◌∙◌, ◌==◌, ◌%◌, ◌^◌, ◌<◌, ◌≤◌, ◌&&◌, ◌||◌, true, false, not, nat_le, nat_lt, if◌then◌else◌, Some, None, Result, Ok, []}
 use Rattle.std.proofs.Common.{◌∷◌, refl, ap}
 use Rattle.std.proofs.lemmas.Bool.{and_from, le-leb, lt-ltb}
 use Rattle.model.specs.Capabilities.CapabilityKinds.{cnode_of, is_guard_word, root_of}
+use Rattle.model.specs.Capabilities.Rights.{frame_rights}
 use Rattle.model.specs.Capabilities.Slots.{capability_at, depth_of, inserted, is_empty, is_full}
 use Rattle.model.specs.Images.Boot.{boot_root, made, performed}
 use Rattle.model.specs.Images.BootCalls.{loader_call}
 use Rattle.model.specs.Kernel.Arguments.{source_slot, wanted}
-use Rattle.model.specs.Kernel.CallForms.{configure_label, decode, resume_label, set_priority_label, set_register_label}
+use Rattle.model.specs.Kernel.CallForms.{configure_label, decode, resume_label, set_buffer_label, set_priority_label, set_register_label}
 use Rattle.model.specs.Kernel.Invocations.{configure_with_guard, invoke}
 use Rattle.model.specs.Kernel.Scheduling.{at_tail, is_runnable, leaves, unready, wake}
 use Rattle.model.specs.Kernel.Soundness.{HasShape}
-use Rattle.model.specs.Kernel.State.{State, cspace_slot, thread_at, vspace_slot, with_slots, with_thread}
-use Rattle.model.specs.Kernel.ThreadCalls.{configure, given_guard_fits, resume, set_priority, set_register, with_guard, with_register}
-use Rattle.model.specs.declared.capabilities.Cap.TheVariants.{CNode, RootTable, Tcb}
+use Rattle.model.specs.Kernel.State.{State, buffer_slot, cspace_slot, thread_at, vspace_slot, with_slots, with_thread}
+use Rattle.model.specs.Kernel.ThreadCalls.{buffer_frame, configure, given_guard_fits, resume, set_buffer, set_priority, set_register, with_guard}
+use Rattle.model.specs.Kernel.ThreadCalls.{with_register}
+use Rattle.model.specs.declared.capabilities.Cap.TheVariants.{CNode, Frame, RootTable, Tcb}
 use Rattle.model.specs.declared.errors.KError.{KError}
 use Rattle.model.specs.declared.errors.KError.TheVariants.{AlignmentError, DeleteFirst, IllegalOperation, InvalidCapability, RangeError}
 use Rattle.soundness.proofs.boot_laws.CallLookups.{boot-source, boot_name, goes, made-there, passes, slot_call}
@@ -24,6 +26,11 @@ configure-called : (s : State) (slot thread fault cspace vspace guard : ℕ)
     ≡ configure s (boot_root s.boot_radix) thread (Some guard) fault (boot_name cspace) (boot_name vspace)
 unfolding configure_with_guard
 configure-called s slot thread fault cspace vspace guard = refl
+
+buffer-called : (s : State) (slot thread source : ℕ)
+    → performed s set_buffer_label (source ∷ 32 ∷ []) (slot_call s slot (Tcb thread)) ≡ set_buffer s (boot_root s.boot_radix) thread (boot_name source)
+unfolding invoke decode
+buffer-called s slot thread source = refl
 
 priority-called : (s : State) (slot thread priority : ℕ) → performed s set_priority_label (priority ∷ []) (slot_call s slot (Tcb thread)) ≡ set_priority s
     thread priority
@@ -91,6 +98,29 @@ configure-made s slot thread fault cspace cnode radix vspace root guard shape is
     ∙ ap (λ c. Ok (with_thread
     (with_slots s (inserted (inserted s.slots (cspace_slot thread) (CNode cnode radix guard) (Some cspace)) (vspace_slot thread) c (Some vspace))) thread
     (record (thread_at s thread) { fault_address = fault }))) asked.second_holds))))))))
+
+-- ---- SetBuffer
+
+-- a frame's original and the thread's slot for its buffer
+pub record SetsBuffer (s : State) (thread source frame : ℕ) : Type 0 where
+  pub inside : source < 2 ^ s.boot_radix
+  pub holds : capability_at s.slots source ≡ Frame frame frame_rights None
+  pub shallow : depth_of s.slots source < 255
+  pub free : is_full s.slots (buffer_slot thread) ≡ false
+
+pub buffer-made : (s : State) (slot thread source frame : ℕ) → HasShape s → IsThreadSlot s slot thread → SetsBuffer s thread source frame
+    → made s (loader_call slot set_buffer_label (source ∷ 32 ∷ []))
+    ≡ Ok (with_slots s (inserted s.slots (buffer_slot thread) (Frame frame frame_rights None) (Some source)))
+buffer-made s slot thread source frame shape is asked =
+    let held = capability_at s.slots source in
+    let end : Result State KError = Ok (with_slots s (inserted s.slots (buffer_slot thread) (Frame frame frame_rights None) (Some source))) in
+    made-there s shape slot is.inside set_buffer_label (source ∷ 32 ∷ []) (Tcb thread) is.holds refl
+    ∙ buffer-called s slot thread source
+    ∙ goes (source_slot s.slots (boot_root s.boot_radix) (boot_name source)) _ source end
+    (boot-source s shape source asked.inside (ap (λ c. not (is_empty c)) asked.holds))
+    (goes (wanted (buffer_frame held) InvalidCapability) _ frame end (ap (λ c. wanted (buffer_frame c) InvalidCapability) asked.holds)
+    (passes (not (is_full s.slots (buffer_slot thread))) DeleteFirst _ end (ap not asked.free)
+    (passes (nat_lt (depth_of s.slots source) 255) IllegalOperation _ end (lt-ltb (depth_of s.slots source) 255 asked.shallow) refl)))
 
 -- ---- SetPriority, SetRegister, Resume
 

@@ -206,6 +206,7 @@ module _ (image : Image) (p : Progress) (f : FrameEntry) (known : Known image p)
     listed = λ k c less there. ap (λ m. option_map_or (is_page root page) m false) (no-frame-listed image k c known.fits (known.formed.capability k c there));
     cspace = λ k u less there. absurd (omega (arith, less, none));
     vspace = λ k u less there. absurd (omega (arith, less, none));
+    buffer = λ k u less there. absurd (omega (arith, less, none));
   }
 
   free : is_page_taken between root page ≡ false

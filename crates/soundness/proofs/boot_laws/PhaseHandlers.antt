@@ -85,6 +85,7 @@ none-handles image p i fits early none at = record {
   listed = λ k c less there. absurd (omega (arith, less, early));
   cspace = λ k t less there. absurd (omega (arith, less, none));
   vspace = λ k t less there. absurd (omega (arith, less, none));
+  buffer = λ k t less there. absurd (omega (arith, less, none));
 }
   where
     eqb-other : (a b : ℕ) → a < b → (a == b) ≡ false

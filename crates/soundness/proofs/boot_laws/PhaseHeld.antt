@@ -14,10 +14,11 @@ use Rattle.model.specs.declared.entries.UntypedEntry.{UntypedEntry}
 use Rattle.model.specs.declared.slot_entries.Entry.{Entry}
 use Rattle.model.specs.Capabilities.CapabilityKinds.{with_payload}
 use Rattle.model.specs.Capabilities.Slots.{capability_at, empty_entry}
-use Rattle.model.specs.Images.Described.{Holding, binding_holding, frame_holding, handler_holding, held_in, holding, listed_capability, listed_holding}
-use Rattle.model.specs.Images.Described.{notification_holding, numbered, original, signalled, thread_holdings}
-use Rattle.model.specs.Images.Image.{Image, Thread}
+use Rattle.model.specs.Images.Described.{Holding, binding_holding, buffer_holdings, frame_holding, handler_holding, held_in, holding, listed_capability}
+use Rattle.model.specs.Images.Described.{listed_holding, notification_holding, numbered, original, signalled, thread_holdings}
+use Rattle.model.specs.Images.Image.{Image, Thread, no_buffer}
 use Rattle.model.specs.Images.Places.{control_slot}
+use Rattle.soundness.proofs.boot_laws.ReadingsSections.{buffer_holding}
 use Rattle.soundness.specs.boot_laws.Loading.{Progress, boot_holdings_so_far, holdings_so_far, is_moved, is_open_so_far, loaded, original_holding_so_far}
 use Rattle.soundness.specs.boot_laws.Loading.{original_so_far, originals_so_far, untyped_so_far}
 
@@ -125,6 +126,13 @@ pub record NoneHolds (image : Image) (p : Progress) (test : Cap → Bool) : Type
   pub cspace : (k : ℕ) (t : Thread) → k < p.threads → slice_get image.threads k ≡ Some t →
       test (with_payload (original image t.header.cnode) t.header.guard) ≡ false
   pub vspace : (k : ℕ) (t : Thread) → k < p.threads → slice_get image.threads k ≡ Some t → test (original image t.header.root) ≡ false
+  pub buffer : (k : ℕ) (t : Thread) → k < p.threads → slice_get image.threads k ≡ Some t → test (original image t.header.buffer) ≡ false
+
+buffer-free : (image : Image) (t : Thread) (test : Cap → Bool) → test (original image t.header.buffer) ≡ false → free test (buffer_holdings image t) ≡ true
+buffer-free image t test is = elim (t.header.buffer == no_buffer) as (λ b. free test (if b then [] else buffer_holding image t ∷ []) ≡ true) [
+  | true ↦ free-none test
+  | false ↦ free-more test (buffer_holding image t) [] is (free-none test)
+]
 
 boot-free : (image : Image) (p : Progress) (test : Cap → Bool) → NoneHolds image p test → free test (boot_holdings_so_far image p) ≡ true
 boot-free image p test none =
@@ -166,7 +174,8 @@ none-holds image p test none slot =
     let early = get-take p.capabilities image.capabilities k x at in none.listed k x early.0 early.1) in
     let t = free-flat test (thread_holdings image) (take p.threads image.threads) (λ k x at.
     let early = get-take p.threads image.threads k x at in
-    free-more test _ _ (none.cspace k x early.0 early.1) (free-more test _ [] (none.vspace k x early.0 early.1) (free-none test))) in
+    free-more test _ _ (none.cspace k x early.0 early.1)
+    (free-more test _ _ (none.vspace k x early.0 early.1) (buffer-free image x test (none.buffer k x early.0 early.1)))) in
     let all = free-both test (boots ++ ls) ts (free-both test boots ls (boot-free image p test none) l) t in
     let held = free-find test ((boots ++ ls) ++ ts) slot none.empty all in
     elim (is_open_so_far image p slot)

@@ -120,6 +120,7 @@ module _ (image : Image) (p : Progress) (t : TableEntry) (known : Known image p)
         (no-table-listed image k c known.fits (known.formed.capability k c there));
     cspace = λ k u less there. absurd (omega (arith, less, none));
     vspace = λ k u less there. absurd (omega (arith, less, none));
+    buffer = λ k u less there. absurd (omega (arith, less, none));
   }
 
   kind : type_at image t.table ≡ Some NewPageTable

@@ -1,8 +1,8 @@
 -- What the rules on a well-formed image say of each of its entries.
-use Rattle.std.proofs.Common.{ℕ, zero, suc, ◌≡◌, ◌∙◌, ◌==◌, ◌+◌, ◌%◌, ◌<◌, ◌&&◌, Bool, true, false, List, [], ◌∷◌, ◌++◌, map, Some, None, refl, ap, subst}
-use Rattle.std.proofs.Common.{arith}
+use Rattle.std.proofs.Common.{ℕ, zero, suc, ◌≡◌, ◌∙◌, ◌==◌, ◌+◌, ◌%◌, ◌<◌, ◌&&◌, Bool, true, false, not, List, [], ◌∷◌, ◌++◌, map, take, Some, None, refl, sym}
+use Rattle.std.proofs.Common.{ap, subst, arith}
 use Rattle.std.specs.Prelude.{option_map, flat_map, nat_le, nat_lt, slice_get}
-use Rattle.std.specs.List.{enumerate_from, list_all, range_with_len}
+use Rattle.std.specs.List.{enumerate_from, list_all, list_any, range_with_len}
 use Rattle.std.proofs.lemmas.Bool.{not-false, or_parts}
 use Rattle.std.proofs.lemmas.Option.{none-some, same_Some, slice_get-map}
 use Rattle.model.specs.declared.entries.CapabilityEntry.{CapabilityEntry}
@@ -14,14 +14,15 @@ use Rattle.model.specs.declared.refusals.Refusal.{Refusal}
 use Rattle.model.specs.declared.refusals.Refusal.TheVariants.{UntypedOverlap, NoRoom, BadObject, BadCap, BadMapping}
 use Rattle.model.specs.Acceptance.Accepted.{AreKept, IsWellFormed}
 use Rattle.model.specs.Acceptance.Rules.{Rule, refuse_if}
-use Rattle.model.specs.Acceptance.ThreadRules.{has_guard, is_bad, is_code, is_in_use, program_end, rules_of_thread, shares_cspace, shares_vspace, thread_rules}
-use Rattle.model.specs.Acceptance.WellFormed.{are_frame_rights, capability_rules, content_rule, does_not_fit, frame_rules, has_no_room, has_slot}
+use Rattle.model.specs.Acceptance.ThreadRules.{has_bad_buffer, has_guard, is_bad, is_bad_buffer, is_code, is_in_use, program_end, rules_of_thread}
+use Rattle.model.specs.Acceptance.ThreadRules.{shares_cspace, shares_vspace, thread_rules}
+use Rattle.model.specs.Acceptance.WellFormed.{are_frame_rights, capability_rules, content_rule, does_not_fit, executes, frame_rules, has_no_room, has_slot}
 use Rattle.model.specs.Acceptance.WellFormed.{has_writable_code, is_address, is_covered, is_frame_type, is_listed_before, is_mapped_before, is_root_type}
 use Rattle.model.specs.Acceptance.WellFormed.{is_table_type, is_thread_type, is_untyped_type, mapping_rules, may_have, misplaces_frame, misplaces_table}
 use Rattle.model.specs.Acceptance.WellFormed.{object_rules, overlaps, signals_nothing, source_type, too_few_boot_slots}
 use Rattle.model.specs.Images.Described.{Numbered, numbered, numbered_threads}
 use Rattle.model.specs.Images.Fills.{program_pages}
-use Rattle.model.specs.Images.Image.{Image, ImageContent, Thread}
+use Rattle.model.specs.Images.Image.{Image, ImageContent, Thread, no_buffer}
 use Rattle.model.specs.Images.Places.{type_at}
 use Rattle.model.specs.Kernel.AddressSpaces.{address_limit, page_size, region_size}
 
@@ -119,6 +120,14 @@ pub record ThreadKept (image : Image) (k : ℕ) (t : Thread) : Type 0 where
   pub entry : nat_le t.header.words t.header.entry ≡ false
   pub cspace : shares_cspace image (record { number = k; thread = t }) ≡ false
   pub vspace : shares_vspace image (record { number = k; thread = t }) ≡ false
+  pub buffer : has_bad_buffer image (record { number = k; thread = t }) ≡ false
+
+-- the frame of a thread's buffer: no earlier thread's, no capability's source, and no code
+pub record BufferKept (image : Image) (k buffer : ℕ) : Type 0 where
+  pub frame : is_frame_type (type_at image buffer) ≡ true
+  pub once : list_any (λ u. u.header.buffer == buffer) (take k image.threads) ≡ false
+  pub no_source : list_any (λ c. c.source == buffer) image.capabilities ≡ false
+  pub no_code : list_any (λ f. f.frame == buffer && executes f) image.frames ≡ false
 
 pub record AreFormed (image : Image) : Type 0 where
   pub untyped : (k : ℕ) (u : UntypedEntry) → slice_get image.untypeds k ≡ Some u → overlaps image (k, u) ≡ false
@@ -158,9 +167,10 @@ frame-kept image k f is code =
     record { root = not-false _ e.0; frame = not-false _ e.1; address = not-false _ d.1; covered = not-false _ b.1; rights = not-false _ a.1; code = code }
 
 thread-kept : (image : Image) (k : ℕ) (t : Thread) → is_bad image (record { number = k; thread = t }) ≡ false
-    → shares_cspace image (record { number = k; thread = t }) ≡ false → shares_vspace image (record { number = k; thread = t }) ≡ false → ThreadKept image k t
+    → shares_cspace image (record { number = k; thread = t }) ≡ false → shares_vspace image (record { number = k; thread = t }) ≡ false
+    → has_bad_buffer image (record { number = k; thread = t }) ≡ false → ThreadKept image k t
 unfolding is_bad
-thread-kept image k t is cspace vspace =
+thread-kept image k t is cspace vspace buffer =
     let a = or_parts _ _ is in
     let b = or_parts _ _ a.0 in
     let c = or_parts _ _ b.0 in
@@ -179,7 +189,18 @@ thread-kept image k t is cspace vspace =
       entry = a.1;
       cspace = cspace;
       vspace = vspace;
+      buffer = buffer;
     }
+
+-- what is said of a thread's buffer, if it has one
+pub buffer-kept : (image : Image) (k : ℕ) (t : Thread) → ThreadKept image k t → (t.header.buffer == no_buffer) ≡ false → BufferKept image k t.header.buffer
+unfolding has_bad_buffer
+buffer-kept image k t kept some =
+    let is : is_bad_buffer image k t.header.buffer ≡ false = sym (ap (λ b. not b && is_bad_buffer image k t.header.buffer) some) ∙ kept.buffer in
+    let a = or_parts _ _ is in
+    let b = or_parts _ _ a.0 in
+    let c = or_parts _ _ b.0 in
+    record { frame = not-false _ c.0; once = c.1; no_source = b.1; no_code = a.1 }
 
 pub are-formed : (image : Image) → IsWellFormed image → AreFormed image
 unfolding object_rules capability_rules mapping_rules thread_rules
@@ -220,5 +241,5 @@ are-formed image formed =
           (numbered-at image.contents k c at)));
       thread = λ k t at.
           thread-kept image k t (not-refused _ _ (of_thread k t at 0 None (omega arith))) (not-refused _ _ (of_thread k t at 1 None (omega arith)))
-          (not-refused _ _ (of_thread k t at 2 None (omega arith)));
+          (not-refused _ _ (of_thread k t at 2 None (omega arith))) (not-refused _ _ (of_thread k t at 3 None (omega arith)));
     }

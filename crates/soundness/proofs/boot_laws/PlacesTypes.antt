@@ -1,13 +1,15 @@
 -- The types of an image's objects: each has one, of a size that Retype takes.
-use Rattle.std.proofs.Common.{ℕ, zero, suc, ◌≡◌, ◌+◌, ◌*◌, ◌^◌, ◌<◌, ◌≤◌, inl, inr, true, false, Some, refl, arith}
-use Rattle.std.proofs.lemmas.Bool.{and_parts, false≢true, or_cases, le-leb, leb-true}
+use Rattle.std.proofs.Common.{ℕ, zero, suc, ◌≡◌, ◌∙◌, ◌+◌, ◌*◌, ◌^◌, ◌<◌, ◌≤◌, inl, inr, true, false, Some, refl, sym, ap, arith}
+use Rattle.std.proofs.lemmas.Bool.{and_parts, cases_lt, false≢true, or_cases, le-leb, leb-true}
+use Rattle.std.proofs.lemmas.List.{get_or_past}
 use Rattle.std.proofs.lemmas.Nat.{pow-add}
 use Rattle.model.specs.declared.entries.ObjectEntry.{ObjectEntry}
 use Rattle.format_laws.proofs.Laws.{between-bounds}
 use Rattle.format_laws.specs.Fitting.{IsFitting}
 use Rattle.soundness.proofs.boot_laws.PlacesObjects.{object-at}
+use Rattle.model.specs.Acceptance.WellFormed.{is_frame_type}
 use Rattle.model.specs.Images.Image.{Image, between, size_fits}
-use Rattle.model.specs.Images.Places.{object_at}
+use Rattle.model.specs.Images.Places.{object_at, type_at}
 use Rattle.model.specs.Kernel.Removal.{slot_count}
 use Rattle.model.specs.Kernel.Retype.{NewObject, NewUntyped, NewThread, NewEndpoint, NewNotification, NewCNode, NewFrame, NewPageTable, NewRootTable}
 use Rattle.model.specs.Kernel.Retype.{is_large_enough, is_small_enough, object, object_bits, type_of}
@@ -52,6 +54,16 @@ has-type image number fitting less =
     let o = object_at image number in
     let fits = fitting.object number o (object-at image number fitting less) in
     of-type o.untyped o.kind o.size fits.low fits.high fits.size
+
+-- a frame of the image is one of its objects
+pub frame-listed : (image : Image) (number : ℕ) → IsFitting image → is_frame_type (type_at image number) ≡ true → number < image.header.objects
+frame-listed image number fitting is = elim (cases_lt number image.header.objects) [
+  | inl less ↦ less
+  | inr past ↦
+      let none : object_at image number ≡ record { untyped = 0; kind = 0; size = 0 } =
+      get_or_past image.objects number _ (omega (arith, past, fitting.objects)) in
+      absurd (false≢true (sym (ap (λ (o : ObjectEntry). is_frame_type (type_of o.kind o.size)) none) ∙ is))
+]
 
 -- ---- sizes
 

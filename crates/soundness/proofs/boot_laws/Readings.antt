@@ -1,5 +1,5 @@
 -- What single slots and objects of a state between two operations of the loader hold, and what one entry more of a section makes of it.
-use Rattle.std.specs.Prelude.{ℕ, suc, ◌≡◌, ◌/◌, ◌<◌, ◌≤◌, true, false, Option, Some, None, slice_get}
+use Rattle.std.specs.Prelude.{ℕ, suc, ◌≡◌, ◌==◌, ◌/◌, ◌<◌, ◌≤◌, true, false, if◌then◌else◌, Option, Some, None, slice_get}
 use Rattle.model.specs.declared.capabilities.Cap.{Cap}
 use Rattle.model.specs.declared.capabilities.Cap.TheVariants.{Frame, InterruptControl, InterruptHandler}
 use Rattle.model.specs.declared.capabilities.FrameMapping.{FrameMapping}
@@ -14,11 +14,11 @@ use Rattle.model.specs.Capabilities.CapabilityKinds.{with_payload, with_table_ma
 use Rattle.model.specs.Capabilities.Rights.{frame_rights, mapping_rights}
 use Rattle.model.specs.Capabilities.Slots.{Slots, empty_entry, inserted, recapped, relocated}
 use Rattle.model.specs.Images.Described.{listed_capability, original, signalled}
-use Rattle.model.specs.Images.Image.{Image, Thread}
+use Rattle.model.specs.Images.Image.{Image, Thread, no_buffer}
 use Rattle.model.specs.Images.Places.{cnode_slot, control_slot, frame_copy_slot, handler_slot, notification_copy_slot, object_at, offset_of, original_slot}
 use Rattle.model.specs.Images.Places.{source_boot_slot, type_at, untyped_at}
 use Rattle.model.specs.Kernel.AddressSpaces.{page_size, region_pages}
-use Rattle.model.specs.Kernel.State.{cspace_slot, line_slot, vspace_slot}
+use Rattle.model.specs.Kernel.State.{buffer_slot, cspace_slot, line_slot, vspace_slot}
 
 -- Of no section more is loaded than the image has.
 pub record IsWithin (image : Image) (p : Progress) : Type 0 where
@@ -76,6 +76,8 @@ pub record ReadsRoom (image : Image) (p : Progress) : Type 0 where
       → Reads image p (cspace_slot (offset_of image t.header.tcb)) empty_entry
   pub vspace : (k : ℕ) (t : Thread) → p.threads ≤ k → slice_get image.threads k ≡ Some t
       → Reads image p (vspace_slot (offset_of image t.header.tcb)) empty_entry
+  pub buffer : (k : ℕ) (t : Thread) → p.threads ≤ k → slice_get image.threads k ≡ Some t
+      → Reads image p (buffer_slot (offset_of image t.header.tcb)) empty_entry
 
 -- ---- objects
 
@@ -120,6 +122,19 @@ pub record AddsBoot (image : Image) (p : Progress) : Type 0 where
       (inserted (slots_of_loaded image p) (notification_copy_slot image p.signals) (signalled image i) (Some (original_slot image i.notification)))
       (line_slot image.header.boot_radix i.line) (signalled image i) (Some (notification_copy_slot image p.signals))
 
+-- the slots of a thread are filled: those for its spaces, and the one for its buffer, if it has one
+abbrev pub with_spaces : Image → Thread → Slots → Slots
+with_spaces image t slots =
+    inserted
+    (inserted slots (cspace_slot (offset_of image t.header.tcb)) (with_payload (original image t.header.cnode) t.header.guard)
+    (Some (original_slot image t.header.cnode)))
+    (vspace_slot (offset_of image t.header.tcb)) (original image t.header.root) (Some (original_slot image t.header.root))
+
+abbrev pub with_buffer : Image → Thread → Slots → Slots
+with_buffer image t slots =
+    if t.header.buffer == no_buffer then slots
+    else inserted slots (buffer_slot (offset_of image t.header.tcb)) (original image t.header.buffer) (Some (original_slot image t.header.buffer))
+
 -- where all objects are there
 pub record AddsRoom (image : Image) (p : Progress) : Type 0 where
   -- a capability that is minted
@@ -134,8 +149,4 @@ pub record AddsRoom (image : Image) (p : Progress) : Type 0 where
       ≡ recapped (slots_of_loaded image p) (original_slot image t.table)
       (with_table_mapping (original_so_far image p t.table) (Some (record { root = offset_of image t.root; region = t.address / page_size / region_pages })))
   pub thread : (t : Thread) → slice_get image.threads p.threads ≡ Some t
-      → slots_of_loaded image (one_thread p)
-      ≡ inserted
-      (inserted (slots_of_loaded image p) (cspace_slot (offset_of image t.header.tcb)) (with_payload (original image t.header.cnode) t.header.guard)
-      (Some (original_slot image t.header.cnode)))
-      (vspace_slot (offset_of image t.header.tcb)) (original image t.header.root) (Some (original_slot image t.header.root))
+      → slots_of_loaded image (one_thread p) ≡ with_buffer image t (with_spaces image t (slots_of_loaded image p))

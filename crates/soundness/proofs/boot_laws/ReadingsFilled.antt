@@ -1,5 +1,5 @@
 -- What one listed capability, one page table or one thread more makes of the slots.
-use Rattle.std.proofs.Common.{ℕ, suc, ◌≡◌, ◌∙◌, ◌==◌, ◌/◌, ◌<◌, ◌&&◌, inl, inr, true, false, if◌then◌else◌, find, take, Option, Some, None, refl, sym, ap}
+use Rattle.std.proofs.Common.{ℕ, suc, ◌≡◌, ◌≢◌, ◌∙◌, ◌==◌, ◌/◌, ◌<◌, ◌&&◌, inl, inr, true, false, if◌then◌else◌, find, take, Option, Some, None, refl, sym, ap}
 use Rattle.std.proofs.Common.{arith}
 use Rattle.std.specs.Prelude.{slice_get}
 use Rattle.std.specs.Option.{option_map_or}
@@ -17,23 +17,24 @@ use Rattle.format_laws.specs.Fitting.{TableFits}
 use Rattle.format_laws.specs.Fitting.{IsFitting}
 use Rattle.soundness.proofs.boot_laws.PlacesRules.{AreFormed, CapabilityKept, TableKept}
 use Rattle.soundness.proofs.boot_laws.Readings.{AddsRoom, IsWithin, ReadsBoot, ReadsEmpty, entry, one_capability, one_table, one_thread, slots_of_loaded}
+use Rattle.soundness.proofs.boot_laws.Readings.{with_buffer, with_spaces}
 use Rattle.soundness.proofs.boot_laws.ReadingsBoot.{reads-boot, reads-empty}
 use Rattle.soundness.proofs.boot_laws.ReadingsMoved.{other-capability, other-table, other-thread}
-use Rattle.soundness.proofs.boot_laws.ReadingsOpen.{one-changes, read-same, two-change}
+use Rattle.soundness.proofs.boot_laws.ReadingsOpen.{one-changes, read-same, three-change, two-change}
 use Rattle.soundness.proofs.boot_laws.ReadingsParents.{free-holdings, unparented}
-use Rattle.soundness.proofs.boot_laws.ReadingsRoom.{any-taken, reads-cspace, reads-listed, reads-vspace}
-use Rattle.soundness.proofs.boot_laws.ReadingsSections.{cspace_holding, thread-apart, vspace_holding}
+use Rattle.soundness.proofs.boot_laws.ReadingsRoom.{any-taken, reads-buffer, reads-cspace, reads-listed, reads-vspace}
+use Rattle.soundness.proofs.boot_laws.ReadingsSections.{buffer-held, buffer_holding, cspace_holding, thread-apart, vspace_holding}
 use Rattle.soundness.proofs.boot_laws.ReadingsTypes.{find-last, find-none, first_of_type, listed-untyped, mapped_by, original-untyped}
 use Rattle.soundness.specs.boot_laws.Loading.{Progress, is_moved, original_so_far}
 use Rattle.model.specs.Acceptance.WellFormed.{is_listed_before, is_table_type, is_untyped_type, source_type}
 use Rattle.model.specs.Capabilities.CapabilityKinds.{is_untyped, with_table_mapping}
 use Rattle.model.specs.Capabilities.Slots.{Slots, empty_entry, parent_at, recapped, relocated, with_entry, with_parent}
-use Rattle.model.specs.Images.Described.{limited, listed_capability, listed_parent, original}
-use Rattle.model.specs.Images.Image.{Image, Thread}
+use Rattle.model.specs.Images.Described.{held_in, limited, listed_capability, listed_parent, original, thread_holdings}
+use Rattle.model.specs.Images.Image.{Image, Thread, no_buffer}
 use Rattle.model.specs.Images.Places.{cnode_slot, interrupt_of, object_at, offset_of, original_slot, source_boot_slot, type_at}
 use Rattle.model.specs.Kernel.AddressSpaces.{page_size, region_pages}
 use Rattle.model.specs.Kernel.Retype.{NewObject, NewUntyped, NewThread, NewEndpoint, NewNotification, NewCNode, NewFrame, NewPageTable, NewRootTable}
-use Rattle.model.specs.Kernel.State.{cspace_slot, vspace_slot}
+use Rattle.model.specs.Kernel.State.{buffer_slot, cspace_slot, vspace_slot}
 
 pub within-capability : (image : Image) (p : Progress) (c : CapabilityEntry) → IsFitting image → IsWithin image p →
     slice_get image.capabilities p.capabilities ≡ Some c
@@ -177,17 +178,37 @@ module _ (image : Image) (fitting : IsFitting image) (formed : AreFormed image) 
 
   -- ---- a thread
 
-  adds-thread : (t : Thread) → slice_get image.threads p.threads ≡ Some t
-      → slots_of_loaded image (one_thread p)
-      ≡ with_entry (with_entry (slots_of_loaded image p) (cspace_slot (offset_of image t.header.tcb)) (Some (cspace_holding image t).1))
-      (vspace_slot (offset_of image t.header.tcb)) (Some (vspace_holding image t).1)
-  adds-thread t at =
-      let more = within-thread image p t fitting within at in
-      two-change image p (one_thread p) (cspace_slot (offset_of image t.header.tcb)) (vspace_slot (offset_of image t.header.tcb)) (cspace_holding image t).1
-      (vspace_holding image t).1 refl
-      (reads-cspace image fitting formed (one_thread p) more all p.threads t (omega arith) at)
-      (reads-vspace image fitting formed (one_thread p) more all p.threads t (omega arith) at)
-      (λ s one two. other-thread image p t s at (thread-apart image fitting formed p within t s (λ same. one (sym same)) (λ same. two (sym same))))
+  module _ (t : Thread) (at : slice_get image.threads p.threads ≡ Some t) where
+    abbrev x : ℕ
+    x = offset_of image t.header.tcb
+
+    threaded : IsWithin image (one_thread p)
+    threaded = within-thread image p t fitting within at
+
+    -- without a buffer, the third slot is as any other
+    unbuffered-none : (t.header.buffer == no_buffer) ≡ true → (s : ℕ) → s ≢ cspace_slot x → s ≢ vspace_slot x → held_in (thread_holdings image t) s ≡ None
+    unbuffered-none none s one two = elim (eqb_tells (buffer_slot x) s) [
+      | inl here ↦ ap (held_in (thread_holdings image t)) (sym here.1) ∙ buffer-held image t true none
+      | inr apart ↦ thread-apart image t s (λ same. one (sym same)) (λ same. two (sym same)) apart.1
+    ]
+
+    adds-thread : slots_of_loaded image (one_thread p) ≡ with_buffer image t (with_spaces image t (slots_of_loaded image p))
+    adds-thread =
+        let cspace = reads-cspace image fitting formed (one_thread p) threaded all p.threads t (omega arith) at in
+        let vspace = reads-vspace image fitting formed (one_thread p) threaded all p.threads t (omega arith) at in
+        let spaces = with_spaces image t (slots_of_loaded image p) in
+        elim (t.header.buffer == no_buffer) as (λ b. (t.header.buffer == no_buffer) ≡ b
+        → slots_of_loaded image (one_thread p) ≡ (if b then spaces else with_entry spaces (buffer_slot x) (Some (buffer_holding image t).1))) [
+          | true ↦ λ none.
+              two-change image p (one_thread p) (cspace_slot x) (vspace_slot x) (cspace_holding image t).1 (vspace_holding image t).1 refl cspace vspace
+              (λ s one two. other-thread image p t s at (unbuffered-none none s one two))
+          | false ↦ λ some.
+              three-change image p (one_thread p) (cspace_slot x) (vspace_slot x) (buffer_slot x) (cspace_holding image t).1 (vspace_holding image t).1
+              (buffer_holding image t).1 refl cspace vspace
+              (reads-buffer image fitting formed (one_thread p) threaded all p.threads t (omega arith) at some)
+              (λ s one two three.
+              other-thread image p t s at (thread-apart image t s (λ same. one (sym same)) (λ same. two (sym same)) (λ same. three (sym same))))
+        ] refl
 
   -- ---- a pool
 

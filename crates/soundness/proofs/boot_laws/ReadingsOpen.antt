@@ -11,7 +11,7 @@ use Rattle.model.proofs.SlotChanges.{entry-other, entry-same}
 use Rattle.model.specs.declared.slot_entries.Entry.{Entry}
 use Rattle.soundness.proofs.boot_laws.Readings.{Reads, slots_of_loaded}
 use Rattle.soundness.specs.boot_laws.Loading.{Progress, holdings_so_far, is_open_so_far, loaded}
-use Rattle.model.specs.Capabilities.Slots.{empty_entry, with_entry}
+use Rattle.model.specs.Capabilities.Slots.{Slots, empty_entry, with_entry}
 use Rattle.model.specs.Images.Described.{held_in, is_object_slot}
 use Rattle.model.specs.Images.Image.{Image}
 use Rattle.model.specs.Kernel.State.{boot_area_slots}
@@ -49,33 +49,44 @@ read-same image p q slot objects held = λ i.
     then Some (shown (held i))
     else None
 
--- one slot changes
-pub one-changes : (image : Image) (p q : Progress) (slot : ℕ) (held : Entry) → q.objects ≡ p.objects → Reads image q slot held
-    → ((s : ℕ) → s ≢ slot → held_in (holdings_so_far image q) s ≡ held_in (holdings_so_far image p) s)
-    → slots_of_loaded image q ≡ with_entry (slots_of_loaded image p) slot (Some held)
-one-changes image p q slot held objects reads others = λ i s. at s i where
-  at : (s : ℕ) → slots_of_loaded image q s ≡ with_entry (slots_of_loaded image p) slot (Some held) s
-  at s = elim (eqb_tells s slot) [
-    | inl here ↦ ap (slots_of_loaded image q) here.1 ∙ reads ∙ sym (entry-same (slots_of_loaded image p) slot (Some held))
-        ∙ ap (with_entry (slots_of_loaded image p) slot (Some held)) (sym here.1)
-    | inr apart ↦ read-same image p q s objects (others s apart.1) ∙ sym (entry-other (slots_of_loaded image p) slot (Some held) s apart.1)
-  ]
+-- one slot: as it is now, or as it was
+now-or-before : (now before : Slots) (slot : ℕ) (held : Entry) (s : ℕ) → now slot ≡ Some held → (s ≢ slot → now s ≡ before s)
+    → now s ≡ with_entry before slot (Some held) s
+now-or-before now before slot held s is others = elim (eqb_tells s slot) [
+  | inl here ↦ ap now here.1 ∙ is ∙ sym (entry-same before slot (Some held)) ∙ ap (with_entry before slot (Some held)) (sym here.1)
+  | inr apart ↦ others apart.1 ∙ sym (entry-other before slot (Some held) s apart.1)
+]
 
--- two slots change
-pub two-change : (image : Image) (p q : Progress) (first second : ℕ) (one two : Entry) → q.objects ≡ p.objects → Reads image q first one →
-    Reads image q second two
-    → ((s : ℕ) → s ≢ first → s ≢ second → held_in (holdings_so_far image q) s ≡ held_in (holdings_so_far image p) s)
-    → slots_of_loaded image q ≡ with_entry (with_entry (slots_of_loaded image p) first (Some one)) second (Some two)
-two-change image p q first second one two objects reads_one reads_two others = λ i s. at s i where
-  at : (s : ℕ) → slots_of_loaded image q s ≡ with_entry (with_entry (slots_of_loaded image p) first (Some one)) second (Some two) s
-  at s = elim (eqb_tells s second) [
-    | inl here ↦ ap (slots_of_loaded image q) here.1 ∙ reads_two ∙ sym (entry-same (with_entry (slots_of_loaded image p) first (Some one)) second (Some two))
-        ∙ ap (with_entry (with_entry (slots_of_loaded image p) first (Some one)) second (Some two)) (sym here.1)
-    | inr apart ↦ elim (eqb_tells s first) [
-      | inl here ↦ ap (slots_of_loaded image q) here.1 ∙ reads_one ∙ sym (entry-same (slots_of_loaded image p) first (Some one))
-          ∙ ap (with_entry (slots_of_loaded image p) first (Some one)) (sym here.1)
-          ∙ sym (entry-other (with_entry (slots_of_loaded image p) first (Some one)) second (Some two) s apart.1)
-      | inr other ↦ read-same image p q s objects (others s other.1 apart.1) ∙ sym (entry-other (slots_of_loaded image p) first (Some one) s other.1)
-          ∙ sym (entry-other (with_entry (slots_of_loaded image p) first (Some one)) second (Some two) s apart.1)
-    ]
-  ]
+module _ (image : Image) (p q : Progress) where
+  abbrev now : Slots
+  now = slots_of_loaded image q
+
+  abbrev before : Slots
+  before = slots_of_loaded image p
+
+  abbrev IsAsBefore : ℕ → Type 0
+  IsAsBefore s = held_in (holdings_so_far image q) s ≡ held_in (holdings_so_far image p) s
+
+  -- one slot changes
+  pub one-changes : (slot : ℕ) (held : Entry) → q.objects ≡ p.objects → Reads image q slot held → ((s : ℕ) → s ≢ slot → IsAsBefore s)
+      → slots_of_loaded image q ≡ with_entry (slots_of_loaded image p) slot (Some held)
+  one-changes slot held objects reads others = λ i s.
+      now-or-before now before slot held s reads (λ apart. read-same image p q s objects (others s apart)) i
+
+  -- two slots change
+  pub two-change : (first second : ℕ) (one two : Entry) → q.objects ≡ p.objects → Reads image q first one → Reads image q second two
+      → ((s : ℕ) → s ≢ first → s ≢ second → IsAsBefore s)
+      → slots_of_loaded image q ≡ with_entry (with_entry (slots_of_loaded image p) first (Some one)) second (Some two)
+  two-change first second one two objects reads_one reads_two others = λ i s.
+      now-or-before now (with_entry before first (Some one)) second two s reads_two (λ apart.
+      now-or-before now before first one s reads_one (λ other. read-same image p q s objects (others s other apart))) i
+
+  -- three slots change
+  pub three-change : (first second third : ℕ) (one two three : Entry) → q.objects ≡ p.objects → Reads image q first one → Reads image q second two
+      → Reads image q third three → ((s : ℕ) → s ≢ first → s ≢ second → s ≢ third → IsAsBefore s)
+      → slots_of_loaded image q
+      ≡ with_entry (with_entry (with_entry (slots_of_loaded image p) first (Some one)) second (Some two)) third (Some three)
+  three-change first second third one two three objects reads_one reads_two reads_three others = λ i s.
+      now-or-before now (with_entry (with_entry before first (Some one)) second (Some two)) third three s reads_three (λ last.
+      now-or-before now (with_entry before first (Some one)) second two s reads_two (λ apart.
+      now-or-before now before first one s reads_one (λ other. read-same image p q s objects (others s other apart last)))) i

@@ -14,11 +14,11 @@ use Rattle.model.specs.declared.slot_entries.Entry.{Entry}
 use Rattle.format_laws.specs.Fitting.{ObjectFits}
 use Rattle.format_laws.specs.Fitting.{IsFitting}
 use Rattle.soundness.proofs.boot_laws.PlacesObjects.{object-at}
-use Rattle.soundness.proofs.boot_laws.PlacesRules.{AreFormed, FrameKept, ThreadKept}
+use Rattle.soundness.proofs.boot_laws.PlacesRules.{AreFormed, BufferKept, FrameKept, ThreadKept, buffer-kept}
 use Rattle.soundness.proofs.boot_laws.Readings.{IsWithin}
 use Rattle.soundness.proofs.boot_laws.ReadingsLists.{held-append, held-here, held-later, numbered-back}
 use Rattle.soundness.proofs.boot_laws.ReadingsOpen.{shown}
-use Rattle.soundness.proofs.boot_laws.ReadingsSections.{bindings_part, control_part, cspace_holding, frames_part, handlers_part, listed_part}
+use Rattle.soundness.proofs.boot_laws.ReadingsSections.{bindings_part, buffer_holding, control_part, cspace_holding, frames_part, handlers_part, listed_part}
 use Rattle.soundness.proofs.boot_laws.ReadingsSections.{notifications_part, threads_part, untypeds_part, vspace_holding}
 use Rattle.soundness.proofs.boot_laws.ReadingsTypes.{listed-untyped}
 use Rattle.soundness.specs.boot_laws.Loading.{Progress, holdings_so_far, is_moved, is_open_so_far, loaded, original_holding_so_far, originals_so_far}
@@ -26,9 +26,9 @@ use Rattle.soundness.specs.boot_laws.Loading.{untyped_so_far}
 use Rattle.model.specs.Acceptance.WellFormed.{is_frame_type, is_notification_type, is_root_type, is_untyped_type, radix_of}
 use Rattle.model.specs.Capabilities.CapabilityKinds.{is_guard_word}
 use Rattle.model.specs.Capabilities.Slots.{adopted, with_parent}
-use Rattle.model.specs.Images.Described.{Holding, binding_holding, frame_holding, handler_holding, held_in, listed_holding, listed_parent, notification_holding}
-use Rattle.model.specs.Images.Described.{numbered, thread_holdings}
-use Rattle.model.specs.Images.Image.{Image, Thread}
+use Rattle.model.specs.Images.Described.{Holding, binding_holding, buffer_holdings, frame_holding, handler_holding, held_in, listed_holding, listed_parent}
+use Rattle.model.specs.Images.Described.{notification_holding, numbered, thread_holdings}
+use Rattle.model.specs.Images.Image.{Image, Thread, no_buffer}
 use Rattle.model.specs.Images.Places.{control_slot, handler_slot, interrupt_of, object_at, original_slot, source_boot_slot, type_at}
 use Rattle.model.specs.Kernel.Retype.{NewObject, NewUntyped, NewThread, NewEndpoint, NewNotification, NewCNode, NewFrame, NewPageTable, NewRootTable}
 
@@ -166,14 +166,25 @@ module _ (image : Image) (fitting : IsFitting image) (formed : AreFormed image) 
         omega (arith, parent, e, object)
   ]
 
+  free-buffer : (j : ℕ) (t : Thread) → slice_get image.threads j ≡ Some t → AreFree (original_slot image source) (buffer_holdings image t)
+  free-buffer j t at =
+      elim (t.header.buffer == no_buffer) as
+      (λ b. (t.header.buffer == no_buffer) ≡ b → AreFree (original_slot image source) (if b then [] else buffer_holding image t ∷ [])) [
+        | true ↦ λ _. free-none (original_slot image source)
+        | false ↦ λ some.
+            free-more (original_slot image source) (buffer_holding image t) []
+            (apart-by is_frame_type t.header.buffer (IsOnly.frame none-of) (BufferKept.frame (buffer-kept image j t (formed.thread j t at) some)))
+            (free-none (original_slot image source))
+      ] refl
+
   free-thread : (j : ℕ) (t : Thread) → slice_get image.threads j ≡ Some t → AreFree (original_slot image source) (thread_holdings image t)
   free-thread j t at =
       let kept = formed.thread j t at in
       let radix = ap (λ o. option_map_or (λ radix. is_guard_word radix t.header.guard) o false) (IsOnly.radix none-of) in
-      free-more (original_slot image source) (cspace_holding image t) (vspace_holding image t ∷ [])
+      free-more (original_slot image source) (cspace_holding image t) (vspace_holding image t ∷ buffer_holdings image t)
       (apart-by (λ o. option_map_or (λ radix. is_guard_word radix t.header.guard) (radix_of o) false) t.header.cnode radix (ThreadKept.guard kept))
-      (free-more (original_slot image source) (vspace_holding image t) [] (apart-by is_root_type t.header.root (IsOnly.root none-of) (ThreadKept.root kept))
-      (free-none (original_slot image source)))
+      (free-more (original_slot image source) (vspace_holding image t) (buffer_holdings image t)
+      (apart-by is_root_type t.header.root (IsOnly.root none-of) (ThreadKept.root kept)) (free-buffer j t at))
 
   pub free-holdings : (p : Progress) → IsWithin image p → AreFree (original_slot image source) (holdings_so_far image p)
   unfolding holdings_so_far

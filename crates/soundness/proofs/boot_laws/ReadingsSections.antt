@@ -1,5 +1,6 @@
 -- The sections of full slots have slots of their own, so that each slot is read in one section alone.
-use Rattle.std.proofs.Common.{ℕ, ◌≡◌, ◌≢◌, ◌∙◌, ◌+◌, ◌^◌, ◌<◌, ◌≤◌, ◌⊎◌, inl, inr, not, map, take, List, [], ◌∷◌, Option, Some, None, refl, sym, ap, arith}
+use Rattle.std.proofs.Common.{ℕ, ◌≡◌, ◌≢◌, ◌∙◌, ◌==◌, ◌+◌, ◌^◌, ◌<◌, ◌≤◌, ◌⊎◌, inl, inr, Bool, true, false, not, if◌then◌else◌, map, take, List, [], ◌∷◌}
+use Rattle.std.proofs.Common.{Option, Some, None, refl, sym, ap, arith}
 use Rattle.std.specs.Prelude.{flat_map, slice_get}
 use Rattle.std.specs.Option.{option_or}
 use Rattle.std.proofs.lemmas.List.{take_all}
@@ -13,14 +14,14 @@ use Rattle.format_laws.specs.Fitting.{IsFitting}
 use Rattle.soundness.proofs.boot_laws.PlacesRules.{AreFormed, CapabilityKept, ThreadKept}
 use Rattle.soundness.proofs.boot_laws.PlacesSlots.{boot-slots-suffice, cnode-slot, cspace-slot, slot-behind-boot}
 use Rattle.soundness.proofs.boot_laws.Readings.{IsWithin}
-use Rattle.soundness.proofs.boot_laws.ReadingsLists.{flat-none, held-joined, held-later, mapped-none, numbered-back, range-none}
+use Rattle.soundness.proofs.boot_laws.ReadingsLists.{flat-none, held-here, held-joined, held-later, mapped-none, numbered-back, range-none}
 use Rattle.soundness.specs.boot_laws.Loading.{Progress, holdings_so_far, is_moved, original_holding_so_far, originals_so_far, untyped_so_far}
-use Rattle.model.specs.Images.Described.{Holding, binding_holding, frame_holding, handler_holding, held_in, holding, listed_holding, notification_holding}
-use Rattle.model.specs.Images.Described.{numbered, original, thread_holdings}
+use Rattle.model.specs.Images.Described.{Holding, binding_holding, buffer_holdings, frame_holding, handler_holding, held_in, holding, listed_holding}
+use Rattle.model.specs.Images.Described.{notification_holding, numbered, original, thread_holdings}
 use Rattle.model.specs.Capabilities.CapabilityKinds.{with_payload}
-use Rattle.model.specs.Images.Image.{Image, Thread}
+use Rattle.model.specs.Images.Image.{Image, Thread, no_buffer}
 use Rattle.model.specs.Images.Places.{cnode_slot, control_slot, offset_of, original_slot}
-use Rattle.model.specs.Kernel.State.{boot_area_slots, cspace_slot, vspace_slot}
+use Rattle.model.specs.Kernel.State.{boot_area_slots, buffer_slot, cspace_slot, vspace_slot}
 
 abbrev pub untypeds_part : Image → Progress → List Holding
 untypeds_part image p = map (untyped_so_far image p) (numbered image.untypeds)
@@ -46,7 +47,7 @@ listed_part image p = map (listed_holding image) (take p.capabilities image.capa
 abbrev pub threads_part : Image → Progress → List Holding
 threads_part image p = flat_map (thread_holdings image) (take p.threads image.threads)
 
--- the two slots of a thread
+-- the slots of a thread
 abbrev pub cspace_holding : Image → Thread → Holding
 cspace_holding image t =
     holding (cspace_slot (offset_of image t.header.tcb)) (with_payload (original image t.header.cnode) t.header.guard)
@@ -54,6 +55,34 @@ cspace_holding image t =
 
 abbrev pub vspace_holding : Image → Thread → Holding
 vspace_holding image t = holding (vspace_slot (offset_of image t.header.tcb)) (original image t.header.root) (Some (original_slot image t.header.root))
+
+abbrev pub buffer_holding : Image → Thread → Holding
+buffer_holding image t =
+    holding (buffer_slot (offset_of image t.header.tcb)) (original image t.header.buffer) (Some (original_slot image t.header.buffer))
+
+-- a thread's slots are no others
+pub thread-apart : (image : Image) (t : Thread) (slot : ℕ) → cspace_slot (offset_of image t.header.tcb) ≢ slot
+    → vspace_slot (offset_of image t.header.tcb) ≢ slot → buffer_slot (offset_of image t.header.tcb) ≢ slot → held_in (thread_holdings image t) slot ≡ None
+thread-apart image t slot one two three =
+    held-later (cspace_holding image t) (vspace_holding image t ∷ buffer_holdings image t) slot one
+    ∙ held-later (vspace_holding image t) (buffer_holdings image t) slot two
+    ∙ elim (t.header.buffer == no_buffer) as (λ b. held_in (if b then [] else buffer_holding image t ∷ []) slot ≡ None) [
+      | true ↦ refl
+      | false ↦ held-later (buffer_holding image t) [] slot three
+    ]
+
+-- the slot for a buffer, by whether there is none
+pub buffer-held : (image : Image) (t : Thread) (b : Bool) → (t.header.buffer == no_buffer) ≡ b
+    → held_in (thread_holdings image t) (buffer_slot (offset_of image t.header.tcb)) ≡ (if b then None else Some (buffer_holding image t).1)
+buffer-held image t b is =
+    let slot = buffer_slot (offset_of image t.header.tcb) in
+    held-later (cspace_holding image t) (vspace_holding image t ∷ buffer_holdings image t) slot (λ same. omega (arith, same))
+    ∙ held-later (vspace_holding image t) (buffer_holdings image t) slot (λ same. omega (arith, same))
+    ∙ ap (λ (c : Bool). held_in (if c then [] else buffer_holding image t ∷ []) slot) is
+    ∙ elim b as (λ c. held_in (if c then [] else buffer_holding image t ∷ []) slot ≡ (if c then None else Some (buffer_holding image t).1)) [
+      | true ↦ refl
+      | false ↦ held-here (buffer_holding image t) [] slot refl
+    ]
 
 -- ---- nine sections, one after another
 
@@ -154,16 +183,12 @@ module _ (image : Image) (fitting : IsFitting image) (formed : AreFormed image) 
       slot-behind-boot image fitting formed t.header.tcb (cspace_slot (offset_of image t.header.tcb)) (ThreadFits.tcb (fitting.thread k t at))
       (cspace-slot image t.header.tcb (ThreadKept.tcb (formed.thread k t at)))
 
-  -- a thread's two slots are no others
-  pub thread-apart : (t : Thread) (slot : ℕ) → cspace_slot (offset_of image t.header.tcb) ≢ slot → vspace_slot (offset_of image t.header.tcb) ≢ slot
-      → held_in (thread_holdings image t) slot ≡ None
-  thread-apart t slot one two = held-later (cspace_holding image t) (vspace_holding image t ∷ []) slot one ∙ held-later (vspace_holding image t) [] slot two
-
   threads-none : (slot : ℕ) → slot < boot_area_slots image.header.boot_radix → held_in (threads_part image p) slot ≡ None
   threads-none slot low =
       flat-none (thread_holdings image) image.threads p.threads slot (λ j t below at.
       let behind = thread-behind j t at in
-      thread-apart t slot (λ same. omega (arith, behind, same, low)) (λ same. omega (arith, behind, same, low)))
+      thread-apart image t slot (λ same. omega (arith, behind, same, low)) (λ same. omega (arith, behind, same, low))
+      (λ same. omega (arith, behind, same, low)))
 
   -- ---- slots inside a section
 

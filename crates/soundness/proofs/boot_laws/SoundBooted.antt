@@ -22,7 +22,8 @@ use Rattle.model.specs.Kernel.State.{State}
 use Rattle.soundness.proofs.FreshMachines.{fresh-sound}
 use Rattle.format_laws.specs.Fitting.{IsFitting}
 use Rattle.format_laws.proofs.Laws.{is-fitting}
-use Rattle.soundness.proofs.boot_laws.PlacesRules.{are-formed, range-at}
+use Rattle.soundness.proofs.boot_laws.PlacesRules.{AreFormed, BufferKept, are-formed, buffer-kept, range-at}
+use Rattle.soundness.proofs.boot_laws.PlacesTypes.{frame-listed}
 use Rattle.soundness.proofs.boot_laws.PutsUntypeds.{puts-sound, puts-lead}
 use Rattle.soundness.proofs.boot_laws.SoundRuns.{FillsBytes, HasSmallBytes, HasSmallWords, IsFine, run-sound}
 use Rattle.soundness.proofs.boot_laws.SoundWords.{bytes-small, capability-words, each-all, flat-all, frame-words, interrupt-words, object-words, program-bytes}
@@ -65,7 +66,9 @@ module _ (image : Image) (fits : whole_image.fits image ≡ true) (well : IsWell
 
   threads-fine : All HasSmallWords (flat_map (thread_calls image) image.threads)
   threads-fine = flat-all HasSmallWords (thread_calls image) image.threads (λ k t at.
-      thread-words image fitting k t at (λ j r there. ((registers-fit image fits k t at j r there).1, values-fit image fits k t at j r there)))
+      thread-words image fitting k t at
+      (λ some. frame-listed image t.header.buffer fitting (BufferKept.frame (buffer-kept image k t (AreFormed.thread (are-formed image well) k t at) some)))
+      (λ j r there. ((registers-fit image fits k t at j r there).1, values-fit image fits k t at j r there)))
 
   first-fine : All HasSmallWords (first_calls image)
   first-fine =

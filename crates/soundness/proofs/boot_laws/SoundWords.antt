@@ -11,15 +11,15 @@ use Rattle.format_laws.specs.Fitting.{IsFitting}
 use Rattle.soundness.proofs.boot_laws.PlacesObjects.{object-at}
 use Rattle.soundness.proofs.boot_laws.SoundRuns.{HasSmallBytes, HasSmallWords}
 use Rattle.model.specs.Acceptance.WellFormed.{is_untyped_type, source_type}
-use Rattle.model.specs.Images.BootCalls.{LoaderCall, boot_argument, boot_cnode, capability_call, frame_calls, interrupt_call, listed_arguments, loader_call}
-use Rattle.model.specs.Images.BootCalls.{object_call, signal_calls, table_call, thread_calls}
+use Rattle.model.specs.Images.BootCalls.{LoaderCall, boot_argument, boot_cnode, buffer_calls, capability_call, frame_calls, interrupt_call, listed_arguments}
+use Rattle.model.specs.Images.BootCalls.{loader_call, object_call, signal_calls, table_call, thread_calls}
 use Rattle.model.specs.Images.Described.{start_of}
 use Rattle.model.specs.Images.Fills.{Fill, bytes_of, frame_at, page_bytes, page_fill, program_fills, program_pages}
-use Rattle.model.specs.Images.Image.{Image, Thread, size_fits}
+use Rattle.model.specs.Images.Image.{Image, Thread, no_buffer, size_fits}
 use Rattle.model.specs.Images.Places.{frame_copy_slot, handler_slot, is_handler, notification_copy_slot, object_at, offset_of, original_slot, source_boot_slot}
 use Rattle.model.specs.Kernel.AddressSpaces.{page_size}
 use Rattle.model.specs.Kernel.CallForms.{configure_label, copy_label, map_frame_label, mint_label, move_label, resume_label, set_notification_label}
-use Rattle.model.specs.Kernel.CallForms.{set_priority_label, set_register_label}
+use Rattle.model.specs.Kernel.CallForms.{set_buffer_label, set_priority_label, set_register_label}
 use Rattle.model.specs.Shared.Bytes.{word_bytes}
 use Rattle.model.specs.declared.entries.CapabilityEntry.{CapabilityEntry}
 use Rattle.model.specs.declared.entries.FrameEntry.{FrameEntry}
@@ -164,9 +164,19 @@ module _ (image : Image) (fitting : IsFitting image) where
 
   -- ---- threads
 
+  buffer-words : (t : Thread) → ((t.header.buffer == no_buffer) ≡ false → t.header.buffer < image.header.objects) → All HasSmallWords (buffer_calls image t)
+  buffer-words t listed =
+      let call = loader_call (original_slot image t.header.tcb) set_buffer_label (boot_argument (original_slot image t.header.buffer)) in
+      elim (t.header.buffer == no_buffer) as (λ b. (t.header.buffer == no_buffer) ≡ b → All HasSmallWords (if b then [] else call ∷ [])) [
+        | true ↦ λ _. All-nil HasSmallWords
+        | false ↦ λ some.
+            All-cons HasSmallWords call [] (small-all call.words (original-small t.header.buffer (listed some), (omega arith, tt))) (All-nil HasSmallWords)
+      ] refl
+
   pub thread-words : (k : ℕ) (t : Thread) → slice_get image.threads k ≡ Some t
+      → ((t.header.buffer == no_buffer) ≡ false → t.header.buffer < image.header.objects)
       → ((j : ℕ) (r : RegisterEntry) → slice_get t.registers j ≡ Some r → (r.register ≤ 31) × (r.value < 2 ^ 32)) → All HasSmallWords (thread_calls image t)
-  thread-words k t at registers =
+  thread-words k t at listed registers =
       let fits = fitting.thread k t at in
       let tcb = original_slot image t.header.tcb in
       let configure = loader_call tcb configure_label ((t.header.fault ∷ boot_argument (original_slot image t.header.cnode))
@@ -175,11 +185,14 @@ module _ (image : Image) (fitting : IsFitting image) where
       let pc = loader_call tcb set_register_label (0 ∷ start_of t ∷ []) in
       let resume = loader_call tcb resume_label [] in
       let setting = λ (r : RegisterEntry). loader_call tcb set_register_label (r.register ∷ r.value ∷ []) in
-      All-append HasSmallWords ((configure ∷ priority ∷ pc ∷ []) ++ map setting t.registers) (resume ∷ [])
-      (All-append HasSmallWords (configure ∷ priority ∷ pc ∷ []) (map setting t.registers)
-      (All-cons HasSmallWords configure (priority ∷ pc ∷ [])
+      let first = configure ∷ buffer_calls image t in
+      All-append HasSmallWords ((first ++ priority ∷ pc ∷ []) ++ map setting t.registers) (resume ∷ [])
+      (All-append HasSmallWords (first ++ priority ∷ pc ∷ []) (map setting t.registers)
+      (All-append HasSmallWords first (priority ∷ pc ∷ [])
+      (All-cons HasSmallWords configure (buffer_calls image t)
       (small-all configure.words
       (fits.fault, (original-small t.header.cnode fits.cnode, (omega arith, (original-small t.header.root fits.root, (omega arith, (fits.guard, tt)))))))
+      (buffer-words t listed))
       (two-fine priority pc (omega (arith, fits.priority), tt) (omega arith, (omega arith, tt))))
       (All-map HasSmallWords setting t.registers (each-all (λ r. HasSmallWords (setting r)) t.registers (λ j r is.
       let small = registers j r is in small-all (r.register ∷ r.value ∷ []) (omega (arith, small.0), (small.1, tt))))))

@@ -1,43 +1,49 @@
 -- The calls that set one thread up lead to the state with one listed thread more.
-use Rattle.std.proofs.Common.{ℕ, ◌≡◌, ◌≢◌, ◌∙◌, ◌==◌, ◌<◌, ◌≤◌, true, false, not, if◌then◌else◌, Option, Some, List, [], ◌∷◌, ◌++◌, map, replicate, take}
-use Rattle.std.proofs.Common.{option_map, inl, inr, refl, sym, ap, subst, arith, Ok}
+use Rattle.std.proofs.Common.{ℕ, ◌≡◌, ◌≢◌, ◌∙◌, ◌==◌, ◌<◌, ◌≤◌, ◌^◌, true, false, not, if◌then◌else◌, Option, Some, None, List, [], ◌∷◌, ◌++◌, map, replicate}
+use Rattle.std.proofs.Common.{take, option_map, inl, inr, refl, sym, ap, subst, append_assoc, arith, Ok}
 use Rattle.std.specs.Prelude.{slice_get}
 use Rattle.std.specs.Option.{option_map_or}
 use Rattle.std.proofs.lemmas.Bool.{cases_eq, eq-eqb, ne_eqb}
 use Rattle.std.proofs.lemmas.List.{map-append}
 use Rattle.soundness.specs.boot_laws.Loading.{Progress, bytes_so_far, loaded, objects_so_far}
-use Rattle.model.specs.Acceptance.WellFormed.{is_untyped_type, radix_of}
+use Rattle.model.specs.Acceptance.WellFormed.{is_frame_type, is_untyped_type, radix_of}
 use Rattle.model.specs.Capabilities.CapabilityKinds.{is_guard_word, is_untyped, with_payload, with_table_mapping}
-use Rattle.model.specs.Capabilities.Slots.{Slots, capability_at, empty_entry, inserted, is_empty}
+use Rattle.model.specs.Capabilities.Rights.{frame_rights}
+use Rattle.model.specs.Capabilities.Slots.{Slots, capability_at, empty_entry, inserted, is_empty, is_full, parent_at}
 use Rattle.model.specs.Images.Boot.{made}
-use Rattle.model.specs.Images.BootCalls.{Calls, LoaderCall, loader_call, thread_calls}
+use Rattle.model.specs.Images.BootCalls.{Calls, LoaderCall, Operation, buffer_calls, loader_call, thread_calls}
 use Rattle.model.specs.Images.Described.{listed_thread, original, start_of, start_registers}
-use Rattle.model.specs.Images.Image.{Image, Thread}
-use Rattle.model.specs.Images.Places.{offset_of, original_slot, type_at}
-use Rattle.model.specs.Kernel.CallForms.{configure_label, resume_label, set_priority_label, set_register_label}
-use Rattle.model.specs.Kernel.Retype.{NewObject, NewThread, NewCNode, NewRootTable, first_capability}
+use Rattle.model.specs.Images.Image.{Image, Thread, no_buffer}
+use Rattle.model.specs.Images.Places.{object_at, offset_of, original_slot, type_at}
+use Rattle.model.specs.Kernel.CallForms.{configure_label, resume_label, set_buffer_label, set_priority_label, set_register_label}
+use Rattle.model.specs.Kernel.Retype.{NewObject, NewThread, NewCNode, NewFrame, NewRootTable, first_capability}
 use Rattle.model.specs.Kernel.Scheduling.{without_threads}
-use Rattle.model.specs.Kernel.State.{State, ThreadObject, ThreadState, as_thread, cspace_slot, new_thread, put, thread_at, vspace_slot, with_slots, with_thread}
+use Rattle.model.specs.Kernel.State.{State, ThreadObject, ThreadState, as_thread, boot_area_slots, buffer_slot, cspace_slot, new_thread, put, thread_at}
+use Rattle.model.specs.Kernel.State.{vspace_slot, with_slots, with_thread}
 use Rattle.model.specs.Shared.Lists.{without}
 use Rattle.model.specs.declared.capabilities.Cap.{Cap}
-use Rattle.model.specs.declared.capabilities.Cap.TheVariants.{CNode, RootTable, Tcb}
+use Rattle.model.specs.declared.capabilities.Cap.TheVariants.{CNode, Empty, Frame, RootTable, Tcb}
 use Rattle.model.specs.declared.capabilities.TableMapping.{TableMapping}
 use Rattle.model.specs.declared.entries.RegisterEntry.{RegisterEntry}
+use Rattle.model.specs.declared.slot_entries.Entry.{Entry}
 use Rattle.soundness.proofs.boot_laws.CallCopies.{IsSource}
-use Rattle.soundness.proofs.boot_laws.CallOriginals.{cnode-type, original-described, original-loaded, root-type, stays, thread-type}
-use Rattle.soundness.proofs.boot_laws.CallThreads.{Configures, configure-made}
+use Rattle.soundness.proofs.boot_laws.CallDepths.{child-shallow}
+use Rattle.soundness.proofs.boot_laws.CallOriginals.{cnode-type, frame-type, original-described, original-loaded, root-type, stays, thread-type}
+use Rattle.soundness.proofs.boot_laws.CallThreads.{Configures, SetsBuffer, buffer-made, configure-made}
 use Rattle.format_laws.specs.Fitting.{ThreadFits}
 use Rattle.soundness.proofs.boot_laws.PhaseHeld.{get-take}
-use Rattle.soundness.proofs.boot_laws.PhaseSources.{original-source}
+use Rattle.soundness.proofs.boot_laws.PhaseSources.{below-boot, inserted-elsewhere, original-parent, original-source, untyped-below, untyped-root}
 use Rattle.soundness.proofs.boot_laws.PhaseStates.{Known, capability-read}
 use Rattle.soundness.proofs.boot_laws.PlacesObjects.{offsets-apart}
 use Rattle.soundness.proofs.boot_laws.ReadingsRoom.{threads-differ}
-use Rattle.soundness.proofs.boot_laws.PlacesRules.{ThreadKept}
-use Rattle.soundness.proofs.boot_laws.Readings.{one_thread, slots_of_loaded}
-use Rattle.soundness.proofs.boot_laws.RunSequences.{Leads, leads-both, leads-call, leads-same}
+use Rattle.soundness.proofs.boot_laws.PlacesRules.{BufferKept, ThreadKept, buffer-kept}
+use Rattle.soundness.proofs.boot_laws.PlacesSlots.{cspace-slot, slot-behind-boot}
+use Rattle.soundness.proofs.boot_laws.PlacesTypes.{frame-listed}
+use Rattle.soundness.proofs.boot_laws.Readings.{one_thread, slots_of_loaded, with_spaces}
+use Rattle.soundness.proofs.boot_laws.RunSequences.{Leads, leads-both, leads-call, leads-none, leads-same}
 use Rattle.soundness.proofs.boot_laws.ThreadsFit.{guard-radix, start-aligned}
 use Rattle.soundness.proofs.boot_laws.ThreadsListed.{without-mapped, object-listed, object-new, objects-other, objects-quiet, ready-listed}
-use Rattle.soundness.proofs.boot_laws.ThreadsStanding.{resumes, sets-pc, sets-priority, sets-registers, standing}
+use Rattle.soundness.proofs.boot_laws.ThreadsStanding.{resumes, sets-pc, sets-priority, sets-registers, standing, standing-shape}
 use Rattle.soundness.proofs.boot_laws.ThreadsWoken.{rested, woken, woken-is}
 
 -- an original of this type, which no page table's mapping changes, can be copied
@@ -179,11 +185,14 @@ module _ (image : Image) (p : Progress) (t : Thread) (comes : ThreadComes image 
       inserted (inserted s.slots (cspace_slot x) (with_payload first t.header.guard) (Some (original_slot image t.header.cnode)))
       (vspace_slot x) second (Some (original_slot image t.header.root))
 
-  slots-behind : both_in (CNode (offset_of image t.header.cnode) guard.0 0) (RootTable (offset_of image t.header.root)) ≡ slots
-  slots-behind =
+  -- the slots once the thread has its spaces
+  abbrev spaced : Slots
+  spaced = with_spaces image t s.slots
+
+  spaces-in : both_in (CNode (offset_of image t.header.cnode) guard.0 0) (RootTable (offset_of image t.header.root)) ≡ spaced
+  spaces-in =
       sym (ap (λ c. both_in c (RootTable (offset_of image t.header.root))) (original-described image t.header.cnode (NewCNode guard.0) is_cnode (λ m. refl)))
       ∙ sym (ap (both_in (original image t.header.cnode)) (original-described image t.header.root NewRootTable is_root (λ m. refl)))
-      ∙ sym (comes.before.adds_room.thread t comes.at)
 
   thread-before : thread_at s x ≡ new_thread
   thread-before = ap (λ o. option_map_or (λ u. u) (as_thread o) new_thread) object-before
@@ -201,12 +210,93 @@ module _ (image : Image) (p : Progress) (t : Thread) (comes : ThreadComes image 
   configure_call =
       loader_call slot configure_label (t.header.fault ∷ original_slot image t.header.cnode ∷ 32 ∷ original_slot image t.header.root ∷ 32 ∷ t.header.guard ∷ [])
 
-  configured-now : made s configure_call ≡ Ok (standing s slots x first_thread)
+  configured-now : made s configure_call ≡ Ok (standing s spaced x first_thread)
   configured-now =
       configure-made s slot x t.header.fault (original_slot image t.header.cnode) (offset_of image t.header.cnode) guard.0 (original_slot image t.header.root)
       (offset_of image t.header.root) t.header.guard comes.before.shape (record { inside = thread-source.inside; holds = thread-source.holds }) asked
-      ∙ ap (λ sl. Ok (with_thread (with_slots s sl) x (record (thread_at s x) { fault_address = t.header.fault }))) slots-behind
-      ∙ ap (λ (u : ThreadState). Ok (with_thread (with_slots s slots) x (record u { fault_address = t.header.fault }))) thread-before
+      ∙ ap (λ sl. Ok (with_thread (with_slots s sl) x (record (thread_at s x) { fault_address = t.header.fault }))) spaces-in
+      ∙ ap (λ (u : ThreadState). Ok (with_thread (with_slots s spaced) x (record u { fault_address = t.header.fault }))) thread-before
+
+  -- ---- SetBuffer
+
+  -- boot slots are as they were
+  spaced-boot : (n : ℕ) → n < 2 ^ image.header.boot_radix → spaced n ≡ s.slots n
+  spaced-boot n low =
+      let behind : boot_area_slots image.header.boot_radix ≤ cspace_slot x =
+      slot-behind-boot image comes.before.fits comes.before.formed t.header.tcb (cspace_slot x) fits.tcb (cspace-slot image t.header.tcb kept.tcb) in
+      inserted-elsewhere (inserted s.slots (cspace_slot x) _ _) (vspace_slot x) _ _ n (λ same. omega (arith, same, low, behind))
+      ∙ inserted-elsewhere s.slots (cspace_slot x) _ _ n (λ same. omega (arith, same, low, behind))
+
+  capability-spaced : (n : ℕ) → n < 2 ^ image.header.boot_radix → capability_at spaced n ≡ capability_at s.slots n
+  capability-spaced n low = ap (λ (o : Option Entry). option_map_or (λ held. held.capability) o Empty) (spaced-boot n low)
+
+  parent-spaced : (n : ℕ) → n < 2 ^ image.header.boot_radix → parent_at spaced n ≡ parent_at s.slots n
+  parent-spaced n low = ap (λ (o : Option Entry). option_map_or (λ held. held.parent) o None) (spaced-boot n low)
+
+  buffer-free : is_full spaced (buffer_slot x) ≡ false
+  buffer-free =
+      let same : spaced (buffer_slot x) ≡ s.slots (buffer_slot x) =
+      inserted-elsewhere (inserted s.slots (cspace_slot x) _ _) (vspace_slot x) _ _ (buffer_slot x) (λ same. omega (arith, same))
+      ∙ inserted-elsewhere s.slots (cspace_slot x) _ _ (buffer_slot x) (λ same. omega (arith, same)) in
+      ap (λ (o : Option Entry). not (is_empty (option_map_or (λ held. held.capability) o Empty)))
+      (same ∙ comes.before.room.buffer p.threads t (omega arith) comes.at)
+
+  abbrev source : ℕ
+  source = original_slot image t.header.buffer
+
+  abbrev buffer_call : LoaderCall
+  buffer_call = loader_call slot set_buffer_label (source ∷ 32 ∷ [])
+
+  abbrev buffered : Cap → Slots
+  buffered c = inserted spaced (buffer_slot x) c (Some source)
+
+  module _ (some : (t.header.buffer == no_buffer) ≡ false) where
+    is_frame : is_frame_type (type_at image t.header.buffer) ≡ true
+    is_frame = BufferKept.frame (buffer-kept image p.threads t kept some)
+
+    typed : type_at image t.header.buffer ≡ Some NewFrame
+    typed = frame-type (type_at image t.header.buffer) is_frame
+
+    listed : t.header.buffer < image.header.objects
+    listed = frame-listed image t.header.buffer comes.before.fits is_frame
+
+    buffer-source : IsSource s source (Frame (offset_of image t.header.buffer) frame_rights None)
+    buffer-source = kind-source image p t.header.buffer NewFrame comes.before comes.objects listed typed (λ m. refl) refl
+
+    buffer-asked : SetsBuffer (standing s spaced x first_thread) x source (offset_of image t.header.buffer)
+    buffer-asked =
+        let untyped = (object_at image t.header.buffer).untyped in
+        let low = below-boot image p t.header.buffer comes.before comes.objects listed in
+        let root_low = untyped-below image p t.header.buffer comes.before comes.objects listed in
+        record {
+          inside = buffer-source.inside;
+          holds = capability-spaced source low ∙ buffer-source.holds;
+          shallow = child-shallow spaced source untyped
+              (parent-spaced source low ∙ original-parent image p t.header.buffer comes.before comes.objects listed
+              (stays image t.header.buffer NewFrame typed (λ m. refl) p refl))
+              (parent-spaced untyped root_low ∙ untyped-root image p t.header.buffer comes.before comes.objects listed);
+          free = buffer-free;
+        }
+
+    buffer-set : made (standing s spaced x first_thread) buffer_call ≡ Ok (standing s (buffered (original image t.header.buffer)) x first_thread)
+    buffer-set =
+        let low = below-boot image p t.header.tcb comes.before comes.objects fits.tcb in
+        buffer-made (standing s spaced x first_thread) slot x source (offset_of image t.header.buffer)
+        (standing-shape s spaced x first_thread comes.before.shape)
+        (record { inside = thread-source.inside; holds = capability-spaced slot low ∙ thread-source.holds }) buffer-asked
+        ∙ ap (λ c. Ok (standing s (buffered c) x first_thread)) (sym (original-described image t.header.buffer NewFrame typed (λ m. refl)))
+
+  buffer-steps : Leads image (standing s spaced x first_thread) (map Calls (buffer_calls image t)) (standing s slots x first_thread)
+  buffer-steps =
+      subst (λ (sl : Slots). Leads image (standing s spaced x first_thread) (map Calls (buffer_calls image t)) (standing s sl x first_thread))
+      (sym (comes.before.adds_room.thread t comes.at))
+      (elim (t.header.buffer == no_buffer) as (λ b. (t.header.buffer == no_buffer) ≡ b
+      → Leads image (standing s spaced x first_thread) (map Calls (if b then [] else buffer_call ∷ []))
+      (standing s (if b then spaced else buffered (original image t.header.buffer)) x first_thread)) [
+        | true ↦ λ _. leads-none image (standing s spaced x first_thread)
+        | false ↦ λ some. leads-call image (standing s spaced x first_thread) (standing s (buffered (original image t.header.buffer)) x first_thread) buffer_call
+            (buffer-set some)
+      ] refl)
 
   -- ---- the whole
 
@@ -231,16 +321,36 @@ module _ (image : Image) (p : Progress) (t : Thread) (comes : ThreadComes image 
       (sets-registers s slots x slot comes.before.shape thread-source.inside thread-named image third_thread t.registers comes.registers)
       (leads-call image (standing s slots x prepared) (loaded image (one_thread p)) resume_call resumed))
 
-  pub thread-leads : Leads image (loaded image p) (map Calls (thread_calls image t)) (loaded image (one_thread p))
-  thread-leads =
+  -- from the priority on
+  abbrev later_operations : List Operation
+  later_operations = Calls priority_call ∷ Calls pc_call ∷ map Calls (register_calls ++ resume_call ∷ [])
+
+  later-steps : Leads image (standing s slots x first_thread) later_operations (loaded image (one_thread p))
+  later-steps =
       let shape = comes.before.shape in
       let inside = thread-source.inside in
-      leads-both image s (standing s slots x first_thread) (loaded image (one_thread p)) (Calls configure_call ∷ []) _
-      (leads-call image s (standing s slots x first_thread) configure_call configured-now)
-      (leads-both image (standing s slots x first_thread) (standing s slots x second_thread) (loaded image (one_thread p)) (Calls priority_call ∷ []) _
+      leads-both image (standing s slots x first_thread) (standing s slots x second_thread) (loaded image (one_thread p)) (Calls priority_call ∷ []) _
       (leads-call image (standing s slots x first_thread) (standing s slots x second_thread) priority_call
       (sets-priority s slots x slot shape inside thread-named first_thread t.header.priority fits.priority refl))
       (leads-both image (standing s slots x second_thread) (standing s slots x third_thread) (loaded image (one_thread p)) (Calls pc_call ∷ []) _
       (leads-call image (standing s slots x second_thread) (standing s slots x third_thread) pc_call
       (sets-pc s slots x slot shape inside thread-named second_thread (start_of t) (start-aligned t kept.base)))
-      last-steps))
+      last-steps)
+
+  in-order : Calls configure_call ∷ (map Calls (buffer_calls image t) ++ later_operations) ≡ map Calls (thread_calls image t)
+  in-order =
+      let buffers = buffer_calls image t in
+      let two : List LoaderCall = priority_call ∷ pc_call ∷ [] in
+      let last : List LoaderCall = register_calls ++ resume_call ∷ [] in
+      ap (λ (ops : List Operation). Calls configure_call ∷ ops) (sym (map-append Calls buffers (two ++ last)))
+      ∙ ap (λ (calls : List LoaderCall). map Calls (configure_call ∷ calls))
+      (sym (append_assoc (buffers ++ two) register_calls (resume_call ∷ []) ∙ append_assoc buffers two last))
+
+  pub thread-leads : Leads image (loaded image p) (map Calls (thread_calls image t)) (loaded image (one_thread p))
+  thread-leads =
+      let end = loaded image (one_thread p) in
+      leads-same image s end (Calls configure_call ∷ (map Calls (buffer_calls image t) ++ later_operations)) (map Calls (thread_calls image t)) in-order
+      (leads-both image s (standing s spaced x first_thread) end (Calls configure_call ∷ []) (map Calls (buffer_calls image t) ++ later_operations)
+      (leads-call image s (standing s spaced x first_thread) configure_call configured-now)
+      (leads-both image (standing s spaced x first_thread) (standing s slots x first_thread) end (map Calls (buffer_calls image t)) later_operations
+      buffer-steps later-steps))

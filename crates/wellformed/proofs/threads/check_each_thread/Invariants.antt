@@ -11,7 +11,7 @@ use Rattle.wellformed.proofs.threads.check_each_thread.Given as goal
 abbrev pub invariant-loop-thread : goal.invariant-loop-thread
 invariant-loop-thread l = record {
   rest : drop l.number l.fn.image.threads ≡ l.thread-iterator;
-  earlier : AreEarlier l.fn.image (take l.number l.fn.image.threads) l.earlier.tcbs l.earlier.roots l.earlier.cnodes;
+  earlier : AreEarlier l.fn.image (take l.number l.fn.image.threads) l.earlier.tcbs l.earlier.roots l.earlier.cnodes l.earlier.buffers;
   left : first_broken (flat_map (λ u. rules_of_thread l.fn.image (record { number = u.0; thread = u.1 }))
       (enumerate_from l.number (drop l.number l.fn.image.threads)))
       ≡ first_broken (flat_map (λ u. rules_of_thread l.fn.image (record { number = u.0; thread = u.1 })) (numbered l.fn.image.threads));

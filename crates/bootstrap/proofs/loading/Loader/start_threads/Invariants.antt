@@ -11,6 +11,6 @@ abbrev pub invariant-loop-thread : goal.invariant-loop-thread
 invariant-loop-thread l = record {
   same : called (progress_of l.fn.self) (flat_map (thread_calls l.image.read.now) l.image.read.now.threads) ≡ called (progress_of l.self)
       (flat_map (thread_calls l.image.read.now) l.thread-iterator);
-  room : l.self.calls + 35 * length l.thread-iterator ≤ l.fn.self.calls + 2240;
+  room : l.self.calls + 36 * length l.thread-iterator ≤ l.fn.self.calls + 2304;
   fits : AllByRecursion (ThreadFits l.image.read.now.header) l.thread-iterator;
 }

@@ -5,7 +5,7 @@ use Rattle.model.specs.declared.entries.ImageHeader.{ImageHeader}
 use Rattle.model.specs.declared.refusals.Refusal.TheVariants.{BadMapping, WritableCode}
 use Rattle.model.specs.Acceptance.WellFormed.{frame_rules, has_writable_code, misplaces_frame}
 use Rattle.wellformed.proofs.Named.{mapped-twice}
-use Rattle.wellformed.proofs.RulesLeft.{all_kept, first_of_two, none_of_two, one_broken, second_of_two}
+use Rattle.wellformed.proofs.RulesLeft.{all_kept, one_broken, rule_broken, rule_kept}
 use Rattle.wellformed.proofs.mappings.FrameNames.check_frames.Goals as goal
 
 pub has_writable_code-requires : goal.has_writable_code-requires
@@ -22,8 +22,7 @@ returns-then-misplaces_frame c =
     let e = c.frame-entry.result in
     let item = image.header.tables + n in
     inr (one_broken (frame_rules image) image.frames n e _ (BadMapping item) c.frame-entry.ensures
-    (first_of_two (misplaces_frame image e) (has_writable_code image (n, e)) (BadMapping item) (WritableCode item)
-    (sym c.misplaces_frame.ensures ∙ c.if-misplaces_frame.true)) c.loop-number.invariant
+    (rule_broken (misplaces_frame image e) (BadMapping item) _ (sym c.misplaces_frame.ensures ∙ c.if-misplaces_frame.true)) c.loop-number.invariant
     ∙ ap (λ (h : ImageHeader). Some (BadMapping (h.tables + n))) (sym c.header_of-header.ensures.value))
 
 pub returns-then-has_writable_code : goal.returns-then-has_writable_code
@@ -33,9 +32,8 @@ returns-then-has_writable_code c =
     let e = c.frame-entry.result in
     let item = image.header.tables + n in
     inr (one_broken (frame_rules image) image.frames n e _ (WritableCode item) c.frame-entry.ensures
-    (second_of_two (misplaces_frame image e) (has_writable_code image (n, e)) (BadMapping item) (WritableCode item)
-    (sym c.misplaces_frame.ensures ∙ c.if-misplaces_frame.false)
-    (sym c.has_writable_code.ensures ∙ c.if-has_writable_code.true)) c.loop-number.invariant
+    (rule_kept (misplaces_frame image e) (BadMapping item) _ (sym c.misplaces_frame.ensures ∙ c.if-misplaces_frame.false)
+    ∙ rule_broken (has_writable_code image (n, e)) (WritableCode item) _ (sym c.has_writable_code.ensures ∙ c.if-has_writable_code.true)) c.loop-number.invariant
     ∙ ap (λ (h : ImageHeader). Some (WritableCode (h.tables + n))) (sym c.header_of-header.ensures.value))
 
 pub loop-number-preserved : goal.loop-number-preserved
@@ -45,6 +43,5 @@ loop-number-preserved c =
     let e = c.frame-entry.result in
     let item = image.header.tables + n in
     all_kept (frame_rules image) image.frames n e _ c.frame-entry.ensures
-    (none_of_two (misplaces_frame image e) (has_writable_code image (n, e)) (BadMapping item) (WritableCode item)
-    (sym c.misplaces_frame.ensures ∙ c.if-misplaces_frame.false)
-    (sym c.has_writable_code.ensures ∙ c.if-has_writable_code.false)) c.loop-number.invariant
+    (rule_kept (misplaces_frame image e) (BadMapping item) _ (sym c.misplaces_frame.ensures ∙ c.if-misplaces_frame.false)
+    ∙ rule_kept (has_writable_code image (n, e)) (WritableCode item) _ (sym c.has_writable_code.ensures ∙ c.if-has_writable_code.false)) c.loop-number.invariant
