@@ -6,9 +6,10 @@ mod StandingOn
 mod StartObjects
 mod OwnBlocks
 mod BlockSlots
-mod NoBuffers
 mod FrameRules
 mod FramePlaces
+mod CopiedBytes
+mod Buffers
 mod StoredPlaces
 mod HangsKept
 mod StartHangs

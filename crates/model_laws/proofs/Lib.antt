@@ -2,6 +2,7 @@ pub mod Authorities
 pub mod ConstantMeasures
 pub mod Descents
 pub mod LookupLaws
+pub mod MessageBytes
 pub mod MovedRanges
 pub mod Opened
 pub mod Placements

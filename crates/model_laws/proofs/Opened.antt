@@ -30,7 +30,7 @@ use Rattle.model.specs.Acceptance.WellFormed.{misplaces_table as wellformed_misp
 use Rattle.model.specs.Acceptance.WellFormed.{has_writable_code as wellformed_has_writable_code, mapping_rules as wellformed_mapping_rules}
 use Rattle.model.specs.Acceptance.ThreadRules.{reached_within as threadrules_reached_within, reached as threadrules_reached, is_bad as threadrules_is_bad}
 use Rattle.model.specs.Acceptance.ThreadRules.{shares_cspace as threadrules_shares_cspace, shares_vspace as threadrules_shares_vspace}
-use Rattle.model.specs.Acceptance.ThreadRules.{thread_rules as threadrules_thread_rules}
+use Rattle.model.specs.Acceptance.ThreadRules.{has_bad_buffer as threadrules_has_bad_buffer, thread_rules as threadrules_thread_rules}
 use Rattle.model.specs.Acceptance.NotedStates.{put_in as notedstates_put_in, image_slots as notedstates_image_slots, record_state as notedstates_record_state}
 use Rattle.model.specs.Acceptance.NotedStates.{leads_to_boot as notedstates_leads_to_boot, has_stray_slots as notedstates_has_stray_slots}
 use Rattle.model.specs.Acceptance.NotedKernel.{noted_kernel as notedkernel_noted_kernel, noted_after as notedkernel_noted_after}
@@ -70,7 +70,8 @@ unfolding digits format_many_read format_many_spelling format_many_fit image_hea
     slots_descends_within lookup_lookup_within places_used_by places_offset_of fills_fills fills_described_bytes described_boot_holdings described_holdings
     described_is_open_slot described_described wellformed_overlaps wellformed_has_no_room wellformed_object_rules wellformed_does_not_fit
     wellformed_capability_rules wellformed_misplaces_table wellformed_misplaces_frame wellformed_has_writable_code wellformed_mapping_rules
-    threadrules_reached_within threadrules_reached threadrules_is_bad threadrules_shares_cspace threadrules_shares_vspace threadrules_thread_rules
+    threadrules_reached_within threadrules_reached threadrules_is_bad threadrules_shares_cspace threadrules_shares_vspace threadrules_has_bad_buffer
+    threadrules_thread_rules
     notedstates_put_in notedstates_image_slots notedstates_record_state notedstates_leads_to_boot notedstates_has_stray_slots notedkernel_noted_kernel
     notedkernel_noted_after callrules_all_known callrules_after_call pointstates_call_at pointstates_noted pointrules_edges_at pointrules_is_unmapped
     pointrules_state_rules pointrules_point_rules pointrules_rules_of_program pointrules_program_rules accepted_first_in accepted_first_breach

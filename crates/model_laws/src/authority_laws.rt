@@ -1,6 +1,6 @@
 //! What authority rules out, case by case.
 
-ghost use Rattle.std.specs.Prelude.{ℕ, ◌≡◌, ◌≢◌, ◌<◌, true, false, bit_or, [], ◌∷◌, Contains, List, Some, None, Ok, Err};
+ghost use Rattle.std.specs.Prelude.{ℕ, ◌≡◌, ◌≢◌, ◌+◌, ◌*◌, ◌^◌, ◌<◌, ◌≤◌, ◌⊎◌, true, false, bit_or, [], ◌∷◌, Contains, List, Some, None, Ok, Err};
 ghost use Rattle.model.specs.declared.capabilities.Cap.TheVariants.{CNode, Empty, Endpoint, Frame, InterruptControl, InterruptHandler, Notification, PageTable, Tcb, Untyped};
 ghost use Rattle.model.specs.declared.rights.Rights.{Rights};
 ghost use Rattle.model.specs.declared.lookup_failures.LookupFailure.{LookupFailure};
@@ -12,14 +12,14 @@ ghost use Rattle.model.specs.Images.Places.{offset_of};
 ghost use Rattle.model.specs.Kernel.Deliveries.{woken};
 ghost use Rattle.model.specs.Kernel.Interrupts.{binding};
 ghost use Rattle.model.specs.Kernel.Kinds.{frame_around};
-ghost use Rattle.model.specs.Kernel.Messages.{a0, delivered, message_between};
+ghost use Rattle.model.specs.Kernel.Messages.{a0, buffer_of, delivered, length_between, message_between};
 ghost use Rattle.model.specs.Kernel.Scheduling.{current, full_slice};
 ghost use Rattle.model.specs.Kernel.Soundness.{IsSound};
 ghost use Rattle.model.specs.Kernel.State.{State, Inactive, Blocked, AwaitsReply, Sender, BySend, ByCall, ByFault, FaultMessage, CNodeObject, EndpointObject, EndpointState, FrameObject, NotificationObject, NotificationState, ThreadObject, ThreadState, endpoint_at, thread_at};
 ghost use Rattle.model.specs.Kernel.Steps.{named_slot};
 ghost use Rattle.model.specs.Machine.Effects.{advanced};
 ghost use Rattle.model.specs.Machine.ProgramMemory.{write};
-ghost use Rattle.model_laws.specs.Scenarios.{HoldsOnly};
+ghost use Rattle.model_laws.specs.Scenarios.{ChangesUnwritten, HoldsOnly};
 
 /// A thread that holds one endpoint gets no other capability into an empty slot: none to the boot CNode,
 /// to all of memory, to a frame, to a line that it has no handler of, or to interrupt control.
@@ -111,6 +111,28 @@ pub fn objects_stay_what_they_are()
         → capability_at after.slots slot ≡ PageTable 0xA000 None → WithinAuthority image t s after → ⊥ }
     ensures memory { (image : Image) (t : Thread) (s after : State) → s.memory_bits ≢ after.memory_bits → WithinAuthority image t s after → ⊥ }
     ensures boot_area { (image : Image) (t : Thread) (s after : State) → s.boot_radix ≢ after.boot_radix → WithinAuthority image t s after → ⊥ }
+{}
+
+/// Where the thread may not write, a byte of a frame that stays changes by a message alone: it is in a thread's buffer, behind the 32 bytes
+/// of the words that registers hold and before the message's end, and becomes what is there in a sender's buffer; and none changes where
+/// the call names nothing, or a fault is the first that is sent, and the thread may answer nobody. It checks what a message changes (`ByteChange.delivered`).
+pub fn a_message_changes_its_words_in_a_buffer()
+    ensures bystander { (image : Image) (t : Thread) (s after : State) (place : ℕ) → ChangesUnwritten image t s after place
+        → ((thread frame : ℕ) → buffer_of s thread ≡ Some frame → (place < frame) ⊎ (frame + 2 ^ 12 ≤ place)) → WithinAuthority image t s after → ⊥ }
+    ensures registers { (image : Image) (t : Thread) (s after : State) (place : ℕ) → ChangesUnwritten image t s after place
+        → ((thread frame : ℕ) → buffer_of s thread ≡ Some frame → place < frame + 32) → WithinAuthority image t s after → ⊥ }
+    ensures end { (image : Image) (t : Thread) (s after : State) (place : ℕ) → ChangesUnwritten image t s after place
+        → ((from to frame : ℕ) → buffer_of s to ≡ Some frame → frame + 4 * length_between s from to ≤ place) → WithinAuthority image t s after → ⊥ }
+    ensures value { (image : Image) (t : Thread) (s after : State) (place : ℕ) → ChangesUnwritten image t s after place
+        → ((from to source target index : ℕ) → buffer_of s from ≡ Some source → buffer_of s to ≡ Some target → place ≡ target + index
+        → s.bytes (source + index) ≢ after.bytes place) → WithinAuthority image t s after → ⊥ }
+    ensures nobody { (image : Image) (t : Thread) (s after : State) (place : ℕ) (failure : LookupFailure) → ChangesUnwritten image t s after place
+        → named_slot s (self_of image t) ≡ Err failure → (thread_at s (self_of image t)).caller ≡ None → WithinAuthority image t s after → ⊥ }
+    ensures fault { (image : Image) (t : Thread) (s after : State) (place slot endpoint badge : ℕ) (r : Rights) (first : Sender) (others : List Sender)
+        (fault : FaultMessage) → ChangesUnwritten image t s after place → named_slot s (self_of image t) ≡ Ok slot
+        → capability_at s.slots slot ≡ Endpoint endpoint r badge → (thread_at s (self_of image t)).caller ≡ None
+        → (endpoint_at s endpoint).receivers ≡ [] → (endpoint_at s endpoint).senders ≡ first ∷ others → first.sent ≡ ByFault fault
+        → WithinAuthority image t s after → ⊥ }
 {}
 
 /// A thread gets the right to reply to the first sender of an endpoint that it may read, where that one called with

@@ -42,6 +42,7 @@ pub use authority_laws::a_capability_stays_what_it_is;
 pub use authority_laws::a_handler_is_of_a_line;
 pub use authority_laws::a_line_changes_by_its_handler;
 pub use authority_laws::a_mapping_has_rights_of_its_capability;
+pub use authority_laws::a_message_changes_its_words_in_a_buffer;
 pub use authority_laws::a_new_parent_is_an_own_slot_or_was_above_one;
 pub use authority_laws::a_receiver_leaves_the_queue_with_its_message;
 pub use authority_laws::a_reply_is_granted_by_the_capability;

@@ -46,7 +46,7 @@ module _ (image : Image) (t : Thread) (s : State) (sound : IsSound s) (own : Thr
 
   opens-alone : ChangesObjects image t s open_again
   opens-alone = record {
-    store = record { memory_bits = refl; boot_radix = refl; slots = λ slot. refl; bytes = λ place. refl };
+    store = record { memory_bits = refl; boot_radix = refl; slots = λ slot. refl; bytes = λ place. inl refl };
     own = own;
     now = own;
     was = is;

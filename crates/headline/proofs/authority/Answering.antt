@@ -1,35 +1,41 @@
 -- A thread answers the one that called it, which runs again; and what it does in the same step after that. What both change stays within
 -- authority.
-use Rattle.std.proofs.Common.{ℕ, suc, ◌≡◌, ◌≢◌, ◌==◌, ◌+◌, ◌≤◌, ◌++◌, Bool, true, false, if◌then◌else◌, Option, Some, None, List, [], ◌∷◌, refl, sym}
+use Rattle.std.proofs.Common.{ℕ, suc, ◌≡◌, ◌≢◌, ◌==◌, ◌+◌, ◌*◌, ◌<◌, ◌≤◌, ◌++◌, Bool, true, false, if◌then◌else◌, Option, Some, None, List, [], ◌∷◌, refl, sym}
 use Rattle.std.proofs.Common.{◌∙◌, ap, subst, inl, inr, arith}
 use Rattle.std.specs.Prelude.{Contains}
 use Rattle.std.specs.Option.{option_map_or}
 use Rattle.std.proofs.lemmas.Bool.Decides.{eqb_tells}
 use Rattle.std.proofs.lemmas.List.Elements.{Contains-append_cases}
 use Rattle.model.specs.declared.capabilities.Cap.{Cap}
-use Rattle.model.specs.Acceptance.Authority.{AsksAs, CallNames, EndpointChange, waits_to_send, waits_to_receive, takes_sender, takes_receiver, IsWoken, LineChange}
+use Rattle.model.specs.Acceptance.Authority.{AsksAs, CallNames, Delivers, EndpointChange, waits_to_send, waits_to_receive, takes_sender, takes_receiver, IsWoken, LineChange}
 use Rattle.model.specs.Acceptance.Authority.{opens, delivers, NotificationChange, joins, passes_on, taken, waits, RightChange, kept, dropped, of_sender, same_slice}
 use Rattle.model.specs.Acceptance.Authority.{ReadyChange, self_of}
 use Rattle.model.specs.Capabilities.Lookup.{called_slot}
 use Rattle.model.specs.Images.Image.{Image, Thread}
 use Rattle.model.specs.Kernel.Deliveries.{MayReply, as_before, to_sender, Reason, receiver, sender, waiter, caller as answered, faulted, set_back, Signals}
 use Rattle.model.specs.Kernel.Deliveries.{by_right, by_line, woken}
-use Rattle.model.specs.Kernel.Messages.{Message, a0, deliver, delivered, message_between, with_caller}
+use Rattle.model.specs.Kernel.Kinds.{object_named}
+use Rattle.model.specs.Kernel.Messages.{Message, a0, buffer_of, bytes_between, deliver, delivered, length_between, message_between, reply_to_call, with_caller}
+use Rattle.model.specs.Kernel.Retype.{NewEndpoint}
 use Rattle.model.specs.Kernel.Scheduling.{is_runnable, wake}
 use Rattle.model.specs.Kernel.Soundness.{IsSound}
-use Rattle.model.specs.Kernel.State.{State, Runnable, Blocked, AwaitsReply, Object, ThreadObject, EndpointObject, NotificationObject, EndpointState}
-use Rattle.model.specs.Kernel.State.{NotificationState, Sender, ThreadState, as_endpoint, as_notification, endpoint_at, new_endpoint, new_notification}
-use Rattle.model.specs.Kernel.State.{notification_at, thread_at}
+use Rattle.model.specs.Kernel.State.{State, Inactive, Runnable, Blocked, AwaitsReply, Object, ThreadObject, EndpointObject, NotificationObject, EndpointState}
+use Rattle.model.specs.Kernel.State.{NotificationState, Sender, ThreadState, as_endpoint, as_notification, as_thread, endpoint_at, new_endpoint, new_notification}
+use Rattle.model.specs.Kernel.State.{new_thread, notification_at, thread_at}
 use Rattle.model.specs.Kernel.Steps.{cspace_of, named_slot}
 use Rattle.model.specs.Machine.Effects.{advanced}
 use Rattle.model.specs.Machine.ProgramMemory.{RegisterFile, read}
 use Rattle.model.specs.Shared.Lists.{times_in}
 use Rattle.headline.proofs.facts.Laws.{at-place}
-use Rattle.headline.proofs.moves.Laws.{caller-here, caller-there, delivered-here, delivered-there, woke, woke-there}
+use Rattle.headline.proofs.kept.Laws.{IsCopied, copied-at, length-few, one-buffer}
+use Rattle.headline.proofs.moves.Laws.{at-endpoint, caller-here, caller-there, delivered-here, delivered-there, woke, woke-there}
 use Rattle.headline.proofs.authority.Changes.{ChangesObjects, OtherChange, stays, of_thread, of_endpoint, of_notification}
-use Rattle.headline.proofs.authority.Deliveries.{between-same}
+use Rattle.headline.proofs.authority.Deliveries.{StaysOrDelivered, between-same, by-delivery, bytes-delivered, length-same}
 use Rattle.headline.proofs.authority.Gains.{Gains, gains-both, one-ready, only-one, wake-gains, woken_at}
-use Rattle.headline.proofs.authority.Awaited.{resting-absent, resting-apart}
+use Rattle.headline.proofs.authority.Awaited.{resting-absent, resting-apart, sender-waits}
+use Rattle.headline.proofs.authority.Interrupted.{Waits}
+use Rattle.headline.specs.authority.Scenarios.{HaveOwnBuffers}
+use Rattle.soundness.proofs.Laws.{endpoint-kind}
 
 -- who is counted in a list is in it
 counted-there : (l : List ℕ) (x : ℕ) → 1 ≤ times_in l x → Contains l x
@@ -65,8 +71,12 @@ module _ (image : Image) (t : Thread) (s : State) (sound : IsSound s) (own : Thr
   abbrev one : State
   one = with_caller s self None
 
+  -- with the bytes of the answer
+  abbrev told : State
+  told = record one { bytes = bytes_between s self caller (length_between s self caller) }
+
   abbrev two : State
-  two = deliver one caller 0 message
+  two = deliver told caller 0 message
 
   abbrev after : State
   after = wake two caller
@@ -84,20 +94,20 @@ module _ (image : Image) (t : Thread) (s : State) (sound : IsSound s) (own : Thr
   apart = resting-apart s caller self u own there is rests runs
 
   two-caller : two.objects caller ≡ Some (ThreadObject (record u { registers = advanced written }))
-  two-caller = delivered-here one caller 0 message u (caller-there s self None caller apart ∙ there)
+  two-caller = delivered-here told caller 0 message u (caller-there s self None caller apart ∙ there)
 
   after-caller : after.objects caller ≡ Some (ThreadObject changed)
   after-caller = woke two caller (record u { registers = advanced written }) two-caller
 
-  pub after-self : (wake (deliver (with_caller s (self_of image t) None) caller 0 (message_between s (self_of image t) caller)) caller).objects
+  pub after-self : (reply_to_call (with_caller s (self_of image t) None) (self_of image t) caller (message_between s (self_of image t) caller)).objects
       (self_of image t) ≡ Some (ThreadObject (record own { caller = None }))
   after-self =
-      woke-there two caller self (λ same. apart (sym same)) ∙ delivered-there one caller 0 message self (λ same. apart (sym same))
+      woke-there two caller self (λ same. apart (sym same)) ∙ delivered-there told caller 0 message self (λ same. apart (sym same))
       ∙ caller-here s self None own is
 
   after-there : (y : ℕ) → y ≢ self → y ≢ caller → after.objects y ≡ s.objects y
   after-there y not_self not_caller =
-      woke-there two caller y not_caller ∙ delivered-there one caller 0 message y not_caller ∙ caller-there s self None y not_self
+      woke-there two caller y not_caller ∙ delivered-there told caller 0 message y not_caller ∙ caller-there s self None y not_self
 
   right-is : (thread_at s self).caller ≡ Some caller
   right-is = ap (λ (v : ThreadState). v.caller) (at-place s self own is) ∙ right
@@ -112,10 +122,21 @@ module _ (image : Image) (t : Thread) (s : State) (sound : IsSound s) (own : Thr
       → IsWoken s later priority caller
   woken-there later now priority here = record { before = u; changed = changed; was = there; rested = rests; is = now; runs = refl; at = sym here }
 
+  -- it is this delivery that the step makes, whatever comes after it where the caller runs on
+  delivers-to : (later : State) → later.objects caller ≡ Some (ThreadObject changed) → Delivers image t s later self caller
+  delivers-to later now =
+      Delivers.replies refl right-is (ap (λ (v : ThreadState). v.status) (at-place s caller u there) ∙ awaits)
+      (ap (λ (v : ThreadState). v.status) (at-place later caller changed now))
+
   pub answer-changes : ChangesObjects image t s
-      (wake (deliver (with_caller s (self_of image t) None) caller 0 (message_between s (self_of image t) caller)) caller)
+      (reply_to_call (with_caller s (self_of image t) None) (self_of image t) caller (message_between s (self_of image t) caller))
   answer-changes = record {
-    store = record { memory_bits = refl; boot_radix = refl; slots = λ slot. refl; bytes = λ place. refl };
+    store = record {
+      memory_bits = refl;
+      boot_radix = refl;
+      slots = λ slot. refl;
+      bytes = bytes-delivered image t s after sound self caller (delivers-to after after-caller) refl;
+    };
     own = own;
     now = cleared;
     was = is;
@@ -141,7 +162,7 @@ module _ (image : Image) (t : Thread) (s : State) (sound : IsSound s) (own : Thr
   message-same : (y : ℕ) → message_between after self y ≡ message_between s self y
   message-same y = between-same s after self y refl registers-same
 
-  pub named-same : named_slot (wake (deliver (with_caller s (self_of image t) None) caller 0 (message_between s (self_of image t) caller)) caller)
+  pub named-same : named_slot (reply_to_call (with_caller s (self_of image t) None) (self_of image t) caller (message_between s (self_of image t) caller))
       (self_of image t) ≡ named_slot s (self_of image t)
   named-same = ap (λ (r : RegisterFile). called_slot s.slots (cspace_of s self) (read r a0)) registers-same
 
@@ -182,8 +203,8 @@ module _ (image : Image) (t : Thread) (s : State) (sound : IsSound s) (own : Thr
       such-back (by_right allowed is_one writes) = by_right allowed is_one writes
       such-back (by_line number is_one bound pending) = by_line number is_one bound pending
 
-  module _ (later : State) (second : ChangesObjects image t (wake (deliver (with_caller s (self_of image t) None) caller 0
-      (message_between s (self_of image t) caller)) caller) later) where
+  module _ (later : State) (second : ChangesObjects image t (reply_to_call (with_caller s (self_of image t) None) (self_of image t) caller
+      (message_between s (self_of image t) caller)) later) where
     replies-back : (endpoint badge : ℕ) (before now : Option ℕ) → MayReply later self (CallNames image t after) endpoint badge before now
         → MayReply later self (CallNames image t s) endpoint badge before now
     replies-back endpoint badge before now (as_before same) = as_before same
@@ -352,14 +373,130 @@ module _ (image : Image) (t : Thread) (s : State) (sound : IsSound s) (own : Thr
           own = both.own;
         }
 
+    -- ---- bytes
+
+    -- where the second change is of no byte
+    pub bytes-left : ((place : ℕ) → later.bytes place ≡ (reply_to_call (with_caller s (self_of image t) None) (self_of image t) caller
+        (message_between s (self_of image t) caller)).bytes place) → (place : ℕ) → StaysOrDelivered image t s later place
+    bytes-left same place = elim (copied-at s self caller (length_between s self caller) place) [
+      | inl stays_so ↦ inl (same place ∙ stays_so)
+      | inr copied ↦
+          inr (by-delivery image t s later sound self caller place (delivers-to later caller-later)
+          (subst (IsCopied s self caller (length_between s self caller) place) (sym (same place)) copied))
+    ]
+
+    -- where threads that are not stopped have no buffer in common: the sender of the second delivery is another thread than the caller
+    module _ (own_buffers : HaveOwnBuffers s) where
+      -- a sender that is not stopped
+      record IsSource (from : ℕ) : Type 0 where
+        not_caller : from ≢ caller
+        not_stopped : (thread_at s from).status ≢ Inactive
+
+      registers-still : (from : ℕ) → IsSource from → (thread_at after from).registers ≡ (thread_at s from).registers
+      registers-still from source = elim (eqb_tells from self) [
+        | inl here ↦ subst (λ (x : ℕ). (thread_at after x).registers ≡ (thread_at s x).registers) (sym here.1) registers-same
+        | inr other ↦
+            ap (λ (o : Option Object). (option_map_or (λ (v : ThreadState). v) (as_thread o) new_thread).registers)
+            (after-there from other.1 (IsSource.not_caller source))
+      ]
+
+      runs-source : IsSource self
+      runs-source = record {
+        not_caller = λ same. apart (sym same);
+        not_stopped = λ stopped.
+            let clash : Runnable ≡ Inactive = sym (ap (λ (v : ThreadState). v.status) (at-place s self own is) ∙ runs) ∙ stopped in absurd cc;
+      }
+
+      waits-source : (from queue : ℕ) → Waits s from queue → IsSource from
+      waits-source from queue w =
+          let status : (thread_at s from).status ≡ Blocked queue = ap (λ (v : ThreadState). v.status) (at-place s from w.own w.is) ∙ w.blocked in
+          record {
+            not_caller = λ same.
+                let answers : (thread_at s from).status ≡ AwaitsReply =
+                ap (λ (x : ℕ). (thread_at s x).status) same ∙ ap (λ (v : ThreadState). v.status) (at-place s caller u there) ∙ awaits in
+                let clash : Blocked queue ≡ AwaitsReply = sym status ∙ answers in absurd cc;
+            not_stopped = λ stopped. let clash : Blocked queue ≡ Inactive = sym status ∙ stopped in absurd cc;
+          }
+
+      -- the second delivery is one of the whole step
+      record DeliversBoth (from to : ℕ) : Type 0 where
+        delivers : Delivers image t s later from to
+        source : IsSource from
+
+      delivers-back : (from to : ℕ) → Delivers image t after later from to → DeliversBoth from to
+      delivers-back from to (Delivers.sends endpoint badge at names list) = record {
+        delivers = Delivers.sends endpoint badge at (names-back names) (ap (λ (e : EndpointState). e.receivers) (sym (endpoints-same endpoint)) ∙ list);
+        source = subst IsSource (sym at) runs-source;
+      }
+      delivers-back from to (Delivers.receives endpoint first at names list first_is kind) =
+          let list_back : (endpoint_at s endpoint).senders ≡ first ∷ (endpoint_at later endpoint).senders =
+          ap (λ (e : EndpointState). e.senders) (sym (endpoints-same endpoint)) ∙ list in
+          let queue = endpoint-kind (s.objects endpoint) (sound.memory.named names.slot NewEndpoint endpoint (ap object_named names.such.is)) in
+          let senders : queue.0.senders ≡ first ∷ (endpoint_at later endpoint).senders =
+          ap (λ (e : EndpointState). e.senders) (sym (at-endpoint s endpoint queue.0 queue.1)) ∙ list_back in
+          record {
+            delivers = Delivers.receives endpoint first at (names-back names) list_back first_is kind;
+            source = subst IsSource first_is (waits-source first.thread endpoint
+                (sender-waits s sound endpoint queue.0 queue.1 first (endpoint_at later endpoint).senders senders));
+          }
+      delivers-back from to (Delivers.replies at has waits_so runs_so) =
+          absurd (no-right to (ap (λ (x : ℕ). (thread_at after x).caller) (sym at) ∙ has))
+
+      -- what the sender's buffer holds is what it held: the answer is in another frame
+      source-still : (from source index count : ℕ) → IsSource from → buffer_of s from ≡ Some source → index < 4 * count → count ≤ 127
+          → after.bytes (source + index) ≡ s.bytes (source + index)
+      source-still from source index count at_source has less few =
+          elim (copied-at s self caller (length_between s self caller) (source + index)) [
+            | inl same ↦ same
+            | inr c ↦
+                let most = length-few s self caller in
+                let last = IsCopied.last c in
+                let one : source ≡ IsCopied.target c =
+                one-buffer s sound from caller source (IsCopied.target c) index (IsCopied.index c) has (IsCopied.of_receiver c) (IsCopied.at c)
+                (omega (arith, less, few)) (omega (arith, last, most)) in
+                let not_stopped : (thread_at s caller).status ≢ Inactive =
+                (λ stopped.
+                let clash : AwaitsReply ≡ Inactive = sym (ap (λ (v : ThreadState). v.status) (at-place s caller u there) ∙ awaits) ∙ stopped in absurd cc) in
+                absurd (IsSource.not_caller at_source (own_buffers from caller source (IsSource.not_stopped at_source) not_stopped has
+                (IsCopied.of_receiver c ∙ ap (λ (n : ℕ). Some n) (sym one))))
+          ]
+
+      pub bytes-then : (place : ℕ) → StaysOrDelivered image t s later place
+      bytes-then place = elim (second.store.bytes place) [
+        | inl same ↦ elim (copied-at s self caller (length_between s self caller) place) [
+          | inl stays_so ↦ inl (same ∙ stays_so)
+          | inr copied ↦
+              inr (by-delivery image t s later sound self caller place (delivers-to later caller-later)
+              (subst (IsCopied s self caller (length_between s self caller) place) (sym same) copied))
+        ]
+        | inr d ↦
+            let both = delivers-back d.from d.to d.delivers in
+            let c = d.copied in
+            let count : length_between after d.from d.to ≡ length_between s d.from d.to =
+            length-same s after d.from d.to refl (registers-still d.from (DeliversBoth.source both)) in
+            inr (by-delivery image t s later sound d.from d.to place (DeliversBoth.delivers both) (record {
+              index = c.index;
+              source = c.source;
+              target = c.target;
+              of_sender = c.of_sender;
+              of_receiver = c.of_receiver;
+              first = c.first;
+              last = subst (λ (n : ℕ). c.index < 4 * n) count c.last;
+              at = c.at;
+              is = c.is
+                  ∙ source-still d.from c.source c.index (length_between after d.from d.to) (DeliversBoth.source both) c.of_sender c.last
+                  (length-few after d.from d.to);
+            }))
+      ]
+
     -- both changes are one: the second keeps the thread's slice
-    pub answered-then : second.now.slice ≡ second.own.slice → ChangesObjects image t s later
-    answered-then slice = record {
+    pub answered-then : second.now.slice ≡ second.own.slice → ((place : ℕ) → StaysOrDelivered image t s later place) → ChangesObjects image t s later
+    answered-then slice bytes = record {
       store = record {
         memory_bits = second.store.memory_bits;
         boot_radix = second.store.boot_radix;
         slots = second.store.slots;
-        bytes = second.store.bytes;
+        bytes = bytes;
       };
       own = own;
       now = second.now;

@@ -1,5 +1,5 @@
 -- A thread at its system call, and threads that rest: who runs, who waits, and whom a thread may answer are not the same.
-use Rattle.std.proofs.Common.{ℕ, ◌≡◌, ◌≢◌, Bool, true, false, if◌then◌else◌, Some, Result, List, ◌∷◌, refl, sym, ◌∙◌}
+use Rattle.std.proofs.Common.{ℕ, ◌≡◌, ◌≢◌, ◌++◌, Bool, true, false, if◌then◌else◌, inl, inr, map, Some, Result, List, [], ◌∷◌, refl, sym, ◌∙◌}
 use Rattle.std.proofs.Common.{ap, arith}
 use Rattle.model.specs.declared.capabilities.Cap.{Cap}
 use Rattle.model.specs.declared.lookup_failures.LookupFailure.{LookupFailure}
@@ -8,7 +8,7 @@ use Rattle.model.specs.Images.Image.{Image, Thread}
 use Rattle.model.specs.Kernel.Messages.{a7}
 use Rattle.model.specs.Kernel.Scheduling.{is_runnable}
 use Rattle.model.specs.Kernel.Soundness.{IsSound, awaits_answer, waiting_at}
-use Rattle.model.specs.Kernel.State.{State, Runnable, Blocked, ThreadObject}
+use Rattle.model.specs.Kernel.State.{State, Runnable, Blocked, Sender, EndpointObject, EndpointState, ThreadObject}
 use Rattle.model.specs.Kernel.State.{ThreadState, as_thread}
 use Rattle.model.specs.Kernel.State.{thread_at}
 use Rattle.model.specs.Kernel.Steps.{call_of, calls_known, send_by, send_named, system_call}
@@ -71,3 +71,19 @@ first-waits s sound queue thread others standing =
     let count : times_in (waiting_at (s.objects queue)) thread ≡ times_in (thread ∷ others) thread = ap (λ (l : List ℕ). times_in l thread) standing in
     let more = one-more thread others in
     waits-own s thread queue (as_thread (s.objects thread)) refl (omega (arith, law, count, more))
+
+-- the first sender, or the first receiver, of an endpoint
+pub sender-waits : (s : State) → IsSound s → (e : ℕ) (queue : EndpointState) → s.objects e ≡ Some (EndpointObject queue) → (first : Sender)
+    (others : List Sender) → queue.senders ≡ first ∷ others → Waits s first.thread e
+sender-waits s sound e queue was first others list =
+    first-waits s sound e first.thread (map (λ (x : Sender). x.thread) others ++ queue.receivers)
+    (ap waiting_at was ∙ ap (λ (l : List Sender). map (λ (x : Sender). x.thread) l ++ queue.receivers) list)
+
+pub receiver-waits : (s : State) → IsSound s → (e : ℕ) (queue : EndpointState) → s.objects e ≡ Some (EndpointObject queue) → (r : ℕ) (others : List ℕ)
+    → queue.receivers ≡ r ∷ others → Waits s r e
+receiver-waits s sound e queue was r others list =
+    let nobody : queue.senders ≡ [] = elim (sound.threads.one_sided e queue was) [
+      | inl none ↦ none
+      | inr none ↦ absurd (let clash : r ∷ others ≡ [] = sym list ∙ none in cc)
+    ] in
+    first-waits s sound e r others (ap waiting_at was ∙ ap (λ (l : List Sender). map (λ (x : Sender). x.thread) l ++ queue.receivers) nobody ∙ list)

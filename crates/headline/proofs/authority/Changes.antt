@@ -1,9 +1,9 @@
--- A step that leaves slots and bytes as they are, and changes each object for a reason, stays within authority.
+-- A step that leaves slots as they are, changes bytes by deliveries alone, and each object for a reason, stays within authority.
 use Rattle.std.proofs.Common.{ℕ, ◌≡◌, ◌≢◌, ◌⊎◌, Option, Some, option_map, sym, ◌∙◌, ap, subst, inl, inr}
 use Rattle.std.proofs.lemmas.Bool.Decides.{eqb_tells}
 use Rattle.model.specs.declared.slot_entries.Entry.{Entry}
 use Rattle.model.specs.declared.capabilities.Cap.TheVariants.{InterruptHandler}
-use Rattle.model.specs.Acceptance.Authority.{CallNames, EndpointChange, LineChange, NotificationChange, ReadyChange, RightChange, SameStore, SliceChange}
+use Rattle.model.specs.Acceptance.Authority.{CallNames, EndpointChange, LineChange, NotificationChange, ReadyChange, RightChange, SliceChange}
 use Rattle.model.specs.Acceptance.Authority.{WithinAuthority, self_of, without_use}
 use Rattle.model.specs.Capabilities.CapabilityKinds.{frame_mapping, table_mapping}
 use Rattle.model.specs.Capabilities.Slots.{capability_at}
@@ -11,6 +11,7 @@ use Rattle.model.specs.Images.Image.{Image, Thread}
 use Rattle.model.specs.Kernel.Deliveries.{Reason}
 use Rattle.model.specs.Kernel.Kinds.{kind_at, kind_of}
 use Rattle.model.specs.Kernel.State.{State, Object, ThreadObject, EndpointObject, NotificationObject, EndpointState, NotificationState, ThreadState}
+use Rattle.headline.proofs.authority.Deliveries.{StaysOrDelivered, within-delivery}
 use Rattle.headline.proofs.authority.PlainSteps.{between, one-used}
 use Rattle.headline.proofs.authority.Stored.{capability_of, parent_of}
 
@@ -35,8 +36,15 @@ pub data OtherChange (image : Image) (t : Thread) (s after : State) (offset : �
 
 -- ---- all of them
 
+-- slots and the shape of the machine stay, and bytes but for those that deliveries change
+pub record KeepsStore (image : Image) (t : Thread) (s after : State) : Type 0 where
+  pub memory_bits : after.memory_bits ≡ s.memory_bits
+  pub boot_radix : after.boot_radix ≡ s.boot_radix
+  pub slots : (slot : ℕ) → after.slots slot ≡ s.slots slot
+  pub bytes : (place : ℕ) → StaysOrDelivered image t s after place
+
 pub record ChangesObjects (image : Image) (t : Thread) (s after : State) : Type 0 where
-  pub store : SameStore s after
+  pub store : KeepsStore image t s after
   pub own : ThreadState
   pub now : ThreadState
   pub was : s.objects (self_of image t) ≡ Some (ThreadObject own)
@@ -124,7 +132,10 @@ module _ (image : Image) (t : Thread) (s after : State) where
     changes-within = record {
       memory_bits = c.store.memory_bits;
       boot_radix = c.store.boot_radix;
-      bytes = λ place differs. absurd (differs (sym (c.store.bytes place)));
+      bytes = λ place differs. elim (c.store.bytes place) [
+        | inl same ↦ absurd (differs (sym same))
+        | inr delivery ↦ within-delivery image t s after place delivery
+      ];
       objects = λ offset differs. absurd (differs (kinds offset));
       slots = λ slot differs. absurd (differs (sym (c.store.slots slot)));
       frame_mappings = λ slot mapping differs either.

@@ -1,15 +1,62 @@
--- A delivery where no byte changes, and a message that is the same in two states.
-use Rattle.std.proofs.Common.{ℕ, ◌≡◌, ◌%◌, ◌^◌, if◌then◌else◌, Option}
-use Rattle.std.specs.Prelude.{is_some, map, min, take}
+-- The bytes that deliveries change, and a message that is the same in two states.
+use Rattle.std.proofs.Common.{ℕ, ◌≡◌, ◌*◌, ◌%◌, ◌^◌, ◌<◌, ◌≤◌, ◌⊎◌, inl, inr, if◌then◌else◌, Option, sym, ◌∙◌, ap, subst, arith}
+use Rattle.std.specs.Prelude.{IsSome, is_some, map, min, take}
+use Rattle.model.specs.Acceptance.Authority.{ByteChange, Delivers}
 use Rattle.model.specs.Capabilities.CapabilityKinds.{frame_of}
 use Rattle.model.specs.Capabilities.Slots.{Slots, capability_at}
-use Rattle.model.specs.Kernel.Messages.{Message, a1, deliver, deliver_with, label_of, length_of, message_between, register_words, word_registers}
+use Rattle.model.specs.Images.Image.{Image, Thread}
+use Rattle.model.specs.Kernel.Messages.{Message, a1, bytes_between, label_of, length_between, length_of, message_between, register_words, word_registers}
+use Rattle.model.specs.Kernel.Soundness.{IsSound}
 use Rattle.model.specs.Kernel.State.{State, buffer_slot, thread_at}
 use Rattle.model.specs.Machine.ProgramMemory.{RegisterFile, read}
+use Rattle.headline.proofs.kept.Laws.{IsCopied, buffer-bytes, copied-at, length-few}
 
-pub told : (s : State) (bytes : ℕ → Option ℕ) (receiver badge : ℕ) (message other : Message) → bytes ≡ s.bytes → message ≡ other
-    → deliver_with s bytes receiver badge message ≡ deliver s receiver badge other
-told s bytes receiver badge message other same alike = λ i. deliver (record s { bytes = same i }) receiver badge (alike i)
+-- a delivery of the step changes the byte, which stays there
+pub record ByDelivery (image : Image) (t : Thread) (s after : State) (place : ℕ) : Type 0 where
+  pub from : ℕ
+  pub to : ℕ
+  pub delivers : Delivers image t s after from to
+  pub copied : IsCopied s from to (length_between s from to) place (after.bytes place)
+  pub there : IsSome (s.bytes place)
+  pub still : IsSome (after.bytes place)
+
+-- a byte stays, or a delivery changes it
+abbrev pub StaysOrDelivered : Image → Thread → State → State → ℕ → Type 0
+StaysOrDelivered image t s after place = (after.bytes place ≡ s.bytes place) ⊎ ByDelivery image t s after place
+
+index-less : (index count : ℕ) → index < 4 * count → count ≤ 127 → index < 2 ^ 12
+index-less index count less few = omega (arith, less, few)
+
+module _ (image : Image) (t : Thread) (s after : State) where
+  pub by-delivery : IsSound s → (from to place : ℕ) → Delivers image t s after from to
+      → IsCopied s from to (length_between s from to) place (after.bytes place) → ByDelivery image t s after place
+  by-delivery sound from to place delivers c =
+      let less = index-less c.index (length_between s from to) c.last (length-few s from to) in
+      record {
+        from = from;
+        to = to;
+        delivers = delivers;
+        copied = c;
+        there = subst (λ (p : ℕ). IsSome (s.bytes p)) (sym c.at) (buffer-bytes s sound to c.target c.index c.of_receiver less);
+        still = subst (λ (o : Option ℕ). IsSome o) (sym c.is) (buffer-bytes s sound from c.source c.index c.of_sender less);
+      }
+
+  -- the bytes are those after this delivery
+  pub bytes-delivered : IsSound s → (from to : ℕ) → Delivers image t s after from to → after.bytes ≡ bytes_between s from to (length_between s from to)
+      → (place : ℕ) → StaysOrDelivered image t s after place
+  bytes-delivered sound from to delivers bytes place =
+      let at = ap (λ (all : ℕ → Option ℕ). all place) bytes in
+      elim (copied-at s from to (length_between s from to) place) [
+        | inl same ↦ inl (at ∙ same)
+        | inr c ↦ inr (by-delivery sound from to place delivers (subst (IsCopied s from to (length_between s from to) place) (sym at) c))
+      ]
+
+  pub within-delivery : (place : ℕ) → ByDelivery image t s after place → ByteChange image t s after place
+  within-delivery place d =
+      let c = d.copied in
+      ByteChange.delivered d.there d.still d.from d.to c.index c.source c.target d.delivers c.of_sender c.of_receiver c.first c.last c.at c.is
+
+-- ---- messages
 
 abbrev longest : Slots → ℕ → ℕ
 longest slots thread = if is_some (frame_of (capability_at slots (buffer_slot thread))) then 120 else register_words
@@ -26,3 +73,7 @@ message_in r slots from to =
 pub between-same : (s after : State) (from to : ℕ) → after.slots ≡ s.slots → (thread_at after from).registers ≡ (thread_at s from).registers
     → message_between after from to ≡ message_between s from to
 between-same s after from to slots registers = λ i. message_in (registers i) (slots i) from to
+
+pub length-same : (s after : State) (from to : ℕ) → after.slots ≡ s.slots → (thread_at after from).registers ≡ (thread_at s from).registers
+    → length_between after from to ≡ length_between s from to
+length-same s after from to slots registers = ap (λ (m : Message). m.count) (between-same s after from to slots registers)

@@ -16,7 +16,7 @@ use Rattle.model.specs.Capabilities.Rights.{may_grant_reply, may_read, may_write
 use Rattle.model.specs.Images.Image.{Image, Thread}
 use Rattle.model.specs.Kernel.Deliveries.{once_received, ReceivesFrom, SendsTo}
 use Rattle.model.specs.Kernel.Kinds.{object_named}
-use Rattle.model.specs.Kernel.Messages.{Message, bytes_between, bytes_sent, deliver, deliver_with, deliver_word, length_between, message_between, message_to}
+use Rattle.model.specs.Kernel.Messages.{Message, bytes_between, deliver_sent, deliver_with, deliver_word, length_between, message_between}
 use Rattle.model.specs.Kernel.Messages.{passes, receive, received, received_waiting, receives, send, sends, tries_to_send, try_to_receive, try_to_send}
 use Rattle.model.specs.Kernel.Messages.{waits_to_receive, with_caller}
 use Rattle.model.specs.Kernel.Retype.{NewEndpoint}
@@ -26,16 +26,15 @@ use Rattle.model.specs.Kernel.State.{State, Inactive, AwaitsReply, AwaitsHandler
 use Rattle.model.specs.Kernel.State.{BySend, ByCall, ByFault, FaultMessage, ThreadState, as_thread, endpoint_at, new_thread, with_endpoint}
 use Rattle.model.specs.Kernel.Steps.{Done, call_of, lacks_capability, receive_by, receive_named, receive_on_endpoint, refused, send_by, send_named}
 use Rattle.model.specs.Kernel.Steps.{send_on, sender, system_call}
-use Rattle.headline.proofs.kept.Laws.{bytes-from, bytes-received}
 use Rattle.headline.proofs.moves.Laws.{at-endpoint, caller-there, endpoint-there}
 use Rattle.headline.proofs.authority.Changes.{ChangesObjects, KeepsSlice, changes-within}
 use Rattle.headline.proofs.authority.CallsMade.{called-as, runs-apart}
-use Rattle.headline.proofs.authority.Deliveries.{between-same, told}
+use Rattle.headline.proofs.authority.Deliveries.{between-same}
 use Rattle.headline.proofs.authority.OwnRegisters.{RunsApart, goes-on-within}
 use Rattle.headline.proofs.authority.Receiving.{call-received, receiver-waits, receives-nothing, sent-received, stopped-received}
 use Rattle.headline.proofs.authority.Sending.{called-changes, given-changes, halted-changes, waits-changes}
 use Rattle.headline.proofs.authority.Yielding.{nothing-changes}
-use Rattle.headline.specs.authority.Scenarios.{CallsOn, HasNoBuffer}
+use Rattle.headline.specs.authority.Scenarios.{CallsOn}
 use Rattle.soundness.proofs.Laws.{endpoint-kind}
 
 module _ (image : Image) (t : Thread) (s : State) (sound : IsSound s) (number e badge : ℕ) (allowed : Rights)
@@ -61,7 +60,7 @@ module _ (image : Image) (t : Thread) (s : State) (sound : IsSound s) (number e 
 
   -- ---- the thread sends
 
-  module _ (quiet : HasNoBuffer image t s) (writes : may_write allowed ≡ true) where
+  module _ (writes : may_write allowed ≡ true) where
     abbrev grants : Bool
     grants = may_grant_reply allowed
 
@@ -78,14 +77,14 @@ module _ (image : Image) (t : Thread) (s : State) (sound : IsSound s) (number e 
       sends = either;
     }
 
-    -- what a receiver gets, and no byte changes
+    -- what a receiver gets
     told-so : (fewer : EndpointState) (r : ℕ) → deliver_with (with_endpoint s e fewer) (bytes_between (with_endpoint s e fewer) (self_of image t) r
         (length_between (with_endpoint s e fewer) (self_of image t) r)) r badge (message_between (with_endpoint s e fewer) (self_of image t) r)
-        ≡ deliver (with_endpoint s e fewer) r badge (message_between s (self_of image t) r)
+        ≡ deliver_with (with_endpoint s e fewer) (bytes_between s (self_of image t) r (length_between s (self_of image t) r)) r badge
+        (message_between s (self_of image t) r)
     told-so fewer r =
         let taken = with_endpoint s e fewer in
-        let count = length_between taken self r in
-        told taken (bytes_between taken self r count) r badge (message_between taken self r) (message_between s self r) (bytes-from taken self r count quiet)
+        ap (λ (m : Message). deliver_with taken (bytes_between s self r m.count) r badge m)
         (between-same s taken self r refl (ap (λ (o : Option Object). (option_map_or (λ (v : ThreadState). v) (as_thread o) new_thread).registers)
         (endpoint-there s e fewer self self-queue)))
 
@@ -124,7 +123,8 @@ module _ (image : Image) (t : Thread) (s : State) (sound : IsSound s) (number e 
               changes-within image t s _ (waits-changes image t s sound call.own call.is call.runs e queue.0 queue.1 badge ByCall grants (asks ByCall (inr refl)))
           | r ∷ others ↦ λ first.
               let listed = sym (ap (λ (q : EndpointState). q.receivers) queue-is) ∙ first in
-              let three = wake (deliver (with_endpoint s e (fewer_of others)) r badge (message_between s self r)) r in
+              let told = bytes_between s self r (length_between s self r) in
+              let three = wake (deliver_with (with_endpoint s e (fewer_of others)) told r badge (message_between s self r)) r in
               subst (λ (m : State). WithinAuthority image t s (received (wake m r) (sender self ByCall badge grants) ByCall r))
               (sym (told-so (fewer_of others) r)) (elim (may_grant_reply allowed) as (λ (b : Bool). may_grant_reply allowed ≡ b
               → WithinAuthority image t s (if b then with_caller (block three self AwaitsReply) r (Some self) else block three self Inactive)) [
@@ -158,7 +158,7 @@ module _ (image : Image) (t : Thread) (s : State) (sound : IsSound s) (number e 
 
   -- ---- the thread receives
 
-  module _ (quiet : HasNoBuffer image t s) (reads : may_read allowed ≡ true) where
+  module _ (reads : may_read allowed ≡ true) where
     names-from : CallNames image t s (ReceivesFrom e)
     names-from = record {
       slot = call.slot;
@@ -177,9 +177,9 @@ module _ (image : Image) (t : Thread) (s : State) (sound : IsSound s) (number e 
     taken_of others = with_endpoint ready e (record (endpoint_at ready e) { senders = others })
 
     module _ (first : Sender) (others : List Sender) (there : (endpoint_at (with_caller s (self_of image t) None) e).senders
-        ≡ first ∷ others) (message : Message) where
+        ≡ first ∷ others) where
       abbrev got : State
-      got = deliver (taken_of others) self first.badge message
+      got = deliver_sent (taken_of others) first self
 
       listed : queue.0.senders ≡ first ∷ others
       listed = sym (ap (λ (q : EndpointState). q.senders) ready-is) ∙ there
@@ -195,16 +195,16 @@ module _ (image : Image) (t : Thread) (s : State) (sound : IsSound s) (number e 
 
       from-sent : (sent : Sent) → first.sent ≡ sent → KeepsSlice image t s (received_waiting got first sent self)
       from-sent BySend is =
-          sent-received image t s sound call.own call.is call.runs e queue.0 queue.1 names-from first others listed message is
+          sent-received image t s sound call.own call.is call.runs e queue.0 queue.1 names-from first others listed is
       from-sent ByCall is =
           elim first.grant_reply as (λ (b : Bool). first.grant_reply ≡ b
           → KeepsSlice image t s (if b then with_caller (block got first.thread AwaitsReply) self (Some first.thread) else block got first.thread Inactive)) [
-            | true ↦ λ grant. call-received image t s sound call.own call.is call.runs e queue.0 queue.1 names-from first others listed message AwaitsReply
+            | true ↦ λ grant. call-received image t s sound call.own call.is call.runs e queue.0 queue.1 names-from first others listed AwaitsReply
                 (becomes-called is true grant _) (λ same. absurd cc) (ap (gives_right first) is ∙ grant)
-            | false ↦ λ none. stopped-received image t s sound call.own call.is call.runs e queue.0 queue.1 names-from first others listed message Inactive
+            | false ↦ λ none. stopped-received image t s sound call.own call.is call.runs e queue.0 queue.1 names-from first others listed Inactive
                 (becomes-called is false none _) (λ same. absurd cc)
           ] refl
-      from-sent (ByFault fault) is = call-received image t s sound call.own call.is call.runs e queue.0 queue.1 names-from first others listed message AwaitsHandler
+      from-sent (ByFault fault) is = call-received image t s sound call.own call.is call.runs e queue.0 queue.1 names-from first others listed AwaitsHandler
           (becomes-faulted fault is _) (λ same. absurd cc) (ap (gives_right first) is)
 
     from-queue : (after : State) → KeepsSlice image t s after → KeepsSlice image t s (receives (with_caller s (self_of image t) None) e
@@ -213,13 +213,7 @@ module _ (image : Image) (t : Thread) (s : State) (sound : IsSound s) (number e 
         elim (endpoint_at ready e).senders as (λ (l : List Sender). (endpoint_at ready e).senders ≡ l
         → KeepsSlice image t s (receives ready e self after l)) [
           | [] ↦ λ none. nothing
-          | first ∷ others ↦ λ there.
-              let taken = taken_of others in
-              let message = message_to taken first first.sent self in
-              subst (λ (m : State). KeepsSlice image t s (received_waiting m first first.sent self))
-              (sym (told taken (bytes_sent taken first first.sent self) self first.badge message message (bytes-received taken first first.sent self quiet)
-              refl))
-              (from-sent first others there message first.sent refl)
+          | first ∷ others ↦ λ there. from-sent first others there first.sent refl
         ] refl
 
     pub receive-keeps : KeepsSlice image t s (receive s e (self_of image t))

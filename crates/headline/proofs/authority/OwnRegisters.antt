@@ -3,7 +3,7 @@ use Rattle.std.proofs.Common.{ℕ, ◌≡◌, ◌≢◌, true, false, Option, So
 use Rattle.std.specs.Option.{option_map_or}
 use Rattle.std.proofs.lemmas.Bool.Decides.{eqb_tells}
 use Rattle.model.specs.declared.capabilities.Cap.{Cap}
-use Rattle.model.specs.Acceptance.Authority.{ByteChange, written, comes_with_frame, goes_with_frame, CallNames, EndpointChange, waits_to_send, waits_to_receive}
+use Rattle.model.specs.Acceptance.Authority.{ByteChange, written, comes_with_frame, goes_with_frame, CallNames, Delivers, EndpointChange, waits_to_send, waits_to_receive}
 use Rattle.model.specs.Acceptance.Authority.{takes_sender, takes_receiver, Granted, held, appeared, pool, handler, made_handler, control, IsWoken, LineChange}
 use Rattle.model.specs.Acceptance.Authority.{opens, delivers, NewParent, emptied, own as own_parent, of_own, NotificationChange, joins, passes_on, taken, waits}
 use Rattle.model.specs.Acceptance.Authority.{ObjectChange, appears, ends, RightChange, kept, dropped, of_sender, SliceChange, same_slice, new_slice}
@@ -79,10 +79,19 @@ module _ (image : Image) (t : Thread) (s m : State) (apart : RunsApart image t s
   not-gone : (offset : ℕ) → m.objects offset ≡ None → offset ≢ self
   not-gone offset none same = let e : None ≡ Some (ThreadObject now) = sym none ∙ ap m.objects same ∙ there in cc
 
+  delivers-on : (from to : ℕ) → Delivers image t s m from to → Delivers image t s after from to
+  delivers-on from to (Delivers.sends endpoint badge at names list) =
+      Delivers.sends endpoint badge at names (list ∙ ap (λ (e : EndpointState). to ∷ e.receivers) (sym (endpoints endpoint)))
+  delivers-on from to (Delivers.receives endpoint first at names list is kind) =
+      Delivers.receives endpoint first at names (list ∙ ap (λ (e : EndpointState). first ∷ e.senders) (sym (endpoints endpoint))) is kind
+  delivers-on from to (Delivers.replies at right awaits goes) = Delivers.replies at right awaits (statuses to ∙ goes)
+
   byte-on : (place : ℕ) → ByteChange image t s m place → ByteChange image t s after place
   byte-on place (written some still address right) = written some still address right
   byte-on place (comes_with_frame none is zero) = comes_with_frame none (kinds _ ∙ is) zero
   byte-on place (goes_with_frame was none gone) = goes_with_frame was (λ is. none (sym (kinds _) ∙ is)) gone
+  byte-on place (ByteChange.delivered some still from to index source target delivery sender_has receiver_has low high at is) =
+      ByteChange.delivered some still from to index source target (delivers-on from to delivery) sender_has receiver_has low high at is
 
   object-on : (offset : ℕ) → ObjectChange image t s m offset → ObjectChange image t s after offset
   object-on offset (appears kind none is around) = appears kind none (elsewhere offset (not-none offset none) ∙ is) around

@@ -1,26 +1,28 @@
 -- A thread receives from an endpoint: the first sender's message, or it waits, or goes on with nothing. What that changes stays within
 -- authority.
 use Rattle.std.proofs.Common.{ℕ, ◌≡◌, ◌≢◌, ◌++◌, true, Option, Some, None, List, [], ◌∷◌, refl, sym, ◌∙◌, ap, subst, inl, inr}
-use Rattle.std.specs.Prelude.{map}
 use Rattle.std.specs.Option.{option_map_or}
 use Rattle.std.proofs.lemmas.Bool.Decides.{eqb_tells}
-use Rattle.model.specs.Acceptance.Authority.{CallNames, dropped, gives_right, of_sender, same_slice, self_of, takes_sender}
+use Rattle.model.specs.Acceptance.Authority.{CallNames, Delivers, dropped, gives_right, of_sender, same_slice, self_of, takes_sender}
 use Rattle.model.specs.Acceptance.Authority.{waits_to_receive}
+use Rattle.model.specs.Capabilities.Slots.{Slots}
 use Rattle.model.specs.Images.Image.{Image, Thread}
 use Rattle.model.specs.Kernel.Deliveries.{once_received, ReceivesFrom, sender as of_first, woken}
-use Rattle.model.specs.Kernel.Messages.{Message, a0, deliver, deliver_word, delivered, passes, waits_to_receive as waits_in_queue, with_caller}
+use Rattle.model.specs.Kernel.Messages.{Message, a0, bytes_between, bytes_sent, deliver, deliver_sent, deliver_word, delivered, length_between, message_to}
+use Rattle.model.specs.Kernel.Messages.{passes, waits_to_receive as waits_in_queue, with_caller}
 use Rattle.model.specs.Kernel.Scheduling.{block, wake}
-use Rattle.model.specs.Kernel.Soundness.{IsSound, waiting_at}
+use Rattle.model.specs.Kernel.Soundness.{IsSound}
 use Rattle.model.specs.Kernel.State.{State, Status, Runnable, Blocked, Object, ThreadObject, EndpointObject, EndpointState, Sender, Sent, BySend}
-use Rattle.model.specs.Kernel.State.{ThreadState, as_endpoint, endpoint_at, new_endpoint, thread_at, with_endpoint}
+use Rattle.model.specs.Kernel.State.{ByCall, ByFault, ThreadState, as_endpoint, as_thread, endpoint_at, new_endpoint, new_thread, thread_at, with_endpoint}
 use Rattle.model.specs.Machine.Effects.{advanced}
 use Rattle.model.specs.Machine.ProgramMemory.{write}
 use Rattle.headline.proofs.facts.Laws.{at-place}
 use Rattle.headline.proofs.moves.Laws.{at-endpoint, blocked, blocked-there, caller-here, caller-there, delivered-here, delivered-there, endpoint-here}
 use Rattle.headline.proofs.moves.Laws.{endpoint-there, passed, passed-there, went-here, went-there, woke, woke-there}
-use Rattle.headline.proofs.authority.Changes.{KeepsSlice, OtherChange, stays, of_thread, of_endpoint}
+use Rattle.headline.proofs.authority.Changes.{KeepsSlice, KeepsStore, OtherChange, stays, of_thread, of_endpoint}
+use Rattle.headline.proofs.authority.Deliveries.{StaysOrDelivered, bytes-delivered, length-same}
 use Rattle.headline.proofs.authority.Gains.{block-gains, gains-none, nothing-ready, one-ready, rest-gains, wake-gains}
-use Rattle.headline.proofs.authority.Awaited.{first-waits, resting-absent, resting-apart}
+use Rattle.headline.proofs.authority.Awaited.{resting-absent, resting-apart, sender-waits}
 use Rattle.headline.proofs.authority.Interrupted.{Waits}
 
 module _ (image : Image) (t : Thread) (s : State) (sound : IsSound s) (own : ThreadState) (is : s.objects (self_of image t) ≡ Some (ThreadObject own))
@@ -76,7 +78,7 @@ module _ (image : Image) (t : Thread) (s : State) (sound : IsSound s) (own : Thr
   pub receiver-waits : KeepsSlice image t s (waits_in_queue (with_caller s (self_of image t) None) e (self_of image t))
   receiver-waits = record {
     change = record {
-      store = record { memory_bits = refl; boot_radix = refl; slots = λ slot. refl; bytes = λ place. refl };
+      store = record { memory_bits = refl; boot_radix = refl; slots = λ slot. refl; bytes = λ place. inl refl };
       own = own;
       now = waiting;
       was = is;
@@ -112,7 +114,7 @@ module _ (image : Image) (t : Thread) (s : State) (sound : IsSound s) (own : Thr
   pub receives-nothing : KeepsSlice image t s (deliver_word (with_caller s (self_of image t) None) (self_of image t) 0)
   receives-nothing = record {
     change = record {
-      store = record { memory_bits = refl; boot_radix = refl; slots = λ slot. refl; bytes = λ place. refl };
+      store = record { memory_bits = refl; boot_radix = refl; slots = λ slot. refl; bytes = λ place. inl refl };
       own = own;
       now = gone_on;
       was = is;
@@ -127,7 +129,7 @@ module _ (image : Image) (t : Thread) (s : State) (sound : IsSound s) (own : Thr
 
   -- ---- the first sender's message
 
-  module _ (first : Sender) (others : List Sender) (list : old.senders ≡ first ∷ others) (message : Message) where
+  module _ (first : Sender) (others : List Sender) (list : old.senders ≡ first ∷ others) where
     abbrev from : ℕ
     from = first.thread
 
@@ -138,8 +140,7 @@ module _ (image : Image) (t : Thread) (s : State) (sound : IsSound s) (own : Thr
     taken = with_endpoint ready e fewer
 
     pub waits : Waits s first.thread e
-    waits = first-waits s sound e from (map (λ (z : Sender). z.thread) others ++ old.receivers)
-        (ap waiting_at was ∙ ap (λ (l : List Sender). map (λ (z : Sender). z.thread) l ++ old.receivers) list)
+    waits = sender-waits s sound e old was first others list
 
     from-self : from ≢ self
     from-self = resting-apart s from self waits.own own waits.is is waits.rests runs
@@ -147,21 +148,28 @@ module _ (image : Image) (t : Thread) (s : State) (sound : IsSound s) (own : Thr
     from-queue : from ≢ e
     from-queue = not-queue from waits.own waits.is
 
+    abbrev message : Message
+    message = message_to taken first first.sent self
+
+    -- with the bytes of the message
+    abbrev told : State
+    told = record taken { bytes = bytes_sent taken first first.sent self }
+
     abbrev got : State
-    got = deliver taken self first.badge message
+    got = deliver told self first.badge message
 
     abbrev filled : ThreadState
     filled = record cleared { registers = advanced (delivered own.registers first.badge message) }
 
     got-self : got.objects self ≡ Some (ThreadObject filled)
-    got-self = delivered-here taken self first.badge message cleared (endpoint-there ready e fewer self self-queue ∙ ready-self)
+    got-self = delivered-here told self first.badge message cleared (endpoint-there ready e fewer self self-queue ∙ ready-self)
 
     got-there : (y : ℕ) → y ≢ self → y ≢ e → got.objects y ≡ s.objects y
-    got-there y not_self not_queue = delivered-there taken self first.badge message y not_self ∙ endpoint-there ready e fewer y not_queue
+    got-there y not_self not_queue = delivered-there told self first.badge message y not_self ∙ endpoint-there ready e fewer y not_queue
         ∙ ready-there y not_self
 
     got-queue : got.objects e ≡ Some (EndpointObject fewer)
-    got-queue = delivered-there taken self first.badge message e (λ same. self-queue (sym same)) ∙ endpoint-here ready e fewer
+    got-queue = delivered-there told self first.badge message e (λ same. self-queue (sym same)) ∙ endpoint-here ready e fewer
 
     got-from : got.objects from ≡ Some (ThreadObject waits.own)
     got-from = got-there from from-self from-queue ∙ waits.is
@@ -171,6 +179,32 @@ module _ (image : Image) (t : Thread) (s : State) (sound : IsSound s) (own : Thr
     shorter after queue =
         ap (λ (q : EndpointState). q.senders) (at-endpoint s e old was) ∙ list
         ∙ ap (λ (o : Option Object). first ∷ (option_map_or (λ (q : EndpointState). q) (as_endpoint o) new_endpoint).senders) (sym queue)
+
+    -- the sender's message is as long as before the right goes and the queue is shorter
+    length-still : length_between taken from self ≡ length_between s from self
+    length-still =
+        length-same s taken from self refl (ap (λ (o : Option Object). (option_map_or (λ (v : ThreadState). v) (as_thread o) new_thread).registers)
+        (endpoint-there ready e fewer from from-queue ∙ ready-there from from-self))
+
+    -- bytes change by the message alone, and by no report of a fault
+    bytes-told : (sent : Sent) → first.sent ≡ sent → (after : State) → after.objects e ≡ Some (EndpointObject fewer)
+        → after.bytes ≡ bytes_sent taken first sent self → (place : ℕ) → StaysOrDelivered image t s after place
+    bytes-told BySend is after queue bytes =
+        bytes-delivered image t s after sound from self (Delivers.receives e first refl names (shorter after queue) refl (inl is))
+        (bytes ∙ ap (bytes_between s from self) length-still)
+    bytes-told ByCall is after queue bytes =
+        bytes-delivered image t s after sound from self (Delivers.receives e first refl names (shorter after queue) refl (inr is))
+        (bytes ∙ ap (bytes_between s from self) length-still)
+    bytes-told (ByFault fault) is after queue bytes = λ place. inl (ap (λ (all : ℕ → Option ℕ). all place) bytes)
+
+    store-told : (after : State) → after.objects e ≡ Some (EndpointObject fewer) → after.memory_bits ≡ s.memory_bits → after.boot_radix ≡ s.boot_radix
+        → after.slots ≡ s.slots → after.bytes ≡ bytes_sent taken first first.sent self → KeepsStore image t s after
+    store-told after queue memory radix slots bytes = record {
+      memory_bits = memory;
+      boot_radix = radix;
+      slots = λ slot. ap (λ (all : Slots). all slot) slots;
+      bytes = bytes-told first.sent refl after queue bytes;
+    }
 
     receivers-same : (record (endpoint_at ready e) { senders = others }).receivers ≡ old.receivers
     receivers-same = ap (λ (q : EndpointState). q.receivers) ready-queue
@@ -207,12 +241,11 @@ module _ (image : Image) (t : Thread) (s : State) (sound : IsSound s) (own : Thr
           let clash : Runnable ≡ Blocked e = sym (ap (λ (v : ThreadState). v.status) (at-place last from changed last-from)) ∙ still in absurd cc
 
       pub sent-received : KeepsSlice image t s
-          (wake (passes (deliver (with_endpoint (with_caller s (self_of image t) None) e
-          (record (endpoint_at (with_caller s (self_of image t) None) e) { senders = others })) (self_of image t) first.badge message) first.thread)
-          first.thread)
+          (wake (passes (deliver_sent (with_endpoint (with_caller s (self_of image t) None) e
+          (record (endpoint_at (with_caller s (self_of image t) None) e) { senders = others })) first (self_of image t)) first.thread) first.thread)
       sent-received = record {
         change = record {
-          store = record { memory_bits = refl; boot_radix = refl; slots = λ slot. refl; bytes = λ place. refl };
+          store = store-told last last-queue refl refl refl refl;
           own = own;
           now = filled;
           was = is;
@@ -287,11 +320,11 @@ module _ (image : Image) (t : Thread) (s : State) (sound : IsSound s) (own : Thr
 
       -- the thread gets no right to reply
       pub stopped-received : KeepsSlice image t s
-          (block (deliver (with_endpoint (with_caller s (self_of image t) None) e
-          (record (endpoint_at (with_caller s (self_of image t) None) e) { senders = others })) (self_of image t) first.badge message) first.thread status)
+          (block (deliver_sent (with_endpoint (with_caller s (self_of image t) None) e
+          (record (endpoint_at (with_caller s (self_of image t) None) e) { senders = others })) first (self_of image t)) first.thread status)
       stopped-received = record {
         change = record {
-          store = record { memory_bits = refl; boot_radix = refl; slots = λ slot. refl; bytes = λ place. refl };
+          store = store-told stopped stopped-queue refl refl refl refl;
           own = own;
           now = filled;
           was = is;
@@ -327,12 +360,12 @@ module _ (image : Image) (t : Thread) (s : State) (sound : IsSound s) (own : Thr
         final-queue = caller-there stopped self (Some from) e (λ same. self-queue (sym same)) ∙ stopped-queue
 
         pub call-received : KeepsSlice image t s
-            (with_caller (block (deliver (with_endpoint (with_caller s (self_of image t) None) e
-            (record (endpoint_at (with_caller s (self_of image t) None) e) { senders = others })) (self_of image t) first.badge message) first.thread status)
+            (with_caller (block (deliver_sent (with_endpoint (with_caller s (self_of image t) None) e
+            (record (endpoint_at (with_caller s (self_of image t) None) e) { senders = others })) first (self_of image t)) first.thread status)
             (self_of image t) (Some first.thread))
         call-received = record {
           change = record {
-            store = record { memory_bits = refl; boot_radix = refl; slots = λ slot. refl; bytes = λ place. refl };
+            store = store-told final final-queue refl refl refl refl;
             own = own;
             now = answering;
             was = is;

@@ -1,5 +1,5 @@
 -- Reply and ReplyRecv stay within authority where whom the thread may answer does not wait for its handler.
-use Rattle.std.proofs.Common.{ℕ, ◌≡◌, ◌≢◌, Bool, true, false, if◌then◌else◌, Option, Some, None, option_map, refl, sym, ◌∙◌, ap, subst}
+use Rattle.std.proofs.Common.{ℕ, ◌≡◌, ◌≢◌, ◌⊎◌, ◌==◌, inl, inr, Bool, true, false, if◌then◌else◌, Option, Some, None, option_map, refl, sym, ◌∙◌, ap, subst}
 use Rattle.std.specs.Prelude.{IsTrue}
 use Rattle.std.specs.Option.{option_map_or}
 use Rattle.model.specs.declared.capabilities.Cap.{Cap}
@@ -13,27 +13,24 @@ use Rattle.model.specs.Acceptance.Authority.{WithinAuthority, self_of}
 use Rattle.model.specs.Capabilities.Rights.{may_read}
 use Rattle.model.specs.Images.Image.{Image, Thread}
 use Rattle.model.specs.Kernel.Kinds.{kind_of}
-use Rattle.model.specs.Kernel.Messages.{a7, bytes_between, deliver, message_between, passes, replied, reply, with_caller}
-use Rattle.model.specs.Kernel.Scheduling.{wake}
+use Rattle.model.specs.Kernel.Messages.{a7, deliver_word, message_between, passes, replied, reply, reply_to_call, wait, waits_for_signal, with_caller}
 use Rattle.model.specs.Kernel.Soundness.{IsSound, awaits_answer}
 use Rattle.model.specs.Kernel.State.{State, Status, Inactive, Runnable, Blocked, AwaitsReply, AwaitsHandler, ThreadObject, ThreadState, as_thread, new_thread}
-use Rattle.model.specs.Kernel.State.{thread_at}
+use Rattle.model.specs.Kernel.State.{notification_at, thread_at, with_notification}
 use Rattle.model.specs.Kernel.Steps.{Done, call_of, calls_known, lacks_capability, receive_by, receive_call, receive_named, receive_on_endpoint}
 use Rattle.model.specs.Kernel.Steps.{receive_on_notification, system_call}
 use Rattle.model.specs.Machine.ProgramMemory.{read}
 use Rattle.headline.proofs.facts.Laws.{at-place}
-use Rattle.headline.proofs.kept.Laws.{bytes-from}
-use Rattle.headline.proofs.authority.Answering.{after-self, answer-changes, answered-then, named-same}
+use Rattle.headline.proofs.authority.Answering.{after-self, answer-changes, answered-then, bytes-left, bytes-then, named-same}
 use Rattle.headline.proofs.authority.CallsMade.{called-as, runs-apart}
 use Rattle.headline.proofs.authority.Changes.{ChangesObjects, KeepsSlice, changes-within}
-use Rattle.headline.proofs.authority.Deliveries.{told}
 use Rattle.headline.proofs.authority.EndpointCalls.{receive-keeps}
 use Rattle.headline.proofs.authority.Awaited.{number-is}
 use Rattle.headline.proofs.authority.NotificationCalls.{wait-keeps}
 use Rattle.headline.proofs.authority.OwnRegisters.{goes-on-within}
 use Rattle.headline.proofs.authority.Ticks.{thread-object}
 use Rattle.headline.proofs.authority.Yielding.{nothing-changes}
-use Rattle.headline.specs.authority.Scenarios.{CallsOn, HasNoBuffer}
+use Rattle.headline.specs.authority.Scenarios.{CallsOn, HaveOwnBuffers}
 use Rattle.soundness.proofs.Laws.{reply-whole}
 
 -- a thread that is not stopped is there
@@ -49,26 +46,21 @@ thread-with s x status stopped is =
 
 module _ (image : Image) (t : Thread) (s : State) (sound : IsSound s) (own : ThreadState) (is : s.objects (self_of image t) ≡ Some (ThreadObject own))
     (runs : own.status ≡ Runnable)
-    (unhandled : (caller : ℕ) → own.caller ≡ Some caller → (thread_at s caller).status ≢ AwaitsHandler) (quiet : HasNoBuffer image t s) where
+    (unhandled : (caller : ℕ) → own.caller ≡ Some caller → (thread_at s caller).status ≢ AwaitsHandler) where
   abbrev self : ℕ
   self = self_of image t
 
   -- with whom it answers, or without anybody, a change that ends in what is wanted
   module _ (P : State → Type 0) (none : P s)
       (some : (caller : ℕ) → own.caller ≡ Some caller → (u : ThreadState) → s.objects caller ≡ Some (ThreadObject u) → u.status ≡ AwaitsReply
-      → P (wake (deliver (with_caller s (self_of image t) None) caller 0 (message_between s (self_of image t) caller)) caller)) where
+      → P (reply_to_call (with_caller s (self_of image t) None) (self_of image t) caller (message_between s (self_of image t) caller))) where
     abbrev to_caller : ℕ → Status → State
     to_caller caller status = replied (with_caller s self None) self caller status (message_between s self caller)
 
     by-status : (caller : ℕ) → own.caller ≡ Some caller → (status : Status) → (thread_at s caller).status ≡ status → IsTrue (awaits_answer status)
         → P (to_caller caller status)
     by-status caller right AwaitsReply now awaits =
-        let there = thread-with s caller AwaitsReply (λ same. absurd cc) now in
-        let one = with_caller s self None in
-        let message = message_between s self caller in
-        let bytes = bytes_between one self caller message.count in
-        subst (λ (m : State). P (wake m caller)) (sym (told one bytes caller 0 message message (bytes-from one self caller message.count quiet) refl))
-        (some caller right there.0 there.1 there.2)
+        let there = thread-with s caller AwaitsReply (λ same. absurd cc) now in some caller right there.0 there.1 there.2
     by-status caller right AwaitsHandler now awaits = absurd (unhandled caller right now)
     by-status caller right Inactive now awaits = absurd (let clash : false ≡ true = awaits in cc)
     by-status caller right Runnable now awaits = absurd (let clash : false ≡ true = awaits in cc)
@@ -98,18 +90,21 @@ module _ (image : Image) (t : Thread) (s : State) (sound : IsSound s) (own : Thr
 
   -- ---- and receives
 
+  -- either threads that are not stopped have no buffer in common, or the receive changes no byte
   module _ (number : ℕ) (capability : Cap) (call : CallsOn image t s number capability)
-      (receives : (m : State) → IsSound m → HasNoBuffer image t m → CallsOn image t m number capability
-      → KeepsSlice image t m (receive_by m (self_of image t) Receiving capability).0) where
+      (receives : (m : State) → IsSound m → CallsOn image t m number capability
+      → KeepsSlice image t m (receive_by m (self_of image t) Receiving capability).0)
+      (bytes : HaveOwnBuffers s ⊎ ((m : State) (place : ℕ) → (receive_by m (self_of image t) Receiving capability).0.bytes place ≡ m.bytes place)) where
     sound-replied : IsSound (reply s self)
     sound-replied = reply-whole s self sound (ap (option_map kind_of) is)
 
     received : ChangesObjects image t s (receive_by (reply s (self_of image t)) (self_of image t) Receiving capability).0
     received =
         by-caller (λ (m : State). IsSound m → ChangesObjects image t s (receive_by m (self_of image t) Receiving capability).0)
-        (λ whole. (receives s whole quiet call).change)
+        (λ whole. (receives s whole call).change)
         (λ caller right u there awaits whole.
-        let later = receives (wake (deliver (with_caller s self None) caller 0 (message_between s self caller)) caller) whole quiet (record {
+        let m : State = reply_to_call (with_caller s self None) self caller (message_between s self caller) in
+        let later = receives m whole (record {
           own = record own { caller = None };
           is = after-self image t s sound own is runs caller right u there awaits;
           runs = runs;
@@ -120,7 +115,13 @@ module _ (image : Image) (t : Thread) (s : State) (sound : IsSound s) (own : Thr
           among = call.among;
           holds = call.holds;
         }) in
-        answered-then image t s sound own is runs caller right u there awaits _ later.change later.slice)
+        answered-then image t s sound own is runs caller right u there awaits (receive_by m self Receiving capability).0 later.change later.slice
+        (elim bytes [
+          | inl own_buffers ↦
+              bytes-then image t s sound own is runs caller right u there awaits (receive_by m self Receiving capability).0 later.change own_buffers
+          | inr same ↦
+              bytes-left image t s sound own is runs caller right u there awaits (receive_by m self Receiving capability).0 later.change (same m)
+        ]))
         sound-replied
 
     -- replying changes no slot, and not where the thread's capability is
@@ -130,7 +131,7 @@ module _ (image : Image) (t : Thread) (s : State) (sound : IsSound s) (own : Thr
         by-caller (λ (m : State). receive_call m (self_of image t) Receiving ≡ receive_by m (self_of image t) Receiving capability)
         (ap (receive_named s self Receiving) call.named ∙ ap (receive_by s self Receiving) call.holds)
         (λ caller right u there awaits.
-        let m : State = wake (deliver (with_caller s self None) caller 0 (message_between s self caller)) caller in
+        let m : State = reply_to_call (with_caller s self None) self caller (message_between s self caller) in
         ap (receive_named m self Receiving) (named-same image t s sound own is runs caller right u there awaits ∙ call.named)
         ∙ ap (receive_by m self Receiving) call.holds)
 
@@ -140,7 +141,14 @@ module _ (image : Image) (t : Thread) (s : State) (sound : IsSound s) (own : Thr
 
 -- ---- the calls
 
-module _ (image : Image) (t : Thread) (s : State) (sound : IsSound s) (quiet : HasNoBuffer image t s) where
+-- who takes the word of a notification, or waits there, changes no byte
+wait-bytes : (s : State) (notification thread place : ℕ) → (wait s notification thread).bytes place ≡ s.bytes place
+wait-bytes s notification thread place =
+    let n = notification_at s notification in
+    elim (n.word == 0) as (λ (b : Bool). (if b then waits_for_signal s notification thread else
+    deliver_word (with_notification s notification (record n { word = 0 })) thread n.word).bytes place ≡ s.bytes place) [ true ↦ refl | false ↦ refl ]
+
+module _ (image : Image) (t : Thread) (s : State) (sound : IsSound s) where
   pub reply-within : (number : ℕ) → call_of number ≡ Some Replies → (own : ThreadState) → s.objects (self_of image t) ≡ Some (ThreadObject own)
       → own.status ≡ Runnable → ((caller : ℕ) → own.caller ≡ Some caller → (thread_at s caller).status ≢ AwaitsHandler) → read own.registers a7 ≡ number
       → WithinAuthority image t s (system_call s (self_of image t)).0
@@ -149,20 +157,20 @@ module _ (image : Image) (t : Thread) (s : State) (sound : IsSound s) (quiet : H
       subst (λ (n : ℕ). WithinAuthority image t s (calls_known s (self_of image t) n (call_of n)).0)
       (sym (number-is s (self_of image t) own number is calls_it))
       (subst (λ (c : Option SystemCall). WithinAuthority image t s (calls_known s (self_of image t) number c).0) (sym call)
-      (reply-goes image t s sound own is runs unhandled quiet))
+      (reply-goes image t s sound own is runs unhandled))
 
   module _ (number : ℕ) (both : call_of number ≡ Some RepliesAndReceives) (slotted : ℕ) (badge : ℕ) (allowed : Rights) (reads : may_read allowed ≡ true) where
     pub reply-endpoint : (call : CallsOn image t s number (Endpoint slotted allowed badge))
-        → ((caller : ℕ) → call.own.caller ≡ Some caller → (thread_at s caller).status ≢ AwaitsHandler)
+        → ((caller : ℕ) → call.own.caller ≡ Some caller → (thread_at s caller).status ≢ AwaitsHandler) → HaveOwnBuffers s
         → WithinAuthority image t s (system_call s (self_of image t)).0
-    reply-endpoint call unhandled =
+    reply-endpoint call unhandled own_buffers =
         subst (λ (d : Done). WithinAuthority image t s d.0)
         (sym (called-as image t s number (Endpoint slotted allowed badge) call RepliesAndReceives both))
-        (reply-receives image t s sound call.own call.is call.runs unhandled quiet number (Endpoint slotted allowed badge) call
-        (λ m whole none at.
+        (reply-receives image t s sound call.own call.is call.runs unhandled number (Endpoint slotted allowed badge) call
+        (λ m whole at.
         subst (λ (b : Bool). KeepsSlice image t m (if b then receive_on_endpoint m (self_of image t) Receiving slotted else
         lacks_capability m (self_of image t) 1 MissingCapability).0) (sym reads)
-        (receive-keeps image t m whole number slotted badge allowed at none reads)))
+        (receive-keeps image t m whole number slotted badge allowed at reads)) (inl own_buffers))
 
     pub reply-notification : (call : CallsOn image t s number (Notification slotted allowed badge))
         → ((caller : ℕ) → call.own.caller ≡ Some caller → (thread_at s caller).status ≢ AwaitsHandler)
@@ -170,8 +178,11 @@ module _ (image : Image) (t : Thread) (s : State) (sound : IsSound s) (quiet : H
     reply-notification call unhandled =
         subst (λ (d : Done). WithinAuthority image t s d.0)
         (sym (called-as image t s number (Notification slotted allowed badge) call RepliesAndReceives both))
-        (reply-receives image t s sound call.own call.is call.runs unhandled quiet number (Notification slotted allowed badge) call
-        (λ m whole none at.
+        (reply-receives image t s sound call.own call.is call.runs unhandled number (Notification slotted allowed badge) call
+        (λ m whole at.
         subst (λ (b : Bool). KeepsSlice image t m (if b then receive_on_notification m (self_of image t) Receiving slotted else
         lacks_capability m (self_of image t) 1 MissingCapability).0) (sym reads)
-        (wait-keeps image t m whole number slotted badge allowed at reads)))
+        (wait-keeps image t m whole number slotted badge allowed at reads))
+        (inr (λ m place.
+        ap (λ (b : Bool). (if b then receive_on_notification m (self_of image t) Receiving slotted else
+        lacks_capability m (self_of image t) 1 MissingCapability).0.bytes place) reads ∙ wait-bytes m slotted (self_of image t) place)))

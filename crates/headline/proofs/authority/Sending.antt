@@ -1,15 +1,15 @@
 -- A thread sends to an endpoint: the first receiver gets the message, or the thread waits. What that changes stays within authority.
 use Rattle.std.proofs.Common.{ℕ, ◌≡◌, ◌≢◌, ◌++◌, Bool, Option, Some, List, [], ◌∷◌, refl, sym, ◌∙◌, ap, subst, inl, inr}
-use Rattle.std.specs.Prelude.{map}
 use Rattle.std.specs.Option.{option_map_or}
 use Rattle.std.proofs.lemmas.Bool.Decides.{eqb_tells}
-use Rattle.model.specs.Acceptance.Authority.{AsksAs, CallNames, waits_to_send, takes_receiver, IsWoken, kept, same_slice}
+use Rattle.model.specs.Acceptance.Authority.{AsksAs, CallNames, Delivers, waits_to_send, takes_receiver, IsWoken, kept, same_slice}
 use Rattle.model.specs.Acceptance.Authority.{self_of}
+use Rattle.model.specs.Capabilities.Slots.{Slots}
 use Rattle.model.specs.Images.Image.{Image, Thread}
 use Rattle.model.specs.Kernel.Deliveries.{as_before, CallsTo, receiver, SendsTo, to_sender, woken}
-use Rattle.model.specs.Kernel.Messages.{Message, deliver, delivered, message_between, waits_to_send as waits_in_queue, with_caller}
+use Rattle.model.specs.Kernel.Messages.{Message, bytes_between, deliver, deliver_with, delivered, length_between, message_between, waits_to_send as waits_in_queue, with_caller}
 use Rattle.model.specs.Kernel.Scheduling.{block, wake}
-use Rattle.model.specs.Kernel.Soundness.{IsSound, awaits_answer, waiting_at}
+use Rattle.model.specs.Kernel.Soundness.{IsSound, awaits_answer}
 use Rattle.model.specs.Kernel.State.{State, Status, Runnable, Blocked, AwaitsReply, Object, ThreadObject, EndpointObject, EndpointState, Sender, Sent}
 use Rattle.model.specs.Kernel.State.{ThreadState, as_endpoint, as_thread, endpoint_at, new_endpoint, new_thread, thread_at, with_endpoint}
 use Rattle.model.specs.Kernel.Steps.{sender}
@@ -18,9 +18,10 @@ use Rattle.model.specs.Machine.ProgramMemory.{RegisterFile}
 use Rattle.headline.proofs.facts.Laws.{at-place}
 use Rattle.headline.proofs.moves.Laws.{at-endpoint, blocked, blocked-there, caller-here, caller-there, delivered-here, delivered-there, endpoint-here}
 use Rattle.headline.proofs.moves.Laws.{endpoint-there, woke, woke-there}
-use Rattle.headline.proofs.authority.Changes.{ChangesObjects, stays, of_thread, of_endpoint}
+use Rattle.headline.proofs.authority.Changes.{ChangesObjects, KeepsStore, stays, of_thread, of_endpoint}
+use Rattle.headline.proofs.authority.Deliveries.{bytes-delivered}
 use Rattle.headline.proofs.authority.Gains.{Gains, block-gains, gains-both, nothing-ready, one-ready, wake-gains, woken_at}
-use Rattle.headline.proofs.authority.Awaited.{awaited-apart, blocked-awaits, first-waits, resting-absent, resting-apart, runs-awaits}
+use Rattle.headline.proofs.authority.Awaited.{awaited-apart, blocked-awaits, receiver-waits, resting-absent, resting-apart, runs-awaits}
 use Rattle.headline.proofs.authority.Interrupted.{Waits}
 use Rattle.headline.proofs.authority.PlainSteps.{append-none}
 
@@ -69,7 +70,7 @@ module _ (image : Image) (t : Thread) (s : State) (sound : IsSound s) (own : Thr
 
     pub waits-changes : ChangesObjects image t s (waits_in_queue s e (sender (self_of image t) sent badge grants))
     waits-changes = record {
-      store = record { memory_bits = refl; boot_radix = refl; slots = λ slot. refl; bytes = λ place. refl };
+      store = record { memory_bits = refl; boot_radix = refl; slots = λ slot. refl; bytes = λ place. inl refl };
       own = own;
       now = waiting;
       was = is;
@@ -97,18 +98,12 @@ module _ (image : Image) (t : Thread) (s : State) (sound : IsSound s) (own : Thr
     abbrev fewer : EndpointState
     fewer = record (endpoint_at s e) { receivers = others }
 
+    -- the queue without the receiver, and the bytes with the message
     abbrev taken : State
-    taken = with_endpoint s e fewer
-
-    nobody : old.senders ≡ []
-    nobody = elim (sound.threads.one_sided e old was) [
-      | inl none ↦ none
-      | inr none ↦ absurd (let clash : r ∷ others ≡ [] = sym first ∙ none in cc)
-    ]
+    taken = record (with_endpoint s e fewer) { bytes = bytes_between s self r (length_between s self r) }
 
     waits : Waits s r e
-    waits = first-waits s sound e r others
-        (ap waiting_at was ∙ ap (λ (l : List Sender). map (λ (z : Sender). z.thread) l ++ old.receivers) nobody ∙ first)
+    waits = receiver-waits s sound e old was r others first
 
     r-self : r ≢ self
     r-self = resting-apart s r self waits.own own waits.is is waits.rests runs
@@ -160,6 +155,16 @@ module _ (image : Image) (t : Thread) (s : State) (sound : IsSound s) (own : Thr
         ap (λ (q : EndpointState). q.receivers) queue-is ∙ first
         ∙ ap (λ (o : Option Object). r ∷ (option_map_or (λ (q : EndpointState). q) (as_endpoint o) new_endpoint).receivers) (sym queue)
 
+    -- bytes change by the message alone
+    store-told : (after : State) → after.objects e ≡ Some (EndpointObject fewer) → after.memory_bits ≡ s.memory_bits → after.boot_radix ≡ s.boot_radix
+        → after.slots ≡ s.slots → after.bytes ≡ bytes_between s self r (length_between s self r) → KeepsStore image t s after
+    store-told after queue memory radix slots bytes = record {
+      memory_bits = memory;
+      boot_radix = radix;
+      slots = λ slot. ap (λ (all : Slots). all slot) slots;
+      bytes = bytes-delivered image t s after sound self r (Delivers.sends e badge refl names (shorter after queue)) bytes;
+    }
+
     registers-are : (z : ℕ) → z ≡ r → changed ≡ woken waits.own (advanced (delivered waits.own.registers badge (message_between s self z)))
     registers-are z here = ap (λ (q : ℕ). woken waits.own (advanced (delivered waits.own.registers badge (message_between s self q)))) (sym here)
 
@@ -183,9 +188,10 @@ module _ (image : Image) (t : Thread) (s : State) (sound : IsSound s) (own : Thr
 
     -- the thread goes on, before its own registers change
     pub given-changes : ChangesObjects image t s
-        (wake (deliver (with_endpoint s e (record (endpoint_at s e) { receivers = others })) r badge (message_between s (self_of image t) r)) r)
+        (wake (deliver_with (with_endpoint s e (record (endpoint_at s e) { receivers = others })) (bytes_between s (self_of image t) r
+        (length_between s (self_of image t) r)) r badge (message_between s (self_of image t) r)) r)
     given-changes = record {
-      store = record { memory_bits = refl; boot_radix = refl; slots = λ slot. refl; bytes = λ place. refl };
+      store = store-told three three-queue refl refl refl refl;
       own = own;
       now = own;
       was = is;
@@ -235,10 +241,10 @@ module _ (image : Image) (t : Thread) (s : State) (sound : IsSound s) (own : Thr
           (three-ready priority) (block-gains three self status priority))
 
       pub halted-changes : ChangesObjects image t s
-          (block (wake (deliver (with_endpoint s e (record (endpoint_at s e) { receivers = others })) r badge (message_between s (self_of image t) r)) r)
-          (self_of image t) status)
+          (block (wake (deliver_with (with_endpoint s e (record (endpoint_at s e) { receivers = others })) (bytes_between s (self_of image t) r
+          (length_between s (self_of image t) r)) r badge (message_between s (self_of image t) r)) r) (self_of image t) status)
       halted-changes = record {
-        store = record { memory_bits = refl; boot_radix = refl; slots = λ slot. refl; bytes = λ place. refl };
+        store = store-told halted halted-queue refl refl refl refl;
         own = own;
         now = record own { status = status };
         was = is;
@@ -302,10 +308,11 @@ module _ (image : Image) (t : Thread) (s : State) (sound : IsSound s) (own : Thr
           (three-ready priority) (block-gains three self AwaitsReply priority))
 
       pub called-changes : ChangesObjects image t s
-          (with_caller (block (wake (deliver (with_endpoint s e (record (endpoint_at s e) { receivers = others })) r badge
-          (message_between s (self_of image t) r)) r) (self_of image t) AwaitsReply) r (Some (self_of image t)))
+          (with_caller (block (wake (deliver_with (with_endpoint s e (record (endpoint_at s e) { receivers = others })) (bytes_between s (self_of image t) r
+          (length_between s (self_of image t) r)) r badge (message_between s (self_of image t) r)) r) (self_of image t) AwaitsReply) r
+          (Some (self_of image t)))
       called-changes = record {
-        store = record { memory_bits = refl; boot_radix = refl; slots = λ slot. refl; bytes = λ place. refl };
+        store = store-told last last-queue refl refl refl refl;
         own = own;
         now = waiting-so;
         was = is;

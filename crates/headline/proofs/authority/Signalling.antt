@@ -47,7 +47,7 @@ module _ (image : Image) (t : Thread) (s : State) (sound : IsSound s) (own : Thr
   pub polls-nothing : KeepsSlice image t s (deliver_word s (self_of image t) 0)
   polls-nothing = record {
     change = record {
-      store = record { memory_bits = refl; boot_radix = refl; slots = λ slot. refl; bytes = λ place. refl };
+      store = record { memory_bits = refl; boot_radix = refl; slots = λ slot. refl; bytes = λ place. inl refl };
       own = own;
       now = gone_on;
       was = is;
@@ -125,7 +125,7 @@ module _ (image : Image) (t : Thread) (s : State) (sound : IsSound s) (own : Thr
           (deliver_word (with_notification s n (record (notification_at s n) { word = 0 })) (self_of image t) (notification_at s n).word)
       word-taken = record {
         change = record {
-          store = record { memory_bits = refl; boot_radix = refl; slots = λ slot. refl; bytes = λ place. refl };
+          store = record { memory_bits = refl; boot_radix = refl; slots = λ slot. refl; bytes = λ place. inl refl };
           own = own;
           now = record own { registers = advanced with_word };
           was = is;
@@ -173,7 +173,7 @@ module _ (image : Image) (t : Thread) (s : State) (sound : IsSound s) (own : Thr
       pub waits-for-word : KeepsSlice image t s (waits_for_signal s n (self_of image t))
       waits-for-word = record {
         change = record {
-          store = record { memory_bits = refl; boot_radix = refl; slots = λ slot. refl; bytes = λ place. refl };
+          store = record { memory_bits = refl; boot_radix = refl; slots = λ slot. refl; bytes = λ place. inl refl };
           own = own;
           now = waiting;
           was = is;
@@ -224,7 +224,7 @@ module _ (image : Image) (t : Thread) (s : State) (sound : IsSound s) (own : Thr
             → ChangesObjects image t s (record (with_notification s n (record (notification_at s n) { word = bit_or (notification_at s n).word badge }))
             { masked = masked; pending = pending })
         badge-joins lines = record {
-          store = record { memory_bits = refl; boot_radix = refl; slots = λ slot. refl; bytes = λ place. refl };
+          store = record { memory_bits = refl; boot_radix = refl; slots = λ slot. refl; bytes = λ place. inl refl };
           own = own;
           now = own;
           was = is;
@@ -306,7 +306,7 @@ module _ (image : Image) (t : Thread) (s : State) (sound : IsSound s) (own : Thr
             → ChangesObjects image t s (record (wake (deliver_word (with_notification s n (record (notification_at s n) { waiters = others })) w badge) w)
             { masked = masked; pending = pending })
         waiter-wakes lines = record {
-          store = record { memory_bits = refl; boot_radix = refl; slots = λ slot. refl; bytes = λ place. refl };
+          store = record { memory_bits = refl; boot_radix = refl; slots = λ slot. refl; bytes = λ place. inl refl };
           own = own;
           now = own;
           was = is;

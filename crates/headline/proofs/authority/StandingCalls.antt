@@ -3,11 +3,11 @@
 use Rattle.std.proofs.Common.{ℕ, ◌≡◌, ◌≢◌, ◌∙◌, Bool, true, false, Some, Ok, List, refl, sym, ap, subst, inl, inr}
 use Rattle.std.specs.Prelude.{Contains}
 use Rattle.headline.specs.calls.Messages.{IsInvoked, ReceivesBy, SendsBy}
-use Rattle.headline.specs.facts.Standing.{AllStand}
+use Rattle.headline.specs.facts.Standing.{AllStand, IsControlBlock}
 use Rattle.headline.specs.moves.Laws.{Laws}
 use Rattle.headline.specs.moves.Moving.{CallsAt}
 use Rattle.headline.specs.moves.Steps.{InvokesNothing, MakesCall}
-use Rattle.headline.specs.authority.Scenarios.{CallsOn, HasNoBuffer, RunsAt}
+use Rattle.headline.specs.authority.Scenarios.{CallsOn, HaveOwnBuffers, RunsAt}
 use Rattle.model.specs.declared.capabilities.Cap.{Cap}
 use Rattle.model.specs.declared.capabilities.Cap.TheVariants.{Endpoint, Notification}
 use Rattle.model.specs.declared.events.Event.TheVariants.{Step}
@@ -26,13 +26,13 @@ use Rattle.model.specs.Acceptance.ThreadInvariants.{IsWaiting, ThreadInvariant, 
 use Rattle.model.specs.Capabilities.Slots.{capability_at}
 use Rattle.model.specs.Images.Described.{Numbered, numbered_threads}
 use Rattle.model.specs.Images.Image.{Image}
-use Rattle.model.specs.Kernel.Messages.{a7}
+use Rattle.model.specs.Kernel.Messages.{a7, buffer_of}
 use Rattle.model.specs.Kernel.Scheduling.{current}
 use Rattle.model.specs.Kernel.State.{State, Status, Inactive, Runnable, AwaitsHandler, ThreadObject, ThreadState, thread_at}
 use Rattle.model.specs.Kernel.Steps.{call_of, named_slot, step, system_call}
 use Rattle.model.specs.Machine.ProgramMemory.{read}
 use Rattle.headline.proofs.facts.Laws.{is-listed}
-use Rattle.headline.proofs.kept.Laws.{no-buffer}
+use Rattle.headline.proofs.kept.Laws.{own-buffer, own-buffers}
 use Rattle.headline.proofs.moves.Laws.{call-leaves, named-here, one-thread}
 use Rattle.headline.proofs.starts.Laws.{contains}
 use Rattle.headline.proofs.authority.EndpointCalls.{receives-within, sends-within}
@@ -60,8 +60,24 @@ module _ (laws : Laws) (bytes : List ℕ) (image : Image) (s : State) (labels : 
   runs-here : RunsAt image t.thread s number
   runs-here = record { own = own; is = at.there; runs = at.status; calls = refl }
 
-  without : HasNoBuffer image t.thread s
-  without = no-buffer bytes image s labels accepted all t listed
+  -- who is not stopped is a thread of the image
+  listed-one : (thread : ℕ) → (thread_at s thread).status ≢ Inactive → IsControlBlock image thread
+  listed-one thread goes =
+      let there = thread-with s thread (thread_at s thread).status goes refl in
+      elim (all.others thread there.0 there.1) [
+        | inl stopped ↦ absurd (goes (sym there.2 ∙ stopped))
+        | inr block ↦ block
+      ]
+
+  -- two of them have two buffers
+  buffers-own : HaveOwnBuffers s
+  buffers-own a b frame goes stays one two =
+      let first = listed-one a goes in
+      let second = listed-one b stays in
+      let same = own-buffers bytes image first.thread second.thread frame accepted first.listed second.listed
+      (own-buffer bytes image s labels accepted all first.thread first.listed frame (ap (buffer_of s) (sym first.is) ∙ one))
+      (own-buffer bytes image s labels accepted all second.thread second.listed frame (ap (buffer_of s) (sym second.is) ∙ two)) in
+      first.is ∙ ap (tcb_of image) same ∙ sym second.is
 
   -- nobody waits for its handler
   never-handled : (caller : ℕ) (u : ThreadState) → s.objects caller ≡ Some (ThreadObject u) → u.status ≡ AwaitsHandler → (v : Numbered)
@@ -87,11 +103,11 @@ module _ (laws : Laws) (bytes : List ℕ) (image : Image) (s : State) (labels : 
       → (IsInvoked (capability_at s.slots slot) → ⊥)
       → SendsBy image t.thread (point_of t point) state kind slot (capability_at s.slots slot) left → Within
   by-send kind slot call named mine quiet (SendsBy.calls offset r badge kind_is is writes grants keeps asks) =
-      sends-within image t.thread s all.sound number offset badge r (calls-here (Endpoint offset r badge) slot named mine is) without writes kind call
+      sends-within image t.thread s all.sound number offset badge r (calls-here (Endpoint offset r badge) slot named mine is) writes kind call
   by-send kind slot call named mine quiet (SendsBy.sends offset r badge kind_is is writes keeps asks) =
-      sends-within image t.thread s all.sound number offset badge r (calls-here (Endpoint offset r badge) slot named mine is) without writes kind call
+      sends-within image t.thread s all.sound number offset badge r (calls-here (Endpoint offset r badge) slot named mine is) writes kind call
   by-send kind slot call named mine quiet (SendsBy.tries offset r badge kind_is is writes keeps asks) =
-      sends-within image t.thread s all.sound number offset badge r (calls-here (Endpoint offset r badge) slot named mine is) without writes kind call
+      sends-within image t.thread s all.sound number offset badge r (calls-here (Endpoint offset r badge) slot named mine is) writes kind call
   by-send kind slot call named mine quiet (SendsBy.signals offset r badge is writes asks) =
       signals-within image t.thread s all.sound number offset badge r (calls-here (Notification offset r badge) slot named mine is) writes kind call
   by-send kind slot call named mine quiet (SendsBy.invokes invoked asks) = absurd (quiet invoked)
@@ -99,7 +115,7 @@ module _ (laws : Laws) (bytes : List ℕ) (image : Image) (s : State) (labels : 
   by-receive : (kind : ReceiveCall) (slot : ℕ) (is_wait : Bool) → call_of number ≡ Some (Receives kind) → named_slot s tcb ≡ Ok slot
       → IsOwnSlot image t.thread slot → ReceivesBy image state is_wait (capability_at s.slots slot) left → Within
   by-receive kind slot is_wait call named mine (ReceivesBy.on_endpoint offset r badge is reads asks) =
-      receives-within image t.thread s all.sound number offset badge r (calls-here (Endpoint offset r badge) slot named mine is) without reads kind call
+      receives-within image t.thread s all.sound number offset badge r (calls-here (Endpoint offset r badge) slot named mine is) reads kind call
   by-receive kind slot is_wait call named mine (ReceivesBy.on_notification offset r badge is reads asks) =
       waits-within image t.thread s all.sound number offset badge r (calls-here (Notification offset r badge) slot named mine is) reads kind call
 
@@ -107,10 +123,10 @@ module _ (laws : Laws) (bytes : List ℕ) (image : Image) (s : State) (labels : 
       → ReceivesBy image state is_wait (capability_at s.slots slot) left → Within
   unfolding calls-here
   by-reply slot is_wait call named mine (ReceivesBy.on_endpoint offset r badge is reads asks) =
-      reply-endpoint image t.thread s all.sound without number call offset badge r reads (calls-here (Endpoint offset r badge) slot named mine is)
-      handles-nobody
+      reply-endpoint image t.thread s all.sound number call offset badge r reads (calls-here (Endpoint offset r badge) slot named mine is)
+      handles-nobody buffers-own
   by-reply slot is_wait call named mine (ReceivesBy.on_notification offset r badge is reads asks) =
-      reply-notification image t.thread s all.sound without number call offset badge r reads (calls-here (Notification offset r badge) slot named mine is)
+      reply-notification image t.thread s all.sound number call offset badge r reads (calls-here (Notification offset r badge) slot named mine is)
       handles-nobody
 
   -- ---- whatever the call
@@ -135,7 +151,7 @@ module _ (laws : Laws) (bytes : List ℕ) (image : Image) (s : State) (labels : 
       let names = named-here laws bytes image s labels accepted t listed own point state left at (λ slot. receive_rule image (point_of t point) state true) rule in
       by-reply names.slot true is names.named names.own
       (laws.receives image (point_of t point) state true (capability_at s.slots names.slot) left names.rule)
-  calls-within Replies is rule quiet = reply-within image t.thread s all.sound without number is own at.there at.status handles-nobody refl
+  calls-within Replies is rule quiet = reply-within image t.thread s all.sound number is own at.there at.status handles-nobody refl
   calls-within Yields is rule quiet = yield-within image t.thread s number all.sound is runs-here
   calls-within PutsCharacter is rule quiet = character-within image t.thread s number all.sound is runs-here
 

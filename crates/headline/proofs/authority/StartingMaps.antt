@@ -6,7 +6,7 @@ use Rattle.std.proofs.lemmas.Option.{none-some, slice_get_within}
 use Rattle.format_laws.specs.Fitting.{IsFitting}
 use Rattle.format_laws.proofs.Laws.{is-fitting}
 use Rattle.soundness.proofs.Laws.{are-formed, boot-slots-suffice, payload-mapping}
-use Rattle.thread_spaces.proofs.Laws.{OfSections, capability-shown, each-slot, each-two}
+use Rattle.thread_spaces.proofs.Laws.{OfSections, capability-shown, each-slot, each-own}
 use Rattle.model.specs.declared.capabilities.Cap.{Cap}
 use Rattle.model.specs.declared.capabilities.Cap.TheVariants.{Empty}
 use Rattle.model.specs.declared.slot_entries.Entry.{Entry}
@@ -46,8 +46,9 @@ module _ (image : Image) (fits : whole_image.fits image ≡ true) (well : IsWell
     notification = λ k i at own. refl;
     binding = λ k i at own. refl;
     listed = λ k c at own. listed-no-frame image c;
-    thread = λ k u at. each-two MapsNone _ _ (λ own. payload-mapping (original image u.header.cnode) u.header.guard ∙ original-no-frame image u.header.cnode)
-        (λ own. original-no-frame image u.header.root);
+    thread = λ k u at. each-own MapsNone image u
+        (λ own. payload-mapping (original image u.header.cnode) u.header.guard ∙ original-no-frame image u.header.cnode)
+        (λ own. original-no-frame image u.header.root) (λ some own. original-no-frame image u.header.buffer);
   }
 
   starts-none : (slot : ℕ) → IsOwnSlot image t.thread slot → (found : Option Entry) → (described image).slots slot ≡ found

@@ -87,7 +87,7 @@ module _ (image : Image) (t : Thread) (s : State) (sound : IsSound s) (own : Thr
 
   pub yields-on : ChangesObjects image t s (yielded (passes s (self_of image t)) (self_of image t))
   yields-on = record {
-    store = record { memory_bits = refl; boot_radix = refl; slots = λ slot. refl; bytes = λ place. refl };
+    store = record { memory_bits = refl; boot_radix = refl; slots = λ slot. refl; bytes = λ place. inl refl };
     own = own;
     now = last;
     was = is;
@@ -106,7 +106,7 @@ module _ (image : Image) (t : Thread) (s : State) (sound : IsSound s) (own : Thr
 
   pub nothing-changes : ChangesObjects image t s s
   nothing-changes = record {
-    store = record { memory_bits = refl; boot_radix = refl; slots = λ slot. refl; bytes = λ place. refl };
+    store = record { memory_bits = refl; boot_radix = refl; slots = λ slot. refl; bytes = λ place. inl refl };
     own = own;
     now = own;
     was = is;

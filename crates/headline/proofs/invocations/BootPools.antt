@@ -18,7 +18,7 @@ use Rattle.model.specs.Images.Places.{interrupt_of, is_handler, offset_of, type_
 use Rattle.model.specs.Kernel.AddressSpaces.{page_size, region_pages}
 use Rattle.model.specs.Kernel.Retype.{NewObject, NewUntyped, NewThread, NewEndpoint, NewNotification, NewCNode, NewFrame, NewPageTable, NewRootTable}
 use Rattle.model.specs.Kernel.Retype.{first_capability}
-use Rattle.thread_spaces.proofs.Laws.{OfSections, each-slot, each-two}
+use Rattle.thread_spaces.proofs.Laws.{OfSections, each-slot, each-own}
 
 -- how much of untyped memory is used
 abbrev pub marked : Cap → ℕ
@@ -116,8 +116,8 @@ module _ (image : Image) where
     notification = λ k i at. inr refl;
     binding = λ k i at. inr refl;
     listed = λ k c at. inr (listed-unused c);
-    thread = λ k t at. each-two IsUnused _ _ (inr (same-paid (original image t.header.cnode) t.header.guard ∙ original-unused t.header.cnode))
-        (inr (original-unused t.header.root));
+    thread = λ k t at. each-own IsUnused image t (inr (same-paid (original image t.header.cnode) t.header.guard ∙ original-unused t.header.cnode))
+        (inr (original-unused t.header.root)) (λ some. inr (original-unused t.header.buffer));
   }
 
   pub first-or-unused : (slot : ℕ) → (parent_at (described image).slots slot ≡ None) ⊎ (marked (capability_at (described image).slots slot) ≡ 0)

@@ -40,7 +40,7 @@ aligned-sum offset used is = omega (arith, is)
 
 -- ---- frames
 
-frame-bits : (kind : Option NewObject) → is_frame_type kind ≡ true → option_map_or object_bits kind 0 ≡ 12
+pub frame-bits : (kind : Option NewObject) → is_frame_type kind ≡ true → option_map_or object_bits kind 0 ≡ 12
 frame-bits None is = absurd (let clash : false ≡ true = is in cc)
 frame-bits (Some (NewUntyped bits)) is = absurd (let clash : false ≡ true = is in cc)
 frame-bits (Some NewThread) is = absurd (let clash : false ≡ true = is in cc)

@@ -1,10 +1,11 @@
 -- What the other modules use of these proofs.
 pub use Rattle.headline.proofs.kept.BlockSlots.{block-apart, block-thread}
+pub use Rattle.headline.proofs.kept.Buffers.{code-stays, own-buffer, own-buffers}
+pub use Rattle.headline.proofs.kept.CopiedBytes.{IsCopied, buffer-bytes, copied-at, length-few, one-buffer}
 pub use Rattle.headline.proofs.kept.EachOf.{Each, each-contained, each-picked, each-so, same-picked}
 pub use Rattle.headline.proofs.kept.FramePlaces.{frame-aligned}
 pub use Rattle.headline.proofs.kept.HangsKept.{hangs-kept}
 pub use Rattle.headline.proofs.kept.KeptCode.{program-kept}
-pub use Rattle.headline.proofs.kept.NoBuffers.{bytes-from, bytes-received, bytes-to, no-buffer}
 pub use Rattle.headline.proofs.kept.OwnBlocks.{one-object, thread-entry}
 pub use Rattle.headline.proofs.kept.OwnKeys.{IsOwnKey, key-kept, keys-own, member-passes, noted-own}
 pub use Rattle.headline.proofs.kept.StandingOn.{same-capability}

@@ -30,7 +30,7 @@ thread-entry image t listed =
     ap (slice_get image.threads) (let place : t.number ≡ listed.0 = omega (arith, number) in place) ∙ entry-from 0 image.threads listed.0 t listed.1 listed.2
 
 -- a test that all before a place fail
-before-fails : (test : Thread → Bool) (threads : List Thread) (n k : ℕ) (t : Thread) → list_any test (take n threads) ≡ false → k < n
+pub before-fails : (test : Thread → Bool) (threads : List Thread) (n k : ℕ) (t : Thread) → list_any test (take n threads) ≡ false → k < n
     → slice_get threads k ≡ Some t → test t ≡ false
 before-fails test threads zero k t none less at = absurd (omega (arith, less))
 before-fails test [] (suc n) k t none less at = absurd (let clash : None ≡ Some t = at in cc)

@@ -1,5 +1,5 @@
 -- Recv and NBRecv on what the thread names: the step goes well.
-use Rattle.std.proofs.Common.{ℕ, ◌≡◌, ◌∙◌, ◌+◌, ◌++◌, inl, inr, Bool, true, false, if◌then◌else◌, Option, Some, None, Ok, List, [], ◌∷◌, refl, sym, ap, subst}
+use Rattle.std.proofs.Common.{ℕ, ◌≡◌, ◌∙◌, ◌+◌, ◌<◌, ◌≤◌, ◌++◌, inl, inr, Bool, true, false, if◌then◌else◌, Option, Some, None, Ok, List, [], ◌∷◌, refl, sym, ap, subst}
 use Rattle.std.specs.Prelude.{Contains}
 use Rattle.std.proofs.lemmas.Option.{none-some}
 use Rattle.headline.specs.calls.Messages.{ReceivesBy}
@@ -20,11 +20,12 @@ use Rattle.model.specs.Acceptance.CallRules.{AfterCall, by_capability, known_beh
 use Rattle.model.specs.Acceptance.NotedStates.{PointState}
 use Rattle.model.specs.Acceptance.PointStates.{point_of}
 use Rattle.model.specs.Acceptance.Promises.{promise_at}
-use Rattle.model.specs.Acceptance.ThreadInvariants.{tcb_of}
+use Rattle.model.specs.Acceptance.ThreadInvariants.{IsCode, tcb_of}
 use Rattle.model.specs.Capabilities.Slots.{capability_at}
 use Rattle.model.specs.Images.Described.{Numbered, numbered_threads}
 use Rattle.model.specs.Images.Image.{Image, ImagePromise}
-use Rattle.model.specs.Kernel.Messages.{a0, deliver_sent, deliver_word, poll, receive, receive_from, received_waiting, receives}
+use Rattle.model.specs.Kernel.AddressSpaces.{page_size}
+use Rattle.model.specs.Kernel.Messages.{a0, bytes_sent, deliver_sent, deliver_word, length_between, poll, receive, receive_from, received_waiting, receives}
 use Rattle.model.specs.Kernel.Messages.{try_to_receive, wait, waits_to_receive, with_caller}
 use Rattle.model.specs.Kernel.Scheduling.{block}
 use Rattle.model.specs.Kernel.Soundness.{IsSound}
@@ -38,14 +39,13 @@ use Rattle.model.specs.Machine.Effects.{advanced}
 use Rattle.model.specs.Machine.ProgramMemory.{write}
 use Rattle.headline.specs.moves.Laws.{Laws}
 use Rattle.headline.specs.moves.Moving.{CallsAt, PassesWith}
-use Rattle.headline.proofs.kept.Laws.{bytes-received, no-buffer}
+use Rattle.headline.proofs.kept.Laws.{code-stays, length-few}
 use Rattle.headline.proofs.moves.Calling.{IsCounted, counted, own-registers}
 use Rattle.headline.proofs.moves.NamedSlots.{endpoint-named, named-here, notification-named}
 use Rattle.headline.proofs.moves.NotificationCalls.{poll-stands, wait-stands}
 use Rattle.headline.proofs.moves.Places.{caller-here, caller-there, passed, passed-there}
 use Rattle.headline.proofs.moves.Receives.{blocks-stand, receives-stand}
 use Rattle.headline.proofs.moves.SimpleCalls.{it-passes}
-use Rattle.headline.proofs.moves.Standing.{ground-stays}
 
 -- ---- what a step leaves that goes well
 
@@ -93,11 +93,19 @@ module _ (laws : Laws) (bytes : List ℕ) (image : Image) (s : State) (labels : 
       bytes = same.bytes;
     }
 
-    -- the thread has no buffer
+    -- the thread's buffer is no code
+    code-received : (f : EndpointState) (x : Sender) (kind : Sent) (frame place : ℕ) → IsCode image frame → frame ≤ place → place < frame + page_size
+        → bytes_sent (with_endpoint ready e f) x kind tcb place ≡ s.bytes place
+    code-received f x BySend =
+        let taken = with_endpoint ready e f in
+        code-stays bytes image s labels accepted all t listed x.thread (length_between taken x.thread tcb) (length-few taken x.thread tcb)
+    code-received f x ByCall =
+        let taken = with_endpoint ready e f in
+        code-stays bytes image s labels accepted all t listed x.thread (length_between taken x.thread tcb) (length-few taken x.thread tcb)
+    code-received f x (ByFault fault) = λ frame place code low high. refl
+
     store-delivered : (f : EndpointState) (x : Sender) → SameGround image s (deliver_sent (with_endpoint ready e f) x tcb)
-    store-delivered f x =
-        ground-stays image s (deliver_sent (with_endpoint ready e f) x tcb) refl refl refl
-        (bytes-received (with_endpoint ready e f) x x.sent tcb (no-buffer bytes image s labels accepted all t listed))
+    store-delivered f x = record { memory_bits = refl; boot_radix = refl; slots = λ slot. refl; bytes = code-received f x x.sent }
 
     some-sends : (outcome : Outcome) → is_waited outcome ≡ left.is_wait →
         (promise : Option ImagePromise) → ((p : ImagePromise) → promise ≡ Some p → promise_at image e ≡ Some p)

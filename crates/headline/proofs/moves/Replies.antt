@@ -15,7 +15,7 @@ use Rattle.model.specs.Acceptance.ThreadInvariants.{IsWaiting, ThreadInvariant, 
 use Rattle.model.specs.Images.Described.{Numbered, numbered_threads}
 use Rattle.model.specs.Images.Image.{Image}
 use Rattle.model.specs.Kernel.Deliveries.{woken}
-use Rattle.model.specs.Kernel.Messages.{Message, deliver, delivered, message_between, replied, reply, reply_to_call, with_caller}
+use Rattle.model.specs.Kernel.Messages.{Message, bytes_between, deliver, delivered, length_between, message_between, replied, reply, reply_to_call, with_caller}
 use Rattle.model.specs.Kernel.Scheduling.{wake}
 use Rattle.model.specs.Kernel.Soundness.{IsSound, awaits_answer}
 use Rattle.model.specs.Kernel.State.{State, Status, Inactive, Runnable, Blocked, AwaitsReply, AwaitsHandler, Object, ThreadObject, EndpointObject}
@@ -27,11 +27,11 @@ use Rattle.headline.specs.moves.Moving.{CallsAt}
 use Rattle.headline.specs.moves.Laws.{Laws}
 use Rattle.headline.proofs.moves.Calling.{rest-by-threads}
 use Rattle.headline.specs.calls.Laws.{AreRegisters, IsMessage}
-use Rattle.headline.proofs.kept.Laws.{bytes-from, no-buffer}
+use Rattle.headline.proofs.kept.Laws.{code-stays, length-few}
 use Rattle.headline.proofs.moves.LeftAlone.{one-thread}
 use Rattle.headline.proofs.moves.Places.{caller-here, caller-there, delivered-here, delivered-there, woke, woke-there}
 use Rattle.headline.proofs.moves.SimpleCalls.{calls-on}
-use Rattle.headline.proofs.moves.Standing.{all-stand, ground-stays}
+use Rattle.headline.proofs.moves.Standing.{all-stand}
 use Rattle.headline.proofs.moves.Waiters.{delivered-pc, message-fine}
 use Rattle.headline.proofs.moves.Woken.{FitsBehind, runs-free, wakes-up}
 
@@ -224,8 +224,15 @@ module _ (laws : Laws) (bytes : List ℕ) (image : Image) (s : State) (labels : 
       subst (λ (x : Status). HasReplied image t (by x) labels own point state left) (sym same)
       (replied-so caller other (AwaitsThere.is there) block.thread block.listed block.is status message
       (message-fine s tcb caller own at.there (all.sound.threads.threads tcb own at.there)) one (subst (λ (x : Status). IsSound (by x)) same sound)
-      (ground-stays image s one refl refl refl
-      (bytes-from (with_caller s tcb None) tcb caller message.count (no-buffer bytes image s labels accepted all t listed)))
+      (record {
+        memory_bits = refl;
+        boot_radix = refl;
+        slots = λ slot. refl;
+        bytes = λ frame place code low high.
+            subst (λ (x : ℕ). bytes_between s tcb x (length_between s tcb caller) place ≡ s.bytes place) (sym block.is)
+            (code-stays bytes image s labels accepted all block.thread block.listed tcb (length_between s tcb caller) (length-few s tcb caller) frame place code
+            low high);
+      })
       (λ y. refl))
 
   -- it has none, and nothing changes

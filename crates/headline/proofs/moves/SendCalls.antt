@@ -1,8 +1,8 @@
 -- Call, Send and NBSend on an endpoint or a notification: the step goes well.
-use Rattle.std.proofs.Common.{ℕ, ◌≡◌, ◌∙◌, ◌+◌, ◌++◌, ◌^◌, ◌<◌, inl, Bool, true, false, if◌then◌else◌, Some, option_map, Ok, List, [], ◌∷◌, refl, sym, ap, subst}
+use Rattle.std.proofs.Common.{ℕ, ◌≡◌, ◌∙◌, ◌+◌, ◌++◌, ◌^◌, ◌<◌, ◌≤◌, inl, Bool, true, false, if◌then◌else◌, Some, option_map, Ok, List, [], ◌∷◌, refl, sym, ap, subst}
 use Rattle.std.specs.Prelude.{Contains}
 use Rattle.headline.specs.calls.Messages.{IsInvoked, KnownToKeepAt, SendsBy}
-use Rattle.headline.specs.facts.Standing.{AllStand}
+use Rattle.headline.specs.facts.Standing.{AllStand, IsControlBlock}
 use Rattle.headline.specs.facts.Waiting.{NamesThere, SendsAs, behind_reply}
 use Rattle.model.specs.declared.capabilities.Cap.{Cap}
 use Rattle.model.specs.declared.capabilities.Cap.TheVariants.{Endpoint}
@@ -17,11 +17,12 @@ use Rattle.headline.specs.moves.Ground.{SameGround}
 use Rattle.model.specs.Acceptance.CallRules.{AfterCall, answers, by_capability, changes_nothing, known_behind, send_rule, with_answer}
 use Rattle.model.specs.Acceptance.NotedStates.{PointState}
 use Rattle.model.specs.Acceptance.PointStates.{point_of}
-use Rattle.model.specs.Acceptance.ThreadInvariants.{tcb_of}
+use Rattle.model.specs.Acceptance.ThreadInvariants.{IsCode, IsWaiting, tcb_of}
 use Rattle.model.specs.Capabilities.Rights.{may_grant_reply, may_write}
 use Rattle.model.specs.Capabilities.Slots.{capability_at}
 use Rattle.model.specs.Images.Described.{Numbered, numbered_threads}
 use Rattle.model.specs.Images.Image.{Image}
+use Rattle.model.specs.Kernel.AddressSpaces.{page_size}
 use Rattle.model.specs.Kernel.Kinds.{kind_of}
 use Rattle.model.specs.Kernel.Messages.{a0, a1, bytes_between, length_between, passes, send, send_to, sends, signal, tries_to_send, try_to_send}
 use Rattle.model.specs.Kernel.Messages.{waits_to_send}
@@ -34,14 +35,15 @@ use Rattle.model.specs.declared.system_calls.SendCall.TheVariants.{Calling, Send
 use Rattle.model.specs.Kernel.Waits.{is_waited}
 use Rattle.headline.specs.moves.Moving.{CallsAt}
 use Rattle.headline.specs.moves.Laws.{Laws}
-use Rattle.headline.proofs.kept.Laws.{bytes-from, no-buffer}
+use Rattle.headline.proofs.kept.Laws.{code-stays, length-few}
 use Rattle.headline.proofs.moves.Calling.{IsCounted, counted}
 use Rattle.headline.proofs.moves.NamedSlots.{endpoint-named, named-here, notification-named}
 use Rattle.headline.proofs.moves.NotificationCalls.{HasSignalled, signal-leaves}
 use Rattle.headline.proofs.moves.ReceiveCalls.{IsFine}
-use Rattle.headline.proofs.moves.Sends.{called-stands, sent-stands, waits-stand}
+use Rattle.headline.proofs.moves.Places.{at-endpoint}
+use Rattle.headline.proofs.moves.Sends.{called-stands, receiver-blocked, sent-stands, waits-stand}
 use Rattle.headline.proofs.moves.SimpleCalls.{passes-stand, result-stands}
-use Rattle.headline.proofs.moves.Standing.{ground-stays}
+use Rattle.headline.proofs.moves.Waiters.{control-waiting}
 
 module _ (laws : Laws) (bytes : List ℕ) (image : Image) (s : State) (labels : List Label) (accepted : IsAccepted bytes image) (all : AllStand image s labels)
     (t : Numbered) (listed : Contains (numbered_threads image) t) (own : ThreadState) (point : ℕ) (state : PointState) (left : AfterCall)
@@ -59,10 +61,20 @@ module _ (laws : Laws) (bytes : List ℕ) (image : Image) (s : State) (labels : 
 
   module _ (e : ℕ) (r : Rights) (badge : ℕ) (small : badge < 2 ^ 28) (old : EndpointState) (was : s.objects e ≡ Some (EndpointObject old))
       (named : NamesThere image t state (Endpoint e r badge)) (keeps : KnownToKeepAt image e state badge) where
-    -- the thread has no buffer
-    bytes-stay : (f : EndpointState) (r : ℕ) → bytes_between (with_endpoint s e f) tcb r (length_between (with_endpoint s e f) tcb r) ≡ s.bytes
-    bytes-stay f r =
-        bytes-from (with_endpoint s e f) tcb r (length_between (with_endpoint s e f) tcb r) (no-buffer bytes image s labels accepted all t listed)
+    receiver-listed : (r : ℕ) (others : List ℕ) → (endpoint_at s e).receivers ≡ r ∷ others → IsControlBlock image r
+    receiver-listed r others first =
+        let there = was ∙ ap (λ (f : EndpointState). Some (EndpointObject f)) (sym (at-endpoint s e old was)) in
+        let blocked = receiver-blocked s all.sound e there r others first in
+        control-waiting image s labels all r blocked.own blocked.is (subst IsWaiting (sym blocked.status) tt)
+
+    -- the receiver's buffer is no code
+    code-sent : (f : EndpointState) (r : ℕ) → IsControlBlock image r → (frame place : ℕ) → IsCode image frame → frame ≤ place → place < frame + page_size
+        → bytes_between (with_endpoint s e f) tcb r (length_between (with_endpoint s e f) tcb r) place ≡ s.bytes place
+    code-sent f r block frame place code low high =
+        let taken = with_endpoint s e f in
+        let count = length_between taken tcb r in
+        subst (λ (x : ℕ). bytes_between s tcb x count place ≡ s.bytes place) (sym block.is)
+        (code-stays bytes image s labels accepted all block.thread block.listed tcb count (length-few taken tcb r) frame place code low high)
 
     by-call : (grants : Bool) → grants ≡ may_grant_reply r → grants ≡ true → left ≡ behind_reply state → IsSound (send s e (sender tcb ByCall badge grants)) →
         AllStand image (send s e (sender tcb ByCall badge grants)) (behind Waited)
@@ -82,8 +94,10 @@ module _ (laws : Laws) (bytes : List ℕ) (image : Image) (s : State) (labels : 
               called-stands laws bytes image s labels (behind Waited) accepted all t listed own point state left at (counts Waited wait) e old was ByCall
               badge grants (send_to one x r) sound
               (elim grants as (λ g. SameGround image s (send_to one (sender tcb ByCall badge g) r)) [
-                | true ↦ ground-stays image s (send_to one (sender tcb ByCall badge true) r) refl refl refl (bytes-stay fewer r)
-                | false ↦ ground-stays image s (send_to one (sender tcb ByCall badge false) r) refl refl refl (bytes-stay fewer r)
+                | true ↦
+                    record { memory_bits = refl; boot_radix = refl; slots = λ slot. refl; bytes = code-sent fewer r (receiver-listed r others first) }
+                | false ↦
+                    record { memory_bits = refl; boot_radix = refl; slots = λ slot. refl; bytes = code-sent fewer r (receiver-listed r others first) }
               ]) keeps r others first small (λ y. refl) refl grant asks
         ] refl
 
@@ -110,7 +124,9 @@ module _ (laws : Laws) (bytes : List ℕ) (image : Image) (s : State) (labels : 
             let fewer = record (endpoint_at s e) { receivers = others } in
             let after = send_to (with_endpoint s e fewer) (sender tcb BySend badge grants) r in
             sent-stands laws bytes image s labels (behind outcome) accepted all t listed own point state left at (counts outcome waited) e old was BySend
-            badge grants after sound (ground-stays image s after refl refl refl (bytes-stay fewer r)) keeps r others first small (λ y. refl) refl asks
+            badge grants after sound
+            (record { memory_bits = refl; boot_radix = refl; slots = λ slot. refl; bytes = code-sent fewer r (receiver-listed r others first) }) keeps r
+            others first small (λ y. refl) refl asks
 
     by-try : (grants : Bool) → left ≡ changes_nothing state false → IsSound (try_to_send s e (sender tcb BySend badge grants)) →
         AllStand image (try_to_send s e (sender tcb BySend badge grants)) (behind Plain)
@@ -125,8 +141,9 @@ module _ (laws : Laws) (bytes : List ℕ) (image : Image) (s : State) (labels : 
               let fewer = record (endpoint_at s e) { receivers = others } in
               let after = send_to (with_endpoint s e fewer) x r in
               sent-stands laws bytes image s labels (behind Plain) accepted all t listed own point state left at (counts Plain wait) e old was BySend badge
-              grants after sound (ground-stays image s after refl refl refl (bytes-stay fewer r)) keeps r others first small (λ y. refl) refl
-              (asks ∙ ap (changes_nothing state) wait)
+              grants after sound
+              (record { memory_bits = refl; boot_radix = refl; slots = λ slot. refl; bytes = code-sent fewer r (receiver-listed r others first) }) keeps r
+              others first small (λ y. refl) refl (asks ∙ ap (changes_nothing state) wait)
         ] refl
 
   -- ---- notifications

@@ -65,6 +65,16 @@ receiver-times senders r others =
     let more = times-behind senders (r ∷ others) r in
     omega (arith, first, more)
 
+-- the first receiver of an endpoint is blocked there
+pub receiver-blocked : (s : State) → IsSound s → (e : ℕ) → s.objects e ≡ Some (EndpointObject (endpoint_at s e)) → (r : ℕ) (others : List ℕ)
+    → (endpoint_at s e).receivers ≡ r ∷ others → IsBlockedAt s r e
+receiver-blocked s sound e was r others first =
+    let ep = endpoint_at s e in
+    queued-there s r e sound.threads
+    (subst (λ (o : Option Object). 1 ≤ times_in (waiting_at o) r) (sym was)
+    (subst (λ (xs : List ℕ). 1 ≤ times_in (map (λ (y : Sender). y.thread) ep.senders ++ xs) r) (sym first)
+    (receiver-times (map (λ (y : Sender). y.thread) ep.senders) r others)))
+
 module _ (laws : Laws) (bytes : List ℕ) (image : Image) (s : State) (labels later : List Label) (accepted : IsAccepted bytes image)
     (all : AllStand image s labels)
     (t : Numbered) (listed : Contains (numbered_threads image) t) (own : ThreadState) (point : ℕ) (state : PointState) (left : AfterCall)
@@ -192,11 +202,7 @@ module _ (laws : Laws) (bytes : List ℕ) (image : Image) (s : State) (labels la
     message = message_to taken x sent r
 
     blocked-at : IsBlockedAt s r e
-    blocked-at =
-        queued-there s r e all.sound.threads
-        (subst (λ (o : Option Object). 1 ≤ times_in (waiting_at o) r) (sym was-ep)
-        (subst (λ (xs : List ℕ). 1 ≤ times_in (map (λ (y : Sender). y.thread) ep.senders ++ xs) r) (sym first)
-        (receiver-times (map (λ (y : Sender). y.thread) ep.senders) r others)))
+    blocked-at = receiver-blocked s all.sound e was-ep r others first
 
     abbrev receiver : ThreadState
     receiver = blocked-at.own

@@ -32,15 +32,6 @@ maps-too slots others same root page frame allowed maps = record {
   capability = ap (λ (o : Option Entry). option_map_or (λ (held : Entry). held.capability) o Empty) (same maps.slot) ∙ maps.capability;
 }
 
-pub ground-stays : (image : Image) (s after : State) → after.memory_bits ≡ s.memory_bits → after.boot_radix ≡ s.boot_radix → after.slots ≡ s.slots
-    → after.bytes ≡ s.bytes → SameGround image s after
-ground-stays image s after memory radix slots bytes = record {
-  memory_bits = memory;
-  boot_radix = radix;
-  slots = λ slot. ap (λ (all : Slots). all slot) slots;
-  bytes = λ frame place code low high. ap (λ (all : ℕ → Option ℕ). all place) bytes;
-}
-
 pub touches-none : (bytes : List ℕ) (image : Image) (t : Numbered) (s after : State) → IsAccepted bytes image → Contains (numbered_threads image) t
     → IsSound s → IsSound after → SameGround image s after → IsLeftAlone image t s after
 touches-none bytes image t s after accepted listed sound still store = record {

@@ -7,7 +7,8 @@ use Rattle.std.proofs.lemmas.Bool.{and_parts, eq-eqb, false≢true}
 use Rattle.std.proofs.lemmas.Option.{none-some, same_Some, slice_get_within}
 use Rattle.format_laws.specs.Fitting.{CapabilityFits, InterruptFits, IsFitting, ThreadFits}
 use Rattle.format_laws.proofs.Laws.{is-fitting}
-use Rattle.soundness.proofs.Laws.{AreFormed, CapabilityKept, ThreadKept, are-formed, boot-slots-suffice, cnode-slot, cspace-slot, described-sound, no-thread}
+use Rattle.soundness.proofs.Laws.{AreFormed, CapabilityKept, ThreadKept, are-formed, boot-slots-suffice, buffer-slot, cnode-slot, cspace-slot, described-sound}
+use Rattle.soundness.proofs.Laws.{no-thread}
 use Rattle.soundness.proofs.Laws.{slot-behind-boot, slot-of-one, vspace-slot}
 use Rattle.model.specs.declared.capabilities.Cap.TheVariants.{Empty}
 use Rattle.model.specs.declared.entries.CapabilityEntry.{CapabilityEntry}
@@ -21,11 +22,11 @@ use Rattle.model.specs.Capabilities.Slots.{IsFull, capability_at, is_empty, pare
 use Rattle.model.specs.Images.Described.{described, is_object_slot, listed_capability, listed_parent}
 use Rattle.model.specs.Images.Image.{Image, Thread, pair_key, whole_image}
 use Rattle.model.specs.Images.Places.{boot_slots, cnode_slot, offset_of, type_at}
-use Rattle.model.specs.Kernel.State.{boot_area_slots, cspace_slot, vspace_slot}
+use Rattle.model.specs.Kernel.State.{boot_area_slots, buffer_slot, cspace_slot, vspace_slot}
 use Rattle.typestate.specs.Spaces.{StandsApart}
 use Rattle.typestate.proofs.Laws.{after-is, back-of, found-key, from-first, same-own-key}
 use Rattle.thread_spaces.specs.Given.{IsListed}
-use Rattle.thread_spaces.proofs.Laws.{OfSections, capability-shown, each-slot, each-two, listed-shown, negated, parent-in-boot, parent-shown, slots-rise}
+use Rattle.thread_spaces.proofs.Laws.{OfSections, capability-shown, each-slot, each-own, listed-shown, negated, parent-in-boot, parent-shown, slots-rise}
 use Rattle.thread_spaces.proofs.Laws.{slots_in, stands-apart}
 
 -- ---- the slots that capabilities are listed for
@@ -177,9 +178,11 @@ module _ (image : Image) (t : Thread) (fits : whole_image.fits image ≡ true) (
           omega (arith, less, enough));
       binding = λ k i at. in-boot _ (let less = InterruptFits.line (IsFitting.interrupt fitting k i at) in omega (arith, less));
       listed = λ k c at same. record { place = k; entry = c; at = at; there = refl };
-      thread = λ k u at. each-two IsGiven _ _
+      thread = λ k u at. each-own IsGiven image u
           (of-thread k u (cspace_slot (offset_of image u.header.tcb)) at (cspace-slot image u.header.tcb (ThreadKept.tcb (AreFormed.thread formed k u at))))
-          (of-thread k u (vspace_slot (offset_of image u.header.tcb)) at (vspace-slot image u.header.tcb (ThreadKept.tcb (AreFormed.thread formed k u at))));
+          (of-thread k u (vspace_slot (offset_of image u.header.tcb)) at (vspace-slot image u.header.tcb (ThreadKept.tcb (AreFormed.thread formed k u at))))
+          (λ some. of-thread k u (buffer_slot (offset_of image u.header.tcb)) at
+          (buffer-slot image u.header.tcb (ThreadKept.tcb (AreFormed.thread formed k u at))));
     }
 
     -- the entry of a capability that is there has the key

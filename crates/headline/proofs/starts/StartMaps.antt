@@ -35,7 +35,7 @@ use Rattle.model.specs.Images.Places.{cnode_slot, frame_copy_slot, interrupt_of,
 use Rattle.model.specs.Kernel.AddressSpaces.{Maps, page_size}
 use Rattle.model.specs.Kernel.Retype.{NewObject, NewUntyped, NewThread, NewEndpoint, NewNotification, NewCNode, NewFrame, NewPageTable, NewRootTable}
 use Rattle.thread_spaces.specs.Given.{IsListed}
-use Rattle.thread_spaces.proofs.Laws.{OfSections, boot-holds, capability-shown, each-slot, each-two, from-loaded, listed-handler, listed-object, listed-shown}
+use Rattle.thread_spaces.proofs.Laws.{OfSections, boot-holds, capability-shown, each-slot, each-own, from-loaded, listed-handler, listed-object, listed-shown}
 use Rattle.thread_spaces.proofs.Laws.{slots_in}
 use Rattle.headline.proofs.starts.GivenSlots.{IsListedSlot}
 use Rattle.headline.proofs.starts.ListFacts.{contained, contains, none-at}
@@ -235,10 +235,11 @@ module _ (image : Image) (fits : whole_image.fits image ≡ true) (well : IsWell
         notification = λ k i at. no-frame (((notification_holding image (k, i)).1).capability) refl;
         binding = λ k i at. no-frame (((binding_holding image (k, i)).1).capability) refl;
         listed = λ k c at. no-frame (listed_capability image c) (listed-no-frame image c);
-        thread = λ k u at. each-two IsMapped _ _
+        thread = λ k u at. each-own IsMapped image u
             (no-frame (with_payload (original image u.header.cnode) u.header.guard)
             (payload-mapping (original image u.header.cnode) u.header.guard ∙ original-no-frame image u.header.cnode))
-            (no-frame (original image u.header.root) (original-no-frame image u.header.root));
+            (no-frame (original image u.header.root) (original-no-frame image u.header.root))
+            (λ some. no-frame (original image u.header.buffer) (original-no-frame image u.header.buffer));
       }
 
       of-slot : (slot : ℕ) → capability_at (described image).slots slot ≡ Frame frame held (Some mapping) → Lists

@@ -46,7 +46,7 @@ use Rattle.headline.specs.steps.Points.{ReachesNoCall}
 use Rattle.typestate.specs.Calls.{call_on}
 use Rattle.headline.specs.authority.HeldInside.{AllHoldInside, AllPoolsStay, HoldsInside}
 use Rattle.headline.specs.authority.OwnMaps.{AllMapOwn, MapsOwn}
-use Rattle.headline.specs.authority.Scenarios.{CallsOn, GetsHandler, HasNoBuffer, MapsFrame, OwnSlots, RunsAt, asked}
+use Rattle.headline.specs.authority.Scenarios.{CallsOn, GetsHandler, HaveOwnBuffers, MapsFrame, OwnSlots, RunsAt, asked}
 
 -- what the thread's system call leaves
 abbrev pub CallStaysWithin : Image → Thread → State → Type 0
@@ -58,7 +58,7 @@ abbrev pub SendsStayWithin : Type 0
 SendsStayWithin =
     (image : Image) (t : Thread) (s : State) (kind : SendCall) (number endpoint badge : ℕ) (allowed : Rights) → IsSound s
     → call_of number ≡ Some (Sends kind) → CallsOn image t s number (Endpoint endpoint allowed badge) → IsTrue (may_write allowed)
-    → HasNoBuffer image t s → CallStaysWithin image t s
+    → CallStaysWithin image t s
 
 abbrev pub SignalsStayWithin : Type 0
 SignalsStayWithin =
@@ -70,7 +70,7 @@ abbrev pub ReceivesStayWithin : Type 0
 ReceivesStayWithin =
     (image : Image) (t : Thread) (s : State) (kind : ReceiveCall) (number endpoint badge : ℕ) (allowed : Rights) → IsSound s
     → call_of number ≡ Some (Receives kind) → CallsOn image t s number (Endpoint endpoint allowed badge) → IsTrue (may_read allowed)
-    → HasNoBuffer image t s → CallStaysWithin image t s
+    → CallStaysWithin image t s
 
 abbrev pub WaitsStayWithin : Type 0
 WaitsStayWithin =
@@ -87,20 +87,20 @@ HandlesNobody s own = (caller : ℕ) → own.caller ≡ Some caller → (thread_
 abbrev pub RepliesStayWithin : Type 0
 RepliesStayWithin =
     (image : Image) (t : Thread) (s : State) (number : ℕ) → IsSound s → call_of number ≡ Some Replies → (at : RunsAt image t s number) → HandlesNobody s at.own
-    → HasNoBuffer image t s → CallStaysWithin image t s
+    → CallStaysWithin image t s
 
--- a Reply and then a Recv
+-- a Reply and then a Recv, of which each may deliver a message
 abbrev pub RepliesToReceiveStayWithin : Type 0
 RepliesToReceiveStayWithin =
     (image : Image) (t : Thread) (s : State) (number endpoint badge : ℕ) (allowed : Rights) → IsSound s
     → call_of number ≡ Some RepliesAndReceives → (call : CallsOn image t s number (Endpoint endpoint allowed badge)) → IsTrue (may_read allowed)
-    → HandlesNobody s call.own → HasNoBuffer image t s → CallStaysWithin image t s
+    → HandlesNobody s call.own → HaveOwnBuffers s → CallStaysWithin image t s
 
 abbrev pub RepliesToWaitStayWithin : Type 0
 RepliesToWaitStayWithin =
     (image : Image) (t : Thread) (s : State) (number notification badge : ℕ) (allowed : Rights) → IsSound s
     → call_of number ≡ Some RepliesAndReceives → (call : CallsOn image t s number (Notification notification allowed badge)) → IsTrue (may_read allowed)
-    → HandlesNobody s call.own → HasNoBuffer image t s → CallStaysWithin image t s
+    → HandlesNobody s call.own → CallStaysWithin image t s
 
 -- ---- calls that concern the thread alone
 

@@ -22,7 +22,7 @@ use Rattle.model.specs.Kernel.MappingCalls.{root_named}
 use Rattle.model.specs.Kernel.Messages.{a1, a7, buffer_of, extra_capabilities_of, message_of}
 use Rattle.model.specs.Kernel.Removal.{SlotSet, ends, with_bindings}
 use Rattle.model.specs.Kernel.Retype.{NewObject, NewObjects, NewEndpoint, object_bits, with_new}
-use Rattle.model.specs.Kernel.State.{State, Runnable, ThreadObject, ThreadState, thread_at, with_slots}
+use Rattle.model.specs.Kernel.State.{State, Inactive, Runnable, ThreadObject, ThreadState, thread_at, with_slots}
 use Rattle.model.specs.Kernel.Steps.{cspace_of, named_slot, registers_of}
 use Rattle.model.specs.Machine.ProgramMemory.{read}
 
@@ -42,9 +42,11 @@ pub record CallsOn (image : Image) (t : Thread) (s : State) (number : ℕ) (capa
   pub among : IsOwnSlot image t slot
   pub holds : capability_at s.slots slot ≡ capability
 
--- the thread has no message buffer, so that no message from it or to it changes a byte
-abbrev pub HasNoBuffer : Image → Thread → State → Type 0
-HasNoBuffer image t s = buffer_of s (self_of image t) ≡ None
+-- no two threads that are not stopped have one message buffer
+abbrev pub HaveOwnBuffers : State → Type 0
+HaveOwnBuffers s =
+    (a b frame : ℕ) → (thread_at s a).status ≢ Inactive → (thread_at s b).status ≢ Inactive → buffer_of s a ≡ Some frame → buffer_of s b ≡ Some frame
+    → a ≡ b
 
 -- the thread runs, and is at the system call of this number
 pub record RunsAt (image : Image) (t : Thread) (s : State) (number : ℕ) : Type 0 where

@@ -26,7 +26,8 @@ pub fn waits_stay_within_authority()
     ensures { WaitsStayWithin }
 {}
 
-/// Reply and ReplyRecv stay within authority, where whom the thread may answer waits for no answer to a fault.
+/// Reply and ReplyRecv stay within authority, where whom the thread may answer waits for no answer to a fault. A ReplyRecv by a capability
+/// to an endpoint, which may deliver two messages, does so where no two threads that are not stopped have one message buffer.
 pub fn replies_stay_within_authority()
     ensures alone { RepliesStayWithin }
     ensures receiving { RepliesToReceiveStayWithin }

@@ -3,13 +3,13 @@ use Rattle.headline.proofs.authority.ReplyCalls.{reply-endpoint, reply-notificat
 use Rattle.headline.proofs.authority.call_laws.replies_stay_within_authority.Goals as goal
 
 pub returns-clause-alone : goal.returns-clause-alone
-returns-clause-alone c = λ image t s number sound is at nobody none.
-    reply-within image t s sound none number is at.own at.is at.runs nobody at.calls
+returns-clause-alone c = λ image t s number sound is at nobody.
+    reply-within image t s sound number is at.own at.is at.runs nobody at.calls
 
 pub returns-clause-receiving : goal.returns-clause-receiving
-returns-clause-receiving c = λ image t s number endpoint badge allowed sound is call reads nobody none.
-    reply-endpoint image t s sound none number is endpoint badge allowed reads call nobody
+returns-clause-receiving c = λ image t s number endpoint badge allowed sound is call reads nobody own_buffers.
+    reply-endpoint image t s sound number is endpoint badge allowed reads call nobody own_buffers
 
 pub returns-clause-waiting : goal.returns-clause-waiting
-returns-clause-waiting c = λ image t s number notification badge allowed sound is call reads nobody none.
-    reply-notification image t s sound none number is notification badge allowed reads call nobody
+returns-clause-waiting c = λ image t s number notification badge allowed sound is call reads nobody.
+    reply-notification image t s sound number is notification badge allowed reads call nobody
