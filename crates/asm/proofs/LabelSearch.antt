@@ -1,16 +1,18 @@
 -- The labels that the first way over a listing finds: each thread has its entry's.
-use Rattle.std.proofs.Common.{ℕ, ◌≡◌, ◌+◌, ◌-◌, ◌^◌, ◌<◌, ◌≤◌, zero, suc, List, [], ◌∷◌, ◌++◌, Option, Some, None, min, refl, ap, sym, ◌∙◌, arith, append_assoc}
-use Rattle.std.proofs.Common.{ne_eqb, eq-eqb}
+use Rattle.std.proofs.Common.{ℕ, ◌≡◌, ◌==◌, ◌+◌, ◌-◌, ◌^◌, ◌<◌, ◌≤◌, zero, suc, List, [], ◌∷◌, ◌++◌, Option, Some, None, min, refl, ap, sym, ◌∙◌, arith}
+use Rattle.std.proofs.Common.{append_assoc}
+use Rattle.std.proofs.Common.{ne_eqb, eq-eqb, true, false}
 use Rattle.std.specs.Prelude.{map, flat_map, codes, slice_index, if◌then◌else◌}
 use Rattle.std.specs.List.{range_with_len}
 use Rattle.std.specs.Option.{option_map_or}
 use Rattle.model.specs.Acceptance.NotedStates.{record_of}
-use Rattle.model.specs.Images.Image.{StateRecord, Thread}
+use Rattle.model.specs.Images.Image.{StateRecord, Thread, no_buffer}
+use Rattle.model.specs.Images.Listing.{object_name}
 use Rattle.asm_line.specs.declared.lines.Line.{Line}
 use Rattle.asm_line.specs.declared.lines.Line.TheVariants as line
 use Rattle.asm_line.specs.declared.lines.Code.TheVariants as code
 use Rattle.asm.specs.Labels.{FoundLabels, Searched, next_number, no_labels, searched_from, searched_line}
-use Rattle.asm.proofs.Said.{point_said, record_said, slot_said, thread_line_said, thread_said}
+use Rattle.asm.proofs.Said.{buffer_said, point_said, record_said, slot_said, thread_line_said, thread_said}
 use Rattle.asm.proofs.Joins.{number_behind}
 
 pub searched-append : (number : ℕ) (s : Searched) (xs ys : List Line) →
@@ -93,9 +95,13 @@ module _ (t : Thread) (others : List FoundLabels) where
 
 -- ---- threads
 
+-- the lines before the points
+abbrev pub start_said : Thread → List Line
+start_said t = (line.Thread (thread_line_said t) ∷ buffer_said t) ++ map line.Register t.registers
+
 -- the lines before the one with the label, and its number
 abbrev pub first_said : Thread → List Line
-first_said t = (line.Thread (thread_line_said t) ∷ map line.Register t.registers) ++ flat_map (point_said t) (range_with_len 0 t.header.entry)
+first_said t = start_said t ++ flat_map (point_said t) (range_with_len 0 t.header.entry)
 
 abbrev pub label_number : Thread → ℕ → ℕ
 label_number t number = next_number (number_behind number (first_said t))
@@ -134,7 +140,7 @@ thread-split t inside =
     let rest = t.header.words - (e + 1) in
     let count : t.header.words ≡ e + suc rest = omega (arith, inside) in
     let none : 0 + e ≡ e = omega arith in
-    let start : List Line = line.Thread (thread_line_said t) ∷ map line.Register t.registers in
+    let start : List Line = start_said t in
     let one : List Line = flat_map (point_said t) (range_with_len 0 e) in
     let two : List Line = flat_map (point_said t) (range_with_len (e + 1) rest) in
     let points : flat_map (point_said t) (range_with_len 0 t.header.words) ≡ one ++ point_said t e ++ two =
@@ -147,6 +153,23 @@ thread-split t inside =
     ∙ (five-lists start one (point_said t e) two (line.End ∷ [])
     ∙ ap (λ (ls : List Line). first_said t ++ (ls ++ last_said t)) (point-entry t))
 
+buffer-silent : (t : Thread) (number : ℕ) (s : Searched) → searched_from number s (buffer_said t) ≡ s
+buffer-silent t number s =
+    elim (t.header.buffer == no_buffer) as (λ b. searched_from number s (if b then [] else line.Buffer (object_name t.header.buffer) ∷ []) ≡ s) [
+      | true ↦ refl
+      | false ↦ refl
+    ]
+
+-- behind the lines before the points a thread is open that has no label
+start-found : (t : Thread) (number : ℕ) (found : List FoundLabels)
+    → searched_from number (between_threads found) (start_said t) ≡ record { threads = found; open_labels = Some no_labels }
+start-found t number found =
+    let first : List Line = line.Thread (thread_line_said t) ∷ buffer_said t in
+    let open_first : Searched = record { threads = found; open_labels = Some no_labels } in
+    searched-append number (between_threads found) first (map line.Register t.registers)
+    ∙ (ap (λ s. searched_from (number_behind number first) s (map line.Register t.registers)) (buffer-silent t (next_number number) open_first)
+    ∙ silent line.Register open_first (λ n r. refl) (number_behind number first) t.registers)
+
 pub thread-found : (t : Thread) (number : ℕ) (found : List FoundLabels) → t.header.entry < t.header.words → t.header.words ≤ 65536
     → searched_from number (between_threads found) (thread_said t) ≡ between_threads (found ++ thread_labels t number ∷ [])
 thread-found t number found inside few =
@@ -154,8 +177,7 @@ thread-found t number found inside few =
     let rest = t.header.words - (e + 1) in
     let one = flat_map (point_said t) (range_with_len 0 e) in
     let two = flat_map (point_said t) (range_with_len (e + 1) rest) in
-    let start = line.Thread (thread_line_said t) ∷ map line.Register t.registers in
-    let open_first : Searched = record { threads = found; open_labels = Some no_labels } in
+    let start = start_said t in
     let behind_first : FoundLabels = record { places = []; points = e } in
     let with_entry : FoundLabels = record { places = (codes "l", record { line = label_number t number; point = e }) ∷ []; points = e } in
     let n1 = number_behind number (first_said t) in
@@ -164,7 +186,7 @@ thread-found t number found inside few =
     let none : 0 + e ≡ e = omega arith in
     let first : searched_from number (between_threads found) (first_said t) ≡ record { threads = found; open_labels = Some behind_first } =
     searched-append number (between_threads found) start one
-    ∙ (ap (λ s. searched_from (number_behind number start) s one) (silent line.Register open_first (λ n r. refl) (next_number number) t.registers)
+    ∙ (ap (λ s. searched_from (number_behind number start) s one) (start-found t number found)
     ∙ plain-found t found no_labels (number_behind number start) 0 e refl (omega (arith, inside, few)) (λ k low high same. omega (arith, high, same))
     ∙ ap (λ (k : ℕ). record { threads = found; open_labels = Some (record { places = []; points = k }) }) none) in
     ap (searched_from number (between_threads found)) (thread-split t inside)

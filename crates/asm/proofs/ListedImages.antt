@@ -71,4 +71,4 @@ image-listed i fits limits =
     listed-append (said_g ++ map promise_said i.promises) (text_g ++ map promise_line i.promises) (flat_map thread_said i.threads)
     (flat_map thread_lines i.threads)
     (listed-append said_g text_g (map promise_said i.promises) (map promise_line i.promises) g promises)
-    (threads-listed h.objects 0 h.threads i.threads (omega (arith, few)) fits.threads)
+    (threads-listed h.version h.objects 0 h.threads i.threads (omega (arith, few)) fits.threads)

@@ -97,6 +97,7 @@ module _ (labels : List FoundLabels) (d : Draft) where
   outside-goes (line.Thread said) h =
       goes (thread_begins here d.declared.names said) _ _ _ (begins here d.declared.names said h.begins)
       (goes (has_room 64 d.threads) _ tt _ (roomy 64 d.threads h.room) refl)
+  outside-goes (line.Buffer frame) h = absurd h
   outside-goes (line.Register entry) h = absurd h
   outside-goes (line.Measure constant terms) h = absurd h
   outside-goes (line.Range entry) h = absurd h
@@ -120,6 +121,7 @@ first-goes d (line.Frame root address frame rights) h = absurd h
 first-goes d (line.Content frame words) h = absurd h
 first-goes d (line.Promise endpoint low high words) h = absurd h
 first-goes d (line.Thread said) h = absurd h
+first-goes d (line.Buffer frame) h = absurd h
 first-goes d (line.Register entry) h = absurd h
 first-goes d (line.Measure constant terms) h = absurd h
 first-goes d (line.Range entry) h = absurd h
@@ -154,6 +156,7 @@ last-or-not labels number d o (line.Frame root address frame rights) = more (λ 
 last-or-not labels number d o (line.Content frame words) = more (λ e. let no : true ≡ false = sym (ap is-it-end e) in cc) refl refl refl
 last-or-not labels number d o (line.Promise endpoint low high words) = more (λ e. let no : true ≡ false = sym (ap is-it-end e) in cc) refl refl refl
 last-or-not labels number d o (line.Thread begun) = more (λ e. let no : true ≡ false = sym (ap is-it-end e) in cc) refl refl refl
+last-or-not labels number d o (line.Buffer frame) = more (λ e. let no : true ≡ false = sym (ap is-it-end e) in cc) refl refl refl
 last-or-not labels number d o (line.Register entry) = more (λ e. let no : true ≡ false = sym (ap is-it-end e) in cc) refl refl refl
 last-or-not labels number d o (line.Measure constant terms) = more (λ e. let no : true ≡ false = sym (ap is-it-end e) in cc) refl refl refl
 last-or-not labels number d o (line.Range entry) = more (λ e. let no : true ≡ false = sym (ap is-it-end e) in cc) refl refl refl
@@ -214,6 +217,7 @@ line-goes labels number d (line.Content frame words) h = by-memory labels number
 line-goes labels number d (line.Promise endpoint low high words) h =
     by-memory labels number d.declared d.threads (line.Promise endpoint low high words) d.memory d.open_thread h
 line-goes labels number d (line.Thread begun) h = by-memory labels number d.declared d.threads (line.Thread begun) d.memory d.open_thread h
+line-goes labels number d (line.Buffer frame) h = by-memory labels number d.declared d.threads (line.Buffer frame) d.memory d.open_thread h
 line-goes labels number d (line.Register entry) h = by-memory labels number d.declared d.threads (line.Register entry) d.memory d.open_thread h
 line-goes labels number d (line.Measure constant terms) h = by-memory labels number d.declared d.threads (line.Measure constant terms) d.memory d.open_thread h
 line-goes labels number d (line.Range entry) h = by-memory labels number d.declared d.threads (line.Range entry) d.memory d.open_thread h
@@ -242,6 +246,7 @@ module _ (labels : List FoundLabels) (number : ℕ) (declared : Declared) (threa
   first-closes memory thread (line.Content frame words) h e = absurd h
   first-closes memory thread (line.Promise endpoint low high words) h e = absurd h
   first-closes memory thread (line.Thread begun) h e = absurd h
+  first-closes memory thread (line.Buffer frame) h e = absurd h
   first-closes memory thread (line.Register entry) h e = absurd h
   first-closes memory thread (line.Measure constant terms) h e = absurd h
   first-closes memory thread (line.Range entry) h e = absurd h
@@ -262,6 +267,7 @@ module _ (labels : List FoundLabels) (number : ℕ) (declared : Declared) (threa
   outside-closes memory (line.Frame root address frame rights) e = refl
   outside-closes memory (line.Content frame words) e = refl
   outside-closes memory (line.Promise endpoint low high words) e = refl
+  outside-closes memory (line.Buffer frame) e = refl
   outside-closes memory (line.Register entry) e = refl
   outside-closes memory (line.Measure constant terms) e = refl
   outside-closes memory (line.Range entry) e = refl
@@ -292,6 +298,7 @@ module _ (labels : List FoundLabels) (number : ℕ) (declared : Declared) (threa
       kept (line.Content frame words) e = e
       kept (line.Promise endpoint low high words) e = e
       kept (line.Thread begun) e = e
+      kept (line.Buffer frame) e = e
       kept (line.Register entry) e = e
       kept (line.Measure constant terms) e = e
       kept (line.Range entry) e = e
@@ -364,14 +371,15 @@ searches number s (said ∷ others) (text ∷ texts) zip =
 
 -- ---- the whole
 
-ends-so : (image : Image) → whole_image.fits image ≡ true → image.header.version ≡ version_listed image.promises → finished (draft_of image) ≡ Ok image
+ends-so : (image : Image) → whole_image.fits image ≡ true → image.header.version ≡ version_listed image.promises image.threads
+    → finished (draft_of image) ≡ Ok image
 unfolding finished memory_known
 ends-so image is version =
     let memory : Memory = record { bits = image.header.memory_bits; boot_radix = image.header.boot_radix } in
     let whole = is-listed image is version (draft_of image) refl memory refl _ refl in
     ap fitting whole ∙ ap (λ (b : Bool). if b then Ok image else Err 4) is
 
-pub listing-means : (image : Image) → whole_image.fits image ≡ true → image.header.version ≡ version_listed image.promises
+pub listing-means : (image : Image) → whole_image.fits image ≡ true → image.header.version ≡ version_listed image.promises image.threads
     → All (λ (t : Thread). t.header.entry < t.header.words) image.threads → text_means (listing image) ≡ Ok image
 unfolding text_means
 listing-means image is version entered =

@@ -1,21 +1,22 @@
 -- Each line of an image's listing says what stands for it: the sections and the threads.
-use Rattle.std.proofs.Common.{ℕ, ◌≡◌, ◌==◌, ◌+◌, ◌^◌, ◌<◌, ◌≤◌, zero, suc, Bool, true, false, List, [], ◌∷◌, ◌++◌, length, None, refl, arith}
-use Rattle.std.specs.Prelude.{map, flat_map, find, codes, decimal, slice_index, if◌then◌else◌}
+use Rattle.std.proofs.Common.{ℕ, ◌≡◌, ◌==◌, ◌+◌, ◌^◌, ◌<◌, ◌≤◌, ◌||◌, zero, suc, Bool, true, false, List, [], ◌∷◌, ◌++◌, length, None, refl, arith}
+use Rattle.std.specs.Prelude.{map, flat_map, find, codes, decimal, nat_lt, slice_index, if◌then◌else◌}
 use Rattle.std.specs.List.{AllByRecursion, AllZip, enumerate_from, range_with_len}
 use Rattle.std.specs.Option.{option_map_or}
 use Rattle.std.proofs.lemmas.Bool.{and_parts}
+use Rattle.std.proofs.lemmas.Bool.Decides.{nat_tests}
 use Rattle.model.specs.Acceptance.NotedStates.{record_of}
 use Rattle.model.specs.Images.Format.{Format, field, many_fit}
 use Rattle.model.specs.Images.Image.{StateRecord, Thread, anything, pair_key, range_format, record_format, register_format, slot_format, slots_format}
-use Rattle.model.specs.Images.Image.{thread_format}
-use Rattle.model.specs.Images.Listing.{Text, label_lines, line, point_lines, range_line, record_lines, register_line, slot_line, thread_line, thread_lines}
+use Rattle.model.specs.Images.Image.{no_buffer, thread_format}
+use Rattle.model.specs.Images.Listing.{Text, buffer_lines, label_lines, line, object_name, point_lines, range_line, record_lines, register_line}
+use Rattle.model.specs.Images.Listing.{slot_line, thread_line, thread_lines}
 use Rattle.asm_line.specs.declared.lines.Line.{Line}
 use Rattle.asm_line.specs.declared.lines.Line.TheVariants as said
 use Rattle.asm_line.specs.declared.lines.Code.TheVariants as code
-use Rattle.asm_line.specs.Listed.{Lists, thread, measure, label, word, end, IsWord}
+use Rattle.asm_line.specs.Listed.{Lists, thread, buffer, measure, label, word, end, IsWord}
 use Rattle.format_laws.proofs.Laws.{many-length}
-use Rattle.asm.specs.Drafts.{thread_version}
-use Rattle.asm.proofs.Said.{label_said, point_said, record_said, slot_said, thread_line_said, thread_said}
+use Rattle.asm.proofs.Said.{buffer_said, label_said, point_said, record_said, slot_said, thread_line_said, thread_said}
 use Rattle.asm.proofs.EntryLines.{words-fit}
 use Rattle.asm.proofs.RecordLines.{terms-fit}
 use Rattle.asm.proofs.ThreadParts.{RecordFits, ThreadFits, range-parts, record-parts, register-parts, slot-parts, thread-parts}
@@ -127,6 +128,19 @@ points-listed t from (suc n) words records inside =
 
 -- ---- threads
 
+small-buffer : (objects n : ℕ) → objects ≤ 2 ^ 32 → (nat_lt n objects || (n == no_buffer)) ≡ true → IsWord n
+small-buffer objects n few is = grind (arith, nat_tests)
+
+buffer-listed : (objects : ℕ) (t : Thread) → objects ≤ 2 ^ 32 → (nat_lt t.header.buffer objects || (t.header.buffer == no_buffer)) ≡ true
+    → AreListed (buffer_said t) (buffer_lines t)
+buffer-listed objects t few is = by (t.header.buffer == no_buffer)
+  where
+    by : (b : Bool)
+        → AreListed (if b then [] else said.Buffer (object_name t.header.buffer) ∷ [])
+        (if b then [] else line (codes "buffer" ∷ object_name t.header.buffer ∷ []) ∷ [])
+    by true = tt
+    by false = (buffer t (small-buffer objects t.header.buffer few is), tt)
+
 thread-listed : (objects : ℕ) (t : Thread) → objects ≤ 2 ^ 32 → ThreadFits objects t → AreListed (thread_said t) (thread_lines t)
 thread-listed objects t few fits =
     let h = fits.header in
@@ -138,25 +152,28 @@ thread-listed objects t few fits =
     thread t (omega (arith, few, tcb)) (omega (arith, few, cnode)) h.guard (omega (arith, few, root)) h.priority h.budget h.fault h.base in
     let registers = entries-listed 1 register_format (λ e. e.register + 1) said.Register register_line (λ e. omega arith)
     (λ l e low is. (register-parts l e low is).1) 1 t.header.registers t.registers (omega arith) fits.registers in
-    listed-append ((said.Thread (thread_line_said t) ∷ map said.Register t.registers) ++ flat_map (point_said t) (range_with_len 0 t.header.words))
-    ((thread_line t ∷ map register_line t.registers) ++ flat_map (point_lines t) (range_with_len 0 t.header.words)) (said.End ∷ []) (codes "end" ∷ [])
-    (listed-append (said.Thread (thread_line_said t) ∷ map said.Register t.registers) (thread_line t ∷ map register_line t.registers)
-    (flat_map (point_said t) (range_with_len 0 t.header.words)) (flat_map (point_lines t) (range_with_len 0 t.header.words))
-    (first, registers)
+    let start = (said.Thread (thread_line_said t) ∷ buffer_said t) ++ map said.Register t.registers in
+    let start_text = (thread_line t ∷ buffer_lines t) ++ map register_line t.registers in
+    let points = flat_map (point_said t) (range_with_len 0 t.header.words) in
+    let point_texts = flat_map (point_lines t) (range_with_len 0 t.header.words) in
+    listed-append (start ++ points) (start_text ++ point_texts) (said.End ∷ []) (codes "end" ∷ [])
+    (listed-append start start_text points point_texts
+    (listed-append (said.Thread (thread_line_said t) ∷ buffer_said t) (thread_line t ∷ buffer_lines t) (map said.Register t.registers)
+    (map register_line t.registers) (first, buffer-listed objects t few h.buffer) registers)
     (points-listed t 0 t.header.words (words-fit 0 t.header.words t.words fits.words)
     (records-listed objects t.header.words 0 t.header.records t.records few fits.records) (omega (arith, long))))
     (end, tt)
 
-pub threads-listed : (objects least count : ℕ) (ts : List Thread) → objects ≤ 2 ^ 32
-    → many_fit (λ _. thread_format (slots_format objects) thread_version objects) (λ _. 0) least count ts ≡ true →
+pub threads-listed : (version objects least count : ℕ) (ts : List Thread) → objects ≤ 2 ^ 32
+    → many_fit (λ _. thread_format (slots_format objects) version objects) (λ _. 0) least count ts ≡ true →
     AreListed (flat_map thread_said ts) (flat_map thread_lines ts)
 unfolding many_fit
-threads-listed objects least zero [] few is = tt
-threads-listed objects least zero (t ∷ ts) few is = absurd (let clash : false ≡ true = is in cc)
-threads-listed objects least (suc n) [] few is = tt
-threads-listed objects least (suc n) (t ∷ ts) few is =
-    let both = and_parts ((thread_format (slots_format objects) thread_version objects).fits t)
-    (many_fit (λ _. thread_format (slots_format objects) thread_version objects) (λ _. 0) 0 n ts)
+threads-listed version objects least zero [] few is = tt
+threads-listed version objects least zero (t ∷ ts) few is = absurd (let clash : false ≡ true = is in cc)
+threads-listed version objects least (suc n) [] few is = tt
+threads-listed version objects least (suc n) (t ∷ ts) few is =
+    let both = and_parts ((thread_format (slots_format objects) version objects).fits t)
+    (many_fit (λ _. thread_format (slots_format objects) version objects) (λ _. 0) 0 n ts)
     is in
     listed-append (thread_said t) (thread_lines t) (flat_map thread_said ts) (flat_map thread_lines ts)
-    (thread-listed objects t few (thread-parts objects t both.0)) (threads-listed objects 0 n ts few both.1)
+    (thread-listed objects t few (thread-parts version objects t both.0)) (threads-listed version objects 0 n ts few both.1)

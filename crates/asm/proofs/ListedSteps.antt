@@ -1,7 +1,7 @@
 -- Lines as listings have them: what each of them means is one entry, one word or one thread more.
 use Rattle.std.specs.Prelude.{◌==◌, MatchOption, map, not, is_some, nat_le, nat_lt, slice_get, Result, if◌then◌else◌}
 use Rattle.std.proofs.Common.{◌≡◌, ℕ, ◌+◌, ◌-◌, ◌<◌, ◌≤◌, zero, suc, Bool, true, false, List, [], ◌∷◌, ◌++◌, length, Option, Some, None, Ok, Err, ℤ}
-use Rattle.std.proofs.Common.{refl, sym, ap, ◌∙◌, arith, append_assoc, length-append, lt-ltb}
+use Rattle.std.proofs.Common.{refl, sym, ap, ◌∙◌, arith, append_assoc, length-append, lt-ltb, eq-eqb}
 use Rattle.std.specs.List.{insert}
 use Rattle.std.specs.Option.{option_map_or}
 use Rattle.std.proofs.lemmas.Bool.{le-leb}
@@ -10,7 +10,7 @@ use Rattle.model.specs.declared.entries.RangeEntry.{RangeEntry}
 use Rattle.model.specs.declared.entries.RegisterEntry.{RegisterEntry}
 use Rattle.model.specs.declared.entries.SlotEntry.{SlotEntry}
 use Rattle.model.specs.declared.entries.TermEntry.{TermEntry}
-use Rattle.model.specs.Images.Image.{StateRecord, Thread, pair_key}
+use Rattle.model.specs.Images.Image.{StateRecord, Thread, no_buffer, pair_key}
 use Rattle.model.specs.Images.Listing.{Text}
 use Rattle.asm.specs.declared.labels.Place.{Place}
 use Rattle.asm_line.specs.declared.lines.Code.{Code}
@@ -26,14 +26,15 @@ use Rattle.asm.specs.declared.names.Source.{Source}
 use Rattle.asm.specs.declared.names.Source.TheVariants.{Object, Handler}
 use Rattle.asm.specs.Keys.{has_key, has_room, is_before, is_behind, must, place_among, place_of, sorted_with}
 use Rattle.asm.specs.Labels.{FoundLabels, place_named, point_of}
-use Rattle.asm.specs.Meaning.{coded_with, inside, may_end, measured_with, noting, parent_known, point_known, ranges_with, record_said, slots_with, sorted_terms}
+use Rattle.asm.specs.Meaning.{buffered_with, coded_with, inside, may_end, measured_with, noting, parent_known, point_known, ranges_with, record_said}
+use Rattle.asm.specs.Meaning.{slots_with, sorted_terms}
 use Rattle.asm.specs.Meaning.{terms_said, thread_begins, values_of, with_registers, word_added, word_at, promised_said, words_said}
 use Rattle.asm.specs.Names.{HasSource, IsNamed, KnownNames, free, is_taken, line_of_name, number_at, number_known, number_of, source_known, source_of}
 use Rattle.asm.specs.Reading.{IsThreadLine, thread_behind}
 use Rattle.asm.specs.Sections.{number_or_zero, promised_values, value_of}
-use Rattle.asm.specs.Threads.{AreBehind, HasParent, MayAddCode, MayAddMeasure, MayAddRange, MayAddRegister}
+use Rattle.asm.specs.Threads.{AreBehind, HasParent, MayAddBuffer, MayAddCode, MayAddMeasure, MayAddRange, MayAddRegister}
 use Rattle.asm.specs.Threads.{MayAddSlot, MayBegin, MayEnd, OpenDraft, parent_numbers, plain_word, slot_entry, term_key, term_or_zero, terms_of, thread_begun}
-use Rattle.asm.specs.Threads.{with_measure, with_range, with_register, with_slot, with_word}
+use Rattle.asm.specs.Threads.{with_buffer, with_measure, with_range, with_register, with_slot, with_word}
 
 -- ---- a step of a chain
 
@@ -145,6 +146,13 @@ begins labels names said may =
 
 -- ---- lines of a thread
 
+buffered : (names : KnownNames) (o : OpenDraft) (frame : Text) → MayAddBuffer names o frame
+    → buffered_with names o frame ≡ Ok (with_buffer o (number_of names.objects frame))
+unfolding buffered_with
+buffered names o frame may =
+    goes (number_known names.objects frame) _ _ _ (known names.objects frame may.named)
+    (goes (must (o.thread.header.buffer == no_buffer) 4) _ tt _ (passes _ 4 (eq-eqb o.thread.header.buffer no_buffer may.single)) refl)
+
 registered : (o : OpenDraft) (entry : RegisterEntry) → MayAddRegister o entry → with_registers o entry ≡ Ok (with_register o entry)
 unfolding with_registers
 registered o entry may =
@@ -228,6 +236,7 @@ inside-goes labels number names o (line.Frame root address frame rights) h other
 inside-goes labels number names o (line.Content frame words) h other = absurd h
 inside-goes labels number names o (line.Promise endpoint low high words) h other = absurd h
 inside-goes labels number names o (line.Thread begun) h other = absurd h
+inside-goes labels number names o (line.Buffer frame) h other = buffered names o frame h
 inside-goes labels number names o (line.Register entry) h other = registered o entry h
 inside-goes labels number names o (line.Measure constant terms) h other = measured o constant terms h
 inside-goes labels number names o (line.Range entry) h other = ranged o.thread o.next entry h

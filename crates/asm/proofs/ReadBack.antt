@@ -139,7 +139,8 @@ labels-found i fits entered =
     let found : searched_from 0 nothing_searched (listed_lines i) ≡ between_threads (all_labels (number_behind 0 (sections_said i)) i.threads) =
     searched-append 0 nothing_searched (sections_said i) (flat_map thread_said i.threads)
     ∙ (ap (λ s. searched_from (number_behind 0 (sections_said i)) s (flat_map thread_said i.threads)) (sections-quiet i)
-    ∙ threads-found i.header.objects 0 i.header.threads (number_behind 0 (sections_said i)) i.threads [] fits.threads (entered-each i.threads entered)) in
+    ∙ threads-found i.header.version i.header.objects 0 i.header.threads (number_behind 0 (sections_said i)) i.threads [] fits.threads
+    (entered-each i.threads entered)) in
     ap (λ s. (closed s).threads) found
 
 whole-goes : (i : Image) → SectionsFit i → IsFitting i → All IsEntered i.threads →
@@ -154,7 +155,8 @@ whole-goes i fits limits entered =
     (threads-go i labels limits 0 i.header.threads (number_behind 0 (sections_said i)) [] i.threads [] fits.threads (entered-each i.threads entered)
     (omega (arith, few, long)) refl (labels-found i fits entered))
 
-pub read-back : (image : Image) → whole_image.fits image ≡ true → image.header.version ≡ version_listed image.promises → All (λ (t : Thread). t.header.entry < t.header.words) image.threads → IsReadBack image
+pub read-back : (image : Image) → whole_image.fits image ≡ true → image.header.version ≡ version_listed image.promises image.threads
+    → All (λ (t : Thread). t.header.entry < t.header.words) image.threads → IsReadBack image
 unfolding listing
 read-back image is version entered =
     let fits = sections-fit image is version in

@@ -11,7 +11,7 @@ use Rattle.model.specs.declared.entries.FrameEntry.{FrameEntry}
 use Rattle.model.specs.declared.entries.SlotEntry.{SlotEntry}
 use Rattle.model.specs.Acceptance.NotedStates.{record_of}
 use Rattle.model.specs.Images.Described.{numbered}
-use Rattle.model.specs.Images.Image.{Image, Thread, ImageContent, ImagePromise, StateRecord}
+use Rattle.model.specs.Images.Image.{Image, Thread, ImageContent, ImagePromise, StateRecord, no_buffer}
 use Rattle.model.specs.Images.Listing.{untyped_name, object_name, interrupt_name, promised_words, source_name, term_words}
 use Rattle.asm_line.specs.declared.lines.Line.{Line}
 use Rattle.asm_line.specs.declared.lines.Line.TheVariants as line
@@ -63,6 +63,9 @@ thread_line_said t = record {
   base = t.header.base;
 }
 
+abbrev pub buffer_said : Thread → List Line
+buffer_said t = if t.header.buffer == no_buffer then [] else line.Buffer (object_name t.header.buffer) ∷ []
+
 abbrev pub slot_said : SlotEntry → Line
 slot_said e = line.Slot (object_name e.cnode) e.index e.word0 e.word1 (parent_said e)
 
@@ -81,7 +84,7 @@ point_said t point =
 
 abbrev pub thread_said : Thread → List Line
 thread_said t =
-    (line.Thread (thread_line_said t) ∷ map line.Register t.registers) ++ flat_map (point_said t) (range_with_len 0 t.header.words)
+    ((line.Thread (thread_line_said t) ∷ buffer_said t) ++ map line.Register t.registers) ++ flat_map (point_said t) (range_with_len 0 t.header.words)
     ++ line.End ∷ []
 
 -- ---- the whole

@@ -1,20 +1,19 @@
 -- The sections of an image that fits its format.
-use Rattle.std.proofs.Common.{ℕ, ◌≡◌, ◌==◌, ◌+◌, ◌-◌, true, min, List, [], ◌∷◌, ◌++◌, refl, ap, ◌∙◌, subst}
+use Rattle.std.proofs.Common.{ℕ, ◌≡◌, ◌==◌, ◌+◌, ◌-◌, true, min, List, ◌∷◌, ◌++◌, subst}
 use Rattle.std.specs.Int.{w32}
 use Rattle.std.proofs.lemmas.Bool.{and_parts}
 use Rattle.model.specs.declared.entries.ImageHeader.{ImageHeader}
 use Rattle.model.specs.declared.refusals.Refusal.TheVariants.{Magic, Version}
 use Rattle.model.specs.Images.Format.{Format, many_fit, number_or}
 use Rattle.model.specs.Images.Image.{Image, between, capability_format, content_format, frame_format, header_format, image_with, interrupt_format}
-use Rattle.model.specs.Images.Image.{ImagePromise, SlotFormat, Thread, latest_version, magic, promise_format, thread_header_format}
+use Rattle.model.specs.Images.Image.{latest_version, magic, promise_format}
 use Rattle.model.specs.Images.Listing.{version_listed}
 use Rattle.model.specs.Images.Image.{object_format, pair_key, sections_format, slots_format, table_format, thread_format, untyped_format, whole_image}
 use Rattle.format_laws.proofs.Laws.{field-parts}
-use Rattle.asm.specs.Drafts.{thread_version}
 use Rattle.asm.proofs.Orders.{least_behind, many-at}
 
 pub record SectionsFit (i : Image) : Type 0 where
-  pub version : i.header.version ≡ version_listed i.promises
+  pub version : i.header.version ≡ version_listed i.promises i.threads
   pub memory : between 16 24 i.header.memory_bits ≡ true
   pub radix : between 1 (min 14 (i.header.memory_bits - 5)) i.header.boot_radix ≡ true
   pub untypeds : many_fit (λ _. untyped_format) (λ _. 0) 0 i.header.untypeds i.untypeds ≡ true
@@ -26,7 +25,7 @@ pub record SectionsFit (i : Image) : Type 0 where
   pub frames : many_fit (frame_format i.header.objects) (λ x. pair_key x.root x.address + 1) 0 i.header.frames i.frames ≡ true
   pub contents : many_fit (content_format i.header.objects) (λ c. c.header.frame + 1) 0 i.header.contents i.contents ≡ true
   pub promises : many_fit (promise_format i.header.objects) (λ p. p.header.endpoint + 1) 0 i.header.promises i.promises ≡ true
-  pub threads : many_fit (λ _. thread_format (slots_format i.header.objects) thread_version i.header.objects) (λ _. 0) 0 i.header.threads i.threads ≡ true
+  pub threads : many_fit (λ _. thread_format (slots_format i.header.objects) i.header.version i.header.objects) (λ _. 0) 0 i.header.threads i.threads ≡ true
 
 header-parts : (h : ImageHeader) → header_format.fits h ≡ true
     → (between 16 24 h.memory_bits ≡ true) × (between 1 (min 14 (h.memory_bits - 5)) h.boot_radix ≡ true)
@@ -40,14 +39,7 @@ header-parts h is =
       (field-parts (between 1 (min 14 (h.memory_bits - 5))) h.boot_radix b.0).1,
     )
 
--- in the versions that are put together of lines threads have one format
-one-format : (promises : List ImagePromise) (slots : SlotFormat) (objects : ℕ) → thread_format slots (version_listed promises) objects
-    ≡ thread_format slots thread_version objects
-unfolding thread_format thread_header_format
-one-format [] slots objects = refl
-one-format (p ∷ promises) slots objects = refl
-
-pub sections-fit : (image : Image) → whole_image.fits image ≡ true → image.header.version ≡ version_listed image.promises → SectionsFit image
+pub sections-fit : (image : Image) → whole_image.fits image ≡ true → image.header.version ≡ version_listed image.promises image.threads → SectionsFit image
 unfolding image_with sections_format
 sections-fit image is version =
     let whole = and_parts _ _ is in
@@ -71,9 +63,7 @@ sections-fit image is version =
       frames = g.0;
       contents = (and_parts _ _ g.1).0;
       promises = (and_parts _ _ g.1).1;
-      threads = subst (λ (format : Format Thread). many_fit (λ _. format) (λ _. 0) 0 image.header.threads image.threads ≡ true)
-          (ap (λ v. thread_format (slots_format image.header.objects) v image.header.objects) version
-          ∙ one-format image.promises (slots_format image.header.objects) image.header.objects) whole.1;
+      threads = whole.1;
     }
 
 -- the entry behind some of a section fits behind them

@@ -80,6 +80,7 @@ other-placed labels d (line.Frame root address frame rights) other = refl
 other-placed labels d (line.Content frame words) other = refl
 other-placed labels d (line.Promise endpoint low high words) other = refl
 other-placed labels d (line.Thread begun) other = absurd (other.thread begun refl)
+other-placed labels d (line.Buffer frame) other = refl
 other-placed labels d (line.Register entry) other = refl
 other-placed labels d (line.Measure constant terms) other = refl
 other-placed labels d (line.Range entry) other = refl

@@ -1,22 +1,24 @@
 -- Lines of threads: each thread's lines add it to those before it.
-use Rattle.std.proofs.Common.{ℕ, ◌≡◌, ◌+◌, ◌-◌, ◌<◌, ◌≤◌, zero, suc, true, false, List, [], ◌∷◌, ◌++◌, length, Some, None, refl, ap, sym, ◌∙◌, subst, arith}
-use Rattle.std.proofs.Common.{eq-eqb}
-use Rattle.std.specs.Prelude.{map, flat_map, codes, is_some}
+use Rattle.std.proofs.Common.{ℕ, ◌≡◌, ◌+◌, ◌-◌, ◌<◌, ◌≤◌, ◌==◌, ◌||◌, zero, suc, Bool, true, false, List, [], ◌∷◌, ◌++◌, length, Some, None, refl, ap, sym}
+use Rattle.std.proofs.Common.{◌∙◌, subst, arith}
+use Rattle.std.proofs.Common.{eq-eqb, eqb-true}
+use Rattle.std.specs.Prelude.{map, flat_map, codes, is_some, nat_lt, if◌then◌else◌}
 use Rattle.std.specs.List.{AllByRecursion, range_with_len}
-use Rattle.std.proofs.lemmas.Bool.{and_parts}
+use Rattle.std.proofs.lemmas.Bool.{and_parts, ltb-true}
 use Rattle.std.proofs.lemmas.List.{append_assoc, append-nil, length-append}
-use Rattle.model.specs.Images.Image.{Image, StateRecord, Thread, anything, record_format, register_format, slots_format, thread_format}
+use Rattle.model.specs.Images.Image.{Image, StateRecord, Thread, anything, no_buffer, record_format, register_format, slots_format, thread_format}
 use Rattle.model.specs.Images.Format.{field, many_fit}
+use Rattle.model.specs.Images.Listing.{object_name}
 use Rattle.asm_line.specs.declared.lines.Line.TheVariants as line
 use Rattle.format_laws.specs.Fitting.{IsFitting}
 use Rattle.format_laws.proofs.Laws.{many-length}
-use Rattle.asm.specs.Drafts.{Draft, declared_of, thread_version}
+use Rattle.asm.specs.Drafts.{Draft, declared_of}
 use Rattle.asm.specs.Labels.{FoundLabels, is_first_on, next_number, place_named, point_of, searched_from}
 use Rattle.asm.specs.Reading.{labels_at}
-use Rattle.asm.proofs.Said.{point_said, thread_line_said, thread_said}
+use Rattle.asm.proofs.Said.{buffer_said, point_said, thread_line_said, thread_said}
 use Rattle.asm.proofs.Joins.{Goes, join, nothing-more, number_behind, one-more, plain-section}
-use Rattle.asm.proofs.LabelSearch.{all_labels, between_threads, body_said, first_said, from_label, label_number, last_said, searched-append, thread-found}
-use Rattle.asm.proofs.LabelSearch.{thread-split, thread_labels}
+use Rattle.asm.proofs.LabelSearch.{all_labels, between_threads, body_said, first_said, from_label, label_number, last_said, searched-append, start_said}
+use Rattle.asm.proofs.LabelSearch.{thread-found, thread-split, thread_labels}
 use Rattle.asm.proofs.Orders.{least_behind}
 use Rattle.asm.proofs.PlaceLines.{object-named, object-number}
 use Rattle.asm.proofs.PointLines.{Left, RiseFrom, body-goes, moved, points-go, standing}
@@ -32,6 +34,14 @@ after i ts = record {
   threads = ts;
   open_thread = None;
 }
+
+-- a thread whose buffer is not read
+abbrev unbuffered : Thread → Thread
+unbuffered t = record t { header = record t.header { buffer = no_buffer } }
+
+left-true : (a b : Bool) → b ≡ false → (a || b) ≡ true → a ≡ true
+left-true true b e is = refl
+left-true false b e is = absurd (let clash : false ≡ true = sym e ∙ is in cc)
 
 records-rise : (objects words least count : ℕ) (rs : List StateRecord) →
     many_fit (record_format (slots_format objects) words) (λ r. r.header.point + 1) least count rs ≡ true → RiseFrom least rs
@@ -94,14 +104,14 @@ module _ (image : Image) (labels : List FoundLabels) (limits : IsFitting image) 
       (λ i. (opened t t.registers (words i) (records i) None).thread)
       ∙ (λ i. record t { header = record t.header { registers = r i; words = long-words i; records = c i } })
 
-  begin-goes : Goes labels number (after image ts) (line.Thread (thread_line_said t) ∷ []) (inside image ts (opened t [] [] [] None))
+  begin-goes : Goes labels number (after image ts) (line.Thread (thread_line_said t) ∷ []) (inside image ts (opened (unbuffered t) [] [] [] None))
   begin-goes =
       let h = t.header in
       let tcb = object-number image limits h.tcb fits.header.tcb in
       let cnode = object-number image limits h.cnode fits.header.cnode in
       let root = object-number image limits h.root fits.header.root in
       let entry : point_of (labels_at labels (length ts)) (codes "l") ≡ h.entry = ap (λ (ls : FoundLabels). point_of ls (codes "l")) known in
-      one-more labels number (after image ts) (inside image ts (opened t [] [] [] None)) (inside image ts (opened t [] [] [] None))
+      one-more labels number (after image ts) (inside image ts (opened (unbuffered t) [] [] [] None)) (inside image ts (opened (unbuffered t) [] [] [] None))
       (line.Thread (thread_line_said t)) []
       (record {
         searched = searched;
@@ -123,7 +133,7 @@ module _ (image : Image) (labels : List FoundLabels) (limits : IsFitting image) 
             priority = h.priority;
             budget = h.budget;
             fault = h.fault;
-            buffer = sym fits.header.buffer i;
+            buffer = no_buffer;
             entry = entry i;
             base = h.base;
             registers = 0;
@@ -136,7 +146,34 @@ module _ (image : Image) (labels : List FoundLabels) (limits : IsFitting image) 
         };
         next = None;
       }))
-      (nothing-more labels (next_number number) (inside image ts (opened t [] [] [] None)) (inside image ts (opened t [] [] [] None)) refl)
+      (nothing-more labels (next_number number) (inside image ts (opened (unbuffered t) [] [] [] None))
+      (inside image ts (opened (unbuffered t) [] [] [] None)) refl)
+
+  abbrev with_buffer : ℕ → Draft
+  with_buffer buffer = inside image ts (opened (record t { header = record t.header { buffer = buffer } }) [] [] [] None)
+
+  buffer-goes : (from : ℕ) → Goes labels from (inside image ts (opened (unbuffered t) [] [] [] None)) (buffer_said t) (inside image ts (opened t [] [] [] None))
+  buffer-goes from = by (t.header.buffer == no_buffer) refl
+    where
+      by : (b : Bool) → (t.header.buffer == no_buffer) ≡ b
+          → Goes labels from (inside image ts (opened (unbuffered t) [] [] [] None)) (if b then [] else line.Buffer (object_name t.header.buffer) ∷ [])
+          (inside image ts (opened t [] [] [] None))
+      by true none =
+          nothing-more labels from (with_buffer no_buffer) (with_buffer t.header.buffer) (ap with_buffer (sym (eqb-true t.header.buffer no_buffer none)))
+      by false some =
+          let less = ltb-true t.header.buffer image.header.objects
+          (left-true (nat_lt t.header.buffer image.header.objects) (t.header.buffer == no_buffer) some fits.header.buffer) in
+          one-more labels from (with_buffer no_buffer) (with_buffer t.header.buffer) (with_buffer t.header.buffer)
+          (line.Buffer (object_name t.header.buffer)) []
+          (searched, record { named = object-named image limits t.header.buffer less; single = refl })
+          (ap with_buffer (object-number image limits t.header.buffer less))
+          (nothing-more labels (next_number from) (with_buffer t.header.buffer) (with_buffer t.header.buffer) refl)
+
+  -- the lines before the registers
+  first-go : Goes labels number (after image ts) (line.Thread (thread_line_said t) ∷ buffer_said t) (inside image ts (opened t [] [] [] None))
+  first-go =
+      join labels number (after image ts) (inside image ts (opened (unbuffered t) [] [] [] None)) (inside image ts (opened t [] [] [] None))
+      (line.Thread (thread_line_said t) ∷ []) (buffer_said t) begin-goes (buffer-goes (next_number number))
 
   registers-go : (from : ℕ) → Goes labels from (inside image ts (opened t [] [] [] None)) (map line.Register t.registers) (there [] [])
   registers-go from =
@@ -184,10 +221,10 @@ module _ (image : Image) (labels : List FoundLabels) (limits : IsFitting image) 
   entered-goes : Entered
   entered-goes =
       let long = long-words in
-      let start = line.Thread (thread_line_said t) ∷ map line.Register t.registers in
-      let registers = join labels number (after image ts) (inside image ts (opened t [] [] [] None)) (there [] []) (line.Thread (thread_line_said t) ∷ [])
-      (map line.Register t.registers)
-      begin-goes (registers-go (next_number number)) in
+      let start = start_said t in
+      let first = line.Thread (thread_line_said t) ∷ buffer_said t in
+      let registers = join labels number (after image ts) (inside image ts (opened t [] [] [] None)) (there [] []) first (map line.Register t.registers)
+      first-go (registers-go (number_behind number first)) in
       let points = points-go image labels limits ts searched t t.header.records fits.records few-words 0 t.header.entry (number_behind number start) at_start
       (omega (arith, long, entered)) (λ k low high same. omega (arith, high, same)) in
       let none : 0 + t.header.entry ≡ t.header.entry = omega arith in
@@ -237,7 +274,7 @@ label-there (y ∷ ys) x rest (suc k) e = label-there ys x rest k (omega (arith,
 
 module _ (image : Image) (labels : List FoundLabels) (limits : IsFitting image) where
   pub threads-go : (least count number : ℕ) (ts rest : List Thread) (front : List FoundLabels) →
-      many_fit (λ _. thread_format (slots_format image.header.objects) thread_version image.header.objects) (λ _. 0) least count rest ≡ true
+      many_fit (λ _. thread_format (slots_format image.header.objects) image.header.version image.header.objects) (λ _. 0) least count rest ≡ true
       → AllByRecursion IsEntered rest → length ts + length rest ≤ 64 → length front ≡ length ts → labels ≡ front ++ all_labels number rest
       → Goes labels number (after image ts) (flat_map thread_said rest) (after image (ts ++ rest))
   unfolding many_fit
@@ -245,8 +282,8 @@ module _ (image : Image) (labels : List FoundLabels) (limits : IsFitting image) 
       nothing-more labels number (after image ts) (after image (ts ++ [])) (ap (after image) (sym (append-nil ts)))
   threads-go least zero number ts (t ∷ rest) front is inside_all few long same = absurd (let clash : false ≡ true = is in cc)
   threads-go least (suc n) number ts (t ∷ rest) front is inside_all few long same =
-      let both = and_parts ((thread_format (slots_format image.header.objects) thread_version image.header.objects).fits t)
-      (many_fit (λ _. thread_format (slots_format image.header.objects) thread_version image.header.objects) (λ _. 0) 0 n rest) is in
+      let both = and_parts ((thread_format (slots_format image.header.objects) image.header.version image.header.objects).fits t)
+      (many_fit (λ _. thread_format (slots_format image.header.objects) image.header.version image.header.objects) (λ _. 0) 0 n rest) is in
       let own = thread_labels t number in
       let others = all_labels (number_behind number (thread_said t)) rest in
       let count : length labels ≡ length front + length (own ∷ others) = ap length same ∙ length-append front (own ∷ others) in
@@ -254,8 +291,8 @@ module _ (image : Image) (labels : List FoundLabels) (limits : IsFitting image) 
       let longer : length (front ++ own ∷ []) ≡ length (ts ++ t ∷ []) = length-append front (own ∷ [])
       ∙ (ap (λ k. k + 1) long ∙ sym (length-append ts (t ∷ []))) in
       let more = length-append ts (t ∷ []) in
-      let one = thread-goes image labels limits ts (omega (arith, count, long)) (omega (arith, few)) t (thread-parts image.header.objects t both.0) inside_all.0
-      number known in
+      let one = thread-goes image labels limits ts (omega (arith, count, long)) (omega (arith, few)) t
+      (thread-parts image.header.version image.header.objects t both.0) inside_all.0 number known in
       let behind = threads-go 0 n (number_behind number (thread_said t)) (ts ++ t ∷ []) rest (front ++ own ∷ []) both.1 inside_all.1 (omega (arith, few, more))
       longer
       (same ∙ sym (append_assoc front (own ∷ []) others)) in
@@ -263,19 +300,19 @@ module _ (image : Image) (labels : List FoundLabels) (limits : IsFitting image) 
       (join labels number (after image ts) (after image (ts ++ t ∷ [])) (after image ((ts ++ t ∷ []) ++ rest)) (thread_said t) (flat_map thread_said rest) one
       behind)
 
-pub threads-found : (objects least count number : ℕ) (ts : List Thread) (found : List FoundLabels) →
-    many_fit (λ _. thread_format (slots_format objects) thread_version objects) (λ _. 0) least count ts ≡ true
+pub threads-found : (version objects least count number : ℕ) (ts : List Thread) (found : List FoundLabels) →
+    many_fit (λ _. thread_format (slots_format objects) version objects) (λ _. 0) least count ts ≡ true
     → AllByRecursion IsEntered ts → searched_from number (between_threads found) (flat_map thread_said ts) ≡ between_threads (found ++ all_labels number ts)
 unfolding many_fit
-threads-found objects least count number [] found is inside_all = ap between_threads (sym (append-nil found))
-threads-found objects least zero number (t ∷ ts) found is inside_all = absurd (let clash : false ≡ true = is in cc)
-threads-found objects least (suc n) number (t ∷ ts) found is inside_all =
-    let both = and_parts ((thread_format (slots_format objects) thread_version objects).fits t)
-    (many_fit (λ _. thread_format (slots_format objects) thread_version objects) (λ _. 0) 0 n ts)
+threads-found version objects least count number [] found is inside_all = ap between_threads (sym (append-nil found))
+threads-found version objects least zero number (t ∷ ts) found is inside_all = absurd (let clash : false ≡ true = is in cc)
+threads-found version objects least (suc n) number (t ∷ ts) found is inside_all =
+    let both = and_parts ((thread_format (slots_format objects) version objects).fits t)
+    (many_fit (λ _. thread_format (slots_format objects) version objects) (λ _. 0) 0 n ts)
     is in
-    let fits = thread-parts objects t both.0 in
+    let fits = thread-parts version objects t both.0 in
     searched-append number (between_threads found) (thread_said t) (flat_map thread_said ts)
     ∙ (ap (λ s. searched_from (number_behind number (thread_said t)) s (flat_map thread_said ts))
     (thread-found t number found inside_all.0 fits.header.few_words)
-    ∙ (threads-found objects 0 n (number_behind number (thread_said t)) ts (found ++ thread_labels t number ∷ []) both.1 inside_all.1
+    ∙ (threads-found version objects 0 n (number_behind number (thread_said t)) ts (found ++ thread_labels t number ∷ []) both.1 inside_all.1
     ∙ ap between_threads (append_assoc found (thread_labels t number ∷ []) (all_labels (number_behind number (thread_said t)) ts))))

@@ -1,9 +1,10 @@
 -- Threads of an image that fits its format, and what their certificates note.
-use Rattle.std.proofs.Common.{ℕ, ◌≡◌, ◌==◌, ◌+◌, ◌-◌, ◌^◌, ◌<◌, ◌≤◌, ◌&&◌, ◌||◌, true, false, List, [], ◌∷◌, Option, Some, None, is_some, refl, sym, arith}
+use Rattle.std.proofs.Common.{ℕ, ◌≡◌, ◌==◌, ◌+◌, ◌-◌, ◌^◌, ◌<◌, ◌≤◌, ◌&&◌, ◌||◌, Bool, true, false, List, [], ◌∷◌, Option, Some, None, is_some, refl, sym}
+use Rattle.std.proofs.Common.{arith}
 use Rattle.std.specs.Prelude.{nat_le, nat_lt}
 use Rattle.std.specs.Int.{w32, w64}
 use mir.Val.{bits}
-use Rattle.std.proofs.lemmas.Bool.{and_parts, eqb-true, ltb-true, leb-true}
+use Rattle.std.proofs.lemmas.Bool.{and_parts, ltb-true, leb-true}
 use Rattle.std.proofs.lemmas.Bool.Decides.{nat_tests}
 use Rattle.model.specs.declared.capabilities.Cap.{Cap}
 use Rattle.model.specs.declared.entries.RegisterEntry.{RegisterEntry}
@@ -13,8 +14,8 @@ use Rattle.model.specs.declared.entries.SlotEntry.{SlotEntry}
 use Rattle.model.specs.declared.entries.TermEntry.{TermEntry}
 use Rattle.model.specs.declared.entries.ThreadHeader.{ThreadHeader}
 use Rattle.model.specs.Capabilities.CapabilityFields.{unpacked}
-use Rattle.model.specs.Images.Format.{field, fits_signed, many_fit, number}
-use Rattle.model.specs.Images.Image.{no_buffer}
+use Rattle.model.specs.Images.Format.{field, fits_signed, many_fit, number, only_if}
+use Rattle.model.specs.Images.Image.{has_buffers, no_buffer}
 use Rattle.model.specs.Images.Image.{StateRecord, Thread, anything, below, between, is_constant, names_parent, no_parent, not_zero, pair_key, range_format}
 use Rattle.model.specs.Images.Image.{ranges_format, record_format, record_header_format, records_format, register_format, registers_format, slot_format}
 use Rattle.model.specs.Images.Image.{slots_format, term_format, terms_format, thread_format, thread_header_format, words_format}
@@ -23,7 +24,6 @@ use Rattle.image_reading.proofs.Laws.{words-only}
 use Rattle.asm_line.specs.declared.lines.Line.TheVariants as line
 use Rattle.asm_line.specs.Listed.{Lists, range, register, slot, IsTerm, IsWord}
 use Rattle.format_laws.proofs.Laws.{between-bounds, field-between, field-parts}
-use Rattle.asm.specs.Drafts.{thread_version}
 use Rattle.asm.proofs.Said.{slot_said}
 use Rattle.asm.proofs.Orders.{least_behind}
 
@@ -37,7 +37,7 @@ pub record HeaderFits (objects : ℕ) (h : ThreadHeader) : Type 0 where
   pub priority : between 0 255 h.priority ≡ true
   pub budget : between 1 (2 ^ 62) h.budget ≡ true
   pub fault : IsWord h.fault
-  pub buffer : h.buffer ≡ no_buffer
+  pub buffer : (nat_lt h.buffer objects || (h.buffer == no_buffer)) ≡ true
   pub base : IsWord h.base
   pub registers : h.registers ≤ 31
   pub some_words : 1 ≤ h.words
@@ -49,9 +49,19 @@ pub record ThreadFits (objects : ℕ) (t : Thread) : Type 0 where
   pub words : many_fit (λ _. field anything) (λ _. 0) 0 t.header.words t.words ≡ true
   pub records : many_fit (record_format (slots_format objects) t.header.words) (λ r. r.header.point + 1) 0 t.header.records t.records ≡ true
 
-header-parts : (objects : ℕ) (h : ThreadHeader) → (thread_header_format thread_version objects).fits h ≡ true → HeaderFits objects h
+right-true : (a b : Bool) → b ≡ true → (a || b) ≡ true
+right-true true b e = refl
+right-true false b e = e
+
+-- in a version without buffers there is none
+buffer-parts : (some : Bool) (objects n : ℕ) → (only_if some no_buffer (field (λ m. nat_lt m objects || (m == no_buffer)))).fits n ≡ true
+    → (nat_lt n objects || (n == no_buffer)) ≡ true
+buffer-parts true objects n is = (field-parts (λ m. nat_lt m objects || (m == no_buffer)) n is).1
+buffer-parts false objects n is = right-true (nat_lt n objects) (n == no_buffer) is
+
+header-parts : (version objects : ℕ) (h : ThreadHeader) → (thread_header_format version objects).fits h ≡ true → HeaderFits objects h
 unfolding thread_header_format
-header-parts objects h is =
+header-parts version objects h is =
     let a = and_parts ((field (below objects)).fits h.tcb) _ is in
     let b = and_parts ((field (below objects)).fits h.cnode) _ a.1 in
     let c = and_parts ((field anything).fits h.guard) _ b.1 in
@@ -59,8 +69,9 @@ header-parts objects h is =
     let e = and_parts ((field (between 0 255)).fits h.priority) _ d.1 in
     let budget = and_parts ((number w64 (between 1 (2 ^ 62))).fits h.budget) _ e.1 in
     let f = and_parts ((field anything).fits h.fault) _ budget.1 in
-    let absent = and_parts (h.buffer == no_buffer) _ f.1 in
-    let g = and_parts ((field anything).fits h.entry) _ absent.1 in
+    let buffer = and_parts
+    ((only_if (has_buffers version) no_buffer (field (λ m. nat_lt m objects || (m == no_buffer)))).fits h.buffer) _ f.1 in
+    let g = and_parts ((field anything).fits h.entry) _ buffer.1 in
     let k = and_parts ((field anything).fits h.base) _ g.1 in
     let m = and_parts ((field (between 0 31)).fits h.registers) _ k.1 in
     let n = and_parts _ _ m.1 in
@@ -73,20 +84,20 @@ header-parts objects h is =
       priority = (field-parts (between 0 255) h.priority e.0).1;
       budget = (and_parts (nat_lt h.budget (2 ^ bits w64)) _ budget.0).1;
       fault = (field-parts anything h.fault f.0).0;
-      buffer = eqb-true h.buffer no_buffer absent.0;
+      buffer = buffer-parts (has_buffers version) objects h.buffer buffer.0;
       base = (field-parts anything h.base k.0).0;
       registers = (field-between 0 31 h.registers m.0).1;
       some_words = words.0;
       few_words = words.1;
     }
 
-pub thread-parts : (objects : ℕ) (t : Thread) → (thread_format (slots_format objects) thread_version objects).fits t ≡ true → ThreadFits objects t
+pub thread-parts : (version objects : ℕ) (t : Thread) → (thread_format (slots_format objects) version objects).fits t ≡ true → ThreadFits objects t
 unfolding thread_format registers_format words_format records_format
-thread-parts objects t is =
+thread-parts version objects t is =
     let a = and_parts _ _ is in
     let b = and_parts _ _ a.1 in
     let c = and_parts _ _ b.1 in
-    record { header = header-parts objects t.header a.0; registers = b.0; words = c.0; records = c.1 }
+    record { header = header-parts version objects t.header a.0; registers = b.0; words = c.0; records = c.1 }
 
 -- ---- records
 

@@ -71,13 +71,9 @@ draft_of image = record {
 
 -- ---- what is put together behind the last line
 
--- threads have no buffers in both versions that are put together of lines, and one format
-abbrev pub thread_version : ℕ
-thread_version = 1
-
 abbrev pub counted_header : Memory → Declared → List CapabilityEntry → List Thread → ImageHeader
 counted_header m d cs ts = record {
-  version = version_listed d.promises;
+  version = version_listed d.promises ts;
   memory_bits = m.bits;
   boot_radix = m.boot_radix;
   untypeds = length d.untypeds;

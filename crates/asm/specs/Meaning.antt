@@ -159,6 +159,13 @@ outside labels d said = with_declared d (declared_with d.declared said)
 
 -- ---- lines of a thread
 
+-- a buffer is given once
+unfoldable pub buffered_with : KnownNames → OpenDraft → Text → Result OpenDraft ℕ
+buffered_with names o name = do
+  frame ← number_known names.objects name
+  single ← must (o.thread.header.buffer == no_buffer) 4
+  Ok (record o { thread = record o.thread { header = record o.thread.header { buffer = frame } } })
+
 unfoldable pub with_registers : OpenDraft → RegisterEntry → Result OpenDraft ℕ
 with_registers o entry = do
   registers ← sorted_with (λ (e : RegisterEntry). e.register) 31 entry o.thread.registers
@@ -273,6 +280,7 @@ label_first_on labels (Some name) number = first_on labels name number
 
 -- a line that is not the last one
 unfoldable pub inside : FoundLabels → ℕ → KnownNames → OpenDraft → Line → Result OpenDraft ℕ
+inside labels number names o (line.Buffer frame) = buffered_with names o frame
 inside labels number names o (line.Register entry) = with_registers o entry
 inside labels number names o (line.Measure constant terms) = measured_with o constant terms
 inside labels number names o (line.Range entry) = noting (ranges_with entry) o

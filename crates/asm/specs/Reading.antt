@@ -6,12 +6,12 @@ use Rattle.asm_line.specs.declared.lines.ThreadLine.{ThreadLine}
 use Rattle.asm_line.specs.declared.lines.Line.TheVariants as line
 use Rattle.asm.specs.Drafts.{Draft}
 use Rattle.asm.specs.Labels.{FoundLabels, no_labels, is_first_on, next_number}
-use Rattle.asm.specs.Names.{KnownNames}
+use Rattle.asm.specs.Names.{KnownNames, number_of}
 use Rattle.asm.specs.Sections.{MayAddUntyped, with_untyped, MayAddObject, object_entry, with_object, MayAddInterrupt, interrupt_entry, with_interrupt}
 use Rattle.asm.specs.Sections.{MayAddCapability, capability_said, with_capability, MayAddTable, table_entry, with_table, MayAddFrame, frame_entry, with_frame}
 use Rattle.asm.specs.Sections.{MayAddContent, MayAddPromise, content_said, promise_said, with_content, with_promise}
-use Rattle.asm.specs.Threads.{OpenDraft, MayBegin, thread_begun, MayAddRegister, with_register, MayAddMeasure, with_measure, MayAddRange, with_range}
-use Rattle.asm.specs.Threads.{MayAddSlot, slot_entry, with_slot, MayAddCode, with_word, plain_word, MayEnd}
+use Rattle.asm.specs.Threads.{OpenDraft, MayBegin, thread_begun, MayAddBuffer, with_buffer, MayAddRegister, with_register, MayAddMeasure, with_measure}
+use Rattle.asm.specs.Threads.{MayAddRange, with_range, MayAddSlot, slot_entry, with_slot, MayAddCode, with_word, plain_word, MayEnd}
 
 -- ---- the first line
 
@@ -73,6 +73,7 @@ with_declaration labels d said = with_placement d said
 -- ---- lines that stand in a thread
 
 abbrev pub IsThreadLine : FoundLabels → ℕ → KnownNames → OpenDraft → Line → Type 0
+IsThreadLine labels number names o (line.Buffer frame) = MayAddBuffer names o frame
 IsThreadLine labels number names o (line.Register entry) = MayAddRegister o entry
 IsThreadLine labels number names o (line.Measure constant terms) = MayAddMeasure o terms
 IsThreadLine labels number names o (line.Range entry) = MayAddRange o entry
@@ -84,6 +85,7 @@ IsThreadLine labels number names o _ = ⊥
 
 -- the thread behind a line of it that is not its last one
 abbrev pub thread_behind : KnownNames → OpenDraft → Line → OpenDraft
+thread_behind names o (line.Buffer frame) = with_buffer o (number_of names.objects frame)
 thread_behind names o (line.Register entry) = with_register o entry
 thread_behind names o (line.Measure constant terms) = with_measure o constant terms
 thread_behind names o (line.Range entry) = with_range o entry

@@ -55,6 +55,15 @@ pub record MayBegin (names : KnownNames) (labels : FoundLabels) (said : ThreadLi
   pub root : IsNamed names.objects said.root
   pub entry : is_some (place_named labels said.entry) ≡ true
 
+-- ---- the buffer
+
+abbrev pub with_buffer : OpenDraft → ℕ → OpenDraft
+with_buffer o frame = record o { thread = record o.thread { header = record o.thread.header { buffer = frame } } }
+
+pub record MayAddBuffer (names : KnownNames) (o : OpenDraft) (frame : Text) : Type 0 where
+  pub named : IsNamed names.objects frame
+  pub single : o.thread.header.buffer ≡ no_buffer
+
 -- ---- registers
 
 abbrev pub with_register : OpenDraft → RegisterEntry → OpenDraft

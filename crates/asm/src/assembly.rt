@@ -3,9 +3,9 @@
 //! A function that ends early hands what it owns to `drop`: in place of that call, each field would be dropped on its own,
 //! which is long to prove.
 
-ghost use Rattle.std.specs.Prelude.{◌≡◌, ◌⊎◌, true, length, map, IfOk, MatchResult, Ok, Err, Some, None};
-ghost use Rattle.model.specs.Images.Image.{whole_image};
-ghost use Rattle.model.specs.Images.Listing.{version_listed};
+ghost use Rattle.std.specs.Prelude.{◌≡◌, ◌==◌, ◌⊎◌, not, true, length, map, IfOk, MatchResult, Ok, Err, Some, None};
+ghost use Rattle.model.specs.Images.Image.{no_buffer, whole_image};
+ghost use Rattle.model.specs.Images.Listing.{some_buffered, version_listed};
 ghost use Rattle.asm_line.specs.declared.lines.Line.TheVariants as said;
 ghost use Rattle.asm.specs.declared.faults.Fault.{Fault};
 ghost use Rattle.asm.specs.Drafts.{assembled, nothing_read};
@@ -17,7 +17,7 @@ ghost use Rattle.asm.specs.Sections.{entry_of};
 use crate::declarations::Declarations;
 use crate::faults::Fault;
 use crate::labels::Labels;
-use crate::open_threads::OpenThread;
+use crate::open_threads::{NO_BUFFER, OpenThread};
 use asm_line::{Line, ThreadLine};
 use image::{Image, Parts, Promise, ThreadParts};
 use model::CapabilityEntry;
@@ -27,10 +27,27 @@ use std::marker::Model;
 /// How many threads an image has at most.
 const MOST_THREADS: usize = model::MOST_THREADS as usize;
 
-/// The version of an image with these promises: the first that has a field for them.
-fn version_with(promises: &[Promise]) -> u32
-    ensures { result ≡ version_listed promises.now }
+/// Whether a thread has a message buffer.
+fn is_buffered(thread: &ThreadParts) -> bool
+    ensures { result ≡ not (thread.now.header.buffer == no_buffer) }
 {
+    thread.buffer != NO_BUFFER
+}
+
+/// Whether some thread has a message buffer.
+fn some_buffered(threads: &[ThreadParts]) -> bool
+    ensures { result ≡ some_buffered threads.now }
+{
+    threads.iter().any(|thread| is_buffered(thread))
+}
+
+/// The version of an image with these promises and threads: the first that has fields for them.
+fn version_with(promises: &[Promise], threads: &[ThreadParts]) -> u32
+    ensures { result ≡ version_listed promises.now threads.now }
+{
+    if some_buffered(threads) {
+        return 3;
+    }
     match promises {
         [] => 1,
         [_, ..] => 2,
@@ -320,7 +337,7 @@ impl<'a> Assembly<'a> {
         let declared = self.declared;
         drop(declared.names);
         Parts {
-            version: version_with(&declared.promises),
+            version: version_with(&declared.promises, &self.threads),
             memory_bits: memory.bits,
             boot_radix: memory.boot_radix,
             untypeds: declared.untypeds,

@@ -2,7 +2,7 @@
 
 ghost use Rattle.std.specs.Prelude.{◌≡◌, [], length, IfOk, MatchResult, slice_index};
 ghost use Rattle.asm.specs.declared.faults.Fault.{Fault};
-ghost use Rattle.asm.specs.Meaning.{branch_word, coded_with, inside, jump_word, may_end, measured_with, noting, offset_between, parent_known, ranges_with, record_said, slots_with, sorted_terms, terms_said, thread_begins, with_registers, word_added, word_at};
+ghost use Rattle.asm.specs.Meaning.{branch_word, buffered_with, coded_with, inside, jump_word, may_end, measured_with, noting, offset_between, parent_known, ranges_with, record_said, slots_with, sorted_terms, terms_said, thread_begins, with_registers, word_added, word_at};
 ghost use Rattle.asm.specs.Outcomes.{Means};
 
 use crate::faults::Fault;
@@ -31,7 +31,7 @@ const MOST_TERMS: usize = 4;
 const NO_PARENT: u32 = u32::MAX;
 
 /// The number for no message buffer.
-const NO_BUFFER: u32 = u32::MAX;
+pub(crate) const NO_BUFFER: u32 = u32::MAX;
 
 /// A thread whose line `end` is still to come.
 #[derive(Drop)]
@@ -236,6 +236,23 @@ impl OpenThread {
         }
     }
 
+    /// Gives the thread its message buffer, once.
+    #[tactic(auto, unfolding(crate::specs::Meaning::buffered_with))]
+    pub(crate) fn add_buffer<'a>(
+        &mut self,
+        names: &Names<'a>,
+        frame: &Name<'a>,
+    ) -> Result<(), Fault>
+        ensures { Means result (λ _. self.new) (buffered_with names.now self.old frame.now) }
+    {
+        let frame = names.object(frame)?;
+        if self.parts.buffer != NO_BUFFER {
+            return Err(Fault::Range);
+        }
+        self.parts.buffer = frame;
+        Ok(())
+    }
+
     #[tactic(auto, unfolding(crate::specs::Meaning::with_registers))]
     pub(crate) fn add_register(&mut self, entry: RegisterEntry) -> Result<(), Fault>
         ensures { Means result (λ _. self.new) (with_registers self.old entry) }
@@ -322,6 +339,7 @@ impl OpenThread {
         ensures { Means result (λ _. self.new) (inside labels.now number names.now self.old line.entry) }
     {
         match line {
+            Line::Buffer(frame) => self.add_buffer(names, &frame),
             Line::Register(entry) => self.add_register(entry),
             Line::Measure { constant, terms } => self.add_measure(alloc, constant, terms),
             Line::Range(entry) => self.add_range(entry),

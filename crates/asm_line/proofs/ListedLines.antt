@@ -17,7 +17,7 @@ use Rattle.asm_line.specs.declared.lines.Code.TheVariants as code
 use Rattle.asm_line.specs.Words.{◌>>=◌, within, name_of, name_first, object_first}
 use Rattle.asm_line.specs.Lines.{keyword_of, thread_keyword_of, memory_of, untyped_of, interrupt_of, table_of, frame_of, register_line_of, word, kind_of}
 use Rattle.asm_line.specs.Lines.{kind_first, size_first, last_kind, object_of, capability_of, content_of, all_numbers, all_words, some_numbers, thread_of}
-use Rattle.asm_line.specs.Lines.{few_promised, number_pairs, promise_of, promised_first, promised_of}
+use Rattle.asm_line.specs.Lines.{buffer_of, few_promised, number_pairs, promise_of, promised_first, promised_of}
 use Rattle.asm_line.specs.Lines.{thread_words_of, thread_said, budget_of, range_of}
 use Rattle.asm_line.specs.Parsing.{line_of, line_for, plain_word_of, IsKnown}
 use Rattle.asm_line.specs.Listed.{IsWord}
@@ -126,6 +126,10 @@ pub register-says : (r value : ℕ) → nat_lt 0 r ≡ true → r < 32 → betwe
     → line_of (codes "reg" ∷ register_name r ∷ decimal value ∷ []) ≡ Some (Ok (said.Register (record { register = r; value = value })))
 unfolding line_of keyword_of thread_keyword_of line_for register_line_of last_number
 register-says r value some less h small = rw (first-register r (decimal value ∷ []) less) (rw (first-decimal value [] (wide value small)) (rw some (rw h refl)))
+
+pub buffer-says : (frame : ℕ) → IsWord frame → line_of (codes "buffer" ∷ object_name frame ∷ []) ≡ Some (Ok (said.Buffer (object_name frame)))
+unfolding line_of keyword_of thread_keyword_of line_for buffer_of
+buffer-says frame a = rw (first-object 111 frame [] refl refl (wide frame a)) refl
 
 -- ---- kinds of objects
 

@@ -11,12 +11,12 @@ use Rattle.model.specs.Images.Listing.{promised_words, size_words}
 use Rattle.asm_line.specs.declared.lines.Line.{Line}
 use Rattle.asm_line.specs.Words.{words_of}
 use Rattle.asm_line.specs.Parsing.{line_of}
-use Rattle.asm_line.specs.Listed.{Lists, memory, untyped, object, interrupt, capability, table, frame, content, promise, thread, measure, range, slot, register, label}
-use Rattle.asm_line.specs.Listed.{word, end, IsWord}
+use Rattle.asm_line.specs.Listed.{Lists, memory, untyped, object, interrupt, capability, table, frame, content, promise, thread, buffer, measure, range, slot, register}
+use Rattle.asm_line.specs.Listed.{label, word, end, IsWord}
 use Rattle.asm_line.proofs.PlainWords.{IsPlainWord, is_plain, decimal-plain, words-line, line-all, none-there}
 use Rattle.asm_line.proofs.ListedLines.{Reads, named-plain, named-digits, number-plain, plain-literal, memory-says, untyped-says, object-says, size-says}
 use Rattle.asm_line.proofs.ListedLines.{interrupt-says, capability-says, table-says, frame-says, content-says, promise-says, promised-say, thread-says, measure-says, constant-plain}
-use Rattle.asm_line.proofs.ListedLines.{terms-say, range-says, register-says, label-says, word-says, end-says, kind-says, source-says, plain-numbers}
+use Rattle.asm_line.proofs.ListedLines.{terms-say, range-says, buffer-says, register-says, label-says, word-says, end-says, kind-says, source-says, plain-numbers}
 use Rattle.asm_line.proofs.ListedLines.{slot-reads}
 
 most : (low high n : ℕ) → between low high n ≡ true → high < 2 ^ 63 → n < 2 ^ 63
@@ -166,6 +166,13 @@ reads _ _ (thread t a b d e h k f g) = let x = t.header in record {
   known = tt;
   says = thread-says x.tcb x.cnode x.guard x.root x.priority x.budget x.fault x.base a b d e h (most 0 255 x.priority h (omega arith)) k
       (most 1 (2 ^ 62) x.budget k (omega arith)) f g;
+}
+reads _ _ (buffer t a) = record {
+  words = codes "buffer" ∷ object_name t.header.buffer ∷ [];
+  spelled = refl;
+  plain = (literal (codes "buffer") (omega arith) refl, (named-plain 111 t.header.buffer refl a, tt));
+  known = tt;
+  says = buffer-says t.header.buffer a;
 }
 reads _ _ (measure r h ts) = let terms = terms-say r.terms ts in record {
   words = codes "measure" ∷ whole_number r.header.constant ∷ flat_map term_words r.terms;

@@ -23,6 +23,7 @@ use Rattle.asm_line.specs.Words.{register_first, register_of, within}
 
 unfoldable pub thread_keyword_of : Text → Option Keyword
 thread_keyword_of word =
+    if bytes_eq word (codes "buffer") then Some keyword.Buffer else
     if bytes_eq word (codes "reg") then Some keyword.Register else
     if bytes_eq word (codes "measure") then Some keyword.Measure else
     if bytes_eq word (codes "range") then Some keyword.Range else
@@ -258,6 +259,12 @@ thread_said words = do
 
 unfoldable pub thread_of : List Text → Result Line ℕ
 thread_of words = thread_words_of words >>= thread_said
+
+unfoldable pub buffer_of : List Text → Result Line ℕ
+buffer_of words = do
+  frame ← object_first words
+  last ← ends frame.1
+  Ok (line.Buffer frame.0)
 
 unfoldable pub register_line_of : List Text → Result Line ℕ
 register_line_of words = do

@@ -76,6 +76,7 @@ pub data Lists : Line → Text → Type 0 where
         base = t.header.base;
       }))
       (thread_line t)
+  buffer : (t : Thread) → IsWord t.header.buffer → Lists (said.Buffer (object_name t.header.buffer)) (line (codes "buffer" ∷ object_name t.header.buffer ∷ []))
   measure : (r : StateRecord) → is_constant r.header.constant ≡ true → AllByRecursion IsTerm r.terms
       → Lists (said.Measure r.header.constant (flat_map term_words r.terms)) (measure_line r)
   range : (e : RangeEntry) → between 1 31 e.register ≡ true → IsWord e.low → IsWord e.high →

@@ -8,13 +8,13 @@ use Rattle.model.specs.Capabilities.CapabilityWords.{IsCapability, words_of}
 use Rattle.model.specs.Images.Listing.{Text}
 use Rattle.asm_line.specs.declared.keywords.Keyword.{Keyword}
 use Rattle.asm_line.specs.declared.keywords.Keyword.TheVariants.{Memory, Untyped, Object, Interrupt, Capability, Table, Frame, Content, Promise, Thread}
-use Rattle.asm_line.specs.declared.keywords.Keyword.TheVariants.{Register, Measure, Range, Slot, Word, End}
+use Rattle.asm_line.specs.declared.keywords.Keyword.TheVariants.{Buffer, Register, Measure, Range, Slot, Word, End}
 use Rattle.asm_line.specs.declared.lines.Line.{Line}
 use Rattle.asm_line.specs.declared.lines.Line.TheVariants as line
 use Rattle.asm_line.specs.declared.lines.Code.{Code}
 use Rattle.asm_line.specs.declared.lines.Code.TheVariants as code
 use Rattle.asm_line.specs.Words.{◌>>=◌, ends, last_number, name_of}
-use Rattle.asm_line.specs.Lines.{capability_of, content_of, frame_of, interrupt_of, keyword_of, measure_of, memory_of, object_of, range_of, register_line_of}
+use Rattle.asm_line.specs.Lines.{buffer_of, capability_of, content_of, frame_of, interrupt_of, keyword_of, measure_of, memory_of, object_of, range_of, register_line_of}
 use Rattle.asm_line.specs.Lines.{promise_of, slot_of, table_of, thread_of, untyped_of, word}
 
 unfoldable pub plain_word_of : List Text → Result Code ℕ
@@ -34,6 +34,7 @@ line_for Frame words = frame_of words
 line_for Content words = content_of words
 line_for Promise words = promise_of words
 line_for Thread words = thread_of words
+line_for Buffer words = buffer_of words
 line_for Register words = register_line_of words
 line_for Measure words = measure_of words
 line_for Range words = range_of words

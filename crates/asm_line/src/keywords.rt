@@ -19,6 +19,7 @@ pub(crate) enum Keyword {
     Content,
     Promise,
     Thread,
+    Buffer,
     Register,
     Measure,
     Range,
@@ -69,7 +70,9 @@ pub(crate) fn keyword_in(word: &[u8]) -> Option<Keyword>
 fn thread_keyword(word: &[u8]) -> Option<Keyword>
     ensures { result ≡ thread_keyword_of word.now }
 {
-    if is(word, "reg") {
+    if is(word, "buffer") {
+        Some(Keyword::Buffer)
+    } else if is(word, "reg") {
         Some(Keyword::Register)
     } else if is(word, "measure") {
         Some(Keyword::Measure)

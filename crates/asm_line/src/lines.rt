@@ -79,6 +79,8 @@ pub enum Line<'a> {
     },
     /// `thread TCB CNODE GUARD ROOT PRIORITY BUDGET FAULT LABEL BASE`
     Thread(ThreadLine<'a>),
+    /// `buffer FRAME`
+    Buffer(Name<'a>),
     /// `reg xN VALUE`
     Register(RegisterEntry),
     /// `measure CONSTANT [xN COEFFICIENT] ..`: the terms are read by `next_term`

@@ -51,6 +51,7 @@ fn declared(keyword: Keyword, words: Words<'_>) -> Result<Line<'_>, u8>
         Keyword::Content => sections::content(words),
         Keyword::Promise => sections::promise(words),
         Keyword::Thread => thread_lines::thread(words),
+        Keyword::Buffer => thread_lines::buffer(words),
         Keyword::Register => thread_lines::register(words),
         Keyword::Measure => thread_lines::measure(words),
         Keyword::Range => thread_lines::range(words),

@@ -2,7 +2,7 @@
 
 ghost use Rattle.std.specs.Prelude.{◌≡◌, ◌==◌, ◌&&◌};
 ghost use Rattle.asm_line.specs.Meaning.{known, known_slot_of};
-ghost use Rattle.asm_line.specs.Lines.{budget_of, all_pairs, all_terms, coefficient_of, constant_of, measure_of, named_register, parent_first, parent_with, range_of, register_line_of, slot_of, slot_said, slot_words_of, term_first, term_of, thread_of, thread_said, thread_words_of};
+ghost use Rattle.asm_line.specs.Lines.{buffer_of, budget_of, all_pairs, all_terms, coefficient_of, constant_of, measure_of, named_register, parent_first, parent_with, range_of, register_line_of, slot_of, slot_said, slot_words_of, term_first, term_of, thread_of, thread_said, thread_words_of};
 
 use crate::faults::{RANGE, SYNTAX};
 use crate::keywords::is;
@@ -94,6 +94,16 @@ pub(crate) fn thread(words: Words<'_>) -> Result<Line<'_>, u8>
     ensures { result ≡ thread_of words.entry }
 {
     thread_in_ranges(thread_words(words)?)
+}
+
+/// `buffer FRAME`
+#[tactic(auto, unfolding(crate::specs::Lines::buffer_of))]
+pub(crate) fn buffer(words: Words<'_>) -> Result<Line<'_>, u8>
+    ensures { result ≡ buffer_of words.entry }
+{
+    let (frame, words) = words.object()?;
+    words.end()?;
+    Ok(Line::Buffer(frame))
 }
 
 /// A register that is not x0.

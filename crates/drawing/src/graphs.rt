@@ -88,8 +88,8 @@ fn drawn(alloc: Global, budgets: &Budgets) -> Result<String, DrawingFault> {
 }
 
 /// Puts the system that a text describes as text for Graphviz: threads with priority, budget and the pages that are theirs alone;
-/// endpoints and notifications between them, with rights and badges; frames that are shared; untyped memory; interrupt lines.
-/// A budget may be `auto`.
+/// endpoints and notifications between them, with rights and badges; frames that are shared or message buffers; untyped memory;
+/// interrupt lines. A budget may be `auto`.
 ///
 /// # Errors
 ///

@@ -61,7 +61,7 @@ fn push_shared(
 }
 
 impl Scene<'_, '_, '_> {
-    /// The edges of what a thread holds, of the pages that it shares, and of its fault handler.
+    /// The edges of what a thread holds, of the pages that it shares, of its message buffer, and of its fault handler.
     pub(crate) fn push_links(
         &mut self,
         alloc: Global,
@@ -71,6 +71,7 @@ impl Scene<'_, '_, '_> {
         let cnodes = cnodes_of(alloc, self.text, thread)?;
         self.push_all_held(name, &cnodes)?;
         self.push_mappings(name, thread.root)?;
+        self.push_buffer(name, thread)?;
         self.push_handler(name, thread)
     }
 
@@ -204,6 +205,20 @@ impl Scene<'_, '_, '_> {
             mapping_words(page.rights),
             direction,
         )
+    }
+
+    /// The edge to the frame of a thread's message buffer.
+    fn push_buffer(&mut self, name: &str, thread: &SourceThread<'_>) -> Result<(), AllocError> {
+        match thread.buffer {
+            Some(buffer) => push_edge(
+                &mut self.graph,
+                self.text.object_name(buffer.frame),
+                name,
+                "message buffer",
+                "style=dashed, color=\"#b0612b\", dir=both",
+            ),
+            None => Ok(()),
+        }
     }
 
     /// The edge to the endpoint that a thread's faults are reported to.

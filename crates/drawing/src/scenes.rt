@@ -12,6 +12,8 @@ pub(crate) struct Uses {
     is_held: bool,
     /// Whether an interrupt signals it.
     is_signalled: bool,
+    /// Whether it is a thread's message buffer.
+    is_buffer: bool,
 }
 
 /// A text that is being drawn, and the graph so far.
@@ -33,6 +35,7 @@ fn unused(alloc: Global, count: usize) -> Result<Vec<Uses>, AllocError> {
             mapped: 0,
             is_held: false,
             is_signalled: false,
+            is_buffer: false,
         })?;
     }
     Ok(uses)
@@ -67,12 +70,24 @@ fn note_signalled(uses: &mut Vec<Uses>, text: &SourceText<'_>) {
     }
 }
 
+/// Notes which frames are message buffers.
+fn note_buffers(uses: &mut Vec<Uses>, text: &SourceText<'_>) {
+    for thread in &text.threads {
+        if let Some(buffer) = thread.buffer {
+            if let Some(frame) = uses.get_mut(buffer.frame) {
+                frame.is_buffer = true;
+            }
+        }
+    }
+}
+
 /// What names each object of a text.
 pub(crate) fn uses_of(alloc: Global, text: &SourceText<'_>) -> Result<Vec<Uses>, AllocError> {
     let mut uses = unused(alloc, text.objects.len())?;
     count_mappings(&mut uses, text);
     note_held(&mut uses, text);
     note_signalled(&mut uses, text);
+    note_buffers(&mut uses, text);
     Ok(uses)
 }
 
@@ -90,14 +105,15 @@ impl Scene<'_, '_, '_> {
                 mapped: 0,
                 is_held: false,
                 is_signalled: false,
+                is_buffer: false,
             },
         }
     }
 
-    /// Whether a frame is mapped more than once, or held by a capability.
+    /// Whether a frame is mapped more than once, held by a capability, or a message buffer.
     pub(crate) fn is_shared(&self, frame: usize) -> bool {
         let uses = self.uses_at(frame);
-        uses.mapped > 1 || uses.is_held
+        uses.mapped > 1 || uses.is_held || uses.is_buffer
     }
 
     /// Whether a capability or an interrupt names an object.

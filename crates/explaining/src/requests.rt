@@ -55,7 +55,10 @@ fn refusal_of(unfit: Unfit) -> Result<Refusal, ExplainFault> {
 fn is_of_thread(refusal: Refusal) -> bool {
     matches!(
         refusal,
-        Refusal::SharedCSpace { .. } | Refusal::SharedVSpace { .. } | Refusal::BadThread { .. }
+        Refusal::SharedCSpace { .. }
+            | Refusal::SharedVSpace { .. }
+            | Refusal::BadThread { .. }
+            | Refusal::BadBuffer { .. }
     )
 }
 

@@ -8,12 +8,12 @@ pub(crate) struct Form {
 }
 
 /// The words with which lines begin.
-pub(crate) const WORDS: [&str; 56] = [
+pub(crate) const WORDS: [&str; 57] = [
     "memory", "untyped", "object", "irq", "cap", "table", "map", "data", "promise", "thread",
-    "reg", "measure", "range", "slot", "word", "end", "lui", "auipc", "jal", "jalr", "beq", "bne",
-    "blt", "bge", "bltu", "bgeu", "lb", "lh", "lw", "lbu", "lhu", "sb", "sh", "sw", "addi", "slti",
-    "sltiu", "xori", "ori", "andi", "slli", "srli", "srai", "add", "sub", "sll", "slt", "sltu",
-    "xor", "srl", "sra", "or", "and", "fence", "ecall", "ebreak",
+    "buffer", "reg", "measure", "range", "slot", "word", "end", "lui", "auipc", "jal", "jalr",
+    "beq", "bne", "blt", "bge", "bltu", "bgeu", "lb", "lh", "lw", "lbu", "lhu", "sb", "sh", "sw",
+    "addi", "slti", "sltiu", "xori", "ori", "andi", "slli", "srli", "srai", "add", "sub", "sll",
+    "slt", "sltu", "xor", "srl", "sra", "or", "and", "fence", "ecall", "ebreak",
 ];
 
 const IMMEDIATE: Form = Form {
@@ -172,6 +172,7 @@ fn declaration_form(word: &str) -> Option<Form> {
 /// The form of a line inside a thread that is no instruction.
 fn thread_line_form(word: &str) -> Option<Form> {
     let (operands, ranges) = match word {
+        "buffer" => ("FRAME", "at most once in a thread"),
         "reg" => (
             "xN VALUE",
             "N is 1 to 31, each once; VALUE is 1 to 0xffffffff",

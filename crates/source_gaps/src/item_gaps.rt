@@ -622,7 +622,7 @@ impl Items<'_, '_, '_, '_, '_, '_> {
     }
 
     /// The line of a capability that names an object.
-    fn naming(&self, object: usize) -> Option<u64> {
+    pub(crate) fn naming(&self, object: usize) -> Option<u64> {
         for capability in &self.source.capabilities {
             if capability.source == Source::Object(object) {
                 return Some(capability.line);
@@ -646,6 +646,7 @@ impl Items<'_, '_, '_, '_, '_, '_> {
         match refusal {
             Refusal::SharedCSpace { thread } => self.report_shared_cnode(to, thread),
             Refusal::SharedVSpace { thread } => self.report_shared_root(to, thread),
+            Refusal::BadBuffer { thread } => self.report_buffer(to, thread),
             Refusal::BadThread { thread } => self.report_thread(to, thread),
             refusal => {
                 let name = refusal.name();

@@ -41,7 +41,7 @@ fn names_at(keyword: &str) -> &'static [usize] {
         "object" => &[2],
         "irq" => &[3],
         "cap" | "table" | "map" => &[1, 3],
-        "data" | "promise" => &[1],
+        "data" | "promise" | "buffer" => &[1],
         "thread" => &[1, 2, 4],
         "slot" => &[1, 5],
         _ => &[],
@@ -120,6 +120,7 @@ fn range_words(keyword: &str) -> &'static str {
         "data" => "a frame begins with at most 1024 words\n",
         "promise" =>
             "a lowest value is at most its highest one, badges are below 0x10000000, and at most 8 words are promised\n",
+        "buffer" => "a thread has at most one message buffer\n",
         "memory" | "" => "a text has untyped memory and at least one thread\n",
         _ =>
             "a number is out of its range, the target is too far away, or there are too many such lines\n",
@@ -501,7 +502,7 @@ impl<'t> Fault<'_, 't> {
         match self.keyword() {
             "cap" | "table" | "map" | "slot" => self.has_word_of(line, 1)
                 && self.has_word_of(line, 2),
-            "data" | "promise" | "reg" | "range" | "thread" => self.has_word_of(line, 1),
+            "data" | "promise" | "buffer" | "reg" | "range" | "thread" => self.has_word_of(line, 1),
             "irq" => self.has_word_of(line, 2),
             _ => false,
         }
@@ -516,7 +517,7 @@ impl<'t> Fault<'_, 't> {
     fn is_begun_by(&self, line: &str) -> bool {
         let keyword = word_at(line, 0).unwrap_or("");
         match self.keyword() {
-            "reg" => keyword == "thread",
+            "buffer" | "reg" => keyword == "thread",
             "range" | "slot" => keyword == "measure",
             _ => false,
         }

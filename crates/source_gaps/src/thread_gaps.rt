@@ -6,7 +6,7 @@ use model::Refusal;
 use source_texts::{CapabilityLine, Source, SourceThread};
 use std::alloc::AllocError;
 use thread_spaces::reached_of;
-use wellformed::{NumberSet, is_root_table, is_thread};
+use wellformed::{NumberSet, is_frame, is_root_table, is_thread};
 
 /// The least address that no program may reach.
 const LIMIT: u64 = 0x8000_0000;
@@ -192,6 +192,64 @@ impl Items<'_, '_, '_, '_, '_, '_> {
         } else {
             None
         }
+    }
+
+    /// The line of the thread before one that has the same message buffer.
+    fn sharing_buffer(&self, item: usize, frame: usize) -> Option<u64> {
+        for (number, other) in self.source.threads.iter().enumerate() {
+            if let Some(buffer) = other.buffer {
+                if number < item && buffer.frame == frame {
+                    return Some(buffer.line);
+                }
+            }
+        }
+        None
+    }
+
+    /// The line of the first mapping of a frame with execute.
+    fn executed_on(&self, frame: usize) -> Option<u64> {
+        for page in &self.source.frames {
+            if page.frame == frame && page.rights & 4 != 0 {
+                return Some(page.line);
+            }
+        }
+        None
+    }
+
+    /// Reports why a frame is no message buffer.
+    fn report_unfit_frame(
+        &self,
+        to: &mut String,
+        item: usize,
+        frame: usize,
+    ) -> Result<(), AllocError> {
+        let name = self.source.object_name(frame);
+        write!(to, "has the buffer `{name}`, ")?;
+        if !is_frame(self.source.kind(frame)) {
+            to.push_str("which is not a frame (`frame`)\n")
+        } else if let Some(line) = self.sharing_buffer(item, frame) {
+            write!(to, "which is a buffer on line {line}, too\n")
+        } else if let Some(line) = self.naming(frame) {
+            write!(to, "to which line {line} gives a capability\n")
+        } else if let Some(line) = self.executed_on(frame) {
+            write!(to, "which line {line} maps with execute (4)\n")
+        } else {
+            to.push_str("which is not one\n")
+        }
+    }
+
+    /// Reports what does not fit of a thread's message buffer.
+    pub(crate) fn report_buffer(&self, to: &mut String, item: u32) -> Result<(), AllocError> {
+        let Some(thread) = self.source.threads.get(item as usize) else {
+            return Ok(());
+        };
+        let Some(buffer) = thread.buffer else {
+            return Ok(());
+        };
+        self.push_line(to, buffer.line)?;
+        let name = self.source.object_name(thread.tcb);
+        write!(to, "thread {name} ")?;
+        self.report_unfit_frame(to, item as usize, buffer.frame)
     }
 
     /// The line of the earliest thread before one that has the same TCB.

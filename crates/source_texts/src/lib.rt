@@ -16,4 +16,4 @@ pub use declared::{
 pub use faults::TextFault;
 pub use names::word_at;
 pub use reading::read;
-pub use source_threads::{RecordLine, SourceThread};
+pub use source_threads::{BufferLine, RecordLine, SourceThread};

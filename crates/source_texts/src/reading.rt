@@ -6,7 +6,7 @@ use crate::declared::{
 };
 use crate::faults::TextFault;
 use crate::names::{Named, Names};
-use crate::source_threads::{RecordLine, SourceThread};
+use crate::source_threads::{BufferLine, RecordLine, SourceThread};
 use asm_line::{Line, Name, ThreadLine, Words, parse_line};
 use model::{ObjectType, PromisedWord};
 use std::alloc::{AllocError, Global};
@@ -263,12 +263,26 @@ impl<'a> Reader<'a> {
             priority: said.priority,
             budget: said.budget,
             fault: said.fault,
+            buffer: None,
             entry: said.entry.text(),
             base: said.base,
             points: Vec::new(self.alloc),
             records: Vec::new(self.alloc),
         });
         Ok(())
+    }
+
+    /// The frame of a thread's message buffer.
+    fn add_buffer(&mut self, frame: Name<'a>) -> Result<(), TextFault> {
+        let frame = self.names.object(&frame)?;
+        let line = self.names.line;
+        match &mut self.open {
+            Some(thread) => {
+                thread.buffer = Some(BufferLine { line, frame });
+                Ok(())
+            }
+            None => Err(self.names.fault()),
+        }
     }
 
     /// The line with which a thread ends.
@@ -287,6 +301,7 @@ impl<'a> Reader<'a> {
         match said {
             Line::Thread(said) => self.begin(said),
             Line::End => self.end(),
+            Line::Buffer(frame) => self.add_buffer(frame),
             Line::Code { .. } => self.add_point(),
             Line::Measure { .. } => self.add_record(),
             Line::Blank

@@ -8,6 +8,13 @@ pub struct RecordLine {
     pub line: u64,
 }
 
+/// `buffer FRAME`
+#[derive(Clone, Copy, Debug)]
+pub struct BufferLine {
+    pub line: u64,
+    pub frame: usize,
+}
+
 /// A thread of a text, from its line `thread` to its line `end`.
 #[derive(Drop)]
 pub struct SourceThread<'a> {
@@ -21,6 +28,8 @@ pub struct SourceThread<'a> {
     pub budget: u64,
     /// The capability address of its fault handler, or 0 for none.
     pub fault: u32,
+    /// The frame of its message buffer and the line of that, if it has one.
+    pub buffer: Option<BufferLine>,
     /// The label that it starts at.
     pub entry: &'a str,
     pub base: u32,

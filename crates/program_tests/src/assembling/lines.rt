@@ -22,6 +22,7 @@ const ROWS: &str = "
     0|promise p 0 0xFFFFFFF
     0|promise p 1 1 0 0xFFFFFFFF 2 2 3 3 4 4 5 5 6 6 7 7 8 8
     0|thread main cs 28 vs 100 24 0 start 0x1000
+    0|buffer f
     0|end
     0|reg x1 1
     0|measure -3 x5 2 x6 -1
@@ -49,6 +50,9 @@ const ROWS: &str = "
     1|promise p
     1|promise p 0
     1|promise p 0 0 1
+    1|buffer
+    1|buffer 1
+    1|buffer f f
     1|reg x05 1
     1|reg x32 1
     1|reg y1 1

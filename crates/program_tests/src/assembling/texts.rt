@@ -11,6 +11,16 @@ fn an_image_has_its_length(rt: HostRuntime) -> Result<(), Fail> {
     Ok(())
 }
 
+/// Version 3 has two words more than version 1: how many promises there are, and the frame of the thread's buffer.
+#[test]
+fn a_buffer_is_of_version_3(rt: HostRuntime) -> Result<(), Fail> {
+    let text = with_line(rt.alloc(), SOLO, 17, "buffer data\nmeasure 24")?;
+    let bytes = bytes_of(rt.alloc(), text.as_str())?;
+    assert_eq!(rt; bytes.len(), 436);
+    assert_eq!(rt; bytes.get(4).copied(), Some(3));
+    Ok(())
+}
+
 #[test]
 fn lines_end_in_two_ways(rt: HostRuntime) -> Result<(), Fail> {
     let bytes = bytes_of(rt.alloc(), SOLO)?;
@@ -32,6 +42,7 @@ const FORMS: &str = "
     15 | map vs 0x2000 data 3/data code 1 2/data data 3 | data data 3/map vs 0x2000 data 3/data code 1 2
     15 | object e u endpoint/object g u endpoint/promise e 0 0/promise g 1 1 2 3 | object e u endpoint/object g u endpoint/promise g 1 1 2 3/promise e 0 0
     17 | reg x1 7/reg x2 8 | reg x2 8/reg x1 7
+    17 | buffer data/reg x1 7 | reg x1 7/buffer data
     17 | measure 24 x1 1 x2 -1 | measure 24 x2 -1 x1 1
     17 | measure 24/range x1 0 9/range x2 0 8 | measure 24/range x2 0 8/range x1 0 9
     17 | measure 24/slot cs 3 0 0 boot 0/slot cs 4 0 0 boot 0 | measure 24/slot cs 4 0 0 boot 0/slot cs 3 0 0 boot 0
@@ -138,6 +149,11 @@ const AT_FAULT: &str = "
     16 4 | thread main cs 28 vs 100 0 0 start 0x1000
     16 2 | thread main cs 28 vs 100 24 0 nowhere 0x1000
     16 2 | thread u cs 28 vs 100 24 0 start 0x1000
+    15 1 | buffer data
+    17 1 | buffer
+    17 1 | buffer data data
+    17 2 | buffer none
+    17 2 | buffer u
     17 4 | reg x1 0
     17 1 | reg x1
     17 1 | reg x1 1 1
@@ -233,6 +249,10 @@ const CUT: &str = "
     17 1 | thread main cs 28 vs 100 24 0 start 0x1000/start: ecall
     17 1 | thread main cs 28 vs 100 24 0 start 0x1000/start: beq x0 x0 nowhere
     18 1 | thread main cs 28 vs 100 24 0 start 0x1000/start: ecall/start: ecall
+    18 4 | thread main cs 28 vs 100 24 0 start 0x1000/buffer data/buffer data/start: ecall
+    18 2 | thread main cs 28 vs 100 24 0 start 0x1000/buffer data/buffer none/start: ecall
+    18 1 | thread main cs 28 vs 100 24 0 start 0x1000/start: ecall/buffer none
+    19 1 | thread main cs 28 vs 100 24 0 start 0x1000/start: ecall/buffer data/buffer data
     19 1 | thread main cs 28 vs 100 24 0 start 0x1000/start: ecall/reg x1 1/reg x1 1
 ";
 

@@ -4,15 +4,16 @@ use drawing::{DrawingFault, chart, draw};
 use sinks::{MemorySink, Sink};
 use std::process::Abort;
 
-/// A client that calls a server, and a line that the server listens to; both map one frame. The client's budget is still to be found.
+/// A client that calls a server, which has a message buffer, and a line that the server listens to; both map one frame. The client's
+/// budget is still to be found.
 const TEXT: &str =
     "memory 17 5\nuntyped u 0x10000 16\nobject code u frame\nobject vs u root\nobject pt u table\nobject code2 u frame\n\
-    object vs2 u root\nobject pt2 u table\nobject both u frame\nobject client u tcb\nobject server u tcb\nobject cs u cnode 4\n\
+    object vs2 u root\nobject pt2 u table\nobject both u frame\nobject words u frame\nobject client u tcb\nobject server u tcb\nobject cs u cnode 4\n\
     object cs2 u cnode 4\nobject ep u endpoint\nobject bell u notification\nirq line 3 bell 5\ncap cs 1 ep 9 7\ncap cs2 1 ep 2 0\n\
     cap cs2 2 bell 2 0\ncap cs2 3 line 0 0\ntable vs 0 pt\ntable vs2 0 pt2\nmap vs 0x1000 code 4\nmap vs 0x2000 both 3\n\
     map vs2 0x1000 code2 4\nmap vs2 0x3000 both 2\n\
     thread client cs 28 vs 100 auto 0 again 0x1000\nagain: jal x0 again\nend\n\
-    thread server cs2 28 vs2 101 6 0 start 0x1000\nstart: jal x0 start\nend\n";
+    thread server cs2 28 vs2 101 6 0 start 0x1000\nbuffer words\nstart: jal x0 start\nend\n";
 
 /// Each piece is in what was put.
 fn has_all(rt: &impl Abort, put: &[u8], pieces: &[&str]) {
@@ -40,6 +41,8 @@ fn systems_are_drawn(rt: HostRuntime) {
             "\"bell\" -> \"server\" [label=\"wait\"",
             "\"server\" -> \"line\" [label=\"acknowledge\"",
             "\"both\" -> \"client\" [label=\"0x2000 read, write\", color=\"#b0612b\", dir=both]",
+            "\"words\" [shape=note",
+            "\"words\" -> \"server\" [label=\"message buffer\"",
             "\"both\" -> \"server\" [label=\"0x3000 read\", color=\"#b0612b\", dir=forward]",
         ],
     );

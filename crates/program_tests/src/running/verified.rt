@@ -103,6 +103,28 @@ fn solo_is_the_same_as_version_2(rt: HostRuntime) -> Result<(), Fail> {
     counts_and_waits(&rt, image.as_slice())
 }
 
+/// Version 3 has a word more than version 2: the thread's message buffer, or 0xFFFFFFFF for none, after its fault address.
+#[test]
+fn solo_is_the_same_as_version_3(rt: HostRuntime) -> Result<(), Fail> {
+    let solo = solo(rt.alloc())?;
+    let mut image = Vec::new(rt.alloc());
+    image.extend_from_slice(solo.as_slice().get(..44).ok_or("the header")?)?;
+    image.extend_from_slice(&0u32.to_le_bytes())?;
+    image.extend_from_slice(
+        solo.as_slice()
+            .get(44..268)
+            .ok_or("up to the fault address")?,
+    )?;
+    image.extend_from_slice(&0xFFFF_FFFFu32.to_le_bytes())?;
+    image.extend_from_slice(solo.as_slice().get(268..).ok_or("the rest")?)?;
+    let image = with_word(image, 4, 3)?;
+    assert_eq!(rt; image.len(), 436);
+    for at in 272..276 {
+        assert_eq!(rt; image.get(at).copied(), Some(0xFF));
+    }
+    counts_and_waits(&rt, image.as_slice())
+}
+
 /// Where the thread's control block is in the memory of solo.
 const SOLO_TCB: u32 = 0xC000;
 

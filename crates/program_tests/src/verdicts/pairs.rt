@@ -104,6 +104,9 @@ const WORKER_ROWS: &str = "
     SharedVSpace 1 0 | 19 cap cs2 1 ep 2 0/cap cs2 2 vs 0 0
     # They have one thread object.
     BadThread 1 0 | 59 thread worker cs2 28 vs2 100 3 0 again 0x1000
+    # They have one message buffer, or two.
+    BadBuffer 1 0 | 14 object pool u untyped 13/object words u frame ; 25 buffer words/reg x17 1/reg x18 4/reg x19 1 ; 60 buffer words/reg x17 5
+    accepted | 14 object pool u untyped 13/object words u frame/object words2 u frame ; 25 buffer words/reg x17 1/reg x18 4/reg x19 1 ; 60 buffer words2/reg x17 5
 ";
 
 #[test]

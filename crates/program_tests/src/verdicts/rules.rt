@@ -69,6 +69,13 @@ const ROWS: &str = "
     BadThread 0 0 | 16 thread main cs 28 vs 100 24 0 start 0x2000
     BadThread 0 0 | 16 thread main cs 28 vs 100 24 0 behind 0x1000 ; 28 jal x0 again/behind:
 
+    # A message buffer is a frame that no capability names and that is not executed; where else it is mapped does not matter.
+    accepted | 17 buffer data/measure 24
+    BadBuffer 0 0 | 17 buffer pt/measure 24
+    BadBuffer 0 0 | 17 buffer code/measure 24
+    BadBuffer 0 0 | 12 cap cs 2 line 0 0/cap cs 3 data 2 0 ; 17 buffer data/measure 24
+    BadThread 0 0 | 16 thread main cs 28 vs 100 24 0 start 0x2000 ; 17 buffer pt/measure 24
+
     IllegalInstruction 0 3 | 25 again: ebreak
     IllegalInstruction 0 3 | 25 again: word 0
     IllegalInstruction 0 3 | 25 again: word 0xFFFFFFFF
