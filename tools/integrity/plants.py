@@ -1,0 +1,502 @@
+"""Changes that are planted into the record of an event, each of which has to be refused. Those that are `outside` have to be refused by
+the bounds of authority alone; the others are within them, but not what the event does."""
+
+from account import COPY, MAP, MINT, MOVE, RETYPE, REVOKE
+from calls import A0, A1, WORDS
+from rules import ENDPOINT, FRAME, NOTIFICATION, UNTYPED
+from seen import EMPTY
+
+PLANTS = {}
+# a register that no program of the systems here writes, and that no message has
+UNUSED = 9
+
+
+def plant(name, outside=True):
+    """Names a function that gives an altered record of an event, or None where there is no place for it."""
+    def keep(function):
+        PLANTS[name] = outside, function
+        return function
+    return keep
+
+
+class Scene:
+    """An event: what was seen before it, what it does, and what its record says has changed."""
+
+    def __init__(self, account, view, deed, label, changes):
+        self.account, self.view, self.deed, self.label, self.changes = account, view, deed, label, changes
+        self.thread, self.threads = deed.thread, list(account.threads.values())
+        self.invoked, self.slot = deed.invokes or (None, None)
+
+    def put(self, key, new):
+        """The record with another value there."""
+        old = self.view.now(key)
+        rest = {it: change for it, change in self.changes.items() if it != key}
+        return None if old == new and key not in self.changes else (self.label, rest if old == new else {**rest, key: (old, new)})
+
+    def new(self, key):
+        return self.changes[key][1] if key in self.changes else self.view.now(key)
+
+    def more(self, key, by=4):
+        """The record with a number that is greater."""
+        return self.put(key, self.new(key) + by & 2**32 - 1)
+
+    def without(self, key):
+        return self.label, {it: change for it, change in self.changes.items() if it != key}
+
+    def first(self, kind, test=lambda key, old, new: True):
+        """The first change of a kind that passes a test."""
+        return next((key for key, (old, new) in self.changes.items() if key[0] == kind and test(key, old, new)), None)
+
+    def bystander(self):
+        return next((it for it in self.threads if it is not self.thread and it.tcb not in self.deed.reached), None)
+
+    def reached(self, number=0):
+        """Another thread that is reached, and gets this register."""
+        found = (it for it in self.threads if it is not self.thread and number in self.deed.reached.get(it.tcb, ()))
+        return next(found, None)
+
+    def own_capabilities(self):
+        return [it for slot, (it, _) in self.view.slots.items() if self.thread and slot[0] in self.thread.cnodes]
+
+    def own_slot(self, full):
+        """A slot of the thread's CNodes that is full, or empty, and stays so."""
+        node = min(self.thread.cnodes)
+        slots = [(node, index) for index in range(16) if ("slot", node, index) not in self.changes]
+        return next((it for it in slots if (it in self.view.slots) == full), None)
+
+    def copied(self, test):
+        """A slot that a Copy or a Mint filled, whose capability passes a test."""
+        return self.invoked in (COPY, MINT) and self.first("slot", lambda key, old, new: old == EMPTY and test(new[0]))
+
+    def with_capability(self, key, change):
+        """The record with another capability in a slot."""
+        if not key:
+            return None
+        capability, parent = self.new(key)
+        return self.put(key, (change(capability), parent))
+
+    def delivered(self):
+        """The buffers of a delivery of more words than registers take, and how many words it has."""
+        for sender, receiver, length in self.deed.copied:
+            if length > 8:
+                return self.account.buffer(sender), self.account.buffer(receiver), length
+        return None
+
+
+def detail(capability, at, new):
+    return *capability[:at], new, *capability[at + 1:]
+
+
+# ---- registers
+
+
+@plant("a register of a bystander")
+def _(s):
+    it = s.bystander()
+    return it and s.more(("reg", it.tcb, 5))
+
+
+@plant("a bystander goes on")
+def _(s):
+    it = s.bystander()
+    return it and s.more(("reg", it.tcb, 0))
+
+
+@plant("a register of who is reached that no message has")
+def _(s):
+    it = s.reached()
+    return it and s.more(("reg", it.tcb, UNUSED))
+
+
+@plant("another badge for who is reached", outside=False)
+def _(s):
+    it = s.reached(A0)
+    return it and s.more(("reg", it.tcb, A0))
+
+
+@plant("a word more than the message has")
+def _(s):
+    it = s.reached(A1)
+    free = it and [word for word in WORDS if word not in s.deed.reached[it.tcb]]
+    return s.more(("reg", it.tcb, free[0])) if free else None
+
+
+@plant("another word of the message", outside=False)
+def _(s):
+    it = s.reached(WORDS[0])
+    return it and s.more(("reg", it.tcb, WORDS[0]), 1)
+
+
+@plant("another length of the message", outside=False)
+def _(s):
+    it = s.reached(A1)
+    return it and s.more(("reg", it.tcb, A1), 1)
+
+
+@plant("who is reached sleeps on", outside=False)
+def _(s):
+    it = s.reached()
+    return it and s.without(("reg", it.tcb, 0))
+
+
+@plant("who is reached goes on elsewhere")
+def _(s):
+    it = s.reached()
+    return it and s.more(("reg", it.tcb, 0))
+
+
+@plant("a sender whose message is taken gets a badge")
+def _(s):
+    it = s.reached()
+    return s.more(("reg", it.tcb, A0)) if it and "message from who waits" in s.deed.kinds and A0 not in s.deed.reached[it.tcb] else None
+
+
+@plant("another register of the thread itself", outside=False)
+def _(s):
+    return s.thread and s.more(("reg", s.thread.tcb, UNUSED))
+
+
+@plant("another result", outside=False)
+def _(s):
+    key = s.thread and s.first("reg", lambda key, old, new: key[1] == s.thread.tcb and key[2])
+    return key and s.more(key)
+
+
+@plant("the thread goes on elsewhere", outside=False)
+def _(s):
+    return s.thread and s.more(("reg", s.thread.tcb, 0))
+
+
+@plant("an error where the call is done", outside=False)
+def _(s):
+    return s.put(("reg", s.thread.tcb, A1), 3 << 12) if s.invoked and "invoked by Call" in s.deed.kinds else None
+
+
+# ---- slots
+
+
+@plant("a slot of a neighbour is emptied")
+def _(s):
+    it = s.thread and s.bystander()
+    slot = it and next((slot for slot in s.view.slots if slot[0] in it.cnodes), None)
+    return slot and s.put(("slot", *slot), EMPTY)
+
+
+@plant("a slot of a neighbour is filled")
+def _(s):
+    it, own = s.thread and s.bystander(), s.thread and s.own_slot(True)
+    free = it and own and next(((node, 15) for node in it.cnodes if (node, 15) not in s.view.slots), None)
+    return free and s.put(("slot", *free), (s.view.held(own), own))
+
+
+@plant("a slot of the boot CNode is emptied")
+def _(s):
+    return s.put(("slot", 0, 0), EMPTY)
+
+
+@plant("the root table of the thread goes")
+def _(s):
+    return s.thread and s.put(("slot", s.thread.tcb, 1), EMPTY)
+
+
+@plant("the buffer of a thread goes")
+def _(s):
+    it = next((it for it in s.threads if s.account.buffer(it)), None)
+    return it and s.put(("slot", it.tcb, 2), EMPTY)
+
+
+@plant("a line is bound to nothing")
+def _(s):
+    slot = next((it for it in s.view.slots if it[0] == s.account.lines), None)
+    return slot and s.put(("slot", *slot), EMPTY)
+
+
+@plant("a line that is bound to nothing is bound")
+def _(s):
+    bound = [it for it in s.view.slots if it[0] == s.account.lines]
+    return s.put(("slot", s.account.lines, 63), s.view.slots[bound[0]]) if bound else None
+
+
+@plant("a right more")
+def _(s):
+    # to read an endpoint or a frame that is held to write, or to write a frame that is held to read
+    rights = {ENDPOINT: 2, NOTIFICATION: 8, FRAME: 3}
+    has_all = lambda it: any(held[:2] == it[:2] and held[2] & rights[it[0]] == rights[it[0]] for held in s.own_capabilities())
+    return s.with_capability(s.copied(lambda it: not has_all(it)), lambda it: detail(it, 2, it[2] | rights[it[0]]))
+
+
+@plant("another badge in a copy")
+def _(s):
+    plain = {it[:2] for it in s.own_capabilities() if it[0] in (ENDPOINT, NOTIFICATION) and it[3] == 0}
+    return s.with_capability(s.copied(lambda it: it[0] != FRAME and it[:2] not in plain), lambda it: detail(it, 3, it[3] ^ 1))
+
+
+@plant("a capability to an object of another thread")
+def _(s):
+    held = {it[:2] for it in s.own_capabilities()}
+    others = [it[1] for it, _ in s.view.slots.values() if it[0] == ENDPOINT and it[:2] not in held]
+    return others and s.with_capability(s.copied(lambda it: it[0] == ENDPOINT), lambda it: detail(it, 1, others[0])) or None
+
+
+@plant("derived from a slot of a neighbour")
+def _(s):
+    key, it = s.copied(lambda it: True), s.bystander()
+    return s.put(key, (s.new(key)[0], (min(it.cnodes), 5))) if key and it else None
+
+
+@plant("a wrong index", outside=False)
+def _(s):
+    key = s.copied(lambda it: True)
+    free = key and next((("slot", key[1], it) for it in range(16) if s.new(("slot", key[1], it)) == EMPTY), None)
+    if not free:
+        return None
+    label, changes = s.without(key)
+    return label, {**changes, free: (EMPTY, s.new(key))}
+
+
+@plant("more memory is used", outside=False)
+def _(s):
+    key = s.invoked == RETYPE and ("slot", *s.slot)
+    return s.with_capability(key, lambda it: detail(it, 3, it[3] - 16)) if key and s.new(key)[0][3] - 16 > s.view.held(s.slot)[3] else None
+
+
+@plant("memory is whole again under what was made of it")
+def _(s):
+    pools = {slot: it for slot, (it, _) in s.view.slots.items() if s.thread and slot[0] in s.thread.cnodes and it[0] == UNTYPED and it[3]}
+    slot = s.invoked in (COPY, MAP) and next((it for it in pools if any(parent == it for _, parent in s.view.slots.values())), None)
+    return s.with_capability(("slot", *slot), lambda it: detail(it, 3, 0)) if slot else None
+
+
+@plant("a new object outside of the memory")
+def _(s):
+    other = s.thread and s.bystander()
+    key = s.invoked == RETYPE and other and s.first("slot", lambda key, old, new: new[0][0] == FRAME)
+    return s.with_capability(key, lambda it: detail(it, 1, s.view.pages()[other.root, 1][0])) if key else None
+
+
+def mapped(s):
+    key = s.invoked == MAP and ("slot", *s.slot)
+    return key or None
+
+
+@plant("a mapping with the right to execute")
+def _(s):
+    return s.with_capability(mapped(s), lambda it: detail(it, 3, detail(it[3], 2, it[3][2] | 4)))
+
+
+@plant("a mapping with a right to write that was not asked for")
+def _(s):
+    key = mapped(s)
+    return s.with_capability(key, lambda it: detail(it, 3, detail(it[3], 2, 3))) if key and s.new(key)[0][3][2] == 2 else None
+
+
+@plant("a mapping under another root table")
+def _(s):
+    other = s.bystander()
+    return s.with_capability(mapped(s), lambda it: detail(it, 3, detail(it[3], 0, other.root))) if other else None
+
+
+@plant("a mapping at another page", outside=False)
+def _(s):
+    return s.with_capability(mapped(s), lambda it: detail(it, 3, detail(it[3], 1, it[3][1] + 9)))
+
+
+@plant("a slot below is left by a Revoke", outside=False)
+def _(s):
+    key = s.invoked == REVOKE and s.first("slot", lambda key, old, new: new == EMPTY)
+    return s.without(key) if key else None
+
+
+@plant("a Revoke empties a slot more", outside=False)
+def _(s):
+    slot = s.invoked == REVOKE and s.own_slot(True)
+    return s.put(("slot", *slot), EMPTY) if slot else None
+
+
+@plant("a Revoke empties a slot of another thread")
+def _(s):
+    it = s.invoked == REVOKE and s.bystander()
+    slot = it and next((slot for slot in s.view.slots if slot[0] in it.cnodes), None)
+    return s.put(("slot", *slot), EMPTY) if slot else None
+
+
+@plant("a child of what moves stays behind", outside=False)
+def _(s):
+    key = s.invoked == MOVE and s.first("slot", lambda key, old, new: old != EMPTY and new != EMPTY)
+    return s.without(key) if key else None
+
+
+@plant("a capability out of nothing")
+def _(s):
+    slot = s.thread and s.own_slot(False)
+    return slot and s.put(("slot", *slot), (s.view.held((0, 0)), (0, 0)))
+
+
+@plant("a slot of the thread goes without an invocation")
+def _(s):
+    slot = s.thread and not s.invoked and s.own_slot(True)
+    return s.put(("slot", *slot), EMPTY) if slot else None
+
+
+# ---- bytes
+
+
+def code_of(s, thread):
+    """A byte of a thread's code."""
+    return s.view.pages()[thread.root, 1][0] + 64
+
+
+@plant("a byte of another thread's code")
+def _(s):
+    it = s.bystander()
+    return it and s.put(("byte", code_of(s, it)), s.view.bytes[code_of(s, it)] ^ 1)
+
+
+@plant("a byte of the thread's own code")
+def _(s):
+    return s.thread and s.put(("byte", code_of(s, s.thread)), s.view.bytes[code_of(s, s.thread)] ^ 1)
+
+
+@plant("a byte of the thread's own code goes")
+def _(s):
+    return s.thread and s.put(("byte", code_of(s, s.thread)), None)
+
+
+@plant("a byte appears where no frame is")
+def _(s):
+    return s.put(("byte", s.threads[0].tcb), 0)
+
+
+@plant("a byte behind those of a store")
+def _(s):
+    place = s.deed.stored and max(s.deed.stored) + 1
+    return s.put(("byte", place), s.view.bytes[place] ^ 1) if place and place % 4096 else None
+
+
+@plant("a store to another frame")
+def _(s):
+    it = s.deed.stored and s.bystander()
+    return s.put(("byte", code_of(s, it)), 7) if it else None
+
+
+@plant("another byte is stored", outside=False)
+def _(s):
+    place = s.deed.stored and s.deed.stored[0]
+    return s.put(("byte", place), s.new(("byte", place)) ^ 1) if place else None
+
+
+@plant("a byte of a new frame is not 0")
+def _(s):
+    key = s.invoked == RETYPE and s.first("byte")
+    return s.put(key, 1) if key else None
+
+
+@plant("a byte of a frame that ends stays", outside=False)
+def _(s):
+    key = s.first("byte", lambda key, old, new: new is None)
+    return s.without(key) if key else None
+
+
+@plant("a byte of a frame that stays goes with a Revoke")
+def _(s):
+    return s.put(("byte", code_of(s, s.thread)), None) if s.invoked == REVOKE else None
+
+
+@plant("a byte behind the length of a message")
+def _(s):
+    found = s.delivered()
+    return found and s.put(("byte", found[1] + 4 * found[2]), s.view.bytes[found[1] + 4 * found[2]] ^ 1)
+
+
+@plant("a byte of the words that are in registers")
+def _(s):
+    found = s.delivered()
+    return found and s.put(("byte", found[1] + 31), s.view.bytes[found[1] + 31] ^ 1)
+
+
+@plant("a byte of a buffer from 480 on")
+def _(s):
+    found = s.delivered()
+    return found and s.put(("byte", found[1] + 500), s.view.bytes[found[1] + 500] ^ 1)
+
+
+@plant("another byte is delivered")
+def _(s):
+    found = s.delivered()
+    key = found and ("byte", found[1] + 32)
+    return key and s.put(key, next(it for it in range(3) if it not in (s.view.now(key), s.new(key))))
+
+
+@plant("a byte of the sender's buffer")
+def _(s):
+    found = s.delivered()
+    return found and s.put(("byte", found[0] + 36), s.view.bytes[found[0] + 36] ^ 1)
+
+
+@plant("a byte of a message is missing", outside=False)
+def _(s):
+    key = s.delivered() and s.first("byte")
+    return s.without(key) if key else None
+
+
+@plant("a buffer gets words of a message in registers")
+def _(s):
+    it = s.reached(A1)
+    target = it and not s.delivered() and s.account.buffer(it)
+    return s.put(("byte", target + 32), s.view.bytes[target + 32] ^ 1) if target else None
+
+
+# ---- events
+
+
+@plant("another thread ran", outside=False)
+def _(s):
+    return s.thread and (f"{int(s.label[:8], 16) + 512:08x}{s.label[8:]}", s.changes)
+
+
+@plant("another outcome", outside=False)
+def _(s):
+    return s.thread and (f"{s.label[:18]}error 3", s.changes)
+
+
+@plant("a tick changes a register")
+def _(s):
+    return s.more(("reg", s.threads[-1].tcb, 5)) if s.label == "tick" else None
+
+
+@plant("a tick lets a thread go on")
+def _(s):
+    it = s.account.current()
+    return s.more(("reg", it.tcb, 0)) if it and s.label == "tick" else None
+
+
+@plant("an interrupt wakes who waits for something else")
+def _(s):
+    waiting = [it for queue in s.account.receivers.values() for it in queue]
+    if not s.label.startswith("irq") or not waiting:
+        return None
+    label, changes = s.more(("reg", waiting[0].tcb, 0))
+    return label, {**changes, ("reg", waiting[0].tcb, A0): (s.view.now(("reg", waiting[0].tcb, A0)), 0x7777)}
+
+
+@plant("another badge of an interrupt", outside=False)
+def _(s):
+    it = s.label.startswith("irq") and s.reached(A0)
+    return s.more(("reg", it.tcb, A0), 1) if it else None
+
+
+@plant("an interrupt writes a byte")
+def _(s):
+    return s.put(("byte", code_of(s, s.threads[0])), 0x55) if s.label.startswith("irq") else None
+
+
+@plant("another line", outside=False)
+def _(s):
+    return (f"irq {int(s.label[4:]) + 1}", s.changes) if s.label.startswith("irq") else None
+
+
+@plant("another value before", outside=False)
+def _(s):
+    key = s.first("reg")
+    old, new = s.changes.get(key, (0, 0))
+    return (s.label, {**s.changes, key: (old ^ 2**31, new)}) if key and new != old ^ 2**31 else None
