@@ -68,6 +68,11 @@ reckons_promises() {
     python3 tools/promises/systems.py reckon 40
 }
 
+# Twelve systems with message buffers.
+reckons_buffers() {
+    python3 tools/buffers/systems.py reckon 12
+}
+
 makes_crowd() {
     python3 tools/hostile/crowd.py "$room" && cmp "$room/crowd.txt" samples/hostile/crowd.txt &&
         cmp "$room/crowd.events" samples/hostile/crowd.events
@@ -116,10 +121,12 @@ part_with python3 "tools/checks/below.py" copies_are_whole
 part_with python3 "tools/checks/texts.py --premises" tools/checks/texts.py --premises
 part_with python3 "tools/checks/proved_table.py" tools/checks/proved_table.py --check
 part_with python3 "tools/manual_rows.py" same_calls
-part_with python3 "tools/traces/reckon.py" python3 tools/traces/reckon.py compare samples/{bell,solo,worker,client_server,promise} \
+part_with python3 "tools/traces/reckon.py" python3 tools/traces/reckon.py compare samples/{bell,solo,worker,client_server,promise,buffers} \
     samples/gallery/controller
 part_with python3 "tools/damage/reckon.py" reckons_damage
 part_with python3 "tools/promises/systems.py" reckons_promises
+part_with python3 "tools/buffers/systems.py" reckons_buffers
+part_with python3 "tools/integrity/check.py" python3 tools/integrity/check.py write "$room/integrity"
 part_with python3 "tools/hostile/crowd.py" makes_crowd
 part_with python3 "tools/large_images/make.py" makes_large_image
 part_with python3 "tools/certify/loops.py" makes_loops
@@ -130,7 +137,7 @@ part_with python3 "tools/from_c/run.sh --cheap" tools/from_c/run.sh --cheap
 part_with crates/microsys/out/microsys "tools/failing/run.sh" tools/failing/run.sh
 part_with crates/microsys_tool/out/microsys_tool "tools/explaining/check.py" tools/explaining/check.py \
     crates/microsys_tool/out/microsys_tool
-for script in bench damage kernel_run large_images memory certify; do
+for script in bench damage integrity kernel_run large_images memory certify; do
     echo "skipped: tools/$script/run.sh: takes minutes, and the built product"
 done
 

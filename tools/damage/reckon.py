@@ -17,7 +17,7 @@ from rules import Refused, read, well_formed  # noqa: E402
 
 NAMES = dict(enumerate(("Magic Version Truncated Trailing Limit UntypedOverlap NoRoom BadObject BadCap SharedCSpace SharedVSpace BadMapping "
     "WritableCode BadThread IllegalInstruction ComputedJump BadTarget RangeNotKept NotMapped MeasureNotFalling OverBudget CallNotConstant "
-    "CapNotThere CallRefused PoolLost").split(), 1)) | {28: "PromiseNotKept", 29: "BadPromise"}
+    "CapNotThere CallRefused PoolLost").split(), 1)) | {28: "PromiseNotKept", 29: "BadPromise", 30: "BadBuffer"}
 
 
 def verdict(image):

@@ -52,11 +52,11 @@ def read(data):
     """The image that the bytes spell."""
     r, i = Reader(data), Image()
     r.field(lambda n: n == 0x5359534D, refusal=MAGIC)
-    version = r.field(lambda n: 1 <= n <= 2, refusal=VERSION)
+    version = r.field(lambda n: 1 <= n <= 3, refusal=VERSION)
     i.bits = r.between(16, 24)
     i.radix = r.between(1, min(14, i.bits - 5))
     u, o, c, n, t, f, d = (r.between(*it) for it in ((1, 64), (0, 4096), (0, 16384), (0, 64), (0, 1024), (0, 4096), (0, 4096)))
-    p = r.between(0, 4096) if version == 2 else 0
+    p = r.between(0, 4096) if version >= 2 else 0
     h = r.between(1, 64)
     thing = lambda: r.field(lambda x: x < o)
     i.untypeds = [(r.field(), r.between(4, 24)) for _ in range(u)]
@@ -69,7 +69,7 @@ def read(data):
     )
     i.contents = r.rising(d, lambda last: read_content(r, o, last), lambda x: x[0])
     i.promises = r.rising(p, lambda last: read_promise(r, o, last), lambda x: x[0])
-    i.threads = [read_thread(r, o) for _ in range(h)]
+    i.threads = [read_thread(r, o, version) for _ in range(h)]
     if r.at < len(data):
         raise Refused(TRAILING, r.at, 0)
     return i
@@ -104,12 +104,14 @@ class Thread:
     pass
 
 
-def read_thread(r, objects):
+def read_thread(r, objects, version):
     t, thing = Thread(), lambda: r.field(lambda x: x < objects)
     t.tcb, t.cnode, t.guard, t.root = thing(), thing(), r.field(), thing()
     t.priority = r.between(0, 255)
     t.budget = r.field(lambda x: 1 <= x <= 2**62, "<Q")
-    t.fault, t.entry, t.base = r.field(), r.field(), r.field()
+    t.fault = r.field()
+    t.buffer = r.field(lambda x: x < objects or x == ALL_ONES) if version >= 3 else ALL_ONES
+    t.entry, t.base = r.field(), r.field()
     registers, words = r.between(0, 31), r.between(1, 65536)
     records = r.between(0, words)
     t.registers = r.rising(registers, lambda last: (r.between(max(last + 1, 1), 31), r.field(lambda x: x != 0)), lambda x: x[0])
@@ -195,7 +197,7 @@ def well_formed(i):
     check_objects(i)
     check_capabilities(i)
     check_mappings(i)
-    reached, roots, tcbs = set(), set(), set()
+    reached, roots, tcbs, buffers = set(), set(), set(), set()
     for number, t in enumerate(i.threads):
         check_thread(i, number, t, tcbs)
         t.reached, others = reach(i, t)
@@ -203,9 +205,11 @@ def well_formed(i):
             raise Refused(10, number, 0)
         if t.root in roots or others - {t.root}:
             raise Refused(11, number, 0)
+        check_buffer(i, number, t, buffers)
         reached |= set(t.reached)
         roots.add(t.root)
         tcbs.add(t.tcb)
+        buffers.add(t.buffer)
 
 
 def check_objects(i):
@@ -292,6 +296,15 @@ def check_thread(i, number, t, tcbs):
     code = {address for root, address, _, rights in i.frames if root == t.root and rights & 4}
     if any(page not in code for page in range(t.base, end, 4096)) or t.entry >= len(t.words):
         raise Refused(14, number, 0)
+
+
+def check_buffer(i, number, t, buffers):
+    if t.buffer == ALL_ONES:
+        return
+    held = any(c[2] == t.buffer for c in i.capabilities)
+    executed = any(frame == t.buffer and rights & 4 for _, _, frame, rights in i.frames)
+    if kind_of(i, t.buffer) != FRAME or t.buffer in buffers or held or executed:
+        raise Refused(30, number, 0)
 
 
 def reach(i, t):

@@ -33,6 +33,15 @@ DECLARATIONS = [
     ("count", {16: "thread main cs 28 vs 100 auto 0 start 0x2000"}, {16: ["BadThread", "0x2000", "`vs`", "execute"]}),
     ("count", {16: "thread cs main 28 vs 100 auto 0 start 0x1000"}, {16: ["BadThread", "`cs`", "not a TCB"]}),
     ("count", {16: "thread main cs 29 vs 100 auto 0 start 0x1000"}, {16: ["BadThread", "guard word", "0x1d"]}),
+    ("count", {16: "thread main cs 28 vs 100 auto 0 start 0x1000\nbuffer pt"},
+     {17: ["BadBuffer", "thread main", "`pt`", "not a frame"]}),
+    ("count", {16: "thread main cs 28 vs 100 auto 0 start 0x1000\nbuffer code"},
+     {17: ["BadBuffer", "thread main", "`code`", "line 14", "execute"]}),
+    ("count", {12: "cap cs 2 page 2 0", 16: "thread main cs 28 vs 100 auto 0 start 0x1000\nbuffer page"},
+     {17: ["BadBuffer", "thread main", "`page`", "line 12"]}),
+    ("pair", {14: "object door u endpoint\nobject words u frame", 23: "thread one cs 28 vs 100 auto 0 begin 0x1000\nbuffer words",
+              34: "thread two cs2 28 vs2 90 auto 0 take 0x1000\nbuffer words"},
+     {37: ["BadBuffer", "thread two", "`words`", "line 25"]}),
 ]
 
 # Refusals of programs: 15 to 25, without certificates.
@@ -114,6 +123,11 @@ LINES = [
     ("count", {22: "loop: addi x10 x0 1"}, {22: ["`loop`", "line 19"]}),
     ("count", {17: "start: addi x5 x0 4096"}, {17: ["-2048 to 2047"]}),
     ("count", {12: "cap cs 1 line 0 0"}, {12: ["line 11"]}),
+    ("count", {15: "buffer page"}, {15: ["out of its place", "`thread`"]}),
+    ("count", {16: "thread main cs 28 vs 100 auto 0 start 0x1000\nbuffer"}, {17: ["FRAME", "missing"]}),
+    ("count", {16: "thread main cs 28 vs 100 auto 0 start 0x1000\nbuffer pgae"}, {17: ["`pgae`", "`page`"]}),
+    ("count", {16: "thread main cs 28 vs 100 auto 0 start 0x1000\nbuffer page\nbuffer page"}, {18: ["line 17"]}),
+    ("count", {16: "thread main cs 28 vs 100 auto 0 start 0x1000\nbuffer page\nbuffer code"}, {18: ["at most one message buffer"]}),
     ("count", {1: "memory 30 4"}, {1: ["BITS is 16 to 24"]}),
     ("count", {16: "thread main cs 28 vs 300 auto 0 start 0x1000"}, {16: ["PRIORITY is 0 to 255"]}),
 ]

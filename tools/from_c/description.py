@@ -56,6 +56,8 @@ class Thread:
     wanted: Wanted | None = None
     # The value of a line `reg x2`.
     stack: int | None = None
+    # The frame of a line `buffer`, and the line.
+    buffer: tuple[str, int] | None = None
 
 
 @dataclass
@@ -90,6 +92,13 @@ class Description:
         return {}
 
 
+    def buffer(self, thread: Thread) -> dict[str, int]:
+        """MICROSYS_BUFFER, the lowest address at which the thread has its message buffer, if it has one there."""
+        pages = self.pages.get(thread.root, {}).items()
+        found = [address for address, page in pages if thread.buffer and page.frame == thread.buffer[0]]
+        return {"MICROSYS_BUFFER": min(found)} if found else {}
+
+
 def read(text: str, file: str) -> Description:
     """Reads a description."""
     described = Description(text.split("\n"))
@@ -104,6 +113,8 @@ def read(text: str, file: str) -> Description:
                 thread.wanted = wanted(words, place)
             elif words[0] == "reg" and words[1] == "x2":
                 thread.stack = number_of(words[2])
+            elif words[0] == "buffer":
+                thread.buffer = words[1], number
             elif words[0] == "end":
                 thread = None
         except (IndexError, ValueError) as error:

@@ -56,7 +56,7 @@ def text_of(source: Path) -> str:
 def lines_of(thread: Thread, wanted: Wanted, described: Description, folder: Path, prefix: str) -> list[str]:
     """The lines of a thread's program, and those of its data."""
     sources = tuple(folder / name for name in wanted.files)
-    names = {**described.names(thread), **described.bell(thread)}
+    names = {**described.names(thread), **described.bell(thread), **described.buffer(thread)}
     order = Order(sources, thread.entry, wanted.data, names, wanted.place)
     with tempfile.TemporaryDirectory() as room:
         linked = compile_and_link(order, Path(room), prefix)

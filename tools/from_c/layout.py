@@ -89,7 +89,7 @@ def check_mapped(thread: Thread, part: Part, rights: int, described: Description
 
 
 def check_alone(thread: Thread, part: Part, described: Description) -> None:
-    """The frames of the part are mapped there alone, and no thread can map them elsewhere."""
+    """The frames of the part are mapped there alone, no thread can map them elsewhere, and no message is written there."""
     at = wanted_place(thread)
     for address in part.pages() if part.size else ():
         frame = described.pages[thread.root][address].frame
@@ -104,6 +104,10 @@ def check_alone(thread: Thread, part: Part, described: Description) -> None:
                 if slot.source == frame:
                     held = f"`cap {cnode} {index} {frame}` of line {slot.line}, which can be mapped elsewhere,"
                     raise Fault(at, f"{part} and {held} share the frame {frame}: {advice}")
+        for other in described.threads:
+            if other.buffer and other.buffer[0] == frame:
+                said = f"`buffer {frame}` of line {other.buffer[1]}"
+                raise Fault(at, f"{part} and {said} share the frame {frame}: {advice}")
 
 
 def wanted_place(thread: Thread) -> Place:

@@ -82,11 +82,11 @@ MICROSYS_INLINE struct division division(uint32_t dividend, uint32_t divisor) {
 
 /* --- Messages ------------------------------------------------------------------------------------------------- */
 
-/* A message of 0 to 8 words. */
+/* A message of 0 to 8 words; between threads with buffers of up to 120, of which the first 8 are here. */
 struct message {
     uint32_t badge;    /* of the sender's capability; a receive sets it, and a send does not look at it */
     uint32_t label;    /* below 2^20: what the two have agreed on */
-    uint32_t length;   /* how many words count, 0 to 8 */
+    uint32_t length;   /* how many words count, 0 to 8, or to 120 */
     uint32_t words[8]; /* word 0 in a2, .., word 3 in a5, word 4 in s2, .., word 7 in s5 */
 };
 
@@ -95,6 +95,41 @@ struct message {
     ((struct message){.label = (name),                                                                                 \
                       .length = sizeof((uint32_t[]){__VA_ARGS__}) / sizeof(uint32_t),                                  \
                       .words = {__VA_ARGS__}})
+
+#ifdef MICROSYS_BUFFER
+/* A thread with a line `buffer FRAME`, which has the frame mapped, sends and receives up to 120 words. Words from the
+ * eighth on are in the buffer: a receive writes them there, and a send takes them from there. */
+enum { MOST_WORDS = 120, WORDS_IN_REGISTERS = 8 };
+
+/* Word 8 to 119 of the message that was received, or that is sent next. */
+#define buffer_word(number) (words_at(MICROSYS_BUFFER)[number])
+
+#define MICROSYS_WORD_OF(number) ((number) < length ? words[number] : 0)
+/* A message of the first `length` words of an array, 0 to 120. Words from the eighth on are put into the buffer, so it
+ * is the next to be sent. */
+MICROSYS_INLINE struct message message_of(uint32_t label, const uint32_t *words, uint32_t length) {
+    for (uint32_t i = WORDS_IN_REGISTERS; i < length; i++)
+        buffer_word(i) = words[i];
+    return (struct message){.label = label,
+                            .length = length,
+                            .words = {MICROSYS_WORD_OF(0), MICROSYS_WORD_OF(1), MICROSYS_WORD_OF(2),
+                                      MICROSYS_WORD_OF(3), MICROSYS_WORD_OF(4), MICROSYS_WORD_OF(5),
+                                      MICROSYS_WORD_OF(6), MICROSYS_WORD_OF(7)}};
+}
+
+/* Puts the words of a message that was received last into an array of `limit` words, 0 to 120. Gives how many there are,
+ * at most the limit; the words after them stay. */
+MICROSYS_INLINE uint32_t words_of(struct message message, uint32_t *words, uint32_t limit) {
+    uint32_t length = message.length < limit ? message.length : limit;
+#pragma GCC unroll 8
+    for (uint32_t i = 0; i < WORDS_IN_REGISTERS; i++)
+        if (i < length)
+            words[i] = message.words[i];
+    for (uint32_t i = WORDS_IN_REGISTERS; i < length; i++)
+        words[i] = buffer_word(i);
+    return length;
+}
+#endif
 
 /* --- Names of numbers ------------------------------------------------------------------------------------------- */
 

@@ -14,13 +14,12 @@ no line may have a fault or an error.
 import collections
 import os
 import random
-import subprocess
 import sys
-import tempfile
 
 HERE = os.path.dirname(os.path.realpath(__file__))
 sys.path[:0] = [f"{HERE}/../damage", f"{HERE}/../traces"]
 sys.dont_write_bytecode = True
+from beside import check_product, constant, random_events, written  # noqa: E402
 from machine import Machine, trace  # noqa: E402
 from calls import A0, A1, WORDS  # noqa: E402
 from reckon import verdict  # noqa: E402
@@ -51,12 +50,6 @@ class Port:
 
     def line(self):
         return f"promise {self.name} " + " ".join(f"{low} {high}" for low, high in [self.badges, *self.words])
-
-
-def constant(register, number):
-    """The instructions that give a register a value."""
-    upper, low = (number + 0x800 >> 12) & 0xFFFFF, (number & 0xFFF ^ 0x800) - 0x800
-    return [f"lui x{register} {upper}", f"addi x{register} x{register} {low}"] if upper else [f"addi x{register} x0 {low}"]
 
 
 class Client:
@@ -142,14 +135,7 @@ def system(seed):
     for number, thread in enumerate(threads):
         priority = chance.choice([100, 100, 99])
         said += [f"thread tcb{number} cs{number} 28 root{number} {priority} {thread.budget()} 0 start 0x1000", *thread.lines(), "end"]
-    events, left = [], EVENTS
-    while left:
-        steps = min(left, chance.randrange(1, 40))
-        events += [f"step {steps}"]
-        left -= steps
-        if left and chance.random() < 0.7:
-            events += [chance.choice(["tick", "irq 3"])]
-            left -= 1
+    events = random_events(chance, EVENTS, ["tick", "irq 3"])
     return "".join(f"{line}\n" for line in said), "".join(f"{event}\n" for event in events)
 
 
@@ -183,29 +169,6 @@ class Promising(Machine):
             self.kept += 1
 
 
-def write(seed, folder):
-    for ending, said in zip(("txt", "events"), system(seed)):
-        with open(f"{folder}/{seed}.{ending}", "w", encoding="ascii") as file:
-            file.write(said)
-
-
-def product(program, *words):
-    return subprocess.run([program, *words], capture_output=True, check=False).stdout.decode()
-
-
-def agrees(program, seed, data, wanted, lines):
-    """The product says the same."""
-    with tempfile.TemporaryDirectory() as folder:
-        write(seed, folder)
-        name = f"{folder}/{seed}"
-        product(program, "build", f"{name}.txt", f"{name}.img")
-        with open(f"{name}.img", "rb") as image:
-            assert image.read() == data, f"{seed}: other bytes"
-        assert product(program, "verify", f"{name}.img") == f"{wanted}\n", f"{seed}: other verdict than {wanted}"
-        said = product(program, "run", f"{name}.img", f"{name}.events")
-        assert said == "".join(f"{line}\n" for line in lines or [wanted]), f"{seed}: other trace"
-
-
 def reckoned(program, seed):
     """`accepted` or the number of the refusal, and how many messages kept a promise in the run."""
     text, events = system(seed)
@@ -216,14 +179,15 @@ def reckoned(program, seed):
         lines = list(trace(machine, events))
         assert len(lines) == EVENTS and not any("fault" in line or "error" in line for line in lines), seed
     if program:
-        agrees(program, seed, data, wanted, lines)
+        check_product(program, seed, (text, events), (data, wanted, lines))
     return wanted.split()[-3 if machine is None else 0], machine.kept if machine else 0
 
 
 def main():
     task, *rest = sys.argv[1:]
     if task == "write":
-        return write(int(rest[0]), rest[1])
+        written(rest[0], rest[1], *system(int(rest[0])))
+        return 0
     program, count = rest[0] if task == "compare" else None, int(rest[-1])
     found, kept, seed = collections.Counter(), 0, 0
     while found["accepted"] < count:

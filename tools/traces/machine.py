@@ -15,6 +15,8 @@ from rules import ENDPOINT, FRAME, NOTIFICATION, read, well_formed  # noqa: E402
 
 CALL, REPLY_RECV, SEND, NB_SEND, RECV, REPLY, YIELD, NB_RECV, PUT_CHAR = range(1, 10)
 SLICE = 5
+# how many words a message has at most, and how many of them are in registers
+MOST_WORDS, IN_REGISTERS = 120, len(WORDS)
 WIDTHS = {"b": 1, "h": 2, "w": 4}
 TAKEN = {
     "beq": lambda x, y: x == y, "bne": lambda x, y: x != y, "bltu": lambda x, y: x < y, "bgeu": lambda x, y: x >= y,
@@ -28,6 +30,7 @@ class Runner:
     def __init__(self, image, t):
         self.tcb, self.priority, self.slice = image.offsets[t.tcb], t.priority, SLICE
         self.root = image.offsets[t.root]
+        self.buffer = None if t.buffer == ALL_ONES else image.offsets[t.buffer]
         self.registers = [0] * 32
         for register, number in t.registers:
             self.registers[register] = number
@@ -101,13 +104,24 @@ class Machine:
         runner.pc += 4
         self.wake(runner)
 
+    def length_between(self, sender, receiver):
+        """How many words of its message a sender can give a receiver."""
+        has_buffers = sender.buffer is not None and receiver.buffer is not None
+        return min(sender.registers[A1] & 127, MOST_WORDS if has_buffers else IN_REGISTERS)
+
+    def copy_words(self, sender, receiver, first, end):
+        """Words of a message go from buffer to buffer."""
+        place = slice(4 * first, 4 * end)
+        self.frame(receiver.buffer)[place] = self.frame(sender.buffer)[place]
+
     def deliver(self, sender, receiver, badge):
-        info = sender.registers[A1]
-        length = min(info & 127, 8)
+        length = self.length_between(sender, receiver)
         receiver.set(A0, badge)
-        receiver.set(A1, info >> 12 << 12 | length)
+        receiver.set(A1, sender.registers[A1] >> 12 << 12 | length)
         for register in WORDS[:length]:
             receiver.set(register, sender.registers[register])
+        if length > IN_REGISTERS:
+            self.copy_words(sender, receiver, IN_REGISTERS, length)
 
     # ---- calls; each answers its outcome
 

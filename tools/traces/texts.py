@@ -62,10 +62,12 @@ class Thread:
         self.names = names
         tcb, cnode, guard, root, priority, budget, fault, self.entry, base = operands
         self.head = [names[tcb], names[cnode], number(guard), names[root], number(priority)], number(budget), [number(fault)], number(base)
-        self.registers, self.code, self.labels, self.records, self.open = [], [], {}, [], None
+        self.registers, self.code, self.labels, self.records, self.buffer = [], [], {}, [], None
 
     def line(self, first, rest):
-        if first.endswith(":"):
+        if first == "buffer":
+            self.buffer = self.names[rest[0]]
+        elif first.endswith(":"):
             self.labels[first[:-1]] = len(self.code)
             if rest:
                 self.line(rest[0], rest[1:])
@@ -83,10 +85,11 @@ class Thread:
         else:
             self.code.append((first, rest))
 
-    def spelled(self):
+    def spelled(self, version):
         first, budget, fault, base = self.head
         counts = len(self.registers), len(self.code), len(self.records)
-        said = words(*first) + struct.pack("<Q", budget) + words(*fault, self.labels[self.entry], base, *counts)
+        buffer = [ALL_ONES if self.buffer is None else self.buffer] if version == 3 else []
+        said = words(*first) + struct.pack("<Q", budget) + words(*fault, *buffer, self.labels[self.entry], base, *counts)
         for entry in sorted(self.registers):
             said += words(*entry)
         for point, (name, rest) in enumerate(self.code):
@@ -141,11 +144,12 @@ def assembled(text):
         sorted((names[root], number(address), names[frame], number(rights)) for root, address, frame, rights in declared["map"]),
         sorted((names[frame], len(content), *map(number, content)) for frame, *content in declared["data"]),
     ]
-    # version 2 is the first that has promises
-    if declared["promise"]:
+    # version 2 is the first that has promises, and version 3 the first that has buffers
+    version = 3 if any(it.buffer is not None for it in threads) else 2 if declared["promise"] else 1
+    if version > 1:
         sections.append(sorted((names[endpoint], *promised(content)) for endpoint, *content in declared["promise"]))
-    said = b"MSYS" + words(2 if declared["promise"] else 1, *memory, *(len(section) for section in sections), len(threads))
+    said = b"MSYS" + words(version, *memory, *(len(section) for section in sections), len(threads))
     for section in sections:
         for entry in section:
             said += words(*entry)
-    return said + b"".join(it.spelled() for it in threads)
+    return said + b"".join(it.spelled(version) for it in threads)
