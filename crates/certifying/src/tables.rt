@@ -66,7 +66,9 @@ pub(crate) fn are_same_changes(first: &[NotedSlot], second: &[NotedSlot]) -> boo
 /// Whether two entries of a log are the same.
 fn is_same_entry(first: &LogEntry, second: &LogEntry) -> bool {
     match (first, second) {
-        (LogEntry::Sets(first), LogEntry::Sets(second)) => is_same_change(first, second),
+        (LogEntry::Sets(first), LogEntry::Sets(second)) => {
+            is_same_change(&first.unpacked(), &second.unpacked())
+        }
         (
             LogEntry::Swaps { one, other },
             LogEntry::Swaps {

@@ -1,5 +1,5 @@
 -- Words of capabilities: the first one tells whether there is none.
-use Rattle.std.proofs.Common.{ℕ, ◌≡◌, ◌∙◌, ◌==◌, ◌≤◌, true, false, is_some, Option, Some, None, List, get_or, refl, sym, ap, arith}
+use Rattle.std.proofs.Common.{ℕ, ◌≡◌, ◌∙◌, ◌==◌, ◌≤◌, true, false, is_some, Option, Some, None, List, [], ◌∷◌, get_or, refl, sym, ap, arith}
 use Rattle.std.specs.Option.{option_map_or}
 use Rattle.std.proofs.lemmas.Bool.Decides.{nat_tests}
 use Rattle.image_reading.proofs.Laws.{words-back, words-only}
@@ -38,6 +38,16 @@ empty-told head word some =
       | None ↦ λ _ none. absurd (let clash : false ≡ true = none in cc)
       | Some c ↦ λ is _. ap (λ (l : List ℕ). get_or l 0 0 == 0) (sym (words-only head word c is).1) ∙ first-word c
     ] refl some
+
+-- the words of a capability are those of what they stand for
+pub words-again : (capability : Cap) (words : List ℕ) → words ≡ words_of capability → IsCapability capability →
+    words_of (cap_of (get_or words 0 0) (get_or words 1 0)) ≡ get_or words 0 0 ∷ get_or words 1 0 ∷ []
+words-again capability words are valid =
+    let head : ℕ = get_or words 0 0 in
+    let word : ℕ = get_or words 1 0 in
+    let is : unpacked head word ≡ Some capability =
+    ap (λ (l : List ℕ). unpacked (get_or l 0 0) (get_or l 1 0)) are ∙ words-back capability valid in
+    ap (λ (o : Option Cap). words_of (option_map_or (λ (c : Cap). c) o Empty)) is ∙ (words-only head word capability is).1
 
 pub spelled-so : (capability : Cap) (words : List ℕ) → words ≡ words_of capability → IsCapability capability →
     is_some (unpacked (get_or words 0 0) (get_or words 1 0)) ≡ true

@@ -1,13 +1,15 @@
 -- What a search by key finds in slots whose keys rise.
-use Rattle.std.proofs.Common.{ℕ, zero, suc, ◌≡◌, ◌∙◌, ◌==◌, ◌+◌, ◌<◌, ◌≤◌, inl, inr, false, if◌then◌else◌, Some, None, Result, Ok, Err, List, [], ◌∷◌, length}
+use Rattle.std.proofs.Common.{ℕ, zero, suc, ◌≡◌, ◌∙◌, ◌==◌, ◌+◌, ◌<◌, ◌≤◌, inl, inr, false, if◌then◌else◌, Some, None, is_some, Result, Ok, Err, List, [], ◌∷◌, length}
 use Rattle.std.proofs.Common.{get_or, refl, sym, ap, subst, arith}
 use Rattle.std.specs.Prelude.{MatchResult}
 use Rattle.std.specs.List.Sorted.{IsSearchInRange, IsBinarySearchResult, IsNonDecreasingBy}
 use Rattle.std.specs.Ordering.{nat_cmp, ordering_index}
+use Rattle.std.specs.Result.{is_ok}
 use Rattle.std.proofs.lemmas.Cmp.{ranked}
 use Rattle.std.proofs.lemmas.Bool.{cases_lt}
 use Rattle.std.proofs.lemmas.Bool.Decides.{nat_tests}
 use Rattle.model.specs.Acceptance.NotedStates.{NotedSlot, SlotKey, number_of, slot_at}
+use Rattle.model.specs.declared.capabilities.Cap.TheVariants.{Empty}
 use Rattle.typestate.specs.Families.{found as numbered}
 use Rattle.typestate.specs.Orders.{Rise}
 use Rattle.typestate.proofs.Rising.{RiseFrom, first-found, from-first}
@@ -78,6 +80,14 @@ searched-number slots n r =
     let same : number_of key ≡ n = omega arith in
     subst (λ m. Rise slots → IsSearchInRange r (length slots) → IsBinarySearchResult (λ s. nat_cmp (number_of s.key) m) slots r
     → MatchResult r (λ place. (d : NotedSlot) → numbered slots m ≡ Some (get_or slots place d)) (λ _. numbered slots m ≡ None)) same (searched slots key r)
+
+-- whether the search finds something
+pub is-found : (slots : List NotedSlot) (n : ℕ) (r : Result ℕ ℕ) → Rise slots → IsSearchInRange r (length slots) →
+    IsBinarySearchResult (λ s. nat_cmp (number_of s.key) n) slots r → is_ok r ≡ is_some (numbered slots n)
+is-found slots n (Ok place) rises inside equal =
+    let some : NotedSlot = record { key = record { cnode = 0; index = 0 }; capability = Empty; parent = None } in
+    sym (ap is_some (searched-number slots n (Ok place) rises inside equal some))
+is-found slots n (Err place) rises inside parts = sym (ap is_some (searched-number slots n (Err place) rises inside parts))
 
 -- what stands at a place
 pub numbered-here : (slots : List NotedSlot) (n i : ℕ) (d : NotedSlot) → Rise slots → i < length slots → number_of (get_or slots i d).key ≡ n →

@@ -7,7 +7,8 @@ ghost use Rattle.typestate.specs.SlotChanges.{emptied, followed, is_parent};
 ghost use Rattle.typestate.specs.declared.log_entries.LogEntry.TheVariants.{Sets};
 ghost use Rattle.typestate.specs.declared.slot_changes.SlotChange.TheVariants.{Moves, Removes};
 
-use crate::log_entries::note_sets;
+use crate::log_entries::note_packed_sets;
+use crate::packed_slot::PackedSlot;
 use crate::removal::Removal;
 use crate::{LogEntry, NotedSlot, NotedSlots, Removed, SlotChange, SlotKey};
 use model::Cap;
@@ -53,13 +54,13 @@ fn followed(from: SlotKey, to: SlotKey, slot: NotedSlot) -> NotedSlot
 fn note_followed(
     from: SlotKey,
     to: SlotKey,
-    slots: &[NotedSlot],
+    slots: &[PackedSlot],
     made: &mut Vec<LogEntry>,
 ) -> Result<(), AllocError>
     ensures { IfOk result (λ _. made.new.items ≡ made.old.items ++ map (λ s. Sets (followed from to s)) slots.now) }
 {
     for slot in slots {
-        made.push(LogEntry::Sets(followed(from, to, *slot)))?;
+        made.push(LogEntry::Sets(PackedSlot::of(followed(from, to, slot.unpacked()))))?;
     }
     Ok(())
 }
@@ -94,13 +95,13 @@ impl NotedSlots<'_> {
             other: to.key,
         })?;
         self.note_kept(from, to.key, made)?;
-        made.push(LogEntry::Sets(to))?;
-        made.push(LogEntry::Sets(emptied(from)))?;
+        made.push(LogEntry::Sets(PackedSlot::of(to)))?;
+        made.push(LogEntry::Sets(PackedSlot::of(emptied(from))))?;
         Ok(())
     }
 
     /// What becomes of the slots where some go. Memory may be refused.
-    fn removal_changes(&self, alloc: Global, which: Removed) -> Result<Vec<NotedSlot>, AllocError>
+    fn removal_changes(&self, alloc: Global, which: Removed) -> Result<Vec<PackedSlot>, AllocError>
         ensures { IfOk result (λ removed. removed.items ≡ removal_changes self.now which) }
     {
         let affected = self.affected(alloc, &which)?;
@@ -121,7 +122,7 @@ impl NotedSlots<'_> {
         ensures { IfOk result (λ _. made.new.items ≡ made.old.items ++ changes_of self.now (Removes which)) }
     {
         let removed = self.removal_changes(*made.allocator(), which)?;
-        note_sets(&removed, made)
+        note_packed_sets(&removed, made)
     }
 
     /// Appends what a call makes of the slots. What the image lists was derived from none of the thread's slots: of its slots
@@ -140,7 +141,7 @@ impl NotedSlots<'_> {
         match change {
             SlotChange::Nothing => Ok(()),
             SlotChange::Puts(slot) => {
-                made.push(LogEntry::Sets(*slot))?;
+                made.push(LogEntry::Sets(PackedSlot::of(*slot)))?;
                 Ok(())
             }
             SlotChange::Moves { from, to } => self.note_move(*from, *to, made),

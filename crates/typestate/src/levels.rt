@@ -14,7 +14,8 @@ ghost use Rattle.typestate.specs.Orders.{Rise};
 
 use crate::change_lists::emptied;
 use crate::noted::note_found;
-use crate::{NotedSlot, NotedSlots, Removed, SlotKey};
+use crate::packed_slot::PackedSlot;
+use crate::{NotedSlots, Removed, SlotKey};
 use std::alloc::{AllocError, Global};
 use std::collections::btree_set::BTreeSet;
 
@@ -22,13 +23,13 @@ use std::collections::btree_set::BTreeSet;
 /// is named: where these are no others, they are listed once.
 #[derive(Drop)]
 pub(crate) struct Affected {
-    pub(crate) below: Vec<NotedSlot>,
-    others: Option<Vec<NotedSlot>>,
+    pub(crate) below: Vec<PackedSlot>,
+    others: Option<Vec<PackedSlot>>,
 }
 
 impl Affected {
     /// The changes whose slots were derived from one that goes or is named.
-    pub(crate) fn touched(&self) -> &[NotedSlot]
+    pub(crate) fn touched(&self) -> &[PackedSlot]
         ensures { result.now ≡ touched_of self.now }
     {
         match &self.others {
@@ -59,27 +60,31 @@ fn levels_of(which: &Removed) -> u32
 }
 
 /// Notes the numbers of slots. Memory may be refused.
-fn note_numbers(numbers: &mut BTreeSet<u64>, slots: &[NotedSlot]) -> Result<(), AllocError>
+fn note_numbers(numbers: &mut BTreeSet<u64>, slots: &[PackedSlot]) -> Result<(), AllocError>
     ensures { IfOk result (λ _. (n : ℕ) → is_found numbers.new.keys n ≡ (is_found numbers.old.keys n || list_any (λ c. number_of c.key == n) slots.now)) }
 {
     for slot in slots {
-        numbers.insert(slot.key.number())?;
+        numbers.insert(slot.key().number())?;
     }
     Ok(())
 }
 
 /// Appends a slot, if it is not that of a key. Memory may be refused.
-fn note_other(key: SlotKey, slot: NotedSlot, others: &mut Vec<NotedSlot>) -> Result<(), AllocError>
+fn note_other(
+    key: SlotKey,
+    slot: PackedSlot,
+    others: &mut Vec<PackedSlot>,
+) -> Result<(), AllocError>
     ensures { IfOk result (λ _. others.new.items ≡ others.old.items ++ if_other key slot) }
 {
-    if !slot.key.is_same(key) {
+    if !slot.key().is_same(key) {
         others.push(slot)?;
     }
     Ok(())
 }
 
 /// Those of some slots that are not that of a key. Memory may be refused.
-fn others(alloc: Global, key: SlotKey, slots: &[NotedSlot]) -> Result<Vec<NotedSlot>, AllocError>
+fn others(alloc: Global, key: SlotKey, slots: &[PackedSlot]) -> Result<Vec<PackedSlot>, AllocError>
     ensures { IfOk result (λ others. others.items ≡ flat_map (if_other key) slots.now) }
 {
     let mut others = Vec::new(alloc);
@@ -94,13 +99,13 @@ impl NotedSlots<'_> {
     fn children_of_all(
         &self,
         alloc: Global,
-        going: &[NotedSlot],
-    ) -> Result<Vec<NotedSlot>, AllocError>
+        going: &[PackedSlot],
+    ) -> Result<Vec<PackedSlot>, AllocError>
         ensures { IfOk result (λ children. children.items ≡ flat_map (λ s. children_of self.now.changes.now s.key) going.now) }
     {
         let mut children = Vec::new(alloc);
         for slot in going {
-            self.note_children_of(slot.key, &mut children)?;
+            self.note_children_of(slot.key(), &mut children)?;
         }
         Ok(children)
     }
@@ -112,8 +117,8 @@ impl NotedSlots<'_> {
         alloc: Global,
         root: SlotKey,
         numbers: &mut BTreeSet<u64>,
-        newest: &[NotedSlot],
-    ) -> Result<Vec<NotedSlot>, AllocError>
+        newest: &[PackedSlot],
+    ) -> Result<Vec<PackedSlot>, AllocError>
         ensures { IfOk result (λ next. (k : ℕ) → AreBelow k self.now root numbers.old.keys newest.now → AreBelow (k + 1) self.now root numbers.new.keys next.items) }
     {
         let children = self.children_of_all(alloc, newest)?;
@@ -130,12 +135,12 @@ impl NotedSlots<'_> {
         root: SlotKey,
         most: u32,
         numbers: &mut BTreeSet<u64>,
-    ) -> Result<Vec<NotedSlot>, AllocError>
+    ) -> Result<Vec<PackedSlot>, AllocError>
         requires { numbers.old.keys ≡ [] }
         ensures { IfOk result (λ newest. AreBelow most self.now root numbers.new.keys newest.items) }
     {
         let mut newest = Vec::new(alloc);
-        newest.push(emptied(root))?;
+        newest.push(PackedSlot::of(emptied(root)))?;
         for _ in 0..most {
             if newest.is_empty() {
                 return Ok(newest);
@@ -150,7 +155,7 @@ impl NotedSlots<'_> {
         &self,
         alloc: Global,
         numbers: &BTreeSet<u64>,
-    ) -> Result<Vec<NotedSlot>, AllocError>
+    ) -> Result<Vec<PackedSlot>, AllocError>
         ensures listed { IfOk result (λ all. all.items ≡ filter_map (found self.now.changes.now) numbers.now.keys) }
         ensures ordered { IfOk result (λ _. IsStrictlySortedBy nat_cmp numbers.now.keys) }
     {
@@ -169,8 +174,8 @@ impl NotedSlots<'_> {
         alloc: Global,
         root: SlotKey,
         numbers: &mut BTreeSet<u64>,
-        newest: &[NotedSlot],
-    ) -> Result<Vec<NotedSlot>, AllocError>
+        newest: &[PackedSlot],
+    ) -> Result<Vec<PackedSlot>, AllocError>
         ensures { IfOk result (λ touched. (k : ℕ) → AreBelow k self.now root numbers.old.keys newest.now → touched.items ≡ below_by (k + 1) self.now root) }
     {
         self.next_level(alloc, root, numbers, newest)?;
@@ -184,7 +189,7 @@ impl NotedSlots<'_> {
         &self,
         alloc: Global,
         which: &Removed,
-    ) -> Result<Option<Vec<NotedSlot>>, AllocError>
+    ) -> Result<Option<Vec<PackedSlot>>, AllocError>
         ensures listed { IfOk result (λ found. IfSome found (λ all. all.items ≡ all_below self.now which.now)) }
         ensures told { IfOk result (λ found. IfSome found (λ all. all.items ≡ touched_by self.now which.now)) }
         ensures rising { IfOk result (λ found. IfSome found (λ all. Rise all.items)) }

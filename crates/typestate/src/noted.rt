@@ -10,6 +10,7 @@ ghost use Rattle.typestate.specs.Families.{child_at, children_of, found, has_par
 ghost use Rattle.typestate.specs.Orders.{Rise};
 
 use crate::change_lists::is_parent;
+use crate::packed_slot::PackedSlot;
 use crate::{NotedSlot, NotedSlots, SlotKey};
 use model::Cap;
 use std::alloc::AllocError;
@@ -27,12 +28,12 @@ pub(crate) fn left(change: NotedSlot) -> Option<NotedSlot>
 /// Appends what a look-up found. Memory may be refused.
 pub(crate) fn note_found(
     found: Option<NotedSlot>,
-    list: &mut Vec<NotedSlot>,
+    list: &mut Vec<PackedSlot>,
 ) -> Result<(), AllocError>
     ensures { IfOk result (λ _. list.new.items ≡ list.old.items ++ option_to_list found) }
 {
     if let Some(slot) = found {
-        list.push(slot)?;
+        list.push(PackedSlot::of(slot))?;
     }
     Ok(())
 }
@@ -74,7 +75,7 @@ impl NotedSlots<'_> {
     pub(crate) fn note_children_of(
         &self,
         parent: SlotKey,
-        found: &mut Vec<NotedSlot>,
+        found: &mut Vec<PackedSlot>,
     ) -> Result<(), AllocError>
         ensures { IfOk result (λ _. found.new.items ≡ found.old.items ++ children_of self.now.changes.now parent) }
     {
@@ -104,11 +105,11 @@ impl NotedSlots<'_> {
     }
 
     /// Whether no change leaves a slot that was derived from one of these.
-    pub(crate) fn are_childless(&self, slots: &[NotedSlot]) -> bool
+    pub(crate) fn are_childless(&self, slots: &[PackedSlot]) -> bool
         ensures { result ≡ true → flat_map (λ s. children_of self.now.changes.now s.key) slots.now ≡ [] }
     {
         for slot in slots {
-            if self.has_child(slot.key) {
+            if self.has_child(slot.key()) {
                 return false;
             }
         }

@@ -5,7 +5,8 @@ ghost use Rattle.std.specs.Prelude.{◌≡◌, true};
 ghost use Rattle.typestate.specs.Levels.{all_below, touched_by};
 ghost use Rattle.typestate.specs.Orders.{Rise};
 
-use crate::{NotedSlot, NotedSlots, Removed};
+use crate::packed_slot::PackedSlot;
+use crate::{NotedSlots, Removed};
 
 /// Slots at a point of which some go, with the changes whose slots descend from the one of which all descendants go, and those whose
 /// slots were derived from one that goes or is named.
@@ -13,8 +14,8 @@ use crate::{NotedSlot, NotedSlots, Removed};
 pub(crate) struct Removal<'s, 'b> {
     pub(crate) slots: NotedSlots<'s>,
     pub(crate) which: Removed,
-    pub(crate) below: &'b [NotedSlot],
-    pub(crate) touched: &'b [NotedSlot],
+    pub(crate) below: &'b [PackedSlot],
+    pub(crate) touched: &'b [PackedSlot],
     /// Whether all that is touched goes.
     pub(crate) is_all: bool,
     ghost listed: { below.now ≡ all_below slots which },

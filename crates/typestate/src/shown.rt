@@ -72,7 +72,7 @@ impl ShownChanges {
     {
         match entry {
             LogEntry::Sets(change) => {
-                self.put(change)?;
+                self.put(change.unpacked())?;
                 Ok(())
             }
             LogEntry::Swaps { one, other } => {

@@ -1,7 +1,8 @@
 //! What becomes of the slots at a point where some go.
 //! seL4 Reference Manual, "Deletion, Revocation, and Recycling".
 
-ghost use Rattle.std.specs.Prelude.{◌≡◌, ◌&&◌, ◌||◌, ◌++◌, [], ◌∷◌, IfOk, false, flat_map, true};
+ghost use Rattle.std.specs.Prelude.{◌≡◌, ◌&&◌, ◌||◌, ◌++◌, [], ◌∷◌, IfOk, false, flat_map, is_some, true};
+ghost use Rattle.model.specs.Acceptance.NotedStates.{slot_at};
 ghost use Rattle.std.specs.List.{list_any};
 ghost use Rattle.std.specs.Option.{option_map_or};
 ghost use Rattle.model.specs.Capabilities.CapabilityKinds.{is_untyped};
@@ -14,7 +15,8 @@ ghost use Rattle.typestate.specs.SlotChanges.{cap_left, emptied, is_parent, lose
 ghost use Rattle.typestate.specs.declared.slot_changes.Removed.TheVariants.{One};
 
 use crate::change_lists::{emptied, is_parent};
-use crate::noted::{left, listed};
+use crate::noted::left;
+use crate::packed_slot::PackedSlot;
 use crate::removal::Removal;
 use crate::staying::Staying;
 use crate::{NotedSlot, Removed, SlotKey};
@@ -25,12 +27,12 @@ use std::alloc::AllocError;
 const MOST: u32 = 256;
 
 /// Appends that a slot is emptied, if it holds something.
-fn note_gone(held: Option<NotedSlot>, made: &mut Vec<NotedSlot>) -> Result<(), AllocError>
+fn note_gone(held: Option<NotedSlot>, made: &mut Vec<PackedSlot>) -> Result<(), AllocError>
     ensures { IfOk result (λ _. made.new.items ≡ made.old.items ++ option_map_or (λ s. emptied s.key ∷ []) held []) }
 {
     match held {
         Some(slot) => {
-            made.push(emptied(slot.key))?;
+            made.push(PackedSlot::of(emptied(slot.key)))?;
             Ok(())
         }
         None => Ok(()),
@@ -38,13 +40,23 @@ fn note_gone(held: Option<NotedSlot>, made: &mut Vec<NotedSlot>) -> Result<(), A
 }
 
 impl Removal<'_, '_> {
+    /// Whether the slot of this key is one of those that descend from the one that is named.
+    fn is_below(&self, key: SlotKey) -> bool
+        ensures { result ≡ is_some (slot_at self.now.below.now key) }
+    {
+        let number = key.number();
+        self.below
+            .binary_search_by_key(&number, |slot| slot.key().number())
+            .is_ok()
+    }
+
     /// Whether the slot of this key is one of those that go.
     fn goes(&self, key: SlotKey) -> bool
         ensures { result ≡ gone_by self.now key }
     {
         match self.which {
             Removed::One(gone) => gone.is_same(key),
-            Removed::Below(_) => listed(self.below, key).is_some(),
+            Removed::Below(_) => self.is_below(key),
         }
     }
 
@@ -88,21 +100,21 @@ impl Removal<'_, '_> {
     }
 
     /// Whether what one of these changes leaves is a child of the slot of this key, and goes.
-    fn one_goes(&self, changes: &[NotedSlot], key: SlotKey) -> bool
+    fn one_goes(&self, changes: &[PackedSlot], key: SlotKey) -> bool
         ensures { result ≡ list_any (λ c. option_map_or (λ s. gone_by self.now s.key && is_parent key s.parent) (left_by c) false) changes.now }
     {
         changes
             .iter()
-            .any(|change| self.goes_from(left(*change), key))
+            .any(|change| self.goes_from(left(change.unpacked()), key))
     }
 
     /// Whether what one of these changes leaves stays, and is then a child of the slot of this key.
-    fn one_stays(&self, changes: &[NotedSlot], key: SlotKey) -> bool
+    fn one_stays(&self, changes: &[PackedSlot], key: SlotKey) -> bool
         ensures { result ≡ list_any (λ c. option_map_or (kept_child (slots_of self.now.slots) self.now.which key) (left_by c) false) changes.now }
     {
         changes
             .iter()
-            .any(|change| self.stays_below(left(*change), key))
+            .any(|change| self.stays_below(left(change.unpacked()), key))
     }
 
     /// Whether what a change of this number leaves was derived from the slot of a key, stays, and is then still a child of it.
@@ -243,17 +255,17 @@ impl Staying<'_, '_, '_> {
 
 impl Removal<'_, '_> {
     /// Appends what becomes of a full slot where some go.
-    fn note_removed(&self, slot: NotedSlot, made: &mut Vec<NotedSlot>) -> Result<(), AllocError>
+    fn note_removed(&self, slot: NotedSlot, made: &mut Vec<PackedSlot>) -> Result<(), AllocError>
         ensures { IfOk result (λ _. made.new.items ≡ made.old.items ++ removal_change (gone_by self.now) (slots_of self.now.slots) slot) }
     {
         if self.goes(slot.key) {
-            made.push(emptied(slot.key))?;
+            made.push(PackedSlot::of(emptied(slot.key)))?;
         } else if self.may_change(slot) {
             let staying = Staying {
                 removal: self,
                 slot: &slot,
             };
-            made.push(staying.left())?;
+            made.push(PackedSlot::of(staying.left()))?;
         }
         Ok(())
     }
@@ -262,7 +274,7 @@ impl Removal<'_, '_> {
     fn note_held(
         &self,
         held: Option<NotedSlot>,
-        made: &mut Vec<NotedSlot>,
+        made: &mut Vec<PackedSlot>,
     ) -> Result<(), AllocError>
         ensures { IfOk result (λ _. made.new.items ≡ made.old.items ++ option_map_or (removal_change (gone_by self.now) (slots_of self.now.slots)) held []) }
     {
@@ -273,14 +285,14 @@ impl Removal<'_, '_> {
     }
 
     /// Appends what becomes of the slot of a key where some go.
-    fn note_removal_at(&self, key: SlotKey, made: &mut Vec<NotedSlot>) -> Result<(), AllocError>
+    fn note_removal_at(&self, key: SlotKey, made: &mut Vec<PackedSlot>) -> Result<(), AllocError>
         ensures { IfOk result (λ _. made.new.items ≡ made.old.items ++ told_at (removal_change (gone_by self.now) (slots_of self.now.slots)) (slots_of self.now.slots) key) }
     {
         self.note_held(self.slots.at(key), made)
     }
 
     /// Appends what becomes of the one slot that goes, and of what it was derived from.
-    fn note_one(&self, gone: SlotKey, made: &mut Vec<NotedSlot>) -> Result<(), AllocError>
+    fn note_one(&self, gone: SlotKey, made: &mut Vec<PackedSlot>) -> Result<(), AllocError>
         ensures { IfOk result (λ _. made.new.items ≡ made.old.items ++ flat_map (told_at (removal_change (gone_by self.now) (slots_of self.now.slots)) (slots_of self.now.slots)) (named_by (slots_of self.now.slots) (One gone))) }
     {
         self.note_removal_at(gone, made)?;
@@ -292,7 +304,7 @@ impl Removal<'_, '_> {
 
     /// Appends what becomes of the slots that are named where some go: the one that goes and what it was derived from, or the one
     /// from which all that goes descends.
-    fn note_named(&self, made: &mut Vec<NotedSlot>) -> Result<(), AllocError>
+    fn note_named(&self, made: &mut Vec<PackedSlot>) -> Result<(), AllocError>
         ensures { IfOk result (λ _. made.new.items ≡ made.old.items ++ flat_map (told_at (removal_change (gone_by self.now) (slots_of self.now.slots)) (slots_of self.now.slots)) (named_by (slots_of self.now.slots) self.now.which)) }
     {
         match self.which {
@@ -302,29 +314,29 @@ impl Removal<'_, '_> {
     }
 
     /// Appends what becomes of what was derived from a slot that goes or is named.
-    fn note_removals(&self, made: &mut Vec<NotedSlot>) -> Result<(), AllocError>
+    fn note_removals(&self, made: &mut Vec<PackedSlot>) -> Result<(), AllocError>
         ensures { IfOk result (λ _. made.new.items ≡ made.old.items ++ flat_map (told_of (removal_change (gone_by self.now) (slots_of self.now.slots))) self.now.touched.now) }
     {
         for change in self.touched {
-            let held = left(*change);
+            let held = left(change.unpacked());
             self.note_held(held, made)?;
         }
         Ok(())
     }
 
     /// Appends that the slots are emptied that go, of those that descend from the one that is named.
-    fn note_emptied(&self, made: &mut Vec<NotedSlot>) -> Result<(), AllocError>
+    fn note_emptied(&self, made: &mut Vec<PackedSlot>) -> Result<(), AllocError>
         ensures { IfOk result (λ _. made.new.items ≡ made.old.items ++ flat_map emptied_by self.now.below.now) }
     {
         for change in self.below {
-            let held = left(*change);
+            let held = left(change.unpacked());
             note_gone(held, made)?;
         }
         Ok(())
     }
 
     /// Appends what becomes of what was derived from a slot that goes or is named: where all of it goes, nothing else is asked.
-    fn note_touched(&self, made: &mut Vec<NotedSlot>) -> Result<(), AllocError>
+    fn note_touched(&self, made: &mut Vec<PackedSlot>) -> Result<(), AllocError>
         ensures { IfOk result (λ _. made.new.items ≡ made.old.items ++ flat_map (told_of (removal_change (gone_by self.now) (slots_of self.now.slots))) self.now.touched.now) }
     {
         if self.is_all {
@@ -335,7 +347,7 @@ impl Removal<'_, '_> {
     }
 
     /// Appends what a call makes of the slots that takes these away.
-    pub(crate) fn note_all(&self, made: &mut Vec<NotedSlot>) -> Result<(), AllocError>
+    pub(crate) fn note_all(&self, made: &mut Vec<PackedSlot>) -> Result<(), AllocError>
         ensures { IfOk result (λ _. made.new.items ≡ made.old.items ++ removal_changes self.now.slots self.now.which) }
     {
         self.note_named(made)?;

@@ -1,6 +1,6 @@
 -- The children of one slot more.
 use Rattle.std.proofs.Common.{◌∙◌, ◌++◌, [], ap}
-use Rattle.model.specs.Acceptance.NotedStates.{NotedSlot}
+use Rattle.model.specs.Acceptance.NotedStates.{NotedSlot, SlotKey}
 use Rattle.typestate.specs.Families.{children_of}
 use Rattle.typestate.proofs.Appended.{all-told, one-more-told}
 use Rattle.typestate.proofs.points.NotedSlots.children_of_all.Goals as goal
@@ -10,7 +10,7 @@ loop-slot-preserved c =
     one-more-told (λ (s : NotedSlot). children_of c.args.self.now.changes.now s.key) c.args.going.now c.loop-slot.slot-index c.slot-item.result []
     c.loop-slot.children.items
     c.note_children_of.new.found.items c.loop-slot-test.true c.slot-item.is c.loop-slot.invariant
-    (c.in_ok-note_children_of.ensures ∙ ap (λ (s : NotedSlot). c.loop-slot.children.items ++ children_of c.args.self.now.changes.now s.key) c.slot.view_is)
+    (c.in_ok-note_children_of.ensures ∙ ap (λ (k : SlotKey). c.loop-slot.children.items ++ children_of c.args.self.now.changes.now k) c.key.ensures)
 
 pub returns : goal.returns
 returns c =

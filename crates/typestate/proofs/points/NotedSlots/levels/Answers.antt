@@ -9,8 +9,8 @@ use Rattle.typestate.proofs.points.NotedSlots.levels.Goals as goal
 pub loop-init : goal.loop-init
 loop-init c =
     starts-below c.args.self.now c.args.root c.args.numbers.now.keys c.push.new.self.items c.requires
-    (c.in_ok-push.ensures.items ∙ ap (λ (l : List NotedSlot). l ++ c.emptied.result ∷ []) c.new-newest.ensures.items
-    ∙ ap (λ (s : NotedSlot). s ∷ []) c.emptied.ensures)
+    (c.in_ok-push.ensures.items ∙ ap (λ (l : List NotedSlot). l ++ c.of.result ∷ []) c.new-newest.ensures.items
+    ∙ ap (λ (s : NotedSlot). s ∷ []) (c.of.ensures ∙ c.emptied.ensures))
 
 no-slots : (slots : List NotedSlot) → length slots ≡ 0 → slots ≡ []
 no-slots [] none = refl

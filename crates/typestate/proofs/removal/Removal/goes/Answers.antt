@@ -12,7 +12,7 @@ pub returns-in-Below : goal.returns-in-Below
 returns-in-Below c =
     let n = c.args.self.now.slots in
     let key = c.args.key in
-    c.is_some.ensures ∙ ap is_some c.listed.ensures
+    c.is_below.ensures
     ∙ ap (λ (l : List NotedSlot). is_some (slot_at l key)) (c.args.self.now.listed ∙ ap (all_below n) c.in-Below.is)
     ∙ listed-goes n c.in-Below.field-0 256 key
     ∙ sym (ap (λ (which : Removed). is_removed (slots_of n) which key) c.in-Below.is)
