@@ -1,8 +1,10 @@
 //! The cells of a chart: what is shown side by side in time.
 
 use crate::faults::DrawingFault;
-use crate::trace_lines::{Happening, Mark, told_by};
-use std::alloc::Global;
+use crate::threads::{Rest, ThreadRun};
+use indexmap::IndexMap;
+use std::alloc::{AllocFailed, Global};
+use trace_lines::{Happening, Mark, told_by, without_end};
 
 /// What a cell shows. Lanes are numbered from 0.
 #[derive(Clone, Copy, Debug)]
@@ -24,23 +26,37 @@ pub(crate) struct Cell {
     pub(crate) shape: Shape,
 }
 
-/// A whole trace: the threads in the order in which they first run, and the cells.
+/// The lines of a trace that are drawn, both included, counted from 1.
+#[derive(Clone, Copy, Debug)]
+pub(crate) struct Window {
+    pub(crate) from: u64,
+    pub(crate) to: u64,
+}
+
+/// What is drawn of a trace: the threads of the whole of it in the order in which they first run, each by the physical address of its
+/// TCB, and the cells.
 #[derive(Drop)]
 pub(crate) struct Cells {
-    pub(crate) threads: Vec<u32>,
+    pub(crate) threads: IndexMap<u32, ThreadRun>,
     pub(crate) cells: Vec<Cell>,
 }
 
 impl Cells {
     /// The lane of a thread, a new one where it has none.
-    fn lane(&mut self, thread: u32) -> Result<usize, DrawingFault> {
-        match self.threads.iter().position(|known| *known == thread) {
+    fn lane(&mut self, thread: u32) -> Result<usize, AllocFailed<(u32, ThreadRun)>> {
+        match self.threads.get_index_of(&thread) {
             Some(lane) => Ok(lane),
             None => {
-                self.threads.push(thread)?;
-                Ok(self.threads.len().saturating_sub(1))
+                let lane = self.threads.len();
+                self.threads.insert(thread, ThreadRun::new())?;
+                Ok(lane)
             }
         }
+    }
+
+    /// What is known of the thread of a lane.
+    fn thread(&mut self, lane: usize) -> Option<&mut ThreadRun> {
+        self.threads.get_index_mut(lane)
     }
 
     /// Whether the last cell takes in one more of this shape.
@@ -66,36 +82,56 @@ impl Cells {
         }
     }
 
-    /// What a line shows.
-    fn shape_of(&mut self, told: Happening) -> Result<Shape, DrawingFault> {
-        Ok(match told {
-            Happening::Idle => Shape::Idle { count: 1 },
-            Happening::Tick => Shape::Tick,
-            Happening::Interrupt(number) => Shape::Interrupt(number),
-            Happening::Ran { thread, pc, mark } => {
-                let lane = self.lane(thread)?;
-                match mark {
-                    Mark::Plain => Shape::Run { lane, count: 1 },
-                    mark => Shape::Event { lane, pc, mark },
-                }
-            }
+    /// What an instruction shows.
+    fn shape_of_run(&mut self, thread: u32, pc: u32, mark: Mark) -> Result<Shape, DrawingFault> {
+        let lane = self.lane(thread)?;
+        if let Some(thread) = self.thread(lane) {
+            thread.count(mark);
+        }
+        Ok(match mark {
+            Mark::Plain => Shape::Run { lane, count: 1 },
+            mark => Shape::Event { lane, pc, mark },
         })
     }
-}
 
-/// A line without its line feed, and without a carriage return before it.
-fn without_end(piece: &[u8]) -> &[u8] {
-    match piece {
-        [line @ .., b'\r', b'\n'] => line,
-        [line @ .., b'\n'] => line,
-        line => line,
+    /// What a line shows.
+    fn shape_of(&mut self, told: Happening) -> Result<Shape, DrawingFault> {
+        match told {
+            Happening::Idle => Ok(Shape::Idle { count: 1 }),
+            Happening::Tick => Ok(Shape::Tick),
+            Happening::Interrupt(number) => Ok(Shape::Interrupt(number)),
+            Happening::Ran { thread, pc, mark } => self.shape_of_run(thread, pc, mark),
+        }
+    }
+
+    /// Takes notice of a line before those that are drawn.
+    fn pass(&mut self, shape: Shape) {
+        let (lane, rest) = match shape {
+            Shape::Run { lane, .. } => (lane, Rest::Ready),
+            Shape::Event { lane, pc, mark } => (lane, Rest::after(mark, pc)),
+            Shape::Idle { .. } | Shape::Tick | Shape::Interrupt(_) => return,
+        };
+        if let Some(thread) = self.thread(lane) {
+            thread.rest = rest;
+        }
+    }
+
+    /// Takes in a line.
+    fn add(&mut self, line: u64, told: Happening, window: Window) -> Result<(), DrawingFault> {
+        let shape = self.shape_of(told)?;
+        if line < window.from {
+            self.pass(shape);
+        } else if line <= window.to && !self.grow(shape) {
+            self.cells.push(Cell { line, shape })?;
+        }
+        Ok(())
     }
 }
 
-/// The cells of a trace.
-pub(crate) fn cells_of(alloc: Global, trace: &[u8]) -> Result<Cells, DrawingFault> {
+/// The cells of the lines of a trace that are drawn.
+pub(crate) fn cells_of(alloc: Global, trace: &[u8], window: Window) -> Result<Cells, DrawingFault> {
     let mut cells = Cells {
-        threads: Vec::new(alloc),
+        threads: IndexMap::new(alloc),
         cells: Vec::new(alloc),
     };
     let mut line = 0u64;
@@ -104,10 +140,7 @@ pub(crate) fn cells_of(alloc: Global, trace: &[u8]) -> Result<Cells, DrawingFaul
         let Some(told) = told_by(without_end(piece)) else {
             return Err(DrawingFault::Malformed { line });
         };
-        let shape = cells.shape_of(told)?;
-        if !cells.grow(shape) {
-            cells.cells.push(Cell { line, shape })?;
-        }
+        cells.add(line, told, window)?;
     }
     Ok(cells)
 }

@@ -1,13 +1,28 @@
 //! A trace as a chart.
 
-use crate::cells::{Cell, Cells, Shape, cells_of};
+use crate::cells::{Cell, Cells, Shape, Window, cells_of};
 use crate::faults::DrawingFault;
-use crate::layouts::{
-    FOOT, HEAD, LANE, LEFT, Place, RIGHT, band_top, bands_of, lane_top, width_of,
-};
-use crate::trace_lines::Mark;
+use crate::lane_names::{LaneName, left_of, said_of_rest};
+use crate::layouts::{FOOT, HEAD, LANE, Layout, WIDTH, width_of};
+use crate::signs::{LEGEND, STYLE, push_said};
+use crate::threads::Rest;
+use named_traces::TextNames;
 use sinks::{Sink, put_all};
+use source_texts::TextFault;
 use std::alloc::{AllocError, Global};
+use trace_lines::Mark;
+
+/// What is to be drawn of a trace.
+#[derive(Clone, Copy, Debug)]
+pub struct ChartRequest<'a> {
+    /// The text of the image whose trace it is. Its certificates may be missing, budgets may be `auto`, and lines `program FILE ..`
+    /// may be in the place of instructions.
+    pub text: Option<&'a str>,
+    /// The first event that is drawn, from 1.
+    pub from: Option<u64>,
+    /// The last event that is drawn.
+    pub to: Option<u64>,
+}
 
 /// The colours of the lanes.
 const COLOURS: [&str; 6] = [
@@ -16,18 +31,6 @@ const COLOURS: [&str; 6] = [
 
 /// How far apart the numbers of lines are at least.
 const BETWEEN_NUMBERS: u32 = 90;
-
-/// The least width of a stretch in which something is written.
-const LABEL_WIDTH: u32 = 96;
-
-/// What a thread does while it does not run.
-#[derive(Clone, Copy, Debug)]
-enum Rest {
-    /// It has not run so far, or stopped for another thread.
-    Ready,
-    Waits { pc: u32 },
-    Faulted,
-}
 
 /// A thread's lane, and since where it rests.
 #[derive(Clone, Copy, Debug)]
@@ -38,8 +41,12 @@ struct Lane {
 
 /// A chart that is being drawn.
 #[derive(Drop)]
-struct Canvas<'c> {
+struct Canvas<'c, 't> {
+    alloc: Global,
     cells: &'c Cells,
+    text: Option<&'c TextNames<'t>>,
+    names: &'c [LaneName],
+    layout: Layout,
     lanes: Vec<Lane>,
     /// The band at hand.
     band: u32,
@@ -53,33 +60,24 @@ fn colour(lane: usize) -> &'static str {
     COLOURS[lane % COLOURS.len()]
 }
 
-/// How a thread rests after an instruction.
-fn rest_behind(mark: Mark, pc: u32) -> Rest {
-    match mark {
-        Mark::Wait => Rest::Waits { pc },
-        Mark::Faulted(_) => Rest::Faulted,
-        _ => Rest::Ready,
-    }
-}
-
 /// A character that may be in the chart for a byte.
 fn is_shown(byte: u8) -> bool {
     byte > b' ' && byte < 127 && byte != b'<' && byte != b'>' && byte != b'&'
 }
 
-impl Canvas<'_> {
+impl Canvas<'_, '_> {
     /// Where the bar of a lane begins.
     fn bar_top(&self, lane: usize) -> u32 {
-        lane_top(self.band, lane, self.lanes.len()).saturating_add(6)
+        self.layout.lane_top(self.band, lane).saturating_add(6)
     }
 
     /// The frame of the band at hand: the names of its lanes.
     fn push_band(&mut self) -> Result<(), AllocError> {
-        let top = band_top(self.band, self.lanes.len());
-        let tick_line = top.saturating_add(31);
+        let left = self.layout.left;
+        let tick_line = self.layout.band_top(self.band).saturating_add(31);
         write!(
             self.svg,
-            "<text class=\"n\" x=\"{LEFT}\" y=\"{tick_line}\" text-anchor=\"end\" dx=\"-8\">events</text>\n"
+            "<text class=\"n\" x=\"{left}\" y=\"{tick_line}\" text-anchor=\"end\" dx=\"-8\">events</text>\n"
         )?;
         for lane in 0..self.lanes.len() {
             self.push_lane(lane)?;
@@ -90,23 +88,42 @@ impl Canvas<'_> {
 
     /// The ground of a lane.
     fn push_lane(&mut self, lane: usize) -> Result<(), AllocError> {
-        let y = lane_top(self.band, lane, self.lanes.len());
-        let width = RIGHT - LEFT;
+        let (x, y) = (self.layout.left, self.layout.lane_top(self.band, lane));
         let fill = if lane % 2 == 0 { "#f6f7f9" } else { "#eceff3" };
         write!(
             self.svg,
-            "<rect x=\"{LEFT}\" y=\"{y}\" width=\"{width}\" height=\"{LANE}\" fill=\"{fill}\"/>\n"
+            "<rect x=\"{x}\" y=\"{y}\" width=\"{WIDTH}\" height=\"{LANE}\" fill=\"{fill}\"/>\n"
         )
     }
 
-    /// The name of a lane.
+    /// What is written beside a lane.
     fn push_name(&mut self, lane: usize) -> Result<(), AllocError> {
-        let base = lane_top(self.band, lane, self.lanes.len()).saturating_add(17);
-        let thread = self.cells.threads.get(lane).copied().unwrap_or(0);
-        let fill = colour(lane);
+        let Some(LaneName { thread, longest }) = self.names.get(lane) else {
+            return Ok(());
+        };
+        let top = self.layout.lane_top(self.band, lane);
+        if longest.is_empty() {
+            return self.push_thread(lane, thread, top.saturating_add(17));
+        }
+        self.push_thread(lane, thread, top.saturating_add(12))?;
+        self.push_longest(longest, top.saturating_add(22))
+    }
+
+    /// The thread of a lane.
+    fn push_thread(&mut self, lane: usize, thread: &str, base: u32) -> Result<(), AllocError> {
+        let (left, fill) = (self.layout.left, colour(lane));
         write!(
             self.svg,
-            "<text class=\"t\" x=\"{LEFT}\" y=\"{base}\" dx=\"-8\" fill=\"{fill}\">{thread:08x}</text>\n"
+            "<text class=\"t\" x=\"{left}\" y=\"{base}\" dx=\"-8\" fill=\"{fill}\">{thread}</text>\n"
+        )
+    }
+
+    /// The most instructions of a thread from one wait to the next.
+    fn push_longest(&mut self, longest: &str, base: u32) -> Result<(), AllocError> {
+        let left = self.layout.left;
+        write!(
+            self.svg,
+            "<text class=\"n\" x=\"{left}\" y=\"{base}\" dx=\"-8\" text-anchor=\"end\" style=\"font-size:9px\">{longest}</text>\n"
         )
     }
 
@@ -122,26 +139,43 @@ impl Canvas<'_> {
         let class = match rest {
             Rest::Ready => "r",
             Rest::Waits { .. } => "w",
-            Rest::Faulted => "f",
+            Rest::Faulted { .. } => "f",
         };
         let from = since.saturating_add(1);
         write!(
             self.svg,
             "<path class=\"{class}\" d=\"M{from} {y}H{until}\"/>\n"
         )?;
-        match rest {
-            Rest::Waits { pc } if until - since >= LABEL_WIDTH => self.push_waits(from, y, pc),
-            _ => Ok(()),
+        self.push_place(lane, rest, from, y, until - since)
+    }
+
+    /// Where a thread waits or faulted, above its line, if there is room.
+    fn push_place(
+        &mut self,
+        lane: usize,
+        rest: Rest,
+        x: u32,
+        y: u32,
+        room: u32,
+    ) -> Result<(), AllocError> {
+        let Some((thread, _)) = self.cells.threads.get_index(lane) else {
+            return Ok(());
+        };
+        let base = y.saturating_sub(3);
+        match said_of_rest(self.alloc, self.text, *thread, rest, room)? {
+            Some(said) => self.push_small(&said, x, base),
+            None => Ok(()),
         }
     }
 
-    /// Where a thread waits, above its line.
-    fn push_waits(&mut self, x: u32, y: u32, pc: u32) -> Result<(), AllocError> {
-        let base = y.saturating_sub(3);
+    /// What is said in small letters.
+    fn push_small(&mut self, said: &str, x: u32, base: u32) -> Result<(), AllocError> {
         write!(
             self.svg,
-            "<text class=\"l\" x=\"{x}\" y=\"{base}\" dx=\"3\">waits at {pc:#x}</text>\n"
-        )
+            "<text class=\"l\" x=\"{x}\" y=\"{base}\" dx=\"3\">"
+        )?;
+        push_said(&mut self.svg, said)?;
+        self.svg.push_str("</text>\n")
     }
 
     /// The thread of a lane runs from here to there, and then rests like this.
@@ -162,7 +196,7 @@ impl Canvas<'_> {
         self.band = self.band.saturating_add(1);
         self.number_from = 0;
         for lane in &mut self.lanes {
-            lane.since = LEFT;
+            lane.since = self.layout.left;
         }
         self.push_band()
     }
@@ -173,7 +207,7 @@ impl Canvas<'_> {
             return Ok(());
         }
         self.number_from = x.saturating_add(BETWEEN_NUMBERS);
-        let top = band_top(self.band, self.lanes.len());
+        let top = self.layout.band_top(self.band);
         let base = top.saturating_add(12);
         let line = cell.line;
         write!(
@@ -290,9 +324,8 @@ impl Canvas<'_> {
 
     /// A tick or an interrupt, above the lanes, with a line down through them.
     fn push_above(&mut self, x: u32, interrupt: Option<u8>) -> Result<(), AllocError> {
-        let lanes = self.lanes.len();
-        let top = band_top(self.band, lanes);
-        let low = lane_top(self.band, lanes, lanes);
+        let top = self.layout.band_top(self.band);
+        let low = self.layout.lane_top(self.band, self.lanes.len());
         let (high, base) = (top.saturating_add(24), top.saturating_add(32));
         let middle = x.saturating_add(4);
         match interrupt {
@@ -324,7 +357,7 @@ impl Canvas<'_> {
                 self.push_bar(lane, x, width, colour(lane))
             }
             Shape::Event { lane, pc, mark } => {
-                self.run(lane, x, end, rest_behind(mark, pc))?;
+                self.run(lane, x, end, Rest::after(mark, pc))?;
                 self.push_event(lane, x, width, mark)
             }
         }
@@ -332,9 +365,9 @@ impl Canvas<'_> {
 
     /// A time in which nobody runs.
     fn push_idle(&mut self, x: u32, width: u32) -> Result<(), AllocError> {
-        let lanes = self.lanes.len();
-        let top = lane_top(self.band, 0, lanes);
-        let height = lane_top(self.band, lanes, lanes).saturating_sub(top);
+        let top = self.layout.lane_top(self.band, 0);
+        let low = self.layout.lane_top(self.band, self.lanes.len());
+        let height = low.saturating_sub(top);
         write!(
             self.svg,
             "<rect class=\"o\" x=\"{x}\" y=\"{top}\" width=\"{width}\" height=\"{height}\"/>\n"
@@ -344,10 +377,10 @@ impl Canvas<'_> {
     /// All cells, and how the threads rest at the end.
     fn push_cells(&mut self) -> Result<(), AllocError> {
         let cells = self.cells;
-        let mut place = Place::first();
+        let mut place = self.layout.first();
         self.push_band()?;
         for cell in &cells.cells {
-            let at = place.of(cell);
+            let at = self.layout.place_of(cell, place);
             if at.band != self.band {
                 self.turn(place.x)?;
             }
@@ -361,35 +394,34 @@ impl Canvas<'_> {
     }
 }
 
-/// What all charts say of their signs.
-const STYLE: &str =
-    "<style>text{font-family:Helvetica,Arial,sans-serif;font-size:10px}.n{fill:#777}.t{font-size:11px;text-anchor:end;font-weight:bold}.l{fill:#666;font-size:9px;paint-order:stroke;stroke:#f2f4f6;stroke-width:3px}.b{fill:#fff;text-anchor:middle;font-weight:bold}.q{fill:#8d3b70;font-weight:bold}.r{stroke:#9aa4ad;stroke-width:2}.w{stroke:#777;stroke-width:1.5;stroke-dasharray:2 3}.f{stroke:#d02f2f;stroke-width:2;stroke-dasharray:6 3}.g{stroke:#bbb}.k{stroke:#aaa;stroke-dasharray:1 3}.i{stroke:#8d3b70;stroke-width:1.5}.o{fill:#fff;fill-opacity:.75}</style>\n";
-
-/// What the signs mean, from the height of their bars on.
-const LEGEND: &str =
-    "<rect x=\"0\" y=\"0\" width=\"22\" height=\"14\" fill=\"#3b78b5\"/><text x=\"28\" y=\"11\">runs</text><path class=\"r\" d=\"M70 7H96\"/><text x=\"102\" y=\"11\">ready</text><path class=\"w\" d=\"M150 7H176\"/><text x=\"182\" y=\"11\">waits</text><rect x=\"230\" y=\"0\" width=\"14\" height=\"14\" fill=\"#3b78b5\"/><circle cx=\"237\" cy=\"7\" r=\"3\" fill=\"#fff\"/><text x=\"250\" y=\"11\">call done</text><rect x=\"320\" y=\"0\" width=\"18\" height=\"14\" fill=\"#222\"/><text class=\"b\" x=\"329\" y=\"11\">A</text><text x=\"344\" y=\"11\">byte put</text><rect x=\"410\" y=\"0\" width=\"18\" height=\"14\" fill=\"#d02f2f\"/><text class=\"b\" x=\"419\" y=\"11\">e3</text><text x=\"434\" y=\"11\">call refused</text><rect x=\"520\" y=\"0\" width=\"18\" height=\"14\" fill=\"#7d0f0f\"/><text class=\"b\" x=\"529\" y=\"11\">f4</text><text x=\"544\" y=\"11\">fault</text><text class=\"n\" x=\"600\" y=\"11\">numbers: lines of the trace; long runs are drawn shorter; white: nobody runs</text></g>\n</svg>\n";
-
-/// The canvas of a chart, on which nothing is drawn so far.
-fn empty_canvas(alloc: Global, cells: &Cells) -> Result<Canvas<'_>, AllocError> {
+/// How the threads rest where a chart begins.
+fn first_lanes(alloc: Global, cells: &Cells, left: u32) -> Result<Vec<Lane>, AllocError> {
     let mut lanes = Vec::new(alloc);
-    for _ in 0..cells.threads.len() {
+    for thread in cells.threads.values() {
         lanes.push(Lane {
-            rest: Rest::Ready,
-            since: LEFT,
+            rest: thread.rest,
+            since: left,
         })?;
     }
-    Ok(Canvas {
-        cells,
-        lanes,
-        band: 0,
-        number_from: 0,
-        svg: String::new(alloc),
-    })
+    Ok(lanes)
 }
 
-/// What is before the first band of a chart whose last band ends there.
-fn push_head(svg: &mut String, foot: u32) -> Result<(), AllocError> {
-    let (width, height) = (RIGHT + 8, foot.saturating_add(FOOT));
+/// What is written beside the lanes.
+fn lane_names(
+    alloc: Global,
+    cells: &Cells,
+    text: Option<&TextNames<'_>>,
+) -> Result<Vec<LaneName>, AllocError> {
+    let mut names = Vec::new(alloc);
+    for (address, run) in &cells.threads {
+        names.push(LaneName::of(alloc, text, *address, run)?)?;
+    }
+    Ok(names)
+}
+
+/// What is before the first band of a chart that is so wide, and whose last band ends there.
+fn push_head(svg: &mut String, right: u32, foot: u32) -> Result<(), AllocError> {
+    let (width, height) = (right.saturating_add(8), foot.saturating_add(FOOT));
     write!(
         svg,
         "<svg xmlns=\"http://www.w3.org/2000/svg\" width=\"{width}\" height=\"{height}\" viewBox=\"0 0 {width} {height}\">\n"
@@ -399,32 +431,80 @@ fn push_head(svg: &mut String, foot: u32) -> Result<(), AllocError> {
 }
 
 /// What the signs mean, and the end of the chart.
-fn push_legend(svg: &mut String, y: u32) -> Result<(), AllocError> {
-    write!(svg, "<g transform=\"translate({LEFT} {y})\">")?;
+fn push_legend(svg: &mut String, x: u32, y: u32) -> Result<(), AllocError> {
+    write!(svg, "<g transform=\"translate({x} {y})\">")?;
     svg.push_str(LEGEND)
 }
 
-/// The chart of a trace.
-fn chart_of(alloc: Global, cells: &Cells) -> Result<String, AllocError> {
-    let mut chart = empty_canvas(alloc, cells)?;
-    let foot = band_top(bands_of(&cells.cells), chart.lanes.len());
-    push_head(&mut chart.svg, foot)?;
-    chart.push_cells()?;
-    push_legend(&mut chart.svg, foot.saturating_add(6))?;
-    Ok(chart.svg)
+impl Canvas<'_, '_> {
+    /// The whole chart.
+    fn push_all(&mut self) -> Result<(), AllocError> {
+        let foot = self
+            .layout
+            .band_top(self.layout.bands_of(&self.cells.cells));
+        push_head(&mut self.svg, self.layout.right(), foot)?;
+        self.push_cells()?;
+        push_legend(&mut self.svg, self.layout.left, foot.saturating_add(6))
+    }
+}
+
+/// The chart of cells, with what a text says of them.
+fn chart_of(
+    alloc: Global,
+    cells: &Cells,
+    text: Option<&TextNames<'_>>,
+) -> Result<String, AllocError> {
+    let names = lane_names(alloc, cells, text)?;
+    let layout = Layout {
+        left: left_of(&names),
+        lanes: names.len(),
+    };
+    let mut canvas = Canvas {
+        alloc,
+        cells,
+        text,
+        names: &names,
+        layout,
+        lanes: first_lanes(alloc, cells, layout.left)?,
+        band: 0,
+        number_from: 0,
+        svg: String::new(alloc),
+    };
+    canvas.push_all()?;
+    Ok(canvas.svg)
+}
+
+/// What a text says, if there is one.
+fn names_in<'t>(alloc: Global, text: Option<&'t str>) -> Result<Option<TextNames<'t>>, TextFault> {
+    match text {
+        Some(text) => Ok(Some(TextNames::read(alloc, text)?)),
+        None => Ok(None),
+    }
 }
 
 /// Puts a trace as a picture (SVG): a lane for each thread, in the order in which they first run, with what it did and where it waits,
 /// and ticks and interrupts above. Long runs of one thread are drawn shorter, and what does not fit beside it is put in
-/// the next band.
+/// the next band. With the text of the image threads have their names, with the most instructions from one wait to the next and the
+/// budget, and where they wait or faulted is told by label and line. Of the events before and after those that are drawn it is read who
+/// runs.
 ///
 /// # Errors
 ///
-/// The first line that is none of a trace, an output that takes no more, or memory refused. Only the second has put
+/// The first line that is none of a text, or none of a trace; an output that takes no more, or memory refused. Only the second has put
 /// anything.
-pub fn chart<S: Sink>(alloc: Global, trace: &[u8], output: &mut S) -> Result<(), DrawingFault> {
-    let cells = cells_of(alloc, trace)?;
-    let chart = chart_of(alloc, &cells)?;
+pub fn chart<S: Sink>(
+    alloc: Global,
+    trace: &[u8],
+    request: &ChartRequest<'_>,
+    output: &mut S,
+) -> Result<(), DrawingFault> {
+    let names = names_in(alloc, request.text)?;
+    let window = Window {
+        from: request.from.unwrap_or(1),
+        to: request.to.unwrap_or(u64::MAX),
+    };
+    let cells = cells_of(alloc, trace, window)?;
+    let chart = chart_of(alloc, &cells, names.as_ref())?;
     put_all(output, chart.as_bytes())?;
     Ok(())
 }

@@ -1,10 +1,11 @@
 //! A system as a graph.
 
 use crate::faults::DrawingFault;
+use crate::reaches::reached_in;
 use crate::scenes::{Scene, uses_of};
 use model::{ObjectKind, ObjectType};
 use sinks::{Sink, put_all};
-use source_texts::{Budgets, SourceText, read, with_budgets};
+use source_texts::{Budgets, SourceText, read, without_programs};
 use std::alloc::{AllocError, Global};
 
 /// What is at the head of each graph.
@@ -29,31 +30,33 @@ fn is_frame(kind: Option<ObjectType>) -> bool {
 
 /// The graph of a text.
 fn graph_of(alloc: Global, text: &SourceText<'_>, automatic: &[u64]) -> Result<String, AllocError> {
+    let reached = reached_in(alloc, text)?;
     let mut scene = Scene {
         text,
         automatic,
+        reached: &reached,
         uses: uses_of(alloc, text)?,
         graph: String::new(alloc),
     };
-    scene.push_all(alloc)?;
+    scene.push_all()?;
     Ok(scene.graph)
 }
 
 impl Scene<'_, '_, '_> {
     /// The whole graph.
-    fn push_all(&mut self, alloc: Global) -> Result<(), AllocError> {
+    fn push_all(&mut self) -> Result<(), AllocError> {
         self.graph.push_str(HEAD)?;
         self.push_threads()?;
         self.push_objects()?;
         self.push_interrupts()?;
-        self.push_all_links(alloc)?;
+        self.push_all_links()?;
         self.graph.push_str("}\n")
     }
 
     /// All threads.
     fn push_threads(&mut self) -> Result<(), AllocError> {
-        for thread in &self.text.threads {
-            self.push_thread(thread)?;
+        for (thread, reached) in self.text.threads.iter().zip(self.reached) {
+            self.push_thread(thread, reached)?;
         }
         Ok(())
     }
@@ -72,9 +75,9 @@ impl Scene<'_, '_, '_> {
     }
 
     /// What each thread holds.
-    fn push_all_links(&mut self, alloc: Global) -> Result<(), AllocError> {
-        for thread in &self.text.threads {
-            self.push_links(alloc, thread)?;
+    fn push_all_links(&mut self) -> Result<(), AllocError> {
+        for (thread, reached) in self.text.threads.iter().zip(self.reached) {
+            self.push_links(thread, reached)?;
         }
         Ok(())
     }
@@ -89,13 +92,13 @@ fn drawn(alloc: Global, budgets: &Budgets) -> Result<String, DrawingFault> {
 
 /// Puts the system that a text describes as text for Graphviz: threads with priority, budget and the pages that are theirs alone;
 /// endpoints and notifications between them, with rights and badges; frames that are shared or message buffers; untyped memory;
-/// interrupt lines. A budget may be `auto`.
+/// interrupt lines. A budget may be `auto`, and a line `program FILE ..` may be in the place of instructions.
 ///
 /// # Errors
 ///
 /// The first line that is at fault, an output that takes no more, or memory refused. Only the second has put anything.
 pub fn draw<S: Sink>(alloc: Global, text: &str, output: &mut S) -> Result<(), DrawingFault> {
-    let budgets = with_budgets(alloc, text)?;
+    let budgets = without_programs(alloc, text)?;
     let graph = drawn(alloc, &budgets)?;
     put_all(output, graph.as_bytes())?;
     Ok(())

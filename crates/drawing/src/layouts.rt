@@ -1,12 +1,13 @@
 //! Where the cells of a chart are: in bands below one another, each read from left to right.
 
 use crate::cells::{Cell, Shape};
-use crate::trace_lines::Mark;
+use trace_lines::Mark;
 
-/// Where the lanes of a band begin and end.
-pub(crate) const LEFT: u32 = 92;
+/// How much there is at least before the lanes of a band, for their names.
+pub(crate) const LEAST_LEFT: u32 = 92;
 
-pub(crate) const RIGHT: u32 = 1152;
+/// How wide the lanes of a band are.
+pub(crate) const WIDTH: u32 = 1060;
 
 /// The height of a lane, and of what is above the lanes of a band.
 pub(crate) const LANE: u32 = 26;
@@ -33,7 +34,8 @@ pub(crate) fn width_of(shape: Shape) -> u32 {
             .saturating_mul(4)
             .saturating_add(4),
         Shape::Tick => 10,
-        Shape::Interrupt(_) => 30,
+        Shape::Interrupt(0..=9) => 30,
+        Shape::Interrupt(_) => 38,
         Shape::Event { mark, .. } => match mark {
             Mark::Wait => 8,
             Mark::Plain | Mark::Completed => 12,
@@ -50,23 +52,6 @@ pub(crate) struct Place {
 }
 
 impl Place {
-    /// The first place of all.
-    pub(crate) fn first() -> Self {
-        Place { band: 0, x: LEFT }
-    }
-
-    /// Where a cell is that comes next: at this place, or in the next band.
-    pub(crate) fn of(self, cell: &Cell) -> Self {
-        if self.x.saturating_add(width_of(cell.shape)) <= RIGHT {
-            self
-        } else {
-            Place {
-                band: self.band.saturating_add(1),
-                x: LEFT,
-            }
-        }
-    }
-
     /// The place after a cell that is here.
     pub(crate) fn behind(self, cell: &Cell) -> Self {
         Place {
@@ -76,30 +61,68 @@ impl Place {
     }
 }
 
-/// How many bands the cells need, at least one.
-pub(crate) fn bands_of(cells: &[Cell]) -> u32 {
-    let mut place = Place::first();
-    for cell in cells {
-        place = place.of(cell).behind(cell);
+/// Where the bands of a chart are, and their lanes.
+#[derive(Clone, Copy, Debug)]
+pub(crate) struct Layout {
+    /// Where the lanes begin.
+    pub(crate) left: u32,
+    pub(crate) lanes: usize,
+}
+
+impl Layout {
+    /// Where the lanes end.
+    pub(crate) fn right(&self) -> u32 {
+        self.left.saturating_add(WIDTH)
     }
-    place.band.saturating_add(1)
+
+    /// The first place of all.
+    pub(crate) fn first(&self) -> Place {
+        Place {
+            band: 0,
+            x: self.left,
+        }
+    }
+
+    /// Where a cell is that comes next: at this place, or in the next band.
+    pub(crate) fn place_of(&self, cell: &Cell, place: Place) -> Place {
+        if place.behind(cell).x <= self.right() {
+            place
+        } else {
+            Place {
+                band: place.band.saturating_add(1),
+                x: self.left,
+            }
+        }
+    }
+
+    /// How many bands the cells need, at least one.
+    pub(crate) fn bands_of(&self, cells: &[Cell]) -> u32 {
+        let mut place = self.first();
+        for cell in cells {
+            place = self.place_of(cell, place).behind(cell);
+        }
+        place.band.saturating_add(1)
+    }
+
+    /// The height of a band.
+    fn band_height(&self) -> u32 {
+        lanes_height(self.lanes).saturating_add(HEAD + GAP)
+    }
+
+    /// Where a band begins.
+    pub(crate) fn band_top(&self, band: u32) -> u32 {
+        band.saturating_mul(self.band_height()).saturating_add(TOP)
+    }
+
+    /// Where a lane of a band begins.
+    pub(crate) fn lane_top(&self, band: u32, lane: usize) -> u32 {
+        self.band_top(band)
+            .saturating_add(HEAD)
+            .saturating_add(lanes_height(lane))
+    }
 }
 
-/// The height of a band of so many lanes.
-pub(crate) fn band_height(lanes: usize) -> u32 {
-    let lanes = lanes.min(4096) as u32;
-    HEAD + LANE * lanes + GAP
-}
-
-/// Where a band begins.
-pub(crate) fn band_top(band: u32, lanes: usize) -> u32 {
-    band.saturating_mul(band_height(lanes)).saturating_add(TOP)
-}
-
-/// Where a lane of a band begins.
-pub(crate) fn lane_top(band: u32, lane: usize, lanes: usize) -> u32 {
-    let lane = lane.min(4096) as u32;
-    band_top(band, lanes)
-        .saturating_add(HEAD)
-        .saturating_add(LANE * lane)
+/// The height of so many lanes. What is beyond 4096 of them is drawn at one place.
+fn lanes_height(lanes: usize) -> u32 {
+    LANE * lanes.min(4096) as u32
 }

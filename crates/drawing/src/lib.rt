@@ -5,14 +5,16 @@ mod cells;
 mod charts;
 mod faults;
 mod graphs;
+mod lane_names;
 mod layouts;
 mod links;
 mod nodes;
 mod reaches;
 mod rights_words;
 mod scenes;
-mod trace_lines;
+mod signs;
+mod threads;
 
-pub use charts::chart;
+pub use charts::{ChartRequest, chart};
 pub use faults::DrawingFault;
 pub use graphs::draw;

@@ -1,11 +1,11 @@
 //! The edges of a graph: what threads may do with the objects that they hold, and what memory they share.
 
-use crate::reaches::{cnodes_of, index_of};
+use crate::reaches::{Reached, index_of};
 use crate::rights_words::{frame_words, mapping_words};
 use crate::scenes::Scene;
 use model::{ObjectKind, ObjectType};
 use source_texts::{CapabilityLine, FrameLine, Source, SourceThread};
-use std::alloc::{AllocError, Global};
+use std::alloc::AllocError;
 
 /// Of the rights of a capability, as the text has them.
 const WRITE: u32 = 1;
@@ -64,28 +64,27 @@ impl Scene<'_, '_, '_> {
     /// The edges of what a thread holds, of the pages that it shares, of its message buffer, and of its fault handler.
     pub(crate) fn push_links(
         &mut self,
-        alloc: Global,
         thread: &SourceThread<'_>,
+        reached: &Reached,
     ) -> Result<(), AllocError> {
         let name = self.text.object_name(thread.tcb);
-        let cnodes = cnodes_of(alloc, self.text, thread)?;
-        self.push_all_held(name, &cnodes)?;
+        self.push_all_held(name, reached)?;
         self.push_mappings(name, thread.root)?;
         self.push_buffer(name, thread)?;
         self.push_handler(name, thread)
     }
 
     /// The edges of all capabilities in some CNodes.
-    fn push_all_held(&mut self, name: &str, cnodes: &[usize]) -> Result<(), AllocError> {
+    fn push_all_held(&mut self, name: &str, reached: &Reached) -> Result<(), AllocError> {
         for capability in &self.text.capabilities {
-            if cnodes.contains(&capability.cnode) {
+            if reached.contains(capability.cnode) {
                 self.push_held(name, capability)?;
             }
         }
         Ok(())
     }
 
-    /// The edges of a capability.
+    /// The edges of a capability. Which interrupts a thread may acknowledge is in its box.
     fn push_held(&mut self, name: &str, capability: &CapabilityLine) -> Result<(), AllocError> {
         let object = self.text.source_name(capability.source);
         match capability.source {
@@ -93,13 +92,7 @@ impl Scene<'_, '_, '_> {
                 let kind = self.text.kind(number);
                 self.push_object_held(name, object, kind, capability)
             }
-            Source::Interrupt(_) => push_edge(
-                &mut self.graph,
-                name,
-                object,
-                "acknowledge",
-                "style=dotted, color=\"#8d3b70\", constraint=false",
-            ),
+            Source::Interrupt(_) => Ok(()),
         }
     }
 

@@ -1,10 +1,11 @@
 //! The nodes of a graph: threads, objects and interrupt lines.
 
 use crate::links::push_ends;
+use crate::reaches::Reached;
 use crate::rights_words::mapping_words;
 use crate::scenes::Scene;
 use model::{ObjectKind, ObjectType};
-use source_texts::{FrameLine, InterruptLine, PromiseLine, SourceThread};
+use source_texts::{FrameLine, InterruptLine, PromiseLine, Source, SourceThread};
 use std::alloc::AllocError;
 
 /// How many of a thread's own pages its node names.
@@ -116,10 +117,15 @@ fn push_more(to: &mut String, more: u32) -> Result<(), AllocError> {
 }
 
 impl Scene<'_, '_, '_> {
-    /// The node of a thread: its name, how it runs, and the pages that it alone has.
-    pub(crate) fn push_thread(&mut self, thread: &SourceThread<'_>) -> Result<(), AllocError> {
+    /// The node of a thread: its name, how it runs, the interrupts that it may acknowledge, and the pages that it alone has.
+    pub(crate) fn push_thread(
+        &mut self,
+        thread: &SourceThread<'_>,
+        reached: &Reached,
+    ) -> Result<(), AllocError> {
         push_box(&mut self.graph, self.text.object_name(thread.tcb))?;
         self.push_running(thread)?;
+        self.push_acknowledged(reached)?;
         self.push_pages(thread.root)?;
         self.graph.push_str(">];\n")
     }
@@ -133,6 +139,27 @@ impl Scene<'_, '_, '_> {
         } else {
             write!(self.graph, "budget {budget}")
         }
+    }
+
+    /// The interrupts that a thread may acknowledge.
+    fn push_acknowledged(&mut self, reached: &Reached) -> Result<(), AllocError> {
+        for capability in &self.text.capabilities {
+            if let Source::Interrupt(number) = capability.source {
+                if reached.contains(capability.cnode) {
+                    self.push_acknowledged_line(number)?;
+                }
+            }
+        }
+        Ok(())
+    }
+
+    /// An interrupt that a thread may acknowledge.
+    fn push_acknowledged_line(&mut self, number: usize) -> Result<(), AllocError> {
+        let Some(InterruptLine { number, .. }) = self.text.interrupts.get(number) else {
+            return Ok(());
+        };
+        self.graph.push_str(SMALL)?;
+        write!(self.graph, "acknowledges interrupt {number}</FONT>")
     }
 
     /// The pages of a root table that nothing else maps or names.

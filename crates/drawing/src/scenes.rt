@@ -1,5 +1,6 @@
 //! A text that is being drawn.
 
+use crate::reaches::Reached;
 use source_texts::{Source, SourceText};
 use std::alloc::{AllocError, Global};
 
@@ -22,6 +23,8 @@ pub(crate) struct Scene<'a, 't, 'm> {
     pub(crate) text: &'t SourceText<'a>,
     /// The lines of the threads whose budgets are to be found.
     pub(crate) automatic: &'m [u64],
+    /// The CNodes that each thread reaches.
+    pub(crate) reached: &'m [Reached],
     /// What names each object.
     pub(crate) uses: Vec<Uses>,
     pub(crate) graph: String,

@@ -1,5 +1,6 @@
 //! Lines of a text, and where they are.
 
+use source_texts::source_place;
 use std::alloc::AllocError;
 
 /// A text, and the name of the file that it is from.
@@ -40,28 +41,7 @@ pub fn code_on<'t>(text: &Text<'_, 't>, number: u64) -> &'t str {
     }
 }
 
-/// Whether a word is a place in a file of C, as `FILE.c:12`.
-fn is_source_place(word: &str) -> bool {
-    match word.split_once(':') {
-        Some((file, number)) => {
-            (file.ends_with(".c") || file.ends_with(".h")) && number.parse::<u32>().is_ok()
-        }
-        None => false,
-    }
-}
-
-/// The place in a file of C that a line comes from, as its comment says.
-fn source_place(line: &str) -> Option<&str> {
-    let (_, comment) = line.split_once('#')?;
-    let word = comment.split_whitespace().next()?;
-    if is_source_place(word) {
-        Some(word)
-    } else {
-        None
-    }
-}
-
-/// Puts where a line is, by its number, from 1: the line of C that it comes from, if its comment says so, and then the line
+/// Puts where a line is, by its number, from 1: the line of C or of a description that it comes from, if its comment says so, and then the line
 /// itself.
 ///
 /// # Errors

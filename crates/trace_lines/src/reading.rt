@@ -1,24 +1,6 @@
-//! The lines of a trace.
+//! What a line says.
 
-/// What came of an instruction.
-#[derive(Clone, Copy, Debug, PartialEq, Eq)]
-pub(crate) enum Mark {
-    Plain,
-    Wait,
-    Completed,
-    Refused(u8),
-    Put(u8),
-    Faulted(u8),
-}
-
-/// What one line of a trace says.
-#[derive(Clone, Copy, Debug, PartialEq, Eq)]
-pub(crate) enum Happening {
-    Idle,
-    Tick,
-    Interrupt(u8),
-    Ran { thread: u32, pc: u32, mark: Mark },
-}
+use crate::happenings::{Happening, Mark};
 
 /// The value of a hexadecimal digit.
 fn hex_digit(byte: u8) -> Option<u8> {
@@ -64,13 +46,15 @@ fn faulted_by(digits: &[u8]) -> Option<Mark> {
     Some(Mark::Faulted(small_number(digits)?))
 }
 
+/// The byte that two hexadecimal digits spell.
+pub fn hex_byte(high: u8, low: u8) -> Option<u8> {
+    let high = hex_digit(high)?;
+    Some(high.saturating_mul(16).saturating_add(hex_digit(low)?))
+}
+
 /// That a byte of two hexadecimal digits is put.
 fn put_by(high: u8, low: u8) -> Option<Mark> {
-    Some(Mark::Put(
-        hex_digit(high)?
-            .saturating_mul(16)
-            .saturating_add(hex_digit(low)?),
-    ))
+    Some(Mark::Put(hex_byte(high, low)?))
 }
 
 /// What came of an instruction, as a line's end says.
@@ -98,8 +82,17 @@ fn ran(line: &[u8]) -> Option<Happening> {
     })
 }
 
+/// A line without its line feed, and without a carriage return before it.
+pub fn without_end(piece: &[u8]) -> &[u8] {
+    match piece {
+        [line @ .., b'\r', b'\n'] => line,
+        [line @ .., b'\n'] => line,
+        line => line,
+    }
+}
+
 /// What a line of a trace says, without its line feed.
-pub(crate) fn told_by(line: &[u8]) -> Option<Happening> {
+pub fn told_by(line: &[u8]) -> Option<Happening> {
     match line {
         b"idle" => Some(Happening::Idle),
         b"tick" => Some(Happening::Tick),

@@ -1,0 +1,131 @@
+//! The threads of a text, by the addresses of their TCBs.
+
+use crate::addresses::addresses_of;
+use crate::labels::LabelledLines;
+use crate::places::SourcePlace;
+use indexmap::IndexMap;
+use source_texts::{
+    Budgets, SourceText, SourceThread, TextFault, read, source_place, without_programs, word_at,
+};
+use std::alloc::{AllocError, Global};
+
+/// A thread of a text.
+#[derive(Drop)]
+pub struct NamedThread<'t> {
+    pub name: &'t str,
+    /// Its budget, if that is not still to be found.
+    pub budget: Option<u64>,
+    line: u64,
+    base: u32,
+    /// The lines of its points, from 0.
+    points: Vec<u64>,
+}
+
+/// What a text says of the lines of a trace. What is looked up takes as long as it takes to find a label by halves.
+#[derive(Drop)]
+pub struct TextNames<'t> {
+    text: LabelledLines<'t>,
+    /// The threads by the physical addresses of their TCBs.
+    threads: IndexMap<u32, NamedThread<'t>>,
+}
+
+/// The point of an address, where the program begins at another one.
+fn point_at(pc: u32, base: u32) -> Option<usize> {
+    let offset = pc.checked_sub(base)?;
+    if offset % 4 == 0 {
+        Some((offset / 4) as usize)
+    } else {
+        None
+    }
+}
+
+/// Whether a place in another file is one in a description, whose labels are the text's. Those of a text from C are made up.
+fn is_described(origin: &str) -> bool {
+    match origin.split_once(':') {
+        Some((file, _)) => file.ends_with(".sys"),
+        None => false,
+    }
+}
+
+impl<'t> TextNames<'t> {
+    /// What a text says, whose budgets may be `auto`, and whose programs may be named by lines `program FILE ..`.
+    ///
+    /// # Errors
+    ///
+    /// The first line that is none of the text form, or names what is not declared; or memory was refused.
+    pub fn read(alloc: Global, text: &'t str) -> Result<Self, TextFault> {
+        let mut names = TextNames {
+            text: LabelledLines::of(alloc, text)?,
+            threads: IndexMap::new(alloc),
+        };
+        let draft = without_programs(alloc, text)?;
+        names.read_draft(alloc, &draft)?;
+        Ok(names)
+    }
+
+    /// The threads of a text, by the text as far as it can be read.
+    fn read_draft(&mut self, alloc: Global, draft: &Budgets) -> Result<(), TextFault> {
+        let source = read(alloc, &draft.text)?;
+        self.add_threads(alloc, &source, &draft.lines)?;
+        Ok(())
+    }
+
+    /// The threads of a text.
+    fn add_threads(
+        &mut self,
+        alloc: Global,
+        source: &SourceText<'_>,
+        automatic: &[u64],
+    ) -> Result<(), AllocError> {
+        let addresses = addresses_of(alloc, source)?;
+        for thread in &source.threads {
+            if let Some(address) = addresses.get(thread.tcb) {
+                let named = self.named(alloc, thread, automatic)?;
+                self.threads.insert(*address, named)?;
+            }
+        }
+        Ok(())
+    }
+
+    /// A thread with its name.
+    fn named(
+        &self,
+        alloc: Global,
+        thread: &SourceThread<'_>,
+        automatic: &[u64],
+    ) -> Result<NamedThread<'t>, AllocError> {
+        let is_automatic = automatic.contains(&thread.line);
+        Ok(NamedThread {
+            name: word_at(self.text.line(thread.line), 1).unwrap_or("?"),
+            budget: if is_automatic {
+                None
+            } else {
+                Some(thread.budget)
+            },
+            line: thread.line,
+            base: thread.base,
+            points: Vec::from_slice(alloc, &thread.points)?,
+        })
+    }
+
+    /// The thread whose TCB is at a physical address.
+    pub fn thread(&self, address: u32) -> Option<&NamedThread<'t>> {
+        self.threads.get(&address)
+    }
+
+    /// Where the instruction of a thread at an address is.
+    pub fn place(&self, thread: &NamedThread<'t>, pc: u32) -> Option<SourcePlace<'t>> {
+        let point = point_at(pc, thread.base)?;
+        let line = *thread.points.get(point)?;
+        let origin = source_place(self.text.line(line));
+        let label = match origin {
+            Some(origin) if !is_described(origin) => None,
+            _ => self.text.label(line, thread.line),
+        };
+        Some(SourcePlace {
+            label,
+            line,
+            origin,
+        })
+    }
+}
