@@ -3,5 +3,7 @@
 mod streams;
 mod whole;
 
-pub use streams::{FileCause, STANDARD, StreamFault, read_file, read_stream, write_file};
+pub use streams::{
+    FileCause, STANDARD, StreamFault, read_all, read_file, read_stream, text_of, write_file,
+};
 pub use whole::{FileFault, read_bytes, read_text, write_bytes};

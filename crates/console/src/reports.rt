@@ -8,7 +8,7 @@ pub const DONE: u8 = 0;
 /// .. that was refused, with the reason on standard output.
 pub const REFUSED: u8 = 1;
 /// .. that the words do not make.
-const USAGE: u8 = 2;
+pub const USAGE: u8 = 2;
 /// .. that failed for a file, the output or memory, with the reason on standard error.
 const FAILED: u8 = 3;
 

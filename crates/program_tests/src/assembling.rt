@@ -1,6 +1,6 @@
 //! The text form: lines, instructions, and whole texts.
 
-mod images;
+pub(crate) mod images;
 mod instruction_table;
 mod instructions;
 mod lines;

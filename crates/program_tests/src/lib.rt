@@ -7,11 +7,17 @@ mod assembling;
 #[cfg(test)]
 mod certification;
 #[cfg(test)]
+mod changed;
+#[cfg(test)]
 mod damage;
+#[cfg(test)]
+mod descriptions;
 #[cfg(test)]
 mod explanations;
 #[cfg(test)]
 mod images;
+#[cfg(test)]
+mod listed;
 #[cfg(test)]
 mod running;
 #[cfg(test)]

@@ -1,8 +1,10 @@
 //! The program over real files, and what it runs.
 
 mod builds;
+mod byte_sinks;
 mod edges;
 mod event_lines;
+mod makers;
 mod outputs;
 pub mod sessions;
 mod unverified;

@@ -224,7 +224,11 @@ fn report<W: Sink, E: Sink>(alloc: Global, failure: Failure, output: &mut W, err
 }
 
 /// The line of a refusal: its number, name and items, and a refused call's error.
-fn refusal_line(alloc: Global, refusal: Refusal) -> Result<String, AllocError> {
+///
+/// # Errors
+///
+/// Memory is refused.
+pub fn refusal_line(alloc: Global, refusal: Refusal) -> Result<String, AllocError> {
     let number = refusal.number();
     let name = refusal.name();
     let (first, second) = refusal.items();

@@ -7,7 +7,7 @@ mod commands;
 mod running;
 mod unverified;
 
-pub use commands::{command, command_line};
+pub use commands::{command, command_line, refusal_line};
 pub use running::{RunFault, run};
 pub use sinks::{EventsFault, MemorySink, Sink, SinkFault, WriterSink, events, put_all};
 pub use unverified::run_unverified;

@@ -18,3 +18,8 @@ pub record IsAcceptedText (text : Text) : Type 0 where
   pub spelled : IsSpelling whole_image bytes image
   pub read : Image
   pub accepted : IsAccepted bytes read
+
+-- The verifier accepts the bytes of an image.
+pub record IsAcceptedImage (bytes : List ℕ) : Type 0 where
+  pub image : Image
+  pub accepted : IsAccepted bytes image

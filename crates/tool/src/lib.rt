@@ -1,12 +1,21 @@
 //! The program for makers: what it answers to the words of its command line.
 #![tactic(auto)]
 
+mod certificate_files;
 mod certification;
 mod commands;
-mod faults;
+mod expected;
+mod explanations;
+mod images;
+mod making;
 mod messages;
+mod reports;
+mod sources;
+mod systems;
 mod trials;
+mod views;
 
 pub use certification::{CertifiedText, NotCertified, Why, certified};
 pub use commands::{command, command_line};
+pub use making::{MadeImage, made};
 pub use sinks::{MemorySink, Sink, SinkFault, WriterSink};

@@ -2,5 +2,6 @@
 #![tactic(auto)]
 
 mod requests;
+mod words;
 
-pub use requests::{ToolRequest, parse_words};
+pub use requests::{NoRequest, ToolRequest, parse_words};

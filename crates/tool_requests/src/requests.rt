@@ -1,82 +1,203 @@
 //! What the program for makers is asked to do.
 
-use clap::ArgMatches;
-use command_line::{Form, WordsFault, matches};
-use std::alloc::Global;
+use crate::words::program;
+use clap::error::ErrorKind;
+use clap::{ArgMatches, Error};
+use std::alloc::{AllocError, Global};
 use std::convert::AsStr;
-
-/// The commands of the program.
-const COMMANDS: [Form<'_>; 4] = [
-    Form {
-        name: "certify",
-        words: &["source", "certified"],
-    },
-    Form {
-        name: "explain",
-        words: &["source"],
-    },
-    Form {
-        name: "draw",
-        words: &["source"],
-    },
-    Form {
-        name: "chart",
-        words: &["trace"],
-    },
-];
 
 /// What the program is asked to do, with the names of its files.
 #[derive(Clone, Copy)]
 pub enum ToolRequest<'a> {
+    /// To say whether an image is accepted.
+    Verify {
+        image: &'a str,
+    },
+    /// To run an image over a list of events.
+    Run {
+        image: &'a str,
+        events: &'a str,
+        /// Whether the image runs without being verified.
+        unverified: bool,
+        /// Whether the bytes that threads print are put alone.
+        bytes: bool,
+    },
+    /// To build an image from its text.
+    Build {
+        source: &'a str,
+        /// The file that gets the image.
+        image: &'a str,
+    },
+    /// To make an accepted image of a system.
+    Make {
+        system: &'a str,
+        /// The file that gets the image.
+        image: &'a str,
+    },
+    /// To write the text of a description.
+    Expand {
+        description: &'a str,
+        /// The file that gets the text.
+        text: &'a str,
+    },
     /// To write the certificates of a text.
     Certify {
         source: &'a str,
         /// The file that gets the text with its certificates.
         certified: &'a str,
     },
-    /// To say why a text is refused.
-    Explain {
-        source: &'a str,
+    /// To compare the trace of a system with what is expected.
+    Test {
+        system: &'a str,
+        events: &'a str,
+        expected: &'a str,
     },
-    /// To draw the system of a text.
+    /// To say why a system is refused.
+    Explain {
+        system: &'a str,
+    },
+    /// To draw a system.
     Draw {
-        source: &'a str,
+        system: &'a str,
     },
     /// To draw who ran when, by a trace.
     Chart {
         trace: &'a str,
+        /// The system that ran.
+        system: Option<&'a str>,
+        /// The first event that is drawn.
+        from: Option<u64>,
+        /// The last event that is drawn.
+        to: Option<u64>,
     },
+    /// To write the text of an image.
+    List {
+        image: &'a str,
+    },
+    /// To say what a system may do that another may not.
+    Diff {
+        before: &'a str,
+        after: &'a str,
+    },
+}
+
+/// Why the words are no request.
+#[derive(Drop)]
+pub enum NoRequest {
+    /// They ask for this text: help, or the version.
+    Shown(String),
+    /// They are wrong, as this text says.
+    Wrong(String),
+    /// Memory was refused.
+    OutOfMemory,
+}
+
+impl From<AllocError> for NoRequest {
+    fn from(_refused: AllocError) -> NoRequest {
+        NoRequest::OutOfMemory
+    }
+}
+
+/// What is said where there are no matches.
+fn said(alloc: Global, error: &Error) -> NoRequest {
+    let Ok(text) = format!(in alloc; "{error}") else {
+        return NoRequest::OutOfMemory;
+    };
+    match error.kind() {
+        ErrorKind::OutOfMemory => NoRequest::OutOfMemory,
+        ErrorKind::DisplayHelp | ErrorKind::DisplayVersion => NoRequest::Shown(text),
+        _ => NoRequest::Wrong(text),
+    }
 }
 
 /// The request that the words after the program's name make.
 ///
 /// # Errors
 ///
-/// The words are no request, or memory is refused.
+/// The words ask for help or are wrong, with what is to be said of them, or memory is refused.
 pub fn parse_words<'a, S: AsStr>(
     alloc: Global,
     words: &'a [S],
-) -> Result<ToolRequest<'a>, WordsFault> {
-    let matches = matches(alloc, "microsys_tool", &COMMANDS, words)?;
-    requested(&matches).ok_or(WordsFault::Usage)
+) -> Result<ToolRequest<'a>, NoRequest> {
+    let program = program(alloc)?;
+    match program.try_get_matches_from(words) {
+        Ok(matches) => match requested(&matches) {
+            Some(request) => Ok(request),
+            None => Err(NoRequest::Wrong(String::from_str(alloc, "error: no such word\n")?)),
+        },
+        Err(error) => Err(said(alloc, &error)),
+    }
 }
 
 /// The request of words that were taken.
 fn requested<'a>(matches: &ArgMatches<'a>) -> Option<ToolRequest<'a>> {
     let (name, matches) = matches.subcommand()?;
     match name {
-        "certify" => Some(ToolRequest::Certify {
-            source: matches.get_str("source")?,
-            certified: matches.get_str("certified")?,
+        "verify" => Some(ToolRequest::Verify {
+            image: matches.get_str("IMAGE")?,
         }),
+        "run" => run(matches),
+        "build" => Some(ToolRequest::Build {
+            source: matches.get_str("SOURCE")?,
+            image: matches.get_str("IMAGE")?,
+        }),
+        "make" => Some(ToolRequest::Make {
+            system: matches.get_str("SYSTEM")?,
+            image: matches.get_str("IMAGE")?,
+        }),
+        "expand" => Some(ToolRequest::Expand {
+            description: matches.get_str("DESCRIPTION")?,
+            text: matches.get_str("TEXT")?,
+        }),
+        "certify" => Some(ToolRequest::Certify {
+            source: matches.get_str("SOURCE")?,
+            certified: matches.get_str("CERTIFIED")?,
+        }),
+        "test" => test(matches),
+        name => view(name, matches),
+    }
+}
+
+/// The request to run an image.
+fn run<'a>(matches: &ArgMatches<'a>) -> Option<ToolRequest<'a>> {
+    Some(ToolRequest::Run {
+        image: matches.get_str("IMAGE")?,
+        events: matches.get_str("EVENTS")?,
+        unverified: matches.get_flag("unverified"),
+        bytes: matches.get_flag("bytes"),
+    })
+}
+
+/// The request to compare a trace.
+fn test<'a>(matches: &ArgMatches<'a>) -> Option<ToolRequest<'a>> {
+    Some(ToolRequest::Test {
+        system: matches.get_str("SYSTEM")?,
+        events: matches.get_str("EVENTS")?,
+        expected: matches.get_str("EXPECTED")?,
+    })
+}
+
+/// A request that shows something of a system.
+fn view<'a>(name: &str, matches: &ArgMatches<'a>) -> Option<ToolRequest<'a>> {
+    match name {
         "explain" => Some(ToolRequest::Explain {
-            source: matches.get_str("source")?,
+            system: matches.get_str("SYSTEM")?,
         }),
         "draw" => Some(ToolRequest::Draw {
-            source: matches.get_str("source")?,
+            system: matches.get_str("SYSTEM")?,
         }),
         "chart" => Some(ToolRequest::Chart {
-            trace: matches.get_str("trace")?,
+            trace: matches.get_str("TRACE")?,
+            system: matches.get_str("SYSTEM"),
+            from: matches.get_one::<u64>("from"),
+            to: matches.get_one::<u64>("to"),
+        }),
+        "list" => Some(ToolRequest::List {
+            image: matches.get_str("IMAGE")?,
+        }),
+        "diff" => Some(ToolRequest::Diff {
+            before: matches.get_str("BEFORE")?,
+            after: matches.get_str("AFTER")?,
         }),
         _ => None,
     }

@@ -1,5 +1,6 @@
 //! Texts from files or from standard input, and why a file is not read or written.
 
+use std::alloc::Global;
 use std::io::Read;
 use std::rt::Files;
 use std::{fs, io};
@@ -77,12 +78,12 @@ fn line_behind(bytes: &[u8], valid: usize) -> u64 {
     line
 }
 
-/// The text that bytes are.
-fn text_of(
-    alloc: std::alloc::Global,
-    bytes: Vec<u8>,
-    name: &str,
-) -> Result<String, StreamFault<'_>> {
+/// The text that the bytes of a file are.
+///
+/// # Errors
+///
+/// They are not UTF-8, and from which line on; or memory is refused.
+pub fn text_of(alloc: Global, bytes: Vec<u8>, name: &str) -> Result<String, StreamFault<'_>> {
     let mut text = String::new(alloc);
     match std::str::from_utf8(bytes.as_slice()) {
         Ok(read) => match text.push_str(read) {
@@ -96,6 +97,26 @@ fn text_of(
     }
 }
 
+/// All bytes of a file, or of standard input where `-` is its name.
+///
+/// # Errors
+///
+/// It cannot be read, and why; or memory is refused.
+pub fn read_all<'a, R: Files + Input + AllocGlobal>(
+    rt: &R,
+    name: &'a str,
+) -> Result<Vec<u8>, StreamFault<'a>> {
+    let read = if name == STANDARD {
+        read_input(rt)
+    } else {
+        fs::read(rt, name)
+    };
+    match read {
+        Ok(bytes) => Ok(bytes),
+        Err(error) => Err(fault_of(error, name)),
+    }
+}
+
 /// The text of a file, or of standard input where `-` is its name.
 ///
 /// # Errors
@@ -105,15 +126,8 @@ pub fn read_stream<'a, R: Files + Input + AllocGlobal>(
     rt: &R,
     name: &'a str,
 ) -> Result<String, StreamFault<'a>> {
-    let read = if name == STANDARD {
-        read_input(rt)
-    } else {
-        fs::read(rt, name)
-    };
-    match read {
-        Ok(bytes) => text_of(rt.alloc(), bytes, name),
-        Err(error) => Err(fault_of(error, name)),
-    }
+    let bytes = read_all(rt, name)?;
+    text_of(rt.alloc(), bytes, name)
 }
 
 /// All bytes of a file.

@@ -1,6 +1,6 @@
 //! What is in pictures.
 
-use drawing::{DrawingFault, chart, draw};
+use drawing::{ChartRequest, DrawingFault, chart, draw};
 use sinks::{MemorySink, Sink};
 use std::process::Abort;
 
@@ -15,8 +15,15 @@ const TEXT: &str =
     thread client cs 28 vs 100 auto 0 again 0x1000\nagain: jal x0 again\nend\n\
     thread server cs2 28 vs2 101 6 0 start 0x1000\nbuffer words\nstart: jal x0 start\nend\n";
 
+/// All events, without a text.
+const WHOLE: ChartRequest<'_> = ChartRequest {
+    text: None,
+    from: None,
+    to: None,
+};
+
 /// Each piece is in what was put.
-fn has_all(rt: &impl Abort, put: &[u8], pieces: &[&str]) {
+pub(crate) fn has_all(rt: &impl Abort, put: &[u8], pieces: &[&str]) {
     let said = std::str::from_utf8(put).unwrap_or("");
     for piece in pieces {
         let stands = said.contains(*piece);
@@ -35,11 +42,11 @@ fn systems_are_drawn(rt: HostRuntime) {
             "digraph",
             "<B>client</B><BR/>priority 100, budget auto<BR/>",
             "<B>server</B><BR/>priority 101, budget 6<BR/>",
+            ">acknowledges interrupt 3</FONT>",
             "\"client\" -> \"ep\" [label=\"call, badge 7\"",
             "\"ep\" -> \"server\" [label=\"receive\"",
             "\"line\" -> \"bell\" [label=\"signal, badge 5\"",
             "\"bell\" -> \"server\" [label=\"wait\"",
-            "\"server\" -> \"line\" [label=\"acknowledge\"",
             "\"both\" -> \"client\" [label=\"0x2000 read, write\", color=\"#b0612b\", dir=both]",
             "\"words\" [shape=note",
             "\"words\" -> \"server\" [label=\"message buffer\"",
@@ -49,12 +56,29 @@ fn systems_are_drawn(rt: HostRuntime) {
 }
 
 #[test]
+fn systems_with_programs_of_files_are_drawn(rt: HostRuntime) {
+    let text =
+        "memory 16 4\nuntyped u 0x8000 15\nobject code u frame\nobject vs u root\nobject pt u table\nobject main u tcb\nobject cs u cnode 4\n\
+        table vs 0 pt\nmap vs 0x1000 code 4\nthread main cs 28 vs 100 auto 0 main 0x1000\nprogram main.c stack 0x3000\nend\n";
+    let mut sink = MemorySink::new(rt.alloc(), 100_000);
+    assert_eq!(rt; draw(rt.alloc(), text, &mut sink), Ok(()));
+    has_all(
+        &rt,
+        sink.bytes(),
+        &["<B>main</B><BR/>priority 100, budget auto<BR/>"],
+    );
+}
+
+#[test]
 fn traces_are_drawn(rt: HostRuntime) {
     let trace =
         b"8000c000 00001000 plain\n8000c000 00001004 byte 41\n8000c000 00001008 wait\nidle\ntick\nirq 3\n\
         8000c200 00002000 error 3\n8000c000 0000100c fault 4\n";
     let mut sink = MemorySink::new(rt.alloc(), 100_000);
-    assert_eq!(rt; chart(rt.alloc(), trace.as_slice(), &mut sink), Ok(()));
+    assert_eq!(rt;
+        chart(rt.alloc(), trace.as_slice(), &WHOLE, &mut sink),
+        Ok(())
+    );
     has_all(
         &rt,
         sink.bytes(),
@@ -76,12 +100,17 @@ fn faults_of_pictures_are_told(rt: HostRuntime) {
     let mut sink = MemorySink::new(rt.alloc(), 100_000);
     let unknown = draw(rt.alloc(), "memory 16 4\nmap vs 0x1000 code 4\n", &mut sink);
     assert_eq!(rt; unknown, Err(DrawingFault::Malformed { line: 2 }));
-    let odd = chart(rt.alloc(), b"idle\ntick\nidel\n".as_slice(), &mut sink);
+    let odd = chart(
+        rt.alloc(),
+        b"idle\ntick\nidel\n".as_slice(),
+        &WHOLE,
+        &mut sink,
+    );
     assert_eq!(rt; odd, Err(DrawingFault::Malformed { line: 3 }));
     assert_eq!(rt; sink.bytes().len(), 0);
     let mut small = MemorySink::new(rt.alloc(), 100);
     assert_eq!(rt;
-        chart(rt.alloc(), b"idle\n".as_slice(), &mut small),
+        chart(rt.alloc(), b"idle\n".as_slice(), &WHOLE, &mut small),
         Err(DrawingFault::Output)
     );
 }

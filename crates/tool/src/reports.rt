@@ -1,16 +1,25 @@
 //! Why a request was not carried out, and how that is reported.
 
-use console::{REFUSED, STANDARD, StreamFault, WordsFault, failed, refused, wrong_words};
+use console::{
+    DONE, REFUSED, STANDARD, StreamFault, USAGE, WordsFault, failed, refused, wrong_words,
+};
 use drawing::DrawingFault;
 use explaining::ExplainFault;
+use model::Refusal;
+use runner::refusal_line;
 use sinks::{Sink, SinkFault, put_all};
 use std::alloc::{AllocError, Global};
+use tool_requests::NoRequest;
 
 /// Why a request was not carried out.
 #[derive(Drop)]
 pub(crate) enum ToolFault<'a> {
-    /// The words are no request.
+    /// The words are no text.
     Usage,
+    /// The words ask for help or the version, which is this text.
+    Shown(String),
+    /// The words are wrong, as this text says.
+    Wrong(String),
     /// A file or standard input is not read, or a file not written.
     Stream(StreamFault<'a>),
     /// Standard output takes no more.
@@ -19,6 +28,12 @@ pub(crate) enum ToolFault<'a> {
     Memory,
     /// The text is refused, and these lines say why.
     Refused(String),
+    /// The image is refused.
+    Image(Refusal),
+    /// The list of events is refused at this line.
+    Events(u64),
+    /// This line of a file is none of a text.
+    Unread { file: &'a str, line: u64 },
     /// Two parts of the program disagree on a text, whose file this is.
     Disagreement(&'a str),
     /// This line is none of what is to be drawn.
@@ -34,6 +49,16 @@ impl From<SinkFault> for ToolFault<'_> {
 impl From<AllocError> for ToolFault<'_> {
     fn from(_fault: AllocError) -> Self {
         ToolFault::Memory
+    }
+}
+
+impl From<NoRequest> for ToolFault<'_> {
+    fn from(fault: NoRequest) -> Self {
+        match fault {
+            NoRequest::Shown(text) => ToolFault::Shown(text),
+            NoRequest::Wrong(text) => ToolFault::Wrong(text),
+            NoRequest::OutOfMemory => ToolFault::Memory,
+        }
     }
 }
 
@@ -116,6 +141,21 @@ fn report_disagreement<E: Sink>(alloc: Global, file: &str, errors: &mut E) -> u8
     }
 }
 
+/// Puts help or the version, and returns the exit status.
+fn show<W: Sink, E: Sink>(text: &str, output: &mut W, errors: &mut E) -> u8 {
+    match put_all(output, text.as_bytes()) {
+        Ok(()) => DONE,
+        Err(_) => failed(errors, b"output", b""),
+    }
+}
+
+/// Puts lines on standard error, and returns this exit status whether they are taken or not.
+fn complain<E: Sink>(text: &str, status: u8, errors: &mut E) -> u8 {
+    match put_all(errors, text.as_bytes()) {
+        Ok(()) | Err(_) => status,
+    }
+}
+
 /// Says why a request was not carried out, and returns the exit status. What is refused is reported on standard error.
 pub(crate) fn report<W: Sink, E: Sink>(
     alloc: Global,
@@ -125,18 +165,26 @@ pub(crate) fn report<W: Sink, E: Sink>(
 ) -> u8 {
     match fault {
         ToolFault::Usage => wrong_words(errors),
+        ToolFault::Shown(text) => show(text.as_str(), output, errors),
+        ToolFault::Wrong(text) => complain(text.as_str(), USAGE, errors),
         ToolFault::Stream(fault) => report_stream(alloc, fault, errors),
         ToolFault::Output => failed(errors, b"output", b""),
         ToolFault::Memory => failed(errors, b"memory", b""),
-        ToolFault::Refused(lines) => {
-            let _ = put_all(errors, lines.as_bytes());
-            REFUSED
-        }
+        ToolFault::Refused(lines) => complain(lines.as_str(), REFUSED, errors),
         ToolFault::Disagreement(file) => report_disagreement(alloc, file, errors),
-        ToolFault::Malformed(line) => refused(
-            format!(in alloc; "line {line} Malformed: not read\n"),
-            output,
-            errors,
+        fault => refused(refused_line(alloc, fault), output, errors),
+    }
+}
+
+/// The line of a file that is refused.
+fn refused_line(alloc: Global, fault: ToolFault<'_>) -> Result<String, AllocError> {
+    match fault {
+        ToolFault::Image(refusal) => refusal_line(alloc, refusal),
+        ToolFault::Events(line) => format!(in alloc; "events line {line}\n"),
+        ToolFault::Unread { file, line } => format!(in alloc;
+            "{file}:{line}: Malformed: not read\n"
         ),
+        ToolFault::Malformed(line) => format!(in alloc; "line {line} Malformed: not read\n"),
+        _ => Err(AllocError),
     }
 }

@@ -1,0 +1,8 @@
+//! Descriptions of systems: what is wrong or odd is told by its line, and systems come out accepted.
+
+mod notes;
+mod places;
+mod refusals;
+mod rows;
+mod samples;
+mod texts;

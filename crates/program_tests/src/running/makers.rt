@@ -1,0 +1,113 @@
+//! The words of the program for makers over real files.
+
+use crate::running::sessions::{name_of, put_file, take_files};
+use std::process::Abort;
+use std::rt::{Env, Files};
+use std::str;
+use std::test::Fail;
+use std::time::Clock;
+use tool::{MemorySink, command};
+
+/// More than any answer here has.
+const ROOM: usize = 50_000;
+
+/// At each interrupt 3 the part prints a byte, and acknowledges it. From wait to wait it takes eleven instructions.
+const SYSTEM: &str = "bell b
+part p 1
+waits b line 3
+code
+again: addi x10 x0 b
+addi x17 x0 5
+ecall
+addi x10 x0 65
+addi x17 x0 9
+ecall
+addi x10 x0 b.line3
+lui x11 18
+addi x17 x0 3
+ecall
+jal x0 again
+end
+";
+
+/// The part waits, and is woken twice.
+const EVENTS: &str = "step 3\nirq 3\nstep 11\nirq 3\nstep 11\n";
+
+/// What the program answers to words, in which `@` begins the name of a file: its output, `status` with its status, and its errors.
+fn answer_to<R: Files + Input + Env + Clock + AllocGlobal>(
+    rt: &R,
+    words: &str,
+) -> Result<String, Fail> {
+    let words = words.replace(rt.alloc(), '@', name_of(rt, "")?.as_str())?;
+    let mut list = Vec::new(rt.alloc());
+    for word in words.split_whitespace() {
+        list.push(word)?;
+    }
+    let mut output = MemorySink::new(rt.alloc(), ROOM);
+    let mut errors = MemorySink::new(rt.alloc(), ROOM);
+    let status = command(rt, list.as_slice(), &mut output, &mut errors);
+    let (output, errors) = (
+        str::from_utf8(output.bytes())?,
+        str::from_utf8(errors.bytes())?,
+    );
+    Ok(format!(in rt.alloc(); "{output}status {status}\n{errors}")?)
+}
+
+/// Asserts that the program answers so.
+fn answers<R: Files + Input + Env + Clock + AllocGlobal + Abort>(
+    rt: &R,
+    words: &str,
+    want: &str,
+) -> Result<(), Fail> {
+    assert_eq!(rt; answer_to(rt, words)?.as_str(), want, "{words}");
+    Ok(())
+}
+
+#[test]
+fn one_command_makes_a_system_that_runs(rt: HostRuntime) -> Result<(), Fail> {
+    put_file(&rt, "made.sys", SYSTEM.as_bytes())?;
+    put_file(&rt, "made.events", EVENTS.as_bytes())?;
+    put_file(&rt, "made.bytes", b"41\n41\n")?;
+    put_file(&rt, "other.bytes", b"41\n42\n")?;
+    answers(&rt, "make @made.sys @made.img", "p budget 11\nstatus 0\n")?;
+    answers(&rt, "verify @made.img", "accepted\nstatus 0\n")?;
+    answers(&rt, "run @made.img @made.events --bytes", "AAstatus 0\n")?;
+    answers(&rt, "diff @made.sys @made.sys", "status 0\n")?;
+    let test = "test @made.sys @made.events @made.bytes";
+    answers(&rt, test, "as expected\nstatus 0\n")?;
+    let other = answer_to(&rt, "test @made.sys @made.events @other.bytes")?;
+    assert!(&rt; other.ends_with("status 1\n"), "{other}");
+    take_files(&rt, "made.sys made.events made.bytes other.bytes made.img")?;
+    Ok(())
+}
+
+#[test]
+fn wrong_words_are_answered_by_what_is_wrong(rt: HostRuntime) -> Result<(), Fail> {
+    let told =
+        "status 2\nerror: unrecognized subcommand 'zzz'\n\nUsage: microsys_tool <COMMAND>\n\nFor more information, try '--help'.\n";
+    answers(&rt, "zzz", told)?;
+    let told =
+        "status 2\nerror: the following required arguments were not provided:\n  <IMAGE>\n\nUsage: make <SYSTEM> <IMAGE>\n\nFor more information, try '--help'.\n";
+    answers(&rt, "make a.sys", told)?;
+    let version = answer_to(&rt, "--version")?;
+    assert!(&rt; version.starts_with("microsys_tool "), "{version}");
+    assert!(&rt; version.ends_with("status 0\n"), "{version}");
+    let help = answer_to(&rt, "run --help")?;
+    assert!(&rt; help.contains("--unverified"), "{help}");
+    assert!(&rt; help.ends_with("status 0\n"), "{help}");
+    Ok(())
+}
+
+#[test]
+fn what_is_refused_leaves_no_image(rt: HostRuntime) -> Result<(), Fail> {
+    let system = SYSTEM.replace(rt.alloc(), "waits b line 3", "rings b")?;
+    put_file(&rt, "refused.sys", system.as_bytes())?;
+    put_file(&rt, "kept.img", b"an older image")?;
+    let told = answer_to(&rt, "make @refused.sys @kept.img")?;
+    assert!(&rt; told.starts_with("status 1\n"), "{told}");
+    assert_eq!(&rt;
+        take_files(&rt, "refused.sys kept.img")?.as_slice(),
+        b"an older image".as_slice()
+    );
+    Ok(())
+}

@@ -1,0 +1,253 @@
+//! The words of the program's command line.
+
+use clap::{Arg, ArgAction, Command};
+use std::alloc::{AllocError, Global};
+
+/// The version of the program, those of the images that it reads, and the kit that proves it.
+const VERSION: &str =
+    "0.1.0\nimages of versions 1 to 3\nproved with rattle-kit-13f logic dac8208d650f15bf";
+
+/// What is said after all words.
+const STATUSES: &str =
+    "`-` is standard input, or where a text or an image is written standard output.\n\nExit status: 0 done; 1 refused, with the reason; 2 wrong words; 3 a file, the output or memory.";
+
+/// What follows a word: `NAME` is a file, `?NAME` one that may be left out, `--NAME` a word that may be there, and `--NAME N` such a
+/// word with a number.
+struct Argument<'a> {
+    form: &'a str,
+    help: &'a str,
+}
+
+/// A word of the program.
+struct Word<'a> {
+    name: &'a str,
+    about: &'a str,
+    arguments: &'a [Argument<'a>],
+}
+
+/// The words that make something of a system.
+const MAKING: [Word<'_>; 4] = [
+    Word {
+        name: "make",
+        about: "Makes an accepted image of a system: expands, certifies, builds and verifies",
+        arguments: &[
+            Argument {
+                form: "SYSTEM",
+                help: "the file of a description, or of a text",
+            },
+            Argument {
+                form: "IMAGE",
+                help: "the file that gets the image",
+            },
+        ],
+    },
+    Word {
+        name: "expand",
+        about: "Writes the text of a description, and notes on it",
+        arguments: &[
+            Argument {
+                form: "DESCRIPTION",
+                help: "the file of a description",
+            },
+            Argument {
+                form: "TEXT",
+                help: "the file that gets the text",
+            },
+        ],
+    },
+    Word {
+        name: "certify",
+        about: "Writes a text with the certificates and budgets that are found for it",
+        arguments: &[
+            Argument {
+                form: "SOURCE",
+                help: "the file of a text",
+            },
+            Argument {
+                form: "CERTIFIED",
+                help: "the file that gets the text with its certificates",
+            },
+        ],
+    },
+    Word {
+        name: "test",
+        about: "Runs a system, and says the first difference from what is expected",
+        arguments: &[
+            Argument {
+                form: "SYSTEM",
+                help: "the file of a description, a text or an image",
+            },
+            Argument {
+                form: "EVENTS",
+                help: "lines `step`, `step N`, `tick` and `irq N`",
+            },
+            Argument {
+                form: "EXPECTED",
+                help: "the lines of a trace, or of bytes",
+            },
+        ],
+    },
+];
+
+/// The words on images, which are those of `microsys` too.
+const IMAGES: [Word<'_>; 3] = [
+    Word {
+        name: "verify",
+        about: "Says whether an image is accepted, or the first rule that it breaks",
+        arguments: &[Argument {
+            form: "IMAGE",
+            help: "the file of an image",
+        }],
+    },
+    Word {
+        name: "run",
+        about: "Verifies and boots an image, and prints a line for each event",
+        arguments: &[
+            Argument {
+                form: "IMAGE",
+                help: "the file of an image",
+            },
+            Argument {
+                form: "EVENTS",
+                help: "lines `step`, `step N`, `tick` and `irq N`",
+            },
+            Argument {
+                form: "--unverified",
+                help: "boots an image that is not accepted, too",
+            },
+            Argument {
+                form: "--bytes",
+                help: "puts the bytes that threads print, and nothing else",
+            },
+        ],
+    },
+    Word {
+        name: "build",
+        about: "Makes the image of a text",
+        arguments: &[
+            Argument {
+                form: "SOURCE",
+                help: "the file of a text",
+            },
+            Argument {
+                form: "IMAGE",
+                help: "the file that gets the image",
+            },
+        ],
+    },
+];
+
+/// The words that show something of a system.
+const SHOWING: [Word<'_>; 5] = [
+    Word {
+        name: "explain",
+        about: "Says why a system is refused, by lines and names, and by how much",
+        arguments: &[Argument {
+            form: "SYSTEM",
+            help: "the file of a description, a text or an image",
+        }],
+    },
+    Word {
+        name: "draw",
+        about: "Draws a system as a graph, for Graphviz",
+        arguments: &[Argument {
+            form: "SYSTEM",
+            help: "the file of a description, a text or an image",
+        }],
+    },
+    Word {
+        name: "chart",
+        about: "Draws who ran when by a trace, as SVG",
+        arguments: &[
+            Argument {
+                form: "TRACE",
+                help: "the lines that `run` printed",
+            },
+            Argument {
+                form: "?SYSTEM",
+                help: "the system that ran, for names, lines and budgets",
+            },
+            Argument {
+                form: "--from N",
+                help: "the first event that is drawn, counted from 1",
+            },
+            Argument {
+                form: "--to N",
+                help: "the last event that is drawn",
+            },
+        ],
+    },
+    Word {
+        name: "list",
+        about: "Writes the text of an image, with sizes, free memory and who holds what",
+        arguments: &[Argument {
+            form: "IMAGE",
+            help: "the file of an image",
+        }],
+    },
+    Word {
+        name: "diff",
+        about: "Says what the second system may do that the first may not; status 1 if there is any",
+        arguments: &[
+            Argument {
+                form: "BEFORE",
+                help: "the file of a description, a text or an image",
+            },
+            Argument {
+                form: "AFTER",
+                help: "the file of a description, a text or an image",
+            },
+        ],
+    },
+];
+
+/// An argument of this form.
+fn argument_of<'a>(alloc: Global, form: &'a str) -> Arg<'a> {
+    if let Some(flag) = form.strip_prefix("--") {
+        return match flag.strip_suffix(" N") {
+            Some(name) => Arg::new(alloc, name)
+                .long(name)
+                .value_name("N")
+                .value_parser(clap::value_parser!(u64)),
+            None => Arg::new(alloc, flag).long(flag).action(ArgAction::SetTrue),
+        };
+    }
+    match form.strip_prefix("?") {
+        Some(name) => Arg::new(alloc, name),
+        None => Arg::new(alloc, form).required(true),
+    }
+}
+
+/// A word and what follows it.
+fn command<'a>(alloc: Global, word: &Word<'a>) -> Result<Command<'a>, AllocError> {
+    let mut command = Command::new(alloc, word.name).about(word.about);
+    for Argument { form, help } in word.arguments {
+        command = command.arg(argument_of(alloc, *form).help(*help))?;
+    }
+    Ok(command)
+}
+
+/// The program with these words more.
+fn with_words<'a>(
+    alloc: Global,
+    mut program: Command<'a>,
+    words: &[Word<'a>],
+) -> Result<Command<'a>, AllocError> {
+    for word in words {
+        program = program.subcommand(command(alloc, word)?)?;
+    }
+    Ok(program)
+}
+
+/// The program with all of its words.
+pub(crate) fn program<'a>(alloc: Global) -> Result<Command<'a>, AllocError> {
+    let program = Command::new(alloc, "microsys_tool")
+        .about("Makes, explains and shows systems for microsys")
+        .version(VERSION)
+        .after_help(STATUSES)
+        .no_binary_name(true)
+        .subcommand_required(true);
+    let program = with_words(alloc, program, &MAKING)?;
+    let program = with_words(alloc, program, &IMAGES)?;
+    with_words(alloc, program, &SHOWING)
+}
