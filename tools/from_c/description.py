@@ -1,7 +1,8 @@
 """The system that a text describes, as far as its threads' programs from C need it: what is mapped and named how.
 
 The text is that of `microsys build`, with a line `program FILE.c .. [data ADDRESS] [stack ADDRESS]` in a thread in the
-place of its instructions.
+place of its instructions. A line that `microsys_tool expand` wrote names the line of the description that it comes from,
+and what is said of it is said of that one.
 """
 
 from __future__ import annotations
@@ -13,6 +14,10 @@ from faults import Fault, Place
 
 PAGE = 4096
 WRITE, READ, EXECUTE = 1, 2, 4
+# The comment of a line that comes from a description.
+ORIGIN = re.compile(r"#[ \t]*(\S+\.sys):([0-9]+)[ \t\r]*$")
+# How many empty slots have names.
+FREE_SLOTS = 16
 
 
 @dataclass(frozen=True)
@@ -35,8 +40,10 @@ class Held:
 
 @dataclass(frozen=True)
 class Wanted:
-    """A line `program`: its place, the files, and the addresses of its data and of its stack's end."""
+    """A line `program`: its number in the text, its place, the files, and the addresses of its data and of its stack's
+    end."""
 
+    number: int
     place: Place
     files: tuple[str, ...]
     data: int | None
@@ -69,17 +76,23 @@ class Description:
     pages: dict[str, dict[int, Mapped]] = field(default_factory=dict)
     slots: dict[str, dict[int, Held]] = field(default_factory=dict)
     kinds: dict[str, str] = field(default_factory=dict)
+    # How many slots each CNode has.
+    sizes: dict[str, int] = field(default_factory=dict)
     filled: set[str] = field(default_factory=set)
 
     def names(self, thread: Thread) -> dict[str, int]:
         """The names that the thread's program may use: CAP_NAME, the index of its CNode's slot with the object or
         handler of that name, and PAGE_NAME, the address of the frame under its root table. What is there twice has
-        none."""
+        none. The first slots that are empty are CAP_FREE_1 and so on, but where an object has such a name."""
         found: dict[str, list[int]] = {}
         for index, slot in self.slots.get(thread.cnode, {}).items():
             found.setdefault(f"CAP_{slot.source.upper()}", []).append(index)
         for address, page in self.pages.get(thread.root, {}).items():
             found.setdefault(f"PAGE_{page.frame.upper()}", []).append(address)
+        held = self.slots.get(thread.cnode, {})
+        free = [index for index in range(1, self.sizes.get(thread.cnode, 0)) if index not in held][:FREE_SLOTS]
+        for number, index in enumerate(free, 1):
+            found.setdefault(f"CAP_FREE_{number}", [index])
         return {name: numbers[0] for name, numbers in found.items() if len(numbers) == 1}
 
     def bell(self, thread: Thread) -> dict[str, int]:
@@ -90,7 +103,6 @@ class Description:
                 if self.kinds.get(slot.source) == kind and slot.rights & READ:
                     return {"MICROSYS_BELL": index}
         return {}
-
 
     def buffer(self, thread: Thread) -> dict[str, int]:
         """MICROSYS_BUFFER, the lowest address at which the thread has its message buffer, if it has one there."""
@@ -105,21 +117,28 @@ def read(text: str, file: str) -> Description:
     thread: Thread | None = None
     for number, line in enumerate(described.lines, 1):
         words = re.split(r"[ \t,]+", line.split("#")[0].strip(" \t\r,"))
-        place = Place(file, number)
+        place = place_of(line, Place(file, number))
         try:
             if thread is None:
                 thread = declaration(words, place, described)
             elif words[0] == "program":
-                thread.wanted = wanted(words, place)
+                thread.wanted = wanted(words, number, place)
             elif words[0] == "reg" and words[1] == "x2":
                 thread.stack = number_of(words[2])
             elif words[0] == "buffer":
-                thread.buffer = words[1], number
+                thread.buffer = words[1], place.line
             elif words[0] == "end":
                 thread = None
         except (IndexError, ValueError) as error:
             raise Fault(place, f"not understood: {line.strip()}") from error
     return described
+
+
+def place_of(line: str, place: Place) -> Place:
+    """The place that a line is reported by: that of the description's line that it comes from, where its comment names
+    one."""
+    origin = ORIGIN.search(line)
+    return Place(origin[1], int(origin[2])) if origin else place
 
 
 def declaration(words: list[str], place: Place, described: Description) -> Thread | None:
@@ -132,6 +151,8 @@ def declaration(words: list[str], place: Place, described: Description) -> Threa
         described.slots.setdefault(words[1], {})[number_of(words[2])] = slot
     elif words[0] == "object":
         described.kinds[words[1]] = words[3]
+        if words[3] == "cnode":
+            described.sizes[words[1]] = 1 << number_of(words[4])
     elif words[0] == "data":
         described.filled.add(words[1])
     elif words[0] == "thread":
@@ -141,7 +162,7 @@ def declaration(words: list[str], place: Place, described: Description) -> Threa
     return None
 
 
-def wanted(words: list[str], place: Place) -> Wanted:
+def wanted(words: list[str], number: int, place: Place) -> Wanted:
     """Reads a line `program`."""
     files: list[str] = []
     addresses: dict[str, int] = {}
@@ -155,7 +176,7 @@ def wanted(words: list[str], place: Place) -> Wanted:
         raise Fault(place, "the line is `program FILE.c .. [data ADDRESS] [stack ADDRESS]`")
     if addresses.get("data", 0) % PAGE or addresses.get("stack", 0) % 16:
         raise Fault(place, "data begin at a multiple of 4096, and a stack ends at a multiple of 16")
-    return Wanted(place, tuple(files), addresses.get("data"), addresses.get("stack"))
+    return Wanted(number, place, tuple(files), addresses.get("data"), addresses.get("stack"))
 
 
 def number_of(word: str) -> int:

@@ -13,35 +13,36 @@ import argparse
 import struct
 import sys
 import tempfile
+from dataclasses import dataclass
 from pathlib import Path
 
 sys.dont_write_bytecode = True
 
-from copying import Returned, program_of  # noqa: E402
+from copying import Program, Returned, program_of  # noqa: E402
 from description import PAGE, Description, Thread, Wanted, read  # noqa: E402
 from faults import Fault, Place, Refused  # noqa: E402
 from layout import Part, check_apart, check_code, data_part, stack_part, wanted_place  # noqa: E402
-from machine_code import Order, compile_and_link, return_of  # noqa: E402
+from machine_code import NoCompiler, Order, compile_and_link, return_of  # noqa: E402
+
+
+@dataclass(frozen=True)
+class Built:
+    """A thread's program, compiled and put in line."""
+
+    thread: Thread
+    program: Program
+    data: bytes
 
 
 def convert(source: Path, prefix: str) -> str:
     """The text of a description with the programs in their places."""
     described = read(text_of(source), source.name)
-    programs: dict[int, list[str]] = {}
-    for thread in described.threads:
-        if thread.wanted:
-            programs[thread.wanted.place.line] = lines_of(thread, thread.wanted, described, source.parent, prefix)
-    lines: list[str] = []
-    contents: list[str] = []
-    for number, line in enumerate(described.lines, 1):
-        if number in programs:
-            lines += [it for it in programs[number] if not it.startswith("data ")]
-            contents += [it for it in programs[number] if it.startswith("data ")]
-        else:
-            lines.append(line)
-            if contents and line.split("#")[0].strip() == "end":
-                lines, contents = lines + contents, []
-    return "\n".join(lines)
+    programs = built(described, source.parent, prefix)
+    text = written(described, programs)
+    for it in programs:
+        sizes = f"{it.program.stack} bytes of stack, {len(it.data)} of data"
+        print(f"{it.thread.name}: {len(it.program.lines)} instructions, {sizes}")
+    return text
 
 
 def text_of(source: Path) -> str:
@@ -53,8 +54,13 @@ def text_of(source: Path) -> str:
         raise Fault(Place(source.name, line), "this is not UTF-8") from error
 
 
-def lines_of(thread: Thread, wanted: Wanted, described: Description, folder: Path, prefix: str) -> list[str]:
-    """The lines of a thread's program, and those of its data."""
+def built(described: Description, folder: Path, prefix: str) -> list[Built]:
+    """The programs that the description wants; their files are named from the folder."""
+    return [program_in(it, it.wanted, described, folder, prefix) for it in described.threads if it.wanted]
+
+
+def program_in(thread: Thread, wanted: Wanted, described: Description, folder: Path, prefix: str) -> Built:
+    """The program of a thread."""
     sources = tuple(folder / name for name in wanted.files)
     names = {**described.names(thread), **described.bell(thread), **described.buffer(thread)}
     order = Order(sources, thread.entry, wanted.data, names, wanted.place)
@@ -65,14 +71,33 @@ def lines_of(thread: Thread, wanted: Wanted, described: Description, folder: Pat
         except Returned as fault:
             begin = linked.functions[linked.addresses[thread.entry]].body[0].place
             raise Fault(return_of(order, begin, fault.place, Path(room), prefix), fault.text) from fault
-    check_code(thread, program, described)
-    data = data_part(thread, len(linked.data), described)
-    stack = stack_part(thread, program.stack, described)
-    check_apart(thread, data, stack)
-    length = len(program.lines)
-    print(f"{thread.name}: {length} instructions, {program.stack} bytes of stack, {len(linked.data)} of data")
-    begins = [f"reg x2 {stack.end:#x}"] if stack.size and thread.stack is None else []
-    return [*begins, *(it.text() for it in program.lines), *data_lines(linked.data, data, thread, described)]
+    return Built(thread, program, linked.data)
+
+
+def written(described: Description, programs: list[Built]) -> str:
+    """The text of a description with these programs in their places."""
+    placed = {it.thread.wanted.number: lines_of(it, described) for it in programs if it.thread.wanted}
+    lines: list[str] = []
+    contents: list[str] = []
+    for number, line in enumerate(described.lines, 1):
+        if number in placed:
+            lines += [it for it in placed[number] if not it.startswith("data ")]
+            contents += [it for it in placed[number] if it.startswith("data ")]
+        else:
+            lines.append(line)
+            if contents and line.split("#")[0].strip() == "end":
+                lines, contents = lines + contents, []
+    return "\n".join(lines)
+
+
+def lines_of(it: Built, described: Description) -> list[str]:
+    """The lines of a thread's program, and those of its data."""
+    check_code(it.thread, it.program, described)
+    data = data_part(it.thread, len(it.data), described)
+    stack = stack_part(it.thread, it.program.stack, described)
+    check_apart(it.thread, data, stack)
+    begins = [f"reg x2 {stack.end:#x}"] if stack.size and it.thread.stack is None else []
+    return [*begins, *(line.text() for line in it.program.lines), *data_lines(it.data, data, it.thread, described)]
 
 
 def data_lines(data: bytes, part: Part, thread: Thread, described: Description) -> list[str]:
@@ -106,8 +131,8 @@ def main() -> int:
         return 1
     except Refused:
         return 1
-    except OSError as error:
-        print(f"{error.filename}: {error.strerror}", file=sys.stderr)
+    except (NoCompiler, OSError) as error:
+        print(error if isinstance(error, NoCompiler) else f"{error.filename}: {error.strerror}", file=sys.stderr)
         return 3
     return 0
 

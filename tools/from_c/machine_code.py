@@ -51,6 +51,9 @@ MISSING = (
 )
 
 
+# What was shown of a source.
+SHOWN: set[Remark] = set()
+
 BRANCHES = {"beq", "bne", "blt", "bge", "bltu", "bgeu"}
 STORES = {"sb", "sh", "sw"}
 
@@ -122,8 +125,8 @@ def compile_and_link(order: Order, room: Path, prefix: str) -> Linked:
 
 
 def compile_one(source: Path, made: Path, order: Order, prefix: str, *options: str) -> list[Remark]:
-    """Makes the object file of a source. What the compiler remarks is shown, and where there is an error it ends the
-    conversion."""
+    """Makes the object file of a source. What the compiler remarks is shown, once where a source is compiled more than
+    once, and where there is an error it ends the conversion."""
     names = [f"-D{name}={value:#x}u" for name, value in order.names.items()]
     folders = [f"-I{HERE}", f"-I{HERE / 'include'}"]
     command = [f"{prefix}gcc", *FLAGS, *options, *folders, *names, "-c", str(source), "-o", str(made)]
@@ -131,7 +134,9 @@ def compile_one(source: Path, made: Path, order: Order, prefix: str, *options: s
     remarks = list(remarks_of(answer.stderr, order))
     if not options:
         for remark in remarks:
-            print(remark, file=sys.stderr)
+            if remark not in SHOWN:
+                print(remark, file=sys.stderr)
+        SHOWN.update(remarks)
     if answer.returncode and not any(it.is_error for it in remarks):
         raise Fault(order.place, f"{source.name} does not compile")
     if answer.returncode and not options:
@@ -273,4 +278,8 @@ def run(command: list[str]) -> subprocess.CompletedProcess[str]:
         spoken = {**os.environ, "LC_ALL": "C"}
         return subprocess.run(command, capture_output=True, text=True, check=False, env=spoken)
     except FileNotFoundError as missing:
-        raise Fault(command[0], "not found: apt-get install gcc-riscv64-unknown-elf") from missing
+        raise NoCompiler(f"{command[0]} is not there: apt-get install gcc-riscv64-unknown-elf") from missing
+
+
+class NoCompiler(Exception):
+    """One of gcc's programs is not there."""

@@ -1,6 +1,7 @@
 #!/usr/bin/env bash
 # Compiles the programs for this machine and compares the bytes that they put with what is expected; makes texts of the
-# programs and systems from C, has them certified, builds, verifies and runs them, and compares the bytes again; and
+# programs and systems from C, has them certified, builds, verifies and runs them, and compares the bytes again; does so
+# with the threads that use headers of this folder, whose bytes Python reckons and whose budgets the headers name; and
 # compares what is said of C that cannot be converted. What lacks its program is skipped, and a line says so.
 # Usage: tools/from_c/run.sh [--cheap | CERTIFIER [MICROSYS]]. CERTIFIER is called as `CERTIFIER certify SRC OUT`; by itself
 # it is the one that `make build tool` leaves. With --cheap nothing is certified. tools/smoke.sh runs that.
@@ -98,6 +99,45 @@ done
 for folder in "$here"/systems/* "$root/samples/gallery/controller_from_c"; do
     name="$(basename "$folder" _from_c)"
     check "$name" "$folder/$name.txt" "$folder/$name.events" "$folder/$name.expected"
+done
+
+# A thread that uses a header: on this machine and as a thread it puts the bytes that Python reckons, and the header names
+# its budget. So many rings give at most a million events.
+snippet() {
+    local name="$1" rings=96 made="$room/snippet_$1" header budget
+    [ "$name" != long_frames ] || rings=24
+    step "$name" "not reckoned" "$here/snippets/reckon.py" "$name" "$rings" || return
+    cp "$room/said" "$room/wanted"
+    if [ -n "$native" ]; then
+        step "$name" "does not compile for this machine" cc -O1 -Wall -Wextra -Wno-main -fwrapv -DRINGS="$rings" \
+            -iquote "$here/include" -I"$here/host" -o "$room/native" "$here/snippets/$name.c" || return
+        step "$name" "does not end on this machine" timeout 10 "$room/native" || return
+        cp "$room/said" "$room/native.bytes"
+        step "$name" "other bytes on this machine" diff "$room/wanted" "$room/native.bytes" || return
+    fi
+    [ -n "$compiler" ] || return 0
+    describe "$name" "$here/snippets"
+    cp "$here/snippets/random.h" "$room/$name"
+    step "$name" "not converted" "$here/from_c.py" "$room/$name/$name.txt" "$made.text" || return
+    [ -z "$cheap" ] || return 0
+    step "$name" "not certified" "$certifier" certify "$made.text" "$made.txt" || return
+    budget="$(sed -n 's/^thread budget //p' "$room/said")"
+    for _ in $(seq "$rings"); do
+        printf 'step %s\nirq 3\n' $((budget + 10))
+    done >"$made.events"
+    echo "step $((budget + 10))" >>"$made.events"
+    step "$name" "not built" "$microsys" build "$made.txt" "$made.img" || return
+    step "$name" "not accepted" "$microsys" verify "$made.img" || return
+    step "$name" "not run" "$microsys" run "$made.img" "$made.events" || return
+    awk '$3 == "byte" { print $4 }' "$room/said" >"$made.bytes"
+    step "$name" "other bytes" diff "$room/wanted" "$made.bytes" || return
+    header="$(sed -n 's/^#include "\(.*\)"$/\1/p' "$here/snippets/$name.c" | grep -v -e microsys.h -e random.h)"
+    [ "$name" = long_frames ] || step "$name" "$header names another budget than $budget" \
+        grep -qw "^ \* Budget.*$budget" "$here/include/$header" || return
+    echo "$name: as expected; thread budget $budget"
+}
+for source in "$here"/snippets/*.c; do
+    snippet "$(basename "$source" .c)"
 done
 
 # The gallery's certified text, as it stands there.

@@ -54,6 +54,6 @@ THREAD monitor(void) {
         sys_put_char(average);
         sys_put_char(crc_with(crc_with(0, middle), average));
         sys_signal(CAP_ALIVE);
-        handler_ack(CAP_BEAT_LINE);
+        handler_ack(CAP_BEAT_LINE1);
     }
 }

@@ -5,6 +5,6 @@ THREAD watchdog(void) {
     for (;;) {
         sys_wait(CAP_CHECK);
         sys_put_char(sys_poll(CAP_ALIVE) ? '.' : '!');
-        handler_ack(CAP_CHECK_LINE);
+        handler_ack(CAP_CHECK_LINE2);
     }
 }

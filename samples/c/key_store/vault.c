@@ -3,10 +3,10 @@
 #include "microsys.h"
 #include "requests.h"
 
-enum { CAP_KEY_PAGE = 4, KEY_PAGE = 0x3000, WORDS = 1024 };
+enum { CAP_KEY_PAGE = CAP_FREE_1, KEY_PAGE = 0x3000, WORDS = 1024 };
 
 static void make_page(void) {
-    untyped_retype(CAP_POOL, FRAME, 0, OWN_CNODE, CAP_KEY_PAGE, 1);
+    untyped_retype(CAP_VAULT_POOL, FRAME, 0, OWN_CNODE, CAP_KEY_PAGE, 1);
     frame_map(CAP_KEY_PAGE, slot(CAP_VAULT_SPACE), KEY_PAGE, READ | WRITE);
 }
 
@@ -14,7 +14,7 @@ static void wipe_page(void) {
     for (uint32_t i = 0; i < WORDS; i++)
         words_at(KEY_PAGE)[i] = 0;
     frame_unmap(CAP_KEY_PAGE);
-    cnode_revoke(CAP_VAULT_SLOTS, slot(CAP_POOL));
+    cnode_revoke(CAP_VAULT_SLOTS, slot(CAP_VAULT_POOL));
 }
 
 THREAD vault(void) {
@@ -22,9 +22,9 @@ THREAD vault(void) {
     for (;;) {
         make_page();
         words_at(KEY_PAGE)[0] = key;
-        struct message request = sys_recv(CAP_DOOR);
+        struct message request = sys_recv(CAP_REQUESTS);
         while (request.label == SIGN)
-            request = sys_reply_recv(CAP_DOOR, MESSAGE(0, request.words[0] ^ words_at(KEY_PAGE)[0]));
+            request = sys_reply_recv(CAP_REQUESTS, MESSAGE(0, request.words[0] ^ words_at(KEY_PAGE)[0]));
         key = request.words[0];
         wipe_page();
         sys_reply(MESSAGE(0));

@@ -1,0 +1,244 @@
+#!/usr/bin/env python3
+"""The program for makers, with systems whose parts are in C.
+
+    tools/make_system/microsys_tool WORD ..
+
+Where a word of the program takes a system, and that has a part in C, the system is expanded, its programs are compiled
+by tools/from_c, and the program gets the text. All else goes to the program as it is. docs/FROM_C.md has the whole.
+"""
+
+from __future__ import annotations
+
+import os
+import re
+import subprocess
+import sys
+import tempfile
+from dataclasses import dataclass
+from pathlib import Path
+
+sys.dont_write_bytecode = True
+sys.path.insert(0, str(Path(__file__).resolve().parents[1] / "from_c"))
+
+from description import read  # noqa: E402
+from faults import Fault, Refused  # noqa: E402
+from from_c import built, written  # noqa: E402
+from machine_code import NoCompiler  # noqa: E402
+from sizes import grown, said_in, with_sizes  # noqa: E402
+
+# Which of the words behind each word of the program are systems, and how many there are at least and at most.
+SYSTEMS = {
+    "make": ((0,), 2, 2),
+    "expand": ((0,), 2, 2),
+    "certify": ((0,), 2, 2),
+    "explain": ((0,), 1, 1),
+    "draw": ((0,), 1, 1),
+    "test": ((0,), 3, 3),
+    "chart": ((1,), 2, 2),
+    "diff": ((0, 1), 2, 2),
+}
+# The words that have one more behind them.
+OPTIONS = {"--from", "--to"}
+STANDARD = "-"
+# What a description begins with.
+DECLARATIONS = {"page", "bell", "door", "part"}
+PREFIX = "riscv64-unknown-elf-"
+# In how many rounds the sizes of programs are found: an address may be longer to write than the last one.
+ROUNDS = 8
+FAILED = 3
+
+
+class Ended(Exception):
+    """The program has said why it goes no further; its status."""
+
+    def __init__(self, status: int) -> None:
+        super().__init__()
+        self.status = status
+
+
+@dataclass(frozen=True)
+class Source:
+    """A system as it was given: the name by which it is reported, the folder that its files are named from, and what
+    it says."""
+
+    name: str
+    folder: Path
+    content: str
+
+    @property
+    def stem(self) -> str:
+        """The name without its ending."""
+        return Path(self.name).stem
+
+    @property
+    def is_description(self) -> bool:
+        """Whether its name ends as that of one, or it begins as one does."""
+        first = next((words for line in self.content.split("\n") if (words := words_of(line))), [""])
+        return self.name.endswith(".sys") or first[0] in DECLARATIONS
+
+    @property
+    def has_c(self) -> bool:
+        """Whether the program of a part is C."""
+        return any(words_of(line)[:1] == ["program"] for line in self.content.split("\n"))
+
+
+@dataclass(frozen=True)
+class Text:
+    """The text of a system, and the notes on its description."""
+
+    name: str
+    content: str
+    notes: str
+
+
+def words_of(line: str) -> list[str]:
+    """The words of a line."""
+    return [word for word in re.split(r"[ \t,\r]+", line.split("#")[0]) if word]
+
+
+def program() -> str:
+    """The program that this one stands before."""
+    return os.environ["MICROSYS_TOOL"]
+
+
+def source_of(name: str, given: bytes | None) -> Source | None:
+    """The system of this name, or of what was read of standard input; nothing where the program is to say why it is none, or
+    where it can be read but once."""
+    try:
+        if given is not None:
+            return Source("stdin", Path(), given.decode())
+        if not Path(name).is_file():
+            return None
+        return Source(Path(name).name, Path(name).parent, Path(name).read_text("utf-8"))
+    except (OSError, UnicodeDecodeError):
+        return None
+
+
+def expanded(source: Source, content: str, room: Path) -> Text:
+    """The text of a description, by the program."""
+    described, name = f"{source.stem}.sys", f"{source.stem}.text"
+    (room / described).write_text(content, "utf-8")
+    ran = subprocess.run([program(), "expand", described, name], cwd=room, stdout=subprocess.PIPE, text=True, check=False)
+    if ran.returncode:
+        raise Ended(ran.returncode)
+    return Text(name, (room / name).read_text("utf-8"), ran.stdout)
+
+
+def compiled(source: Source, room: Path) -> Text:
+    """The text of a system, with its programs from C in their places."""
+    if not source.is_description:
+        described = read(source.content, source.name)
+        return Text(f"{source.stem}.text", written(described, built(described, source.folder, PREFIX)), "")
+    sizes = said_in(source.content)
+    for _ in range(ROUNDS):
+        text = expanded(source, with_sizes(source.content, sizes), room)
+        described = read(text.content, text.name)
+        programs = built(described, source.folder, PREFIX)
+        needed = grown(source.content, sizes, programs)
+        if needed == sizes:
+            return Text(text.name, written(described, programs), text.notes)
+        sizes = needed
+    raise Fault(f"{source.stem}.sys", "its programs grow with their addresses: say `pages`, `data` and `stack`")
+
+
+def places_of(words: list[str]) -> list[int]:
+    """The places of the words that are files."""
+    places: list[int] = []
+    is_value = False
+    for place, word in enumerate(words):
+        if is_value:
+            is_value = False
+        elif word in OPTIONS:
+            is_value = True
+        elif word == STANDARD or not word.startswith("-"):
+            places.append(place)
+    return places
+
+
+def systems_of(word: str, words: list[str]) -> list[int]:
+    """The places of the words that are systems, or none where the words are for the program to judge."""
+    if word not in SYSTEMS or "--help" in words or "-h" in words:
+        return []
+    which, least, most = SYSTEMS[word]
+    places = places_of(words)
+    return [places[it] for it in which] if least <= len(places) <= most else []
+
+
+def run_on(word: str, words: list[str], texts: dict[int, Text], room: Path) -> int:
+    """Has the program carry out a word on texts, which are written into the room. Files are named from there."""
+    named = list(words)
+    for place in places_of(words):
+        if text := texts.get(place):
+            named[place] = text.name if place == min(texts) else f"second_{text.name}"
+            (room / named[place]).write_text(text.content, "utf-8")
+        elif words[place] != STANDARD:
+            named[place] = str(Path(words[place]).absolute())
+    status = subprocess.run([program(), word, *named], cwd=room, check=False).returncode
+    return status if status >= 0 else FAILED
+
+
+def put_text(text: Text, target: str) -> int:
+    """Writes the text of a system where it is wanted, and puts the notes, as the program does."""
+    if target == STANDARD:
+        print(text.content, end="")
+        print(text.notes, end="", file=sys.stderr)
+        return 0
+    Path(target).write_text(text.content, "utf-8")
+    print(text.notes, end="")
+    return 0
+
+
+def carry_out(word: str, words: list[str], sources: dict[int, Source]) -> int:
+    """Carries out a word on systems that have parts in C."""
+    with tempfile.TemporaryDirectory(prefix="microsys.") as room_name:
+        room = Path(room_name)
+        texts = {place: compiled(source, room) for place, source in sources.items()}
+        if word == "expand":
+            [text] = texts.values()
+            return put_text(text, words[-1])
+        status = run_on(word, words, texts, room)
+        notes = "".join(it.notes for it in texts.values()) if word == "make" and status == 0 else ""
+        print(notes, end="", file=sys.stderr if words[-1] == STANDARD else sys.stdout)
+        return status
+
+
+def hand_over(words: list[str], given: bytes | None) -> int:
+    """The program takes the place of this one, with the standard input that was read."""
+    if given is not None:
+        with tempfile.TemporaryFile() as kept:
+            kept.write(given)
+            kept.seek(0)
+            os.dup2(kept.fileno(), 0)
+    os.execv(program(), ["microsys_tool", *words])
+
+
+def main(words: list[str]) -> int:
+    """The command."""
+    word, rest = (words[0], words[1:]) if words else ("", [])
+    places = systems_of(word, rest)
+    given = sys.stdin.buffer.read() if any(rest[place] == STANDARD for place in places) else None
+    found = {place: source_of(rest[place], given if rest[place] == STANDARD else None) for place in places}
+    sources = {place: source for place, source in found.items() if source and source.has_c}
+    if not sources:
+        return hand_over(words, given)
+    try:
+        return carry_out(word, rest, sources)
+    except Ended as ended:
+        return ended.status
+    except Fault as fault:
+        print(fault, file=sys.stderr)
+        return 1
+    except Refused:
+        return 1
+    except NoCompiler as missing:
+        print(missing, file=sys.stderr)
+        return FAILED
+    except (BrokenPipeError, KeyboardInterrupt):
+        return FAILED
+    except OSError as error:
+        print(f"file {error.filename}: {error.strerror}", file=sys.stderr)
+        return FAILED
+
+
+if __name__ == "__main__":
+    sys.exit(main(sys.argv[1:]))

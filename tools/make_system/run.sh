@@ -1,0 +1,121 @@
+#!/usr/bin/env bash
+# Makes each system of samples/c by one command, and the first thread of docs/FROM_C.md, runs it over its events, and
+# compares the bytes that it puts with those that were written by hand; then makes mistakes in some of them, and compares
+# what is said. With --cheap three systems are made. Usage: tools/make_system/run.sh [--cheap]
+set -u
+here="$(cd "$(dirname "$0")" && pwd)"
+root="$(cd "$here/../.." && pwd)"
+tool="$here/microsys_tool"
+room="$(mktemp -d)"
+trap 'rm -rf "$room"' EXIT
+bad=0
+mkdir "$room/temporary"
+export TMPDIR="$room/temporary"
+
+wrong() {
+    echo "$1: $2"
+    cat "$room/said"
+    bad=$((bad + 1))
+}
+
+# The bytes of a file of expectations, one a line.
+bytes_of() {
+    sed 's/#.*//' "$1" | tr -s ' ' '\n' | grep .
+}
+
+# Makes, runs and compares a system.
+check() {
+    local name="$1" folder="$2" budgets
+    "$tool" make "$folder/$name.sys" "$room/$name.img" >"$room/said" 2>&1 || { wrong "$name" "not made" && return; }
+    budgets="$(grep ' budget ' "$room/said" | paste -sd,)"
+    "$tool" verify "$room/$name.img" >"$room/said" 2>&1 || { wrong "$name" "not accepted" && return; }
+    "$tool" run "$room/$name.img" "$folder/$name.events" >"$room/said" 2>&1 || { wrong "$name" "not run" && return; }
+    awk '$3 == "byte" { print $4 }' "$room/said" >"$room/bytes"
+    bytes_of "$folder/$name.expected" | diff - "$room/bytes" >"$room/said" || { wrong "$name" "other bytes" && return; }
+    echo "$name: as expected; $budgets"
+}
+
+# A mistake in a copy of a system: the edit of a file, the status, and how what is said begins. Nothing is left behind.
+mistake() {
+    local name="$1" file="$2" edit="$3" wanted="$4" expected="$5" status
+    rm -rf "$room/copy" "$room/made.img"
+    cp -r "$root/samples/c/$name" "$room/copy"
+    sed -i "$edit" "$room/copy/$file"
+    "$tool" make "$room/copy/$name.sys" "$room/made.img" >"$room/out" 2>"$room/said"
+    status=$?
+    [ "$status" = "$wanted" ] || wrong "$name, $edit" "status $status"
+    [ ! -s "$room/out" ] || wrong "$name, $edit" "something was printed"
+    [ ! -e "$room/made.img" ] || wrong "$name, $edit" "an image was made"
+    case "$(grep -v '^\.\. ' "$room/said")" in
+    "$expected"*) ;;
+    *) wrong "$name, $edit" "refused otherwise than $expected" ;;
+    esac
+}
+
+# The words with the system on standard input and what is made on standard output give the same as with files.
+streams() {
+    local folder="$root/samples/c/ring"
+    (cd "$folder" && "$tool" make - - <ring.sys >"$room/stream.img" 2>"$room/said") || wrong "make - -" "not made"
+    grep -q ' budget ' "$room/said" || wrong "make - -" "no budgets"
+    cmp "$room/ring.img" "$room/stream.img" >"$room/said" || wrong "make - -" "another image"
+    "$tool" expand "$folder/ring.sys" "$room/ring.text" >"$room/said" || wrong "expand" "no text"
+    "$tool" certify "$room/ring.text" "$room/ring.certified" >"$room/said" || wrong "certify" "no certificates"
+    "$tool" explain "$folder/ring.sys" >"$room/said" || wrong "explain" "not accepted"
+    "$tool" draw "$folder/ring.sys" >"$room/said" && grep -q '^digraph' "$room/said" || wrong "draw" "no graph"
+}
+
+# What has no part in C is the program's, whatever it says.
+handed_over() {
+    local program="${MICROSYS_TOOL:-$root/crates/microsys_tool/out/microsys_tool}" words
+    for words in "expand $root/samples/gallery/controller.sys -" "expand missing.sys -" "make one" "--help" "nothing"; do
+        # shellcheck disable=SC2086
+        "$program" $words >"$room/own" 2>&1
+        echo "status $?" >>"$room/own"
+        # shellcheck disable=SC2086
+        "$tool" $words >"$room/said" 2>&1
+        echo "status $?" >>"$room/said"
+        diff "$room/own" "$room/said" >"$room/diff" || wrong "$words" "otherwise than the program"
+    done
+}
+
+systems="ring key_store monitor"
+[ "${1:-}" = --cheap ] || systems="$(cd "$root/samples/c" && echo *)"
+for name in $systems; do
+    check "$name" "$root/samples/c/$name"
+done
+
+# The first thread of docs/FROM_C.md rings twice, and puts one and two stars.
+page="$root/docs/FROM_C.md"
+mkdir "$room/first"
+sed -n '/^    bell bell$/,/^    end$/p' "$page" | sed 's/^    //' >"$room/first/first.sys"
+sed -n '/^    #include "microsys.h"$/,/^    }$/p' "$page" | sed 's/^    //' >"$room/first/ring.c"
+printf 'step 100\nirq 3\nstep 100\nirq 3\nstep 100\n' >"$room/first/first.events"
+echo "2a 2a 2a" >"$room/first/first.expected"
+check first "$room/first"
+streams
+handed_over
+mistake mailbox reader.c 's/sys_signal(CAP_EMPTY)/&&/' 1 "reader.c:9: error: "
+mistake mailbox reader.c 's/CAP_EMPTY/CAP_NOTHING/' 1 "reader.c:9: error: "
+mistake mailbox reader.c 's/for (;;) {/{/' 1 "reader.c:11: \`reader\` returns"
+mistake mailbox reader.c 's/sys_signal(CAP_EMPTY)/while (words_at(PAGE_BOX)[0]) { }/' 1 "reader.c:9: mailbox.text:"
+mistake mailbox mailbox.sys 's/program reader.c/program missing.c/' 1 "mailbox.sys:19: there is no file missing.c"
+mistake mailbox mailbox.sys 's/rings full/rings fall/' 1 "mailbox.sys:10: "
+mistake mailbox mailbox.sys 's/program reader.c/program/' 1 "mailbox.sys:19: "
+mistake mailbox mailbox.sys 's/part reader/part readers/' 1 "mailbox.sys:19: no function \`readers\` in reader.c"
+mistake button button.sys 's/program world.c/& data 0/' 1 \
+    "button.sys:16: \`data 0\` is too little for world, which has 16 bytes of constants and variables: say \`data 1\`, or leave it out"
+[ -z "$(ls "$room/temporary")" ] || { ls "$room/temporary" >"$room/said" && wrong "temporary files" "left behind"; }
+
+# Without the compiler it says so.
+without_compiler() {
+    mkdir "$room/bin"
+    ln -s "$(command -v sh)" "$(command -v readlink)" "$(command -v dirname)" "$room/bin"
+    ln -s "$(python3 -c 'import sys; print(sys.executable)')" "$room/bin/python3"
+    PATH="$room/bin" "$tool" make "$root/samples/c/ring/ring.sys" "$room/made.img" >"$room/said" 2>&1
+    [ $? = 3 ] && grep -q '^riscv64-unknown-elf-gcc is not there: apt-get install gcc-riscv64-unknown-elf$' "$room/said" ||
+        wrong "no compiler" "reported otherwise"
+}
+without_compiler
+
+[ "$bad" = 0 ] && echo "all as expected"
+[ "$bad" = 0 ]
