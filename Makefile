@@ -1,14 +1,20 @@
-# The gate, the demonstration and the program. Each needs the toolchain alone.
-.PHONY: demo test build tool
+# The gate, the demonstration, the programs, and what of them is installed. Programs need the toolchain and Python 3.
+.PHONY: demo test build tool install uninstall release
 
-# Verifies and runs the samples, and compares what is printed with their traces. The toolchain runs the program before
-# it is proved here, and its last lines say so.
+# Where `install` puts programs, manuals, completions and samples, below the folder DESTDIR for who makes a package.
+PREFIX = /usr/local
+DESTDIR =
+
+# Verifies and runs the samples, and compares what is printed with their traces. The toolchain runs the programs before
+# they are proved here.
 demo:
-	samples/demo.sh
+	@tools/needs.sh bash python3 rt
+	@samples/demo.sh
 
 # What is cheap of the scripts under tools/, and then the gate: every proof that this machine has not passed yet, the
 # edits that must fail, the tests and the stored run. It fails where either does; the last line is the gate's.
 test:
+	@tools/needs.sh bash python3 rt
 	@tools/smoke.sh; smoke=$$?; rt ci && [ $$smoke = 0 ]
 
 # What compiles a program that is proved: clang, or Rattle's own compiler (BACKEND=rattle), which is done sooner, says
@@ -18,10 +24,23 @@ BACKEND = llvm
 # Proves every function of the program and of the crates below it, side by side, and leaves it at
 # crates/microsys/out/microsys.
 build:
-	tools/checks/libraries.py microsys
-	cd crates/microsys && ../../tools/checks/libraries.py rt run --backend $(BACKEND) -- verify ../../samples/bell.img
+	@tools/needs.sh python3 rt
+	@tools/checks/libraries.py microsys
+	@tools/checks/program.sh microsys $(BACKEND) verify ../../samples/bell.img
 
-# The same for the tool of makers: crates/microsys_tool/out/microsys_tool. What both use is proved once.
+# The same for the program for makers: crates/microsys_tool/out/microsys_tool. What both use is proved once.
 tool:
-	tools/checks/libraries.py microsys_tool
-	cd crates/microsys_tool && ../../tools/checks/libraries.py rt run --backend $(BACKEND) -- certify ../../samples/bell.txt /dev/null
+	@tools/needs.sh python3 rt
+	@tools/checks/libraries.py microsys_tool
+	@tools/checks/program.sh microsys_tool $(BACKEND) certify ../../samples/bell.txt /dev/null
+
+# Copies the built programs, with their manuals, completions, samples and what compiles parts in C, and takes them away.
+install:
+	@tools/install/install.sh install "$(DESTDIR)$(PREFIX)"
+
+uninstall:
+	@tools/install/install.sh uninstall "$(DESTDIR)$(PREFIX)"
+
+# Packs the same into out/microsys-VERSION-linux-x86_64.tar.gz, with sums and what it was built of.
+release:
+	@tools/install/release.sh

@@ -20,7 +20,8 @@ import sys
 import time
 from concurrent.futures import FIRST_COMPLETED, ThreadPoolExecutor, wait
 
-KIT = os.path.dirname(os.path.dirname(os.path.realpath(shutil.which("rt"))))
+FOUND = shutil.which("rt") or sys.exit("rt is not there: the toolchain, whose folder bin has it, is not in PATH")
+KIT = os.path.dirname(os.path.dirname(os.path.realpath(FOUND)))
 LOGS = "/tmp/libraries"
 # A check makes and removes some thousand small files, for which a file system on a disk takes a tenth of the processor's time.
 IN_MEMORY, ROOM = "/dev/shm", 2 << 30
@@ -89,7 +90,8 @@ def build_logged(crate, jobs):
         held = RT.rtlib.lock([crate])
         status = crate.build_rlib(["--jobs", str(jobs)], False)
         del held
-    print(f"{time.strftime('%H:%M:%S')} {crate.name} {'built' if status == 0 else 'FAILED'} {time.time() - began:.0f}s", flush=True)
+    outcome = "built" if status == 0 else f"FAILED ({LOGS}/{crate.name}.log)"
+    print(f"{time.strftime('%H:%M:%S')} {crate.name} {outcome} {time.time() - began:.0f}s", flush=True)
     return crate.name, status
 
 
