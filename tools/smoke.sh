@@ -116,7 +116,14 @@ same_words() {
     tools/instruction_table.py >"$room/words.rt" && diff crates/program_tests/src/assembling/instruction_table.rt "$room/words.rt"
 }
 
+# Documents and the program for makers name one kit.
+one_kit() {
+    grep -oh 'rattle-kit-[0-9a-z]* logic [0-9a-f]*' README.md docs/PROVED.md crates/tool_requests/src/words.rt >"$room/kits"
+    [ "$(wc -l <"$room/kits") $(sort -u "$room/kits" | wc -l)" = "3 1" ]
+}
+
 part_with python3 "tools, read" scripts_say_nothing
+part "the kit's line" one_kit
 part_with python3 "tools/checks/below.py" copies_are_whole
 part_with python3 "tools/checks/texts.py --premises" tools/checks/texts.py --premises
 part_with python3 "tools/checks/proved_table.py" tools/checks/proved_table.py --check
@@ -134,6 +141,11 @@ part_with cc "tools/memory/refuse_nth.c" compiles_c
 part_with "python3 riscv64-unknown-elf-as qemu-riscv32" "tools/rv32i_table.py" same_rows
 part_with "python3 clang llvm-objcopy" "tools/instruction_table.py" same_words
 part_with python3 "tools/from_c/run.sh --cheap" tools/from_c/run.sh --cheap
+part_with "make sha256sum" "tools/install/check.sh" tools/install/check.sh
+part_with python3 "tools/editors/check.py" tools/editors/check.py
+part_with "crates/microsys_tool/out/microsys_tool riscv64-unknown-elf-gcc python3" "tools/make_system/run.sh --cheap" \
+    tools/make_system/run.sh --cheap
+part_with "crates/microsys_tool/out/microsys_tool crates/microsys/out/microsys" "tools/described/run.sh" tools/described/run.sh
 part_with crates/microsys/out/microsys "tools/failing/run.sh" tools/failing/run.sh
 part_with crates/microsys_tool/out/microsys_tool "tools/explaining/check.py" tools/explaining/check.py \
     crates/microsys_tool/out/microsys_tool

@@ -22,8 +22,11 @@ data=()
 for image in "$copy"/systems/*.img; do
     data+=(--data "$(basename "$image")=$image")
 done
-(cd "$copy/crates/integrity" && rt try --seconds 3600 --cases "$copy/systems/cases" "${data[@]}" -- {}) >"$copy/records" 2>&1 || {
-    grep -v '^\(reg\|slot\|bytes\|>\) ' "$copy/records"
+status=0
+(cd "$copy/crates/integrity" && rt try --seconds 3600 --cases "$copy/systems/cases" "${data[@]}" -- {}) >"$copy/records" 2>&1 || status=$?
+if [ "$status" != 0 ]; then
+    grep -v '^\(reg\|slot\|bytes\|>\) ' "$copy/records" || true
+    echo "rt try: status $status"
     exit 1
-}
+fi
 python3 "$here/check.py" judge "$copy/records"
