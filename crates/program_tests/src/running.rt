@@ -1,7 +1,6 @@
 //! The program over real files, and what it runs.
 
 mod builds;
-mod byte_sinks;
 mod edges;
 mod event_lines;
 mod makers;
