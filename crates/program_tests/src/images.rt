@@ -1,8 +1,8 @@
 //! The bytes of three images (`samples/bell.img`, `samples/solo.img`, `samples/worker.img`), as words of 4 bytes.
 
-use crate::texts::number;
 use std::alloc::Global;
 use std::test::Fail;
+use test_sessions::number;
 
 /// The front of bell and of solo.
 const FRONT: &str = "

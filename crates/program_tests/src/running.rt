@@ -3,9 +3,8 @@
 mod builds;
 mod edges;
 mod event_lines;
-mod makers;
 mod outputs;
-pub mod sessions;
+mod sessions;
 mod unverified;
 mod usage;
 mod verified;

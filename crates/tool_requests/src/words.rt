@@ -245,6 +245,7 @@ pub(crate) fn program<'a>(alloc: Global) -> Result<Command<'a>, AllocError> {
         .about("Makes, explains and shows systems for microsys")
         .version(VERSION)
         .after_help(STATUSES)
+        .bin_name("microsys_tool")?
         .no_binary_name(true)
         .subcommand_required(true);
     let program = with_words(alloc, program, &MAKING)?;

@@ -2,9 +2,9 @@
 
 use crate::assembling::images::bytes_of;
 use crate::assembling::instruction_table;
-use crate::texts::{SOLO, lines_before, put_line};
 use std::alloc::Global;
 use std::test::Fail;
+use test_sessions::{SOLO, lines_before, put_line};
 
 /// The words that another assembler (clang 14, `-march=rv32i -mno-relax`) makes of the same program, and its lines.
 const ROWS: &str = "

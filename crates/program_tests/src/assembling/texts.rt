@@ -1,9 +1,9 @@
 //! Whole texts: which image they give, and the first line at fault.
 
 use crate::assembling::images::{bytes_of, fault_of};
-use crate::texts::{SOLO, lines_before, with_line};
 use std::process::Abort;
 use std::test::Fail;
+use test_sessions::{SOLO, lines_before, with_line};
 
 #[test]
 fn an_image_has_its_length(rt: HostRuntime) -> Result<(), Fail> {

@@ -1,9 +1,9 @@
 //! Images built from their text.
 
 use crate::images::solo;
-use crate::running::sessions::{plays, put_file, take_files};
-use crate::texts::SOLO;
+use crate::running::sessions::plays;
 use std::test::Fail;
+use test_sessions::{SOLO, put_file, take_files};
 
 /// What is in the file of an image before it is built.
 const BEFORE: &[u8] = b"an older image";

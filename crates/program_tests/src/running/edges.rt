@@ -1,10 +1,10 @@
 //! Refusals at the edges of the file, and of its fields.
 
 use crate::images::{bell, with_word};
-use crate::running::sessions::{answer_to, put_file, take_files};
-use crate::texts::number;
+use crate::running::sessions::answer_to;
 use model::Refusal;
 use std::test::Fail;
+use test_sessions::{number, put_file, take_files};
 use verify::verify;
 
 #[test]

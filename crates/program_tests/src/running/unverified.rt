@@ -1,10 +1,11 @@
 //! Runs of images that are not verified.
 
 use crate::images::{solo, with_word};
-use crate::running::sessions::{answer_to, plays, put_file, take_files};
+use crate::running::sessions::{answer_to, plays};
 use crate::running::verified::put_image;
 use crate::running::workers::{LATE_WORKER, OBJECTS, RECEIVER, SPACES};
 use std::test::Fail;
+use test_sessions::{put_file, take_files};
 
 #[test]
 fn what_does_not_boot_or_cannot_be_read_is_told(rt: HostRuntime) -> Result<(), Fail> {

@@ -1,10 +1,11 @@
 //! What the program prints for files and words.
 
 use crate::images::{bell, with_word};
-use crate::running::sessions::{name_of, plays, put_file, take_files};
+use crate::running::sessions::plays;
 use runner::{MemorySink, Sink, WriterSink, command};
 use std::fs;
 use std::test::Fail;
+use test_sessions::{name_of, put_file, take_files};
 
 /// The low word of bell's budget, which needs 4.
 const BUDGET: usize = 256;

@@ -1,7 +1,7 @@
 //! Runs of images, verified and not: what is promised of accepted ones, seen.
 
 use crate::images::{solo, with_word};
-use crate::running::sessions::{answer_to, put_file, take_files};
+use crate::running::sessions::answer_to;
 use crate::running::workers::{
     DRIVER, DRIVER_OBJECTS, DRIVER_SPACES, OBJECTS, RECEIVER, SPACES, WORKER,
 };
@@ -10,6 +10,7 @@ use model::Event;
 use std::process::Abort;
 use std::rt::{Env, Files};
 use std::test::Fail;
+use test_sessions::{put_file, take_files};
 use verify::verify;
 
 /// Makes NAME.img by the program, of pieces of its text.

@@ -1,10 +1,10 @@
 //! Each rule on system calls, by programs that it accepts and programs that it refuses.
 
-use crate::texts::number;
 use crate::verdicts::texts::verdict;
 use std::alloc::Global;
 use std::process::Abort;
 use std::test::Fail;
+use test_sessions::number;
 
 /// One thread whose CNode holds a notification to read (slot 0), a pool of two pages (1), the CNode itself (2), the root table (3), a
 /// frame (4), an endpoint with all rights and a badge (5), the notification with both rights (6), the handler of line 3 (7), and the

@@ -1,9 +1,9 @@
 //! One thread that counts down from ten and then waits for its bell for ever: the rules on its objects, capabilities, mappings,
 //! thread and program.
 
-use crate::texts::SOLO;
 use crate::verdicts::texts::{are_said, changed, verdict};
 use std::test::Fail;
+use test_sessions::SOLO;
 
 /// What is said where lines are put another way.
 const ROWS: &str = "

@@ -1,12 +1,12 @@
 //! What is in charts of traces whose texts are there.
 
 use crate::explanations::pictures::has_all;
-use crate::texts::{SOLO, with_line};
 use drawing::{ChartRequest, DrawingFault, chart};
 use sinks::MemorySink;
 use std::alloc::Global;
 use std::process::Abort;
 use std::test::Fail;
+use test_sessions::{SOLO, with_line};
 
 /// The chart of some events of a trace.
 fn drawn(

@@ -1,11 +1,11 @@
 //! Texts with a line put another way.
 
-use crate::texts::with_line;
 use explaining::{Explanation, Text, explain};
 use progress::Quiet;
 use std::alloc::Global;
 use std::process::Abort;
 use std::test::Fail;
+use test_sessions::with_line;
 
 /// What is said of a text.
 fn said_of(alloc: Global, text: &str) -> Result<String, Fail> {

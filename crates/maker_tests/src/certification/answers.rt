@@ -1,12 +1,12 @@
 //! What the program answers, by its status and lines, and what it leaves of the file that it writes.
 
 use crate::certification::rows::text_with;
-use crate::running::sessions::name_of;
 use std::fs;
 use std::process::Abort;
 use std::rt::{Env, Files};
 use std::test::Fail;
 use std::time::Clock;
+use test_sessions::name_of;
 use tool::{MemorySink, command};
 
 /// What is in the file that is written, before it is.

@@ -1,12 +1,11 @@
 //! The words of the program for makers over real files.
 
-use crate::running::sessions::{name_of, put_file, take_files};
 use std::process::Abort;
 use std::rt::{Env, Files};
-use std::str;
 use std::test::Fail;
 use std::time::Clock;
-use tool::{MemorySink, command};
+use test_sessions::{Printed, put_file, take_files, words_of};
+use tool::command;
 
 /// More than any answer here has.
 const ROOM: usize = 50_000;
@@ -38,19 +37,15 @@ fn answer_to<R: Files + Input + Env + Clock + AllocGlobal>(
     rt: &R,
     words: &str,
 ) -> Result<String, Fail> {
-    let words = words.replace(rt.alloc(), '@', name_of(rt, "")?.as_str())?;
-    let mut list = Vec::new(rt.alloc());
-    for word in words.split_whitespace() {
-        list.push(word)?;
-    }
-    let mut output = MemorySink::new(rt.alloc(), ROOM);
-    let mut errors = MemorySink::new(rt.alloc(), ROOM);
-    let status = command(rt, list.as_slice(), &mut output, &mut errors);
-    let (output, errors) = (
-        str::from_utf8(output.bytes())?,
-        str::from_utf8(errors.bytes())?,
+    let words = words_of(rt, words)?;
+    let mut printed = Printed::new(rt.alloc(), ROOM);
+    let status = command(
+        rt,
+        words.as_slice(),
+        &mut printed.output,
+        &mut printed.errors,
     );
-    Ok(format!(in rt.alloc(); "{output}status {status}\n{errors}")?)
+    printed.with_status(rt.alloc(), status)
 }
 
 /// Asserts that the program answers so.
@@ -87,7 +82,7 @@ fn wrong_words_are_answered_by_what_is_wrong(rt: HostRuntime) -> Result<(), Fail
         "status 2\nerror: unrecognized subcommand 'zzz'\n\nUsage: microsys_tool <COMMAND>\n\nFor more information, try '--help'.\n";
     answers(&rt, "zzz", told)?;
     let told =
-        "status 2\nerror: the following required arguments were not provided:\n  <IMAGE>\n\nUsage: make <SYSTEM> <IMAGE>\n\nFor more information, try '--help'.\n";
+        "status 2\nerror: the following required arguments were not provided:\n  <IMAGE>\n\nUsage: microsys_tool make <SYSTEM> <IMAGE>\n\nFor more information, try '--help'.\n";
     answers(&rt, "make a.sys", told)?;
     let version = answer_to(&rt, "--version")?;
     assert!(&rt; version.starts_with("microsys_tool "), "{version}");

@@ -1,8 +1,8 @@
 //! Where traces differ, and what is said of it.
 
-use crate::texts::SOLO;
 use std::process::Abort;
 use std::test::Fail;
+use test_sessions::SOLO;
 use trace_differences::{TraceFault, first_difference};
 
 /// A trace of the thread of [`SOLO`], whose instructions at 0x1000 and 0x1014 are on lines 18 and 27, and of one that its text has not.

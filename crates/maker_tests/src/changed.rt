@@ -1,10 +1,10 @@
 //! What a changed line of a text changes for its threads.
 
-use crate::texts::with_line;
 use differences::{Changes, DifferencesFault, differences};
 use std::alloc::Global;
 use std::process::Abort;
 use std::test::Fail;
+use test_sessions::with_line;
 
 /// A client and a server, whose budget is still to be found, in one address space.
 const TEXT: &str = "memory 17 5

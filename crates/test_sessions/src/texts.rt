@@ -5,7 +5,7 @@ use std::test::Fail;
 
 /// A thread that counts down from ten and then waits for its bell for ever. The measures are exact: the loop takes 2 * x5 + 3
 /// instructions from its head up to the wait, and the budget of 24 is used up.
-pub(crate) const SOLO: &str = "memory 16 4
+pub const SOLO: &str = "memory 16 4
 untyped u 0x8000 15
 object code u frame
 object vs u root
@@ -37,7 +37,7 @@ end
 ";
 
 /// The lines of a text before the one of a number, counted from 1.
-pub(crate) fn lines_before(alloc: Global, text: &str, number: usize) -> Result<String, Fail> {
+pub fn lines_before(alloc: Global, text: &str, number: usize) -> Result<String, Fail> {
     let mut before = String::new(alloc);
     let mut at = 1usize;
     for line in text.lines() {
@@ -50,12 +50,7 @@ pub(crate) fn lines_before(alloc: Global, text: &str, number: usize) -> Result<S
 }
 
 /// A text with the line of a number put another way.
-pub(crate) fn with_line(
-    alloc: Global,
-    text: &str,
-    number: usize,
-    new: &str,
-) -> Result<String, Fail> {
+pub fn with_line(alloc: Global, text: &str, number: usize, new: &str) -> Result<String, Fail> {
     let mut changed = String::new(alloc);
     let mut at = 1usize;
     for line in text.lines() {
@@ -66,13 +61,13 @@ pub(crate) fn with_line(
 }
 
 /// Puts a line after a text.
-pub(crate) fn put_line(text: &mut String, line: &str) -> Result<(), Fail> {
+pub fn put_line(text: &mut String, line: &str) -> Result<(), Fail> {
     text.push_str(line)?;
     Ok(text.push('\n')?)
 }
 
 /// A number: hexadecimal after `0x`, or else decimal.
-pub(crate) fn number(word: &str) -> Result<u32, Fail> {
+pub fn number(word: &str) -> Result<u32, Fail> {
     match word.strip_prefix("0x") {
         Some(digits) => Ok(u32::from_str_radix(digits, 16)?),
         None => Ok(word.parse::<u32>()?),
