@@ -167,10 +167,10 @@ impl Changes {
     {
         let number = change.key.number();
         let packed = PackedChange::of(change, &self.names);
-        self.families.add(packed.parent, number)?;
+        self.families.add(&packed, number)?;
         match self.packed.insert(number, packed)? {
             Some(before) => {
-                self.families.replace(before.parent, packed.parent, number);
+                self.families.replace(before.parent_name(), &packed, number);
                 Ok(Some(before.at(number, &self.names)))
             }
             None => Ok(None),

@@ -6,6 +6,7 @@ ghost use Rattle.std.specs.List.Sorted.{IsStrictlySortedBy};
 ghost use Rattle.typestate.specs.Families.{KeepsLinks, has_link, link_cmp};
 ghost use Rattle.typestate.specs.PackedChanges.{has_name};
 
+use crate::packed_change::{Name, PackedChange};
 use std::alloc::{AllocError, Global};
 use std::collections::btree_set::{BTreeSet, Range};
 use std::ops::Bound;
@@ -56,37 +57,37 @@ impl Families {
     }
 
     /// Adds the link to a slot, if it has a parent. Memory may be refused.
-    pub(crate) fn add(&mut self, parent: Option<u64>, slot: u64) -> Result<(), AllocError>
-        ensures added { IfOk result (λ _. (name : ℕ) → has_name name parent ≡ true → has_link self.new.links.keys name slot ≡ true) }
+    pub(crate) fn add(&mut self, change: &PackedChange, slot: u64) -> Result<(), AllocError>
+        ensures added { IfOk result (λ _. (name : ℕ) → has_name name change.now.parent ≡ true → has_link self.new.links.keys name slot ≡ true) }
         ensures kept { KeepsLinks self.old.links.keys self.new.links.keys }
     {
-        if let Some(parent) = parent {
-            self.links.insert((parent, slot))?;
+        if let Some(parent) = change.parent {
+            self.links.insert((parent.number(), slot))?;
         }
         Ok(())
     }
 
     /// Takes the link to a slot away that it had before, unless it has the same parent now.
-    pub(crate) fn replace(&mut self, before: Option<u64>, parent: Option<u64>, slot: u64)
+    pub(crate) fn replace(&mut self, before: Option<Name>, change: &PackedChange, slot: u64)
         ensures others { (name child : ℕ) → (child == slot) ≡ false → has_link self.old.links.keys name child ≡ true → has_link self.new.links.keys name child ≡ true }
-        ensures own { (name : ℕ) → has_name name parent ≡ true → has_link self.old.links.keys name slot ≡ true → has_link self.new.links.keys name slot ≡ true }
+        ensures own { (name : ℕ) → has_name name change.now.parent ≡ true → has_link self.old.links.keys name slot ≡ true → has_link self.new.links.keys name slot ≡ true }
     {
         let Some(before) = before else {
             return;
         };
-        if is_name(before, parent) {
+        if is_name(before, change.parent) {
             return;
         }
-        self.links.remove(&(before, slot));
+        self.links.remove(&(before.number(), slot));
     }
 }
 
 /// Whether a name is that of a parent.
-fn is_name(name: u64, parent: Option<u64>) -> bool
+fn is_name(name: Name, parent: Option<Name>) -> bool
     ensures { result ≡ has_name name parent }
 {
     match parent {
-        Some(parent) => parent == name,
+        Some(parent) => parent.number() == name.number(),
         None => false,
     }
 }

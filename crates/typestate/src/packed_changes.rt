@@ -8,7 +8,7 @@ ghost use Rattle.typestate.specs.Names.{AreInverse, renamed};
 ghost use Rattle.typestate.specs.PackedChanges.{cap_of, numbered_key, unpacked_change};
 
 use crate::names::Names;
-use crate::packed_change::PackedChange;
+use crate::packed_change::{Name, PackedChange};
 use crate::records::capability_of;
 use crate::{NotedSlot, SlotKey};
 use capwords::pack;
@@ -32,25 +32,25 @@ pub(crate) fn low(index: u32)
 
 impl Names {
     /// The name of what a slot was derived from.
-    fn parent_name(&self, parent: Option<SlotKey>) -> Option<u64>
+    fn parent_name(&self, parent: Option<SlotKey>) -> Option<Name>
         ensures name { result ≡ option_map (λ p. renamed self.now.names.entries (number_of p)) parent }
         ensures back { AreInverse self.now.slots.entries self.now.names.entries → option_map (λ name. numbered_key (renamed self.now.slots.entries name)) result ≡ parent }
     {
         match parent {
             Some(key) => {
                 low(key.index);
-                Some(self.name(key.number()))
+                Some(Name::of(self.name(key.number())))
             }
             None => None,
         }
     }
 
     /// What a slot was derived from, by its name.
-    fn named_parent(&self, name: Option<u64>) -> Option<SlotKey>
+    fn named_parent(&self, name: Option<Name>) -> Option<SlotKey>
         ensures { result ≡ option_map (λ name. numbered_key (renamed self.now.slots.entries name)) name }
     {
         match name {
-            Some(name) => Some(numbered_key(self.slot(name))),
+            Some(name) => Some(numbered_key(self.slot(name.number()))),
             None => None,
         }
     }
