@@ -12,6 +12,7 @@ use crate::families::Families;
 use crate::names::Names;
 use crate::packed_change::PackedChange;
 use crate::packed_changes::low;
+use crate::packed_slot::PackedSlot;
 use crate::slot_runs::SlotRun;
 use crate::{NotedSlot, SlotKey};
 use std::alloc::{AllocError, Global};
@@ -112,6 +113,16 @@ impl Changes {
         }
     }
 
+    /// The same in few bytes.
+    pub(crate) fn packed_at(&self, number: u64) -> Option<PackedSlot>
+        ensures { result ≡ found self.now number }
+    {
+        match self.packed.get(&number) {
+            Some(packed) => Some(packed.packed_at(number, &self.names)),
+            None => None,
+        }
+    }
+
     /// Whether no change is to one of some slots of a CNode.
     pub(crate) fn has_none_of(&self, run: &SlotRun) -> bool
         ensures { result ≡ true → (n : ℕ) → number_of run.now.first ≤ n → n < number_of run.now.first + run.now.count → found self.now n ≡ None }
@@ -158,7 +169,7 @@ impl Changes {
     }
 
     /// Puts a change among the others, and answers the one to the same slot in whose place it is. Memory may be refused.
-    pub(crate) fn put(&mut self, change: NotedSlot) -> Result<Option<NotedSlot>, AllocError>
+    pub(crate) fn put(&mut self, change: PackedSlot) -> Result<Option<PackedSlot>, AllocError>
         ensures before { IfOk result (λ before. before ≡ slot_at self.old change.key) }
         ensures rising { IfOk result (λ _. Rise self.new) }
         ensures same { IfOk result (λ _. (key : SlotKey) → slot_at self.new key ≡ (if is_same_key change.key key then Some change else slot_at self.old key)) }
@@ -171,7 +182,7 @@ impl Changes {
         match self.packed.insert(number, packed)? {
             Some(before) => {
                 self.families.replace(before.parent_name(), &packed, number);
-                Ok(Some(before.at(number, &self.names)))
+                Ok(Some(before.packed_at(number, &self.names)))
             }
             None => Ok(None),
         }

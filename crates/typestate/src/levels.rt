@@ -161,7 +161,7 @@ impl NotedSlots<'_> {
     {
         let mut all = Vec::new(alloc);
         for number in numbers {
-            let change = self.changes.numbered(*number);
+            let change = self.changes.packed_at(*number);
             note_found(change, &mut all)?;
         }
         Ok(all)

@@ -9,6 +9,7 @@ ghost use Rattle.typestate.specs.Pages.{HasPage, leaves_at, page_left};
 
 use crate::NotedSlot;
 use crate::noted::left;
+use crate::packed_slot::PackedSlot;
 use model::Cap;
 use std::alloc::{AllocError, Global};
 use std::collections::btree_set::{BTreeSet, Range};
@@ -19,8 +20,8 @@ pub struct MappedPages {
     slots: BTreeSet<(u64, u64)>,
 }
 
-/// The page that the slot maps that a change leaves.
-fn page_left(change: NotedSlot) -> Option<u32>
+/// The page that a slot maps.
+fn page_of(change: NotedSlot) -> Option<u32>
     ensures { result ≡ page_left change }
 {
     match left(change)?.capability {
@@ -32,8 +33,19 @@ fn page_left(change: NotedSlot) -> Option<u32>
     }
 }
 
+/// The page that the slot maps that a change leaves.
+fn page_left(change: PackedSlot) -> Option<u32>
+    ensures { result ≡ page_left change }
+{
+    if change.may_map() {
+        page_of(change.unpacked())
+    } else {
+        None
+    }
+}
+
 /// Whether the slot maps this page that a change leaves.
-fn leaves_at(page: u32, change: NotedSlot) -> bool
+fn leaves_at(page: u32, change: PackedSlot) -> bool
     ensures { result ≡ leaves_at page change }
 {
     match page_left(change) {
@@ -59,19 +71,19 @@ impl MappedPages {
     }
 
     /// Names the slot of a change with the page that it maps after it. Memory may be refused.
-    pub(crate) fn add(&mut self, change: NotedSlot) -> Result<(), AllocError>
+    pub(crate) fn add(&mut self, change: PackedSlot) -> Result<(), AllocError>
         ensures added { IfOk result (λ _. HasPage self.new.slots.keys change) }
         ensures kept { KeepsLinks self.old.slots.keys self.new.slots.keys }
     {
         if let Some(page) = page_left(change) {
-            self.slots.insert((u64::from(page), change.key.number()))?;
+            self.slots.insert((u64::from(page), change.key().number()))?;
         }
         Ok(())
     }
 
     /// Names the slot of a change no longer with the page that it mapped before, in whose place another change to it is,
     /// unless that maps the same page.
-    pub(crate) fn replace(&mut self, before: NotedSlot, change: NotedSlot)
+    pub(crate) fn replace(&mut self, before: PackedSlot, change: PackedSlot)
         ensures others { (page slot : ℕ) → (slot == number_of before.key) ≡ false → has_link self.old.slots.keys page slot ≡ true → has_link self.new.slots.keys page slot ≡ true }
         ensures own { HasPage self.old.slots.keys change → HasPage self.new.slots.keys change }
     {
@@ -81,6 +93,6 @@ impl MappedPages {
         if leaves_at(page, change) {
             return;
         }
-        self.slots.remove(&(u64::from(page), before.key.number()));
+        self.slots.remove(&(u64::from(page), before.key().number()));
     }
 }

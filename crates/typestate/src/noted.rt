@@ -27,34 +27,35 @@ pub(crate) fn left(change: NotedSlot) -> Option<NotedSlot>
 
 /// Appends what a look-up found. Memory may be refused.
 pub(crate) fn note_found(
-    found: Option<NotedSlot>,
+    found: Option<PackedSlot>,
     list: &mut Vec<PackedSlot>,
 ) -> Result<(), AllocError>
     ensures { IfOk result (λ _. list.new.items ≡ list.old.items ++ option_to_list found) }
 {
     if let Some(slot) = found {
-        list.push(PackedSlot::of(slot))?;
+        list.push(slot)?;
     }
     Ok(())
 }
 
-/// Whether what a slot holds was derived from the slot of this key.
-fn has_parent(key: SlotKey, held: Option<NotedSlot>) -> bool
-    ensures { result ≡ has_parent key held }
+/// Whether the slot that a change leaves was derived from the slot of this key.
+fn leaves_child(key: SlotKey, change: &PackedSlot) -> bool
+    ensures { result ≡ has_parent key (left_by change.now) }
 {
-    match held {
-        Some(slot) => is_parent(key, slot.parent),
-        None => false,
+    if change.is_empty() {
+        false
+    } else {
+        is_parent(key, change.parent())
     }
 }
 
 impl NotedSlots<'_> {
     /// The change of a slot's number, if its slot was derived from the slot of this key.
-    pub(crate) fn child(&self, parent: SlotKey, number: u64) -> Option<NotedSlot>
+    pub(crate) fn child(&self, parent: SlotKey, number: u64) -> Option<PackedSlot>
         ensures { result ≡ child_at self.now.changes.now parent number }
     {
-        let change = self.changes.numbered(number)?;
-        if has_parent(parent, left(change)) {
+        let change = self.changes.packed_at(number)?;
+        if leaves_child(parent, &change) {
             Some(change)
         } else {
             None

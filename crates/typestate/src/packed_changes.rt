@@ -9,9 +9,9 @@ ghost use Rattle.typestate.specs.PackedChanges.{cap_of, numbered_key, unpacked_c
 
 use crate::names::Names;
 use crate::packed_change::{Name, PackedChange};
+use crate::packed_slot::PackedSlot;
 use crate::records::capability_of;
 use crate::{NotedSlot, SlotKey};
-use capwords::pack;
 
 /// The key of a number.
 pub(crate) fn numbered_key(number: u64) -> SlotKey
@@ -76,16 +76,27 @@ impl PackedChange {
     }
 
     /// What a change leaves, where names stand for slots.
-    pub(crate) fn of(change: NotedSlot, names: &Names) -> Self
+    pub(crate) fn of(change: PackedSlot, names: &Names) -> Self
         requires { AreInverse names.now.slots.entries names.now.names.entries }
         ensures { unpacked_change names.now.slots.entries (number_of change.key) result ≡ change }
     {
         low(change.key.index);
-        let [head, word] = pack(change.capability);
         PackedChange {
-            head,
-            word,
+            head: change.head,
+            word: change.word,
             parent: names.parent_name(change.parent),
+        }
+    }
+
+    /// The change to the slot of a number in few bytes, where slots stand for names.
+    pub(crate) fn packed_at(&self, number: u64, names: &Names) -> PackedSlot
+        ensures { result ≡ unpacked_change names.now.slots.entries number self.now }
+    {
+        PackedSlot {
+            head: self.head,
+            word: self.word,
+            key: numbered_key(number),
+            parent: names.named_parent(self.parent),
         }
     }
 

@@ -1,19 +1,24 @@
 //! A slot in few bytes.
 
-ghost use Rattle.std.specs.Prelude.{◌≡◌};
+ghost use Rattle.std.specs.Prelude.{◌≡◌, None, false};
+ghost use Rattle.model.specs.Capabilities.CapabilityKinds.{frame_mapping};
+ghost use Rattle.model.specs.Capabilities.Slots.{is_empty};
 
 use crate::records::capability_of;
 use crate::{NotedSlot, SlotKey};
 use capwords::pack;
 use std::marker::Model;
 
+/// The kind of a capability to a frame, in the lowest four bits of its first word.
+const FRAME: u32 = 6;
+
 /// A slot in 28 bytes: what it holds is kept as the capability's words. A clause sees the slot.
 #[derive(Clone, Copy)]
 pub struct PackedSlot {
-    head: u32,
-    word: u32,
-    key: SlotKey,
-    parent: Option<SlotKey>,
+    pub(crate) head: u32,
+    pub(crate) word: u32,
+    pub(crate) key: SlotKey,
+    pub(crate) parent: Option<SlotKey>,
 }
 
 impl Model for PackedSlot {
@@ -52,6 +57,27 @@ impl PackedSlot {
         ensures { result ≡ self.now.key }
     {
         self.key
+    }
+
+    /// What it was derived from.
+    pub(crate) fn parent(&self) -> Option<SlotKey>
+        ensures { result ≡ self.now.parent }
+    {
+        self.parent
+    }
+
+    /// Whether the slot is empty.
+    pub(crate) fn is_empty(&self) -> bool
+        ensures { result ≡ is_empty self.now.capability }
+    {
+        self.head == 0
+    }
+
+    /// Whether the slot may hold a frame: what holds none maps no page.
+    pub(crate) fn may_map(&self) -> bool
+        ensures { result ≡ false → frame_mapping self.now.capability ≡ None }
+    {
+        self.head % 16 == FRAME
     }
 
     /// The slot.

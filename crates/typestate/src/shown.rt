@@ -7,6 +7,7 @@ ghost use Rattle.typestate.specs.Orders.{Rise};
 ghost use Rattle.typestate.specs.Replays.{exchanged, replayed, with_entry};
 ghost use Rattle.typestate.specs.Unlinked.{AreUnlinked};
 
+use crate::packed_slot::PackedSlot;
 use crate::{Changes, LogEntry, MappedPages, NotedSlot, NotedSlots, SlotKey};
 use std::alloc::{AllocError, Global};
 use std::marker::Model;
@@ -44,7 +45,7 @@ impl ShownChanges {
     }
 
     /// Puts a change among the others, in place of one to the same slot. Memory may be refused.
-    fn put(&mut self, change: NotedSlot) -> Result<(), AllocError>
+    fn put(&mut self, change: PackedSlot) -> Result<(), AllocError>
         requires { Rise self.old }
         ensures rising { IfOk result (λ _. Rise self.new) }
         ensures same { IfOk result (λ _. (key : SlotKey) → slot_at self.new key ≡ (if is_same_key change.key key then Some change else slot_at self.old key)) }
@@ -72,7 +73,7 @@ impl ShownChanges {
     {
         match entry {
             LogEntry::Sets(change) => {
-                self.put(change.unpacked())?;
+                self.put(change)?;
                 Ok(())
             }
             LogEntry::Swaps { one, other } => {

@@ -1,7 +1,7 @@
 //! What becomes of the slots at a point where some go.
 //! seL4 Reference Manual, "Deletion, Revocation, and Recycling".
 
-ghost use Rattle.std.specs.Prelude.{◌≡◌, ◌&&◌, ◌||◌, ◌++◌, [], ◌∷◌, IfOk, false, flat_map, is_some, true};
+ghost use Rattle.std.specs.Prelude.{◌≡◌, ◌&&◌, ◌||◌, ◌++◌, [], IfOk, false, flat_map, is_some, true};
 ghost use Rattle.model.specs.Acceptance.NotedStates.{slot_at};
 ghost use Rattle.std.specs.List.{list_any};
 ghost use Rattle.std.specs.Option.{option_map_or};
@@ -26,17 +26,15 @@ use std::alloc::AllocError;
 /// How many slots of a line of parents are looked at: none of the kernel's is longer.
 const MOST: u32 = 256;
 
-/// Appends that a slot is emptied, if it holds something.
-fn note_gone(held: Option<NotedSlot>, made: &mut Vec<PackedSlot>) -> Result<(), AllocError>
-    ensures { IfOk result (λ _. made.new.items ≡ made.old.items ++ option_map_or (λ s. emptied s.key ∷ []) held []) }
+/// Appends that the slot is emptied that a change leaves, if it leaves one.
+fn note_gone(change: &PackedSlot, made: &mut Vec<PackedSlot>) -> Result<(), AllocError>
+    ensures { IfOk result (λ _. made.new.items ≡ made.old.items ++ emptied_by change.now) }
 {
-    match held {
-        Some(slot) => {
-            made.push(PackedSlot::of(emptied(slot.key)))?;
-            Ok(())
-        }
-        None => Ok(()),
+    if change.is_empty() {
+        return Ok(());
     }
+    made.push(PackedSlot::of(emptied(change.key())))?;
+    Ok(())
 }
 
 impl Removal<'_, '_> {
@@ -122,7 +120,7 @@ impl Removal<'_, '_> {
         ensures { result ≡ option_map_or (λ c. option_map_or (kept_child (slots_of self.now.slots) self.now.which key) (left_by c) false) (child_at self.now.slots.changes.now key number) false }
     {
         match self.slots.child(key, number) {
-            Some(change) => self.stays_below(left(change), key),
+            Some(change) => self.stays_below(left(change.unpacked()), key),
             None => false,
         }
     }
@@ -329,8 +327,7 @@ impl Removal<'_, '_> {
         ensures { IfOk result (λ _. made.new.items ≡ made.old.items ++ flat_map emptied_by self.now.below.now) }
     {
         for change in self.below {
-            let held = left(change.unpacked());
-            note_gone(held, made)?;
+            note_gone(change, made)?;
         }
         Ok(())
     }

@@ -34,7 +34,7 @@ returns-in-Some-clause-before c =
     let es = c.self.inside.packed.entries in
     let n = c.number-number.result in
     let n-is = c.number-number.ensures ∙ ap (λ (s : NotedSlot). number_of s.key) c.change.view_is in
-    ap (λ (s : NotedSlot). Some s) c.at.ensures
+    ap (λ (s : NotedSlot). Some s) c.packed_at.ensures
     ∙ ap (option_map (unpacked_change slots n)) (sym c.in-Some.is ∙ c.in_ok-before.ensures.old) ∙ sym (unpacked-found slots es n)
     ∙ ap (found (map (unpacked_entry slots) es)) n-is ∙ ap (λ (l : List NotedSlot). slot_at l c.args.change.key) c.self.view_is
 

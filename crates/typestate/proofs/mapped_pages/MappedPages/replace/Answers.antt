@@ -1,13 +1,13 @@
 -- The page that goes is another one.
 use Rattle.std.proofs.Common.{◌∙◌, sym, ap}
-use Rattle.model.specs.Acceptance.NotedStates.{NotedSlot, number_of}
+use Rattle.model.specs.Acceptance.NotedStates.{number_of}
 use Rattle.typestate.proofs.LinkedChanges.{other-child, other-parent}
 use Rattle.typestate.proofs.PagedChanges.{pages-apart}
 use Rattle.typestate.proofs.mapped_pages.MappedPages.replace.Goals as goal
 
 pub returns-clause-others : goal.returns-clause-others
 returns-clause-others c = λ page slot off is.
-    let number = c.number.ensures ∙ ap (λ (s : NotedSlot). number_of s.key) c.before-2.view_is in
+    let number = c.number.ensures ∙ ap number_of c.key.ensures in
     c.remove.ensures.updates.2 (page, slot) (other-child _ _ page slot _ number off) ∙ is
 
 pub returns-clause-own : goal.returns-clause-own

@@ -13,4 +13,4 @@ loop-number-preserved c =
     one-more-found ℕ (found changes) _ c.loop-number.number-iterator c.next.new.self c.loop-number.all.items c.note_found.new.list.items
     (filter_map (found changes) c.args.numbers.now.keys)
     c.in-Some.ensures.steps c.loop-number.invariant (c.in_ok-note_found.ensures
-    ∙ ap (λ (o : Option NotedSlot). c.loop-number.all.items ++ option_to_list o) c.numbered-change.ensures)
+    ∙ ap (λ (o : Option NotedSlot). c.loop-number.all.items ++ option_to_list o) c.packed_at-change.ensures)

@@ -1,10 +1,5 @@
 -- One slot more is emptied.
-use Rattle.std.proofs.Common.{◌∙◌, ◌++◌, Option, [], ◌∷◌, ap}
-use Rattle.std.specs.Option.{option_map_or}
-use Rattle.model.specs.Acceptance.NotedStates.{NotedSlot}
-use Rattle.typestate.specs.Differences.{left_by}
 use Rattle.typestate.specs.Removals.{emptied_by}
-use Rattle.typestate.specs.SlotChanges.{emptied}
 use Rattle.typestate.proofs.Appended.{all-told, none-told, one-more-told}
 use Rattle.typestate.proofs.removal.Removal.note_emptied.Goals as goal
 
@@ -15,8 +10,7 @@ pub loop-change-preserved : goal.loop-change-preserved
 loop-change-preserved c =
     one-more-told emptied_by c.args.self.now.below.now c.loop-change.change-index c.change-item.result c.args.made.now.items c.loop-change.made.items
     c.note_gone.new.made.items c.loop-change-test.true c.change-item.is c.loop-change.invariant
-    (c.in_ok-note_gone.ensures ∙ ap (λ (o : Option NotedSlot). c.loop-change.made.items ++ option_map_or (λ (s : NotedSlot). emptied s.key ∷ []) o [])
-    (c.left-held.ensures ∙ ap left_by c.unpacked.ensures))
+    c.in_ok-note_gone.ensures
 
 pub returns : goal.returns
 returns c = all-told emptied_by c.args.self.now.below.now c.loop-change.change-index c.args.made.now.items c.loop-change.made.items c.loop-change-test.false

@@ -1,10 +1,8 @@
 -- By the kind of the entry.
 use Rattle.std.proofs.Common.{◌∙◌, sym, ap}
-use Rattle.model.specs.Acceptance.NotedStates.{NotedSlot}
 use Rattle.typestate.specs.Differences.{changed}
 use Rattle.typestate.specs.Replays.{with_entry}
 use Rattle.typestate.specs.declared.log_entries.LogEntry.{LogEntry}
-use Rattle.typestate.specs.declared.log_entries.LogEntry.TheVariants.{Sets}
 use Rattle.typestate.proofs.OrderedChanges.{put-changes}
 use Rattle.typestate.proofs.Replayed.{swapped-changes, swapped-rise}
 use Rattle.typestate.proofs.shown.ShownChanges.make.Goals as goal
@@ -12,8 +10,7 @@ use Rattle.typestate.proofs.shown.ShownChanges.make.Goals as goal
 pub returns-in_ok-put-in-Sets-clause-same : goal.returns-in_ok-put-in-Sets-clause-same
 returns-in_ok-put-in-Sets-clause-same c = λ slots rises unlinked.
     let old = c.args.self.now in
-    put-changes slots old c.put.new.self c.unpacked.result rises c.requires c.in_ok-put-in-Sets.ensures.rising c.in_ok-put-in-Sets.ensures.same
-    ∙ ap (λ (s : NotedSlot). with_entry (changed slots old) (Sets s)) c.unpacked.ensures
+    put-changes slots old c.put.new.self c.in-Sets.change rises c.requires c.in_ok-put-in-Sets.ensures.rising c.in_ok-put-in-Sets.ensures.same
     ∙ ap (λ (e : LogEntry). with_entry (changed slots old) e) (sym c.in-Sets.is)
 
 pub returns-in_ok-swap-in-Swaps-clause-rising : goal.returns-in_ok-swap-in-Swaps-clause-rising
