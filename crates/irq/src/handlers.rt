@@ -17,6 +17,7 @@ ghost use Rattle.soundness.specs.Calls.{IsRoot};
 use cnode_ops::{Ends, Kernel, may_have_child, remove_slot};
 use cspace::{destination_slot, source_slot};
 use model::{Cap, KError, Slot, SlotName};
+use objects::Line;
 use slots::SlotStore;
 
 /// The empty slot of this name, for a handler of a line below the slot of interrupt control. Errors are
@@ -123,7 +124,7 @@ pub fn bind<S: SlotStore>(
     let live = &mut kernel.live;
     let source = bound_source(&live.store, root, notification)?;
     let capability = live.store.capability(source);
-    let binding = live.objects.binding(line);
+    let binding = live.objects.binding(Line::new(line));
     remove_slot(&mut live.store, &mut live.objects, binding)?;
     live.store.insert(binding, capability, Some(source));
     Ok(())
@@ -143,6 +144,6 @@ pub fn clear<S: SlotStore>(kernel: &mut Kernel<S>, line: u8) -> Result<(), KErro
     ensures unchanged { OnErr result (kernel.new ≡ kernel.old) }
 {
     let live = &mut kernel.live;
-    let binding = live.objects.binding(line);
+    let binding = live.objects.binding(Line::new(line));
     remove_slot(&mut live.store, &mut live.objects, binding)
 }

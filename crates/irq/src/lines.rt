@@ -10,7 +10,7 @@ ghost use Rattle.objects.specs.Tables.{state_of};
 use cnode_ops::Kernel;
 use model::Cap;
 use notify::signal;
-use objects::Live;
+use objects::{Line, Live};
 use slots::SlotStore;
 
 /// What a line signals: a notification, by its offset in bytes, and with which badge.
@@ -33,9 +33,8 @@ fn signal_of(capability: Cap) -> Option<Signal>
     }
 }
 
-/// What a line, 0 to 63, is bound to, if it is bound.
-fn binding<S: SlotStore>(live: &Live<S>, line: u8) -> Option<Signal>
-    requires { line < 64 }
+/// What a line is bound to, if it is bound.
+fn binding<S: SlotStore>(live: &Live<S>, line: Line) -> Option<Signal>
     ensures { option_map as_signal result ≡ binding (state_in S.slots S.memory live.now) line }
 {
     let slot = live.binding(line);
@@ -53,6 +52,7 @@ pub fn raise<S: SlotStore>(kernel: &mut Kernel<S>, line: u8)
     if line > 63 {
         return;
     }
+    let line = Line::new(line);
     if kernel.live.is_masked(line) {
         kernel.live.set_pending(line, true);
         return;
@@ -75,14 +75,17 @@ pub fn ack<S: SlotStore>(kernel: &mut Kernel<S>, line: u8)
     ensures state { state_in S.slots S.memory kernel.new ≡ acknowledge (state_in S.slots S.memory kernel.old) line }
     ensures beside { SameBeside S.slots S.memory S.order kernel.old kernel.new }
 {
-    let pending = kernel.live.is_pending(line);
-    kernel.live.set_masked(line, false);
+    let live = &mut kernel.live;
+    let line = Line::new(line);
+    let pending = live.is_pending(line);
+    live.set_masked(line, false);
     if !pending {
         return;
     }
-    if let Some(bound) = binding(&kernel.live, line) {
-        kernel.live.set_pending(line, false);
-        signal(&mut kernel.live, bound.notification, bound.badge);
-        kernel.live.set_masked(line, true);
-    }
+    let Some(bound) = binding(live, line) else {
+        return;
+    };
+    live.set_pending(line, false);
+    signal(live, bound.notification, bound.badge);
+    live.set_masked(line, true);
 }

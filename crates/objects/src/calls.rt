@@ -1,7 +1,7 @@
 //! The calls on objects, which are lent the store beside which these are kept: a form that keeps its records in
 //! the machine's bytes has the same.
 
-ghost use Rattle.std.specs.Prelude.{ℕ, ◌≡◌, ◌^◌, ◌<◌, ◌≤◌, List, None, is_some, length};
+ghost use Rattle.std.specs.Prelude.{ℕ, ◌≡◌, ◌^◌, ◌≤◌, List, None, is_some, length};
 ghost use Rattle.model.specs.Capabilities.Slots.{Slots};
 ghost use Rattle.model.specs.Kernel.Kinds.{kind_of};
 ghost use Rattle.model.specs.Kernel.Removal.{slot_count};
@@ -17,17 +17,18 @@ ghost use Rattle.removal_laws.specs.Steps.{object_ended};
 
 use crate::beginnings::begin_bytes;
 use crate::held::{THREAD_SIZE, entry_of};
+use crate::interrupt_lines::Line;
 use crate::tables::Objects;
 use model::{ObjectKind, Slot};
 use slots::SlotStore;
 
 impl Objects {
     /// The slot of the interrupt table that holds what a line signals.
-    pub fn binding(&self, line: u8) -> Slot
-        requires { line < 64 }
+    #[tactic(auto, unfolding(crate::specs::Tables::state_of, crate::specs::Contents::told_by))]
+    pub fn binding(&self, line: Line) -> Slot
         ensures { (slots : Slots) (memory : List ℕ) → result ≡ binding_slot (state_of self.now slots memory) line }
     {
-        self.binding_of(line)
+        Slot::new((1 << self.radix) + u32::from(line.number()))
     }
 
     /// The boot CNode has 2^`radix` slots.

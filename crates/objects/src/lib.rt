@@ -6,6 +6,7 @@
 mod beginnings;
 mod calls;
 mod held;
+mod interrupt_lines;
 mod line_calls;
 mod lives;
 mod queue_calls;
@@ -19,6 +20,7 @@ mod thread_records;
 mod threads;
 mod waiting;
 
+pub use interrupt_lines::Line;
 pub use lives::Live;
 pub use records::WaitingSender;
 pub use state_laws::{

@@ -1,6 +1,6 @@
 //! A store and its objects.
 
-ghost use Rattle.std.specs.Prelude.{ℕ, ◌≡◌, ◌<◌, ◌≤◌, is_some};
+ghost use Rattle.std.specs.Prelude.{ℕ, ◌≡◌, ◌≤◌, is_some};
 ghost use Rattle.model.specs.Kernel.Removal.{slot_count};
 ghost use Rattle.model.specs.Kernel.Setup.{is_frame_object};
 ghost use Rattle.model.specs.Kernel.State.{as_thread, binding_slot};
@@ -12,6 +12,7 @@ mod queue_calls;
 mod scheduling_calls;
 mod thread_calls;
 
+use crate::interrupt_lines::Line;
 use crate::tables::Objects;
 use model::Slot;
 use slots::SlotStore;
@@ -44,9 +45,8 @@ impl<S: SlotStore> Live<S> {
         &self.store
     }
 
-    /// The slot of the interrupt table that holds what a line, 0 to 63, signals.
-    pub fn binding(&self, line: u8) -> Slot
-        requires { line < 64 }
+    /// The slot of the interrupt table that holds what a line signals.
+    pub fn binding(&self, line: Line) -> Slot
         ensures { result ≡ binding_slot (state S.SlotStore self.now) line }
     {
         self.objects.binding(line)

@@ -9,7 +9,7 @@ ghost use Rattle.model.specs.Kernel.Removal.{slot_count};
 ghost use Rattle.model.specs.Kernel.Retype.{NewThread};
 ghost use Rattle.model.specs.Kernel.Scheduling.{all_leave, leaves, wake};
 ghost use Rattle.model.specs.Kernel.Setup.{boot_area, is_frame_object};
-ghost use Rattle.model.specs.Kernel.State.{binding_slot, with_slots};
+ghost use Rattle.model.specs.Kernel.State.{with_slots};
 ghost use Rattle.model.specs.Shared.Lists.{times_in};
 ghost use Rattle.objects.specs.Changes.{vacated};
 ghost use Rattle.objects.specs.Contents.{is_frame, is_thread_kind, object_in};
@@ -28,7 +28,6 @@ use crate::records::Entry;
 use crate::rights::void_rights;
 use crate::thread_records;
 use crate::thread_records::Status;
-use model::Slot;
 use queues::{ReadyList, waiting};
 use slots::SlotStore;
 use std::alloc::{AllocError, Global};
@@ -99,15 +98,6 @@ impl Objects {
             masked: quiet(),
             pending: quiet(),
         })
-    }
-
-    /// The slot of the interrupt table that holds what a line signals.
-    #[tactic(auto, unfolding(crate::specs::Tables::state_of, crate::specs::Contents::told_by))]
-    pub(crate) fn binding_of(&self, line: u8) -> Slot
-        requires { line < 64 }
-        ensures { (slots : Slots) (memory : List ℕ) → result ≡ binding_slot (state_of self.now slots memory) line }
-    {
-        Slot::new((1 << self.radix) + u32::from(line))
     }
 
     /// The boot CNode has 2^`radix` slots.

@@ -8,7 +8,7 @@ ghost use Rattle.objects.specs.Tables.{state_of};
 
 use crate::Ends;
 use model::{Cap, Slot};
-use objects::Objects;
+use objects::{Line, Objects};
 use slots::SlotStore;
 use vspace::{end_tables, unmap_cap};
 
@@ -41,7 +41,7 @@ impl Ends for Objects {
     }
 
     fn binding(&self, line: u8) -> Slot {
-        self.binding(line)
+        self.binding(Line::new(line))
     }
 
     fn slots_of<S: SlotStore>(&self, store: &S, offset: u32) -> u32 {

@@ -25,6 +25,7 @@ returns-in_err-source-clause-outcome g c =
 
 pub returns-in_err-remove_slot-clause-outcome : goal.returns-in_err-remove_slot-clause-outcome
 returns-in_err-remove_slot-clause-outcome g c =
+    let here = rw c.new.ensures at c.binding-binding.ensures in
     let of_kernel = c.live.view_is ∙ c.kernel.view_is in
     λ call at.
     let p = err_from_is_err_and c.from_residual-in_err-remove_slot.result c.from_residual-in_err-remove_slot.ensures.1 in
@@ -32,11 +33,12 @@ returns-in_err-remove_slot-clause-outcome g c =
     c.in_err-remove_slot.field-0.0) of_kernel
     (bind-kept c.live.inside.objects (g.S.SlotMap.slots c.live.inside.store) (g.S.SlotStore.memory c.live.inside.store) c.args.root c.args.line
     c.args.notification
-    c.in_ok-source.source c.binding-binding.result c.in_err-remove_slot.field-0.0 c.in_ok-source.ensures (c.binding-binding.ensures _ _)
+    c.in_ok-source.source c.binding-binding.result c.in_err-remove_slot.field-0.0 c.in_ok-source.ensures (here _ _)
     c.in_err-remove_slot.ensures.outcome call at))
 
 pub insert-requires-clause-empty : goal.insert-requires-clause-empty
 insert-requires-clause-empty g c =
+    let here = rw c.new.ensures at c.binding-binding.ensures in
     let whole = whole-of g.S.SlotMap.slots g.S.SlotStore.memory c.live.inside.objects c.live.inside.store c.kernel.invariant c.live.view_is c.live.invariant in
     let of_kernel = c.live.view_is ∙ c.kernel.view_is in
     let root = subst (λ k. IsRoot (state_in g.S.SlotMap.slots g.S.SlotStore.memory k) c.args.root) (sym of_kernel) c.requires.root in
@@ -45,10 +47,11 @@ insert-requires-clause-empty g c =
     c.args.notification
     c.remove_slot.new.ends (g.S.SlotMap.slots c.remove_slot.new.store) (g.S.SlotStore.memory c.remove_slot.new.store) c.in_ok-source.source
     c.binding-binding.result
-    whole root line c.in_ok-source.ensures (c.binding-binding.ensures _ _) c.in_ok-remove_slot.ensures.outcome
+    whole root line c.in_ok-source.ensures (here _ _) c.in_ok-remove_slot.ensures.outcome
 
 pub insert-requires-clause-full : goal.insert-requires-clause-full
 insert-requires-clause-full g c =
+    let here = rw c.new.ensures at c.binding-binding.ensures in
     let whole = whole-of g.S.SlotMap.slots g.S.SlotStore.memory c.live.inside.objects c.live.inside.store c.kernel.invariant c.live.view_is c.live.invariant in
     let of_kernel = c.live.view_is ∙ c.kernel.view_is in
     λ x is.
@@ -59,10 +62,11 @@ insert-requires-clause-full g c =
     c.args.notification
     c.remove_slot.new.ends (g.S.SlotMap.slots c.remove_slot.new.store) (g.S.SlotStore.memory c.remove_slot.new.store) c.in_ok-source.source
     c.binding-binding.result
-    whole root line c.in_ok-source.ensures (c.binding-binding.ensures _ _) c.in_ok-remove_slot.ensures.outcome) is
+    whole root line c.in_ok-source.ensures (here _ _) c.in_ok-remove_slot.ensures.outcome) is
 
 pub insert-requires-clause-kin : goal.insert-requires-clause-kin
 insert-requires-clause-kin g c =
+    let here = rw c.new.ensures at c.binding-binding.ensures in
     let whole = whole-of g.S.SlotMap.slots g.S.SlotStore.memory c.live.inside.objects c.live.inside.store c.kernel.invariant c.live.view_is c.live.invariant in
     let of_kernel = c.live.view_is ∙ c.kernel.view_is in
     let root = subst (λ k. IsRoot (state_in g.S.SlotMap.slots g.S.SlotStore.memory k) c.args.root) (sym of_kernel) c.requires.root in
@@ -71,11 +75,12 @@ insert-requires-clause-kin g c =
     c.args.notification
     c.remove_slot.new.ends (g.S.SlotMap.slots c.remove_slot.new.store) (g.S.SlotStore.memory c.remove_slot.new.store) c.in_ok-source.source
     c.binding-binding.result
-    whole root line c.in_ok-source.ensures (c.binding-binding.ensures _ _) c.in_ok-remove_slot.ensures.outcome c.capability-capability.result
+    whole root line c.in_ok-source.ensures (here _ _) c.in_ok-remove_slot.ensures.outcome c.capability-capability.result
     c.capability-capability.ensures.value)
 
 pub insert-requires-clause-room : goal.insert-requires-clause-room
 insert-requires-clause-room g c =
+    let here = rw c.new.ensures at c.binding-binding.ensures in
     let whole = whole-of g.S.SlotMap.slots g.S.SlotStore.memory c.live.inside.objects c.live.inside.store c.kernel.invariant c.live.view_is c.live.invariant in
     let of_kernel = c.live.view_is ∙ c.kernel.view_is in
     λ x is.
@@ -86,10 +91,11 @@ insert-requires-clause-room g c =
     c.args.notification
     c.remove_slot.new.ends (g.S.SlotMap.slots c.remove_slot.new.store) (g.S.SlotStore.memory c.remove_slot.new.store) c.in_ok-source.source
     c.binding-binding.result
-    whole root line c.in_ok-source.ensures (c.binding-binding.ensures _ _) c.in_ok-remove_slot.ensures.outcome) is
+    whole root line c.in_ok-source.ensures (here _ _) c.in_ok-remove_slot.ensures.outcome) is
 
 pub returns-clause-outcome : goal.returns-clause-outcome
 returns-clause-outcome g c =
+    let here = rw c.new.ensures at c.binding-binding.ensures in
     let whole = whole-of g.S.SlotMap.slots g.S.SlotStore.memory c.live.inside.objects c.live.inside.store c.kernel.invariant c.live.view_is c.live.invariant in
     let of_kernel = c.live.view_is ∙ c.kernel.view_is in
     λ call at.
@@ -104,11 +110,12 @@ returns-clause-outcome g c =
     c.args.notification
     c.remove_slot.new.ends (g.S.SlotMap.slots c.remove_slot.new.store) (g.S.SlotStore.memory c.remove_slot.new.store) c.in_ok-source.source
     c.binding-binding.result
-    whole root line c.in_ok-source.ensures (c.binding-binding.ensures _ _) c.in_ok-remove_slot.ensures.outcome
+    whole root line c.in_ok-source.ensures (here _ _) c.in_ok-remove_slot.ensures.outcome
     (g.S.SlotMap.slots c.insert.new.self) (g.S.SlotStore.memory c.insert.new.self) c.remove_slot.ensures.agree c.insert.ensures.bytes put call at)
 
 pub invariant_of-live-2 : goal.invariant_of-live-2
 invariant_of-live-2 g c =
+    let here = rw c.new.ensures at c.binding-binding.ensures in
     let whole = whole-of g.S.SlotMap.slots g.S.SlotStore.memory c.live.inside.objects c.live.inside.store c.kernel.invariant c.live.view_is c.live.invariant in
     let of_kernel = c.live.view_is ∙ c.kernel.view_is in
     (
@@ -121,11 +128,12 @@ invariant_of-live-2 g c =
     c.args.notification
     c.remove_slot.new.ends (g.S.SlotMap.slots c.remove_slot.new.store) (g.S.SlotStore.memory c.remove_slot.new.store) c.in_ok-source.source
     c.binding-binding.result
-    whole root line c.in_ok-source.ensures (c.binding-binding.ensures _ _) c.in_ok-remove_slot.ensures.outcome
+    whole root line c.in_ok-source.ensures (here _ _) c.in_ok-remove_slot.ensures.outcome
     (g.S.SlotMap.slots c.insert.new.self) (g.S.SlotStore.memory c.insert.new.self) c.remove_slot.ensures.agree c.insert.ensures.bytes put).stands
 
 pub invariant_of-kernel-2 : goal.invariant_of-kernel-2
 invariant_of-kernel-2 g c =
+    let here = rw c.new.ensures at c.binding-binding.ensures in
     let whole = whole-of g.S.SlotMap.slots g.S.SlotStore.memory c.live.inside.objects c.live.inside.store c.kernel.invariant c.live.view_is c.live.invariant in
     let of_kernel = c.live.view_is ∙ c.kernel.view_is in
     consistent-of (
@@ -138,7 +146,7 @@ invariant_of-kernel-2 g c =
     c.args.notification
     c.remove_slot.new.ends (g.S.SlotMap.slots c.remove_slot.new.store) (g.S.SlotStore.memory c.remove_slot.new.store) c.in_ok-source.source
     c.binding-binding.result
-    whole root line c.in_ok-source.ensures (c.binding-binding.ensures _ _) c.in_ok-remove_slot.ensures.outcome
+    whole root line c.in_ok-source.ensures (here _ _) c.in_ok-remove_slot.ensures.outcome
     (g.S.SlotMap.slots c.insert.new.self) (g.S.SlotStore.memory c.insert.new.self) c.remove_slot.ensures.agree c.insert.ensures.bytes put)
 
 pub remove_slot-requires-clause-agree : goal.remove_slot-requires-clause-agree

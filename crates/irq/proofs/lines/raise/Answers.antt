@@ -10,10 +10,12 @@ use Rattle.model.specs.Kernel.Interrupts.{raise}
 use Rattle.soundness.proofs.Laws.{raise-machine, raise-whole}
 
 pub signal-requires : goal.signal-requires
-signal-requires g c = record {
-  there = bound-there (state_in g.S.SlotMap.slots g.S.SlotStore.memory c.kernel.inside.live) c.args.line (as_signal c.in-Some.bound) c.kernel.invariant.sound
-      (sym c.binding.ensures ∙ ap (option_map as_signal) c.in-Some.is);
-}
+signal-requires g c =
+    let bound = rw c.new-line.ensures at c.binding.ensures in
+    record {
+      there = bound-there (state_in g.S.SlotMap.slots g.S.SlotStore.memory c.kernel.inside.live) c.args.line (as_signal c.in-Some.bound)
+          c.kernel.invariant.sound (sym bound ∙ ap (option_map as_signal) c.in-Some.is);
+    }
 
 pub invariant_of-kernel : goal.invariant_of-kernel
 invariant_of-kernel g c =
