@@ -2,13 +2,12 @@
 use Rattle.std.specs.Prelude.{ℕ, ◌≡◌, false, Some, List}
 use Rattle.model.specs.Capabilities.Slots.{Slots}
 use Rattle.model.specs.Kernel.Kinds.{kind_at}
-use Rattle.model.specs.Kernel.Retype.{NewObject, NewEndpoint, NewThread}
-use Rattle.model.specs.Kernel.State.{endpoint_at}
+use Rattle.model.specs.Kernel.Retype.{NewObject, NewThread}
 use Rattle.model.specs.Shared.Lists.{times_in}
 use Rattle.objects.specs.Rights.{has_right}
 use Rattle.objects.specs.Standing.{Standing}
 use Rattle.objects.specs.Tables.{Tables, ready_at, state_of, thread_in, waiting_of}
-use Rattle.objects.specs.Waiting.{IsOneSided, StandsNowhere}
+use Rattle.objects.specs.Waiting.{StandsNowhere}
 
 -- an object of this kind is at an offset
 pub record IsThere (o : Tables) (slots : Slots) (memory : List ℕ) (kind : NewObject) (offset : ℕ) : Type 0 where
@@ -19,12 +18,6 @@ pub record IsThere (o : Tables) (slots : Slots) (memory : List ℕ) (kind : NewO
 pub record MayWait (o : Tables) (slots : Slots) (memory : List ℕ) (thread : ℕ) : Type 0 where
   pub apart : StandsNowhere (state_of o slots memory).objects thread
   pub there : kind_at (state_of o slots memory) thread ≡ Some NewThread
-  pub stands : Standing o slots memory
-
--- an endpoint from which the first that waits may be taken
-pub record MayServe (o : Tables) (slots : Slots) (memory : List ℕ) (point : ℕ) : Type 0 where
-  pub endpoint : kind_at (state_of o slots memory) point ≡ Some NewEndpoint
-  pub one_sided : IsOneSided (endpoint_at (state_of o slots memory) point)
   pub stands : Standing o slots memory
 
 -- a thread that waits nowhere, is not ready, and that nobody may reply to

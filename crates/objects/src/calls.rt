@@ -1,11 +1,12 @@
 //! The calls on objects, which are lent the store beside which these are kept: a form that keeps its records in
 //! the machine's bytes has the same.
 
-ghost use Rattle.std.specs.Prelude.{ℕ, ◌≡◌, ◌^◌, ◌≤◌, List, None, is_some, length};
+ghost use Rattle.std.specs.Prelude.{ℕ, ◌≡◌, ◌↔◌, ◌^◌, ◌≤◌, [], List, None, false, is_some, length};
 ghost use Rattle.model.specs.Capabilities.Slots.{Slots};
 ghost use Rattle.model.specs.Kernel.Kinds.{kind_of};
 ghost use Rattle.model.specs.Kernel.Removal.{slot_count};
 ghost use Rattle.model.specs.Kernel.Setup.{is_frame_object};
+ghost use Rattle.model.specs.Kernel.Soundness.{waiting_at};
 ghost use Rattle.model.specs.Kernel.State.{as_thread, binding_slot};
 ghost use Rattle.objects.specs.Changes.{MayStand, begun};
 ghost use Rattle.objects.specs.Frames.{IsRoom, SameBesideObjects};
@@ -75,6 +76,15 @@ impl Objects {
         } else {
             None
         }
+    }
+
+    /// Whether a thread waits at the object at an offset.
+    #[tactic(auto, unfolding(crate::specs::Tables::state_of, crate::specs::Contents::told_by))]
+    pub fn is_waited_at<S: SlotStore>(&self, store: &S, offset: u32) -> bool
+        requires { Standing self.now (S.slots store.now) (S.memory store.now) }
+        ensures { (result ≡ false) ↔ (waiting_at ((state_of self.now (S.slots store.now) (S.memory store.now)).objects offset) ≡ []) }
+    {
+        self.has_queue(offset) && self.first_waiting(store, offset).is_some()
     }
 
     /// The object at an offset ends, if there is one: a thread leaves every queue, and the rights to reply

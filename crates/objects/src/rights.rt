@@ -12,6 +12,7 @@ ghost use Rattle.objects.specs.declared.records.Entry.TheVariants.{Thread};
 
 use crate::held::{Held, THREAD_SIZE};
 use crate::thread_records;
+use crate::thread_records::ThreadRecord;
 use slots::SlotStore;
 
 /// How far into a thread the word lies.
@@ -46,7 +47,7 @@ fn has_right<S: SlotStore>(held: &Held, store: &S, holder: u32, caller: u32) -> 
     requires { AreThreadsLaid held.now (S.slots store.now) (length (S.memory store.now)) }
     ensures { result ≡ has_right (threads_by held.now (S.memory store.now) holder) caller }
 {
-    held.has_thread(holder) && thread_records::caller(store, holder) == Some(caller)
+    held.has_thread(holder) && ThreadRecord::new(store, holder).caller() == Some(caller)
 }
 
 /// Whether a thread other than the holder has the right to reply to a caller.

@@ -26,8 +26,7 @@ ghost use Rattle.objects.specs.thread_records.Threads.{status_of};
 use crate::held::Held;
 use crate::records::Entry;
 use crate::rights::void_rights;
-use crate::thread_records;
-use crate::thread_records::Status;
+use crate::thread_records::{Status, ThreadRecord};
 use queues::{ReadyList, waiting};
 use slots::SlotStore;
 use std::alloc::{AllocError, Global};
@@ -255,7 +254,7 @@ impl Objects {
         requires { Standing self.now (S.slots store.now) (S.memory store.now) }
         ensures { result ≡ is_stranded (state_of self.now (S.slots store.now) (S.memory store.now)) offset }
     {
-        self.has_thread(offset) && self.waits_nowhere(thread_records::status(store, offset))
+        self.has_thread(offset) && self.waits_nowhere(ThreadRecord::new(store, offset).status())
     }
 
     /// Wakes the thread at an offset, if one is there that waits at an object that is gone.

@@ -8,7 +8,7 @@ mod record_laws;
 mod records;
 mod writes;
 
-pub use reads::{caller, fault_address, pc, priority, registers, sending, slice, status};
+pub use reads::ThreadRecord;
 pub use record_laws::{a_record_stays, zero_is_a_new_thread};
 pub use records::{Fault, Sending, Sent, Status, Thread};
 pub use writes::{

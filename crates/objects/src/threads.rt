@@ -1,9 +1,10 @@
 //! How one thread changes while it stays where it is.
 
-ghost use Rattle.std.specs.Prelude.{ℕ, ◌≡◌, Some};
+ghost use Rattle.std.specs.Prelude.{ℕ, ◌≡◌, List, Some};
+ghost use Rattle.model.specs.Capabilities.Slots.{Slots};
 ghost use Rattle.model.specs.Kernel.Kinds.{kind_at};
 ghost use Rattle.model.specs.Kernel.Retype.{NewThread};
-ghost use Rattle.model.specs.Kernel.Scheduling.{is_runnable, to_tail, unready};
+ghost use Rattle.model.specs.Kernel.Scheduling.{current, is_runnable, to_tail, unready};
 ghost use Rattle.model.specs.Kernel.State.{thread_at, with_thread};
 ghost use Rattle.objects.specs.Frames.{SameBesideRecords};
 ghost use Rattle.objects.specs.Premises.{IsThere};
@@ -13,10 +14,18 @@ ghost use Rattle.objects.specs.thread_records.Threads.{status_of};
 
 use crate::tables::Objects;
 use crate::thread_records;
-use crate::thread_records::Status;
+use crate::thread_records::{Status, ThreadRecord};
 use slots::SlotStore;
 
 impl Objects {
+    /// The current thread: the first of the greatest priority, if any is ready.
+    #[tactic(auto, unfolding(crate::specs::Tables::state_of, crate::specs::Contents::told_by))]
+    pub(crate) fn current(&self) -> Option<u32>
+        ensures { (slots : Slots) (memory : List ℕ) → result ≡ current (state_of self.now slots memory) }
+    {
+        self.ready.current()
+    }
+
     /// Sets whether a thread runs, and else what it waits for.
     pub(crate) fn set_status_at<S: SlotStore>(&mut self, store: &mut S, offset: u32, status: Status)
         requires { IsThere self.old (S.slots store.old) (S.memory store.old) NewThread offset }
@@ -61,7 +70,7 @@ impl Objects {
         requires { IsThere self.now (S.slots store.now) (S.memory store.now) NewThread offset }
         ensures { result ≡ is_runnable (thread_at (state_of self.now (S.slots store.now) (S.memory store.now)) offset).status }
     {
-        is_running(thread_records::status(store, offset))
+        is_running(ThreadRecord::new(store, offset).status())
     }
 
     /// A thread leaves the ready list.
@@ -85,7 +94,7 @@ impl Objects {
         ensures order { S.order store.new ≡ S.order store.old }
         ensures stands { Standing self.new (S.slots store.new) (S.memory store.new) }
     {
-        let priority = thread_records::priority(store, offset);
+        let priority = ThreadRecord::new(store, offset).priority();
         self.ready.leave(&self.held, store, offset);
         self.ready.push(&self.held, store, priority, offset);
     }

@@ -12,7 +12,7 @@ ghost use Rattle.objects.specs.Waiting.{StandsNowhere, changed_at, has_waiting, 
 
 use crate::tables::Objects;
 use crate::thread_records;
-use crate::thread_records::Sending;
+use crate::thread_records::{Sending, ThreadRecord};
 use queues::waiting::{first, pop, push};
 use slots::SlotStore;
 
@@ -80,7 +80,7 @@ impl Objects {
         ensures { result ≡ sending_in self.now (S.memory store.now) thread }
     {
         if self.has_thread(thread) {
-            thread_records::sending(store, thread)
+            ThreadRecord::new(store, thread).sending()
         } else {
             None
         }

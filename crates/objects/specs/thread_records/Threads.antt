@@ -12,6 +12,8 @@ use Rattle.objects.specs.declared.thread_records.records.Sent.TheVariants as sen
 use Rattle.objects.specs.declared.thread_records.records.Status.{Status}
 use Rattle.objects.specs.declared.thread_records.records.Status.TheVariants as statuses
 use Rattle.objects.specs.declared.thread_records.records.Thread.{Thread}
+use Rattle.objects.specs.declared.thread_records.reads.ThreadRecord.{ThreadRecord}
+use Rattle.objects.specs.thread_records.Records.{thread_at}
 
 abbrev pub status_of : Status → states.Status
 status_of statuses.Inactive = states.Inactive
@@ -29,6 +31,10 @@ thread_state t = record {
   status = status_of t.status;
   caller = t.caller;
 }
+
+-- the thread that a record's bytes hold
+abbrev pub record_state : ThreadRecord → ThreadState
+record_state r = thread_state (thread_at r.memory.now r.thread)
 
 -- ---- what a thread sends
 

@@ -1,11 +1,10 @@
 //! Message buffers of threads, and what is copied between them.
 
-ghost use Rattle.std.specs.Prelude.{◌≡◌, ◌*◌, ◌+◌, ◌≤◌, Some, length, max};
-ghost use Rattle.model.specs.Capabilities.Slots.{OutsideSlots};
+ghost use Rattle.std.specs.Prelude.{◌≡◌, ◌≤◌, Some};
 ghost use Rattle.model.specs.Kernel.Kinds.{kind_at};
 ghost use Rattle.model.specs.Kernel.Messages.{buffer_of, with_copied};
 ghost use Rattle.model.specs.Kernel.Retype.{NewThread};
-ghost use Rattle.objects.specs.Frames.{AreCopied, IsFramed};
+ghost use Rattle.objects.specs.Frames.{IsFramed};
 ghost use Rattle.objects.specs.Lives.{Beside, state};
 
 use crate::lives::Live;
@@ -17,17 +16,6 @@ const BUFFER_SLOT: u32 = 2;
 
 /// Where the first word is in a buffer that no register holds, in bytes.
 const FIRST_WORD: u32 = 32;
-
-/// Copies so many words from one place in memory to another, as they were before.
-fn copy_memory<S: SlotStore>(store: &mut S, source: u32, target: u32, count: u32)
-    requires within { max source target + 4 * count ≤ length (S.memory store.old) }
-    requires outside { OutsideSlots (S.slots store.old) target (4 * count) }
-    ensures slots { S.slots store.new ≡ S.slots store.old }
-    ensures bytes { AreCopied (S.memory store.old) (S.memory store.new) source target (4 * count) }
-    ensures order { S.order store.new ≡ S.order store.old }
-{
-    store.copy_words(source, target, count);
-}
 
 impl<S: SlotStore> Live<S> {
     /// The frame of a thread's message buffer, if it has one.
@@ -51,11 +39,7 @@ impl<S: SlotStore> Live<S> {
         let size = self.objects.memory_size();
         prove!(source <= size);
         prove!(target <= size);
-        copy_memory(
-            &mut self.store,
-            source + FIRST_WORD,
-            target + FIRST_WORD,
-            count,
-        );
+        self.store
+            .copy_words(source + FIRST_WORD, target + FIRST_WORD, count);
     }
 }

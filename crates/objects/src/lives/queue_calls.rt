@@ -9,8 +9,9 @@ ghost use Rattle.objects.specs.Lives.{Beside, state};
 ghost use Rattle.objects.specs.thread_records.Threads.{sender_of};
 ghost use Rattle.objects.specs.Waiting.{IsOneSided, ReceiverTaken, SenderTaken, StandsNowhere, WaiterTaken, with_receiver, with_sender, with_waiter, with_word};
 
+use crate::beginnings::WORD;
 use crate::lives::Live;
-use crate::records::WaitingSender;
+use crate::records::{Entry, WaitingSender};
 use crate::thread_records::Sending;
 use slots::SlotStore;
 
@@ -26,7 +27,7 @@ impl<S: SlotStore> Live<S> {
         ensures beside { Beside S.SlotStore self.old self.new }
     {
         self.objects
-            .push_sender(&mut self.store, endpoint, thread, sending);
+            .enqueue(&mut self.store, endpoint, thread, Some(sending));
     }
 
     /// A thread that waits nowhere waits after the others at an endpoint where nobody sends, to receive.
@@ -40,7 +41,7 @@ impl<S: SlotStore> Live<S> {
         ensures beside { Beside S.SlotStore self.old self.new }
     {
         self.objects
-            .push_receiver(&mut self.store, endpoint, thread);
+            .enqueue(&mut self.store, endpoint, thread, None);
     }
 
     /// A thread that waits nowhere waits after the others at a notification.
@@ -53,7 +54,7 @@ impl<S: SlotStore> Live<S> {
         ensures beside { Beside S.SlotStore self.old self.new }
     {
         self.objects
-            .push_waiter(&mut self.store, notification, thread);
+            .enqueue(&mut self.store, notification, thread, None);
     }
 
     /// Takes the first thread that waits at an endpoint to send, with what it sends.
@@ -63,7 +64,14 @@ impl<S: SlotStore> Live<S> {
         ensures state { SenderTaken (state S.SlotStore self.old) endpoint result (state S.SlotStore self.new) }
         ensures beside { Beside S.SlotStore self.old self.new }
     {
-        self.objects.take_sender(&mut self.store, endpoint)
+        let Some(thread) = self.objects.first_waiting(&self.store, endpoint) else {
+            return None;
+        };
+        let Some(sending) = self.objects.sending_of(&self.store, thread) else {
+            return None;
+        };
+        self.objects.serve(&mut self.store, endpoint, thread);
+        Some(WaitingSender { thread, sending })
     }
 
     /// Takes the first thread that waits at an endpoint to receive.
@@ -73,7 +81,14 @@ impl<S: SlotStore> Live<S> {
         ensures state { ReceiverTaken (state S.SlotStore self.old) endpoint result (state S.SlotStore self.new) }
         ensures beside { Beside S.SlotStore self.old self.new }
     {
-        self.objects.take_receiver(&mut self.store, endpoint)
+        let Some(thread) = self.objects.first_waiting(&self.store, endpoint) else {
+            return None;
+        };
+        if self.objects.sending_of(&self.store, thread).is_some() {
+            return None;
+        }
+        self.objects.serve(&mut self.store, endpoint, thread);
+        Some(thread)
     }
 
     /// Takes the first thread that waits at a notification.
@@ -82,7 +97,11 @@ impl<S: SlotStore> Live<S> {
         ensures state { WaiterTaken (state S.SlotStore self.old) notification result (state S.SlotStore self.new) }
         ensures beside { Beside S.SlotStore self.old self.new }
     {
-        self.objects.take_waiter(&mut self.store, notification)
+        let Some(thread) = self.objects.first_waiting(&self.store, notification) else {
+            return None;
+        };
+        self.objects.serve(&mut self.store, notification, thread);
+        Some(thread)
     }
 
     /// Whether a thread waits at the object at an offset.
@@ -96,7 +115,11 @@ impl<S: SlotStore> Live<S> {
     pub fn word(&self, notification: u32) -> u32
         ensures { result ≡ (notification_at (state S.SlotStore self.now) notification).word }
     {
-        self.objects.word(&self.store, notification)
+        let objects = &self.objects;
+        match objects.held.get(notification) {
+            Entry::Notification => self.store.mem().read32(notification + WORD),
+            _ => 0,
+        }
     }
 
     /// Sets the word of a notification.
@@ -106,6 +129,6 @@ impl<S: SlotStore> Live<S> {
             ≡ with_word (state S.SlotStore self.old) notification word }
         ensures beside { Beside S.SlotStore self.old self.new }
     {
-        self.objects.set_word(&mut self.store, notification, word);
+        self.store.write32(notification + WORD, word);
     }
 }

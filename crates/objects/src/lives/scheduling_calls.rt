@@ -17,14 +17,17 @@ impl<S: SlotStore> Live<S> {
     pub fn current(&self) -> Option<u32>
         ensures { result ≡ current (state S.SlotStore self.now) }
     {
-        self.objects.current(&self.store)
+        self.objects.current()
     }
 
     /// How many ticks a thread runs on before it goes to the tail of its priority.
     pub fn slice(&self, thread: u32) -> u8
         ensures { result ≡ (thread_at (state S.SlotStore self.now) thread).slice }
     {
-        self.objects.slice(&self.store, thread)
+        match self.record_of(thread) {
+            Some(found) => found.slice(),
+            None => 0,
+        }
     }
 
     /// Sets how many ticks a thread runs on.
@@ -34,7 +37,7 @@ impl<S: SlotStore> Live<S> {
             ≡ with_thread (state S.SlotStore self.old) thread (record (thread_at (state S.SlotStore self.old) thread) { slice = slice }) }
         ensures beside { Beside S.SlotStore self.old self.new }
     {
-        self.objects.set_slice(&mut self.store, thread, slice);
+        self.objects.set_slice_at(&mut self.store, thread, slice);
     }
 
     /// A thread goes to the tail of its priority.
@@ -44,7 +47,7 @@ impl<S: SlotStore> Live<S> {
             ≡ to_tail (state S.SlotStore self.old) thread }
         ensures beside { Beside S.SlotStore self.old self.new }
     {
-        self.objects.to_tail(&mut self.store, thread);
+        self.objects.to_tail_at(&mut self.store, thread);
     }
 
     /// Sets the priority of a thread: one that runs goes to its tail, with the slice that it has.
@@ -54,7 +57,12 @@ impl<S: SlotStore> Live<S> {
             ≡ with_priority (state S.SlotStore self.old) thread priority }
         ensures beside { Beside S.SlotStore self.old self.new }
     {
-        self.objects.set_priority(&mut self.store, thread, priority);
+        let runs = self.objects.runs(&self.store, thread);
+        self.objects
+            .set_priority_at(&mut self.store, thread, priority);
+        if runs {
+            self.objects.to_tail_at(&mut self.store, thread);
+        }
     }
 
     /// A thread leaves every queue and the ready list, and nobody has the right to reply to it any more.
@@ -64,6 +72,6 @@ impl<S: SlotStore> Live<S> {
             ≡ leaves (state S.SlotStore self.old) thread }
         ensures beside { Beside S.SlotStore self.old self.new }
     {
-        self.objects.leave(&mut self.store, thread);
+        self.objects.forget(&mut self.store, thread);
     }
 }

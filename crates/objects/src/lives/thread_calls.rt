@@ -1,60 +1,92 @@
 //! The calls on threads.
 
 ghost use Rattle.std.specs.Prelude.{ℕ, ◌≡◌, Some};
+ghost use Rattle.std.specs.Option.{option_map_or};
 ghost use Rattle.model.specs.Kernel.Kinds.{kind_at};
 ghost use Rattle.model.specs.Kernel.Messages.{with_caller, with_registers};
 ghost use Rattle.model.specs.Kernel.Retype.{NewThread};
 ghost use Rattle.model.specs.Kernel.Scheduling.{block, wake};
-ghost use Rattle.model.specs.Kernel.State.{thread_at, with_thread};
+ghost use Rattle.model.specs.Kernel.State.{new_thread, thread_at, with_thread};
 ghost use Rattle.objects.specs.Lives.{Beside, state};
-ghost use Rattle.objects.specs.thread_records.Threads.{status_of};
+ghost use Rattle.objects.specs.thread_records.Threads.{record_state, status_of};
 
 use crate::lives::Live;
-use crate::thread_records::Status;
+use crate::rights::note;
+use crate::thread_records;
+use crate::thread_records::{Status, ThreadRecord};
 use rv32_exec::Regs;
 use slots::SlotStore;
 
 impl<S: SlotStore> Live<S> {
+    /// The record of the thread at an offset, if one is there.
+    pub(crate) fn record_of(&self, thread: u32) -> Option<ThreadRecord<'_>>
+        ensures { option_map_or record_state result new_thread ≡ thread_at (state S.SlotStore self.now) thread }
+    {
+        if self.objects.has_thread(thread) {
+            Some(ThreadRecord::new(&self.store, thread))
+        } else {
+            None
+        }
+    }
+
     /// The registers of a thread: those of a new one, where none is.
     pub fn registers(&self, thread: u32) -> Regs
         ensures { result ≡ (thread_at (state S.SlotStore self.now) thread).registers }
     {
-        self.objects.registers(&self.store, thread)
+        match self.record_of(thread) {
+            Some(found) => found.registers(),
+            None => Regs::new(),
+        }
     }
 
     /// The program counter of a thread: that of a new one, where none is.
     pub fn pc(&self, thread: u32) -> u32
         ensures { result ≡ (thread_at (state S.SlotStore self.now) thread).registers.pc }
     {
-        self.objects.pc(&self.store, thread)
+        match self.record_of(thread) {
+            Some(found) => found.pc(),
+            None => 0,
+        }
     }
 
     /// Whether a thread runs, and else what it waits for.
     pub fn status(&self, thread: u32) -> Status
         ensures { status_of result ≡ (thread_at (state S.SlotStore self.now) thread).status }
     {
-        self.objects.status(&self.store, thread)
+        match self.record_of(thread) {
+            Some(found) => found.status(),
+            None => Status::Inactive,
+        }
     }
 
     /// The thread that a thread has the right to reply to.
     pub fn caller(&self, thread: u32) -> Option<u32>
         ensures { result ≡ (thread_at (state S.SlotStore self.now) thread).caller }
     {
-        self.objects.caller(&self.store, thread)
+        match self.record_of(thread) {
+            Some(found) => found.caller(),
+            None => None,
+        }
     }
 
     /// The priority of a thread.
     pub fn priority(&self, thread: u32) -> u8
         ensures { result ≡ (thread_at (state S.SlotStore self.now) thread).priority }
     {
-        self.objects.priority(&self.store, thread)
+        match self.record_of(thread) {
+            Some(found) => found.priority(),
+            None => 0,
+        }
     }
 
     /// The capability address of the endpoint that takes a thread's faults, or 0.
     pub fn fault_address(&self, thread: u32) -> u32
         ensures { result ≡ (thread_at (state S.SlotStore self.now) thread).fault_address }
     {
-        self.objects.fault_address(&self.store, thread)
+        match self.record_of(thread) {
+            Some(found) => found.fault_address(),
+            None => 0,
+        }
     }
 
     /// Sets the registers of a thread.
@@ -64,8 +96,7 @@ impl<S: SlotStore> Live<S> {
             ≡ with_registers (state S.SlotStore self.old) thread registers }
         ensures beside { Beside S.SlotStore self.old self.new }
     {
-        self.objects
-            .set_registers(&mut self.store, thread, registers);
+        thread_records::set_registers(&mut self.store, thread, registers);
     }
 
     /// A thread has the right to reply to this one, which is there, or no such right.
@@ -76,7 +107,9 @@ impl<S: SlotStore> Live<S> {
             ≡ with_caller (state S.SlotStore self.old) thread caller }
         ensures beside { Beside S.SlotStore self.old self.new }
     {
-        self.objects.set_caller(&mut self.store, thread, caller);
+        let objects = &self.objects;
+        note(&objects.held, &mut self.store, thread, caller);
+        thread_records::set_caller(&mut self.store, thread, caller);
     }
 
     /// Sets the capability address of the endpoint that takes a thread's faults; 0 is none.
@@ -86,8 +119,7 @@ impl<S: SlotStore> Live<S> {
             ≡ with_thread (state S.SlotStore self.old) thread (record (thread_at (state S.SlotStore self.old) thread) { fault_address = address }) }
         ensures beside { Beside S.SlotStore self.old self.new }
     {
-        self.objects
-            .set_fault_address(&mut self.store, thread, address);
+        thread_records::set_fault_address(&mut self.store, thread, address);
     }
 
     /// A thread stops running, for this reason.
@@ -97,7 +129,8 @@ impl<S: SlotStore> Live<S> {
             ≡ block (state S.SlotStore self.old) thread (status_of status) }
         ensures beside { Beside S.SlotStore self.old self.new }
     {
-        self.objects.block(&mut self.store, thread, status);
+        self.objects.set_status_at(&mut self.store, thread, status);
+        self.objects.unready(&mut self.store, thread);
     }
 
     /// Makes a thread runnable that does not run: it goes to the tail of its priority, with a full slice.
@@ -107,6 +140,6 @@ impl<S: SlotStore> Live<S> {
             ≡ wake (state S.SlotStore self.old) thread }
         ensures beside { Beside S.SlotStore self.old self.new }
     {
-        self.objects.wake(&mut self.store, thread);
+        self.objects.wake_at(&mut self.store, thread);
     }
 }

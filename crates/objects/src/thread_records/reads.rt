@@ -14,119 +14,119 @@ use pmem::Mem;
 use rv32_exec::Regs;
 use slots::SlotStore;
 
-/// A word of a thread's record.
-fn word(memory: &Mem, thread: u32, place: u32) -> u32
-    requires within { thread + 512 ≤ length memory.now }
-    requires inside { place + 4 ≤ 512 }
-    ensures { result ≡ word_at memory.now (thread + place) }
-{
-    prove!(thread <= memory.len());
-    memory.read32(thread + place)
+/// A thread's record, for reading. The thread's 512 bytes, from its offset on, lie in memory.
+#[derive(Clone, Copy)]
+pub struct ThreadRecord<'a> {
+    memory: &'a Mem,
+    thread: u32,
+    ghost within: { thread + 512 ≤ length memory.now },
 }
 
-/// A byte of a thread's record.
-fn byte(memory: &Mem, thread: u32, place: u32) -> u8
-    requires within { thread + 512 ≤ length memory.now }
-    requires inside { place < 512 }
-    ensures { result ≡ slice_index memory.now (thread + place) }
-{
-    prove!(thread <= memory.len());
-    memory.read8(thread + place)
-}
+impl<'a> ThreadRecord<'a> {
+    /// The record of the thread at an offset.
+    pub fn new<S: SlotStore>(store: &'a S, thread: u32) -> Self
+        requires { thread + 512 ≤ length (S.memory store.now) }
+        ensures { thread_at result.memory.now result.thread ≡ thread_at (S.memory store.now) thread }
+    {
+        ThreadRecord {
+            memory: store.mem(),
+            thread,
+        }
+    }
 
-/// Words of a thread's record, one after the other: as many as there is room for.
-fn fill_words(memory: &Mem, thread: u32, place: u32, words: &mut [u32])
-    requires within { thread + 512 ≤ length memory.now }
-    requires inside { place + 4 * length words.old ≤ 512 }
-    ensures { words.new ≡ words_at memory.now (thread + place) (length words.old) }
-{
-    prove!(thread <= memory.len());
-    memory.read_words(thread + place, words);
-}
+    /// A word of the record.
+    fn word(&self, place: u32) -> u32
+        requires { place + 4 ≤ 512 }
+        ensures { result ≡ word_at self.now.memory.now (self.now.thread + place) }
+    {
+        prove!(self.thread <= self.memory.len());
+        self.memory.read32(self.thread + place)
+    }
 
-/// The registers of the thread at an offset.
-#[tactic(auto, unfolding(crate::specs::thread_records::Records::thread_at))]
-pub fn registers<S: SlotStore>(store: &S, thread: u32) -> Regs
-    requires within { thread + 512 ≤ length (S.memory store.now) }
-    ensures { result ≡ (thread_at (S.memory store.now) thread).registers }
-{
-    let memory = store.mem();
-    let pc = word(memory, thread, PC);
-    let mut words = [0; 32];
-    fill_words(memory, thread, REGISTERS, &mut words);
-    Regs::from_words(pc, words)
-}
+    /// A byte of the record.
+    fn byte(&self, place: u32) -> u8
+        requires { place < 512 }
+        ensures { result ≡ slice_index self.now.memory.now (self.now.thread + place) }
+    {
+        prove!(self.thread <= self.memory.len());
+        self.memory.read8(self.thread + place)
+    }
 
-/// The address of the instruction that the thread at an offset runs next.
-#[tactic(auto, unfolding(crate::specs::thread_records::Records::thread_at))]
-pub fn pc<S: SlotStore>(store: &S, thread: u32) -> u32
-    requires within { thread + 512 ≤ length (S.memory store.now) }
-    ensures { result ≡ (thread_at (S.memory store.now) thread).registers.pc }
-{
-    word(store.mem(), thread, PC)
-}
+    /// Words of the record, one after the other: as many as there is room for.
+    fn fill_words(&self, place: u32, words: &mut [u32])
+        requires { place + 4 * length words.old ≤ 512 }
+        ensures { words.new ≡ words_at self.now.memory.now (self.now.thread + place) (length words.old) }
+    {
+        prove!(self.thread <= self.memory.len());
+        self.memory.read_words(self.thread + place, words);
+    }
 
-/// The priority of the thread at an offset, 0 to 255.
-#[tactic(auto, unfolding(crate::specs::thread_records::Records::thread_at))]
-pub fn priority<S: SlotStore>(store: &S, thread: u32) -> u8
-    requires within { thread + 512 ≤ length (S.memory store.now) }
-    ensures { result ≡ (thread_at (S.memory store.now) thread).priority }
-{
-    byte(store.mem(), thread, PRIORITY)
-}
+    /// The thread's registers.
+    #[tactic(auto, unfolding(crate::specs::thread_records::Records::thread_at))]
+    pub fn registers(&self) -> Regs
+        ensures { result ≡ (thread_at self.now.memory.now self.now.thread).registers }
+    {
+        let pc = self.word(PC);
+        let mut words = [0; 32];
+        self.fill_words(REGISTERS, &mut words);
+        Regs::from_words(pc, words)
+    }
 
-/// How many ticks the thread at an offset runs on before it goes to the tail of its priority.
-#[tactic(auto, unfolding(crate::specs::thread_records::Records::thread_at))]
-pub fn slice<S: SlotStore>(store: &S, thread: u32) -> u8
-    requires within { thread + 512 ≤ length (S.memory store.now) }
-    ensures { result ≡ (thread_at (S.memory store.now) thread).slice }
-{
-    byte(store.mem(), thread, SLICE)
-}
+    /// The address of the instruction that the thread runs next.
+    #[tactic(auto, unfolding(crate::specs::thread_records::Records::thread_at))]
+    pub fn pc(&self) -> u32
+        ensures { result ≡ (thread_at self.now.memory.now self.now.thread).registers.pc }
+    {
+        self.word(PC)
+    }
 
-/// The capability address of the endpoint that takes the faults of the thread at an offset, or 0.
-#[tactic(auto, unfolding(crate::specs::thread_records::Records::thread_at))]
-pub fn fault_address<S: SlotStore>(store: &S, thread: u32) -> u32
-    requires within { thread + 512 ≤ length (S.memory store.now) }
-    ensures { result ≡ (thread_at (S.memory store.now) thread).fault_address }
-{
-    word(store.mem(), thread, FAULT_ADDRESS)
-}
+    /// The thread's priority, 0 to 255.
+    #[tactic(auto, unfolding(crate::specs::thread_records::Records::thread_at))]
+    pub fn priority(&self) -> u8
+        ensures { result ≡ (thread_at self.now.memory.now self.now.thread).priority }
+    {
+        self.byte(PRIORITY)
+    }
 
-/// Whether the thread at an offset runs, and else what it waits for.
-#[tactic(auto, unfolding(crate::specs::thread_records::Records::thread_at))]
-pub fn status<S: SlotStore>(store: &S, thread: u32) -> Status
-    requires within { thread + 512 ≤ length (S.memory store.now) }
-    ensures { result ≡ (thread_at (S.memory store.now) thread).status }
-{
-    let memory = store.mem();
-    status_from(
-        word(memory, thread, STATUS),
-        word(memory, thread, STATUS + 4),
-    )
-}
+    /// How many ticks the thread runs on before it goes to the tail of its priority.
+    #[tactic(auto, unfolding(crate::specs::thread_records::Records::thread_at))]
+    pub fn slice(&self) -> u8
+        ensures { result ≡ (thread_at self.now.memory.now self.now.thread).slice }
+    {
+        self.byte(SLICE)
+    }
 
-/// The thread that the thread at an offset has the right to reply to, by its offset.
-#[tactic(auto, unfolding(crate::specs::thread_records::Records::thread_at))]
-pub fn caller<S: SlotStore>(store: &S, thread: u32) -> Option<u32>
-    requires within { thread + 512 ≤ length (S.memory store.now) }
-    ensures { result ≡ (thread_at (S.memory store.now) thread).caller }
-{
-    let memory = store.mem();
-    caller_from(
-        word(memory, thread, CALLER),
-        word(memory, thread, CALLER + 4),
-    )
-}
+    /// The capability address of the endpoint that takes the thread's faults, or 0.
+    #[tactic(auto, unfolding(crate::specs::thread_records::Records::thread_at))]
+    pub fn fault_address(&self) -> u32
+        ensures { result ≡ (thread_at self.now.memory.now self.now.thread).fault_address }
+    {
+        self.word(FAULT_ADDRESS)
+    }
 
-/// What the thread at an offset sends, while it waits as a sender.
-#[tactic(auto, unfolding(crate::specs::thread_records::Records::thread_at))]
-pub fn sending<S: SlotStore>(store: &S, thread: u32) -> Option<Sending>
-    requires within { thread + 512 ≤ length (S.memory store.now) }
-    ensures { result ≡ (thread_at (S.memory store.now) thread).sending }
-{
-    let memory = store.mem();
-    let mut words = [0; SENDING_WORDS];
-    fill_words(memory, thread, SENDING, &mut words);
-    sending_from(&words)
+    /// Whether the thread runs, and else what it waits for.
+    #[tactic(auto, unfolding(crate::specs::thread_records::Records::thread_at))]
+    pub fn status(&self) -> Status
+        ensures { result ≡ (thread_at self.now.memory.now self.now.thread).status }
+    {
+        status_from(self.word(STATUS), self.word(STATUS + 4))
+    }
+
+    /// The thread that this one has the right to reply to, by its offset.
+    #[tactic(auto, unfolding(crate::specs::thread_records::Records::thread_at))]
+    pub fn caller(&self) -> Option<u32>
+        ensures { result ≡ (thread_at self.now.memory.now self.now.thread).caller }
+    {
+        caller_from(self.word(CALLER), self.word(CALLER + 4))
+    }
+
+    /// What the thread sends, while it waits as a sender.
+    #[tactic(auto, unfolding(crate::specs::thread_records::Records::thread_at))]
+    pub fn sending(&self) -> Option<Sending>
+        ensures { result ≡ (thread_at self.now.memory.now self.now.thread).sending }
+    {
+        let mut words = [0; SENDING_WORDS];
+        self.fill_words(SENDING, &mut words);
+        sending_from(&words)
+    }
 }

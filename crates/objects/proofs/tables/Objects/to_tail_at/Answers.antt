@@ -9,15 +9,14 @@ use Rattle.objects.proofs.InQueues.{times-gone}
 use Rattle.objects.proofs.OneThread.{of-state, place-there, read-there}
 use Rattle.objects.specs.Contents.{is_thread_kind}
 use Rattle.objects.specs.Tables.{places_of, ready_at}
+use Rattle.objects.specs.declared.thread_records.records.Thread.{Thread}
 use Rattle.objects.specs.contracts.tables.Objects.{the_view}
 use Rattle.objects.proofs.tables.Objects.to_tail_at.Goals as goal
 
-pub priority-priority-requires : goal.priority-priority-requires
-priority-priority-requires g c =
-    record {
-      within = (place-there c.args.self.now (g.S.SlotMap.slots c.args.store.now) (g.S.SlotStore.memory c.args.store.now) c.requires.stands c.args.offset
-          c.requires.there).within;
-    }
+pub new-requires : goal.new-requires
+new-requires g c =
+    (place-there c.args.self.now (g.S.SlotMap.slots c.args.store.now) (g.S.SlotStore.memory c.args.store.now) c.requires.stands c.args.offset
+    c.requires.there).within
 
 pub leave-requires-clause-laid : goal.leave-requires-clause-laid
 leave-requires-clause-laid g c =
@@ -50,7 +49,7 @@ pub returns-clause-state : goal.returns-clause-state
 returns-clause-state g c =
     let stands = rw (← c.self.view_is) at c.requires.stands in
     let there = rw (← c.self.view_is) at c.requires.there in
-    let own = c.priority-priority.ensures ∙ ap (λ (t : ThreadState). t.priority)
+    let own = c.priority-priority.ensures ∙ ap (λ (t : Thread). t.priority) c.new.ensures ∙ ap (λ (t : ThreadState). t.priority)
     (sym (read-there (the_view c.self.inside) (g.S.SlotMap.slots c.args.store.now) (g.S.SlotStore.memory c.args.store.now) c.args.offset
     (ap is_thread_kind (of-state (the_view c.self.inside) (g.S.SlotMap.slots c.args.store.now) (g.S.SlotStore.memory c.args.store.now) c.args.offset
     there)))) in
@@ -63,7 +62,7 @@ pub returns-clause-bytes : goal.returns-clause-bytes
 returns-clause-bytes g c =
     let stands = rw (← c.self.view_is) at c.requires.stands in
     let there = rw (← c.self.view_is) at c.requires.there in
-    let own = c.priority-priority.ensures ∙ ap (λ (t : ThreadState). t.priority)
+    let own = c.priority-priority.ensures ∙ ap (λ (t : Thread). t.priority) c.new.ensures ∙ ap (λ (t : ThreadState). t.priority)
     (sym (read-there (the_view c.self.inside) (g.S.SlotMap.slots c.args.store.now) (g.S.SlotStore.memory c.args.store.now) c.args.offset
     (ap is_thread_kind (of-state (the_view c.self.inside) (g.S.SlotMap.slots c.args.store.now) (g.S.SlotStore.memory c.args.store.now) c.args.offset
     there)))) in
@@ -76,7 +75,7 @@ pub returns-clause-stands : goal.returns-clause-stands
 returns-clause-stands g c =
     let stands = rw (← c.self.view_is) at c.requires.stands in
     let there = rw (← c.self.view_is) at c.requires.there in
-    let own = c.priority-priority.ensures ∙ ap (λ (t : ThreadState). t.priority)
+    let own = c.priority-priority.ensures ∙ ap (λ (t : Thread). t.priority) c.new.ensures ∙ ap (λ (t : ThreadState). t.priority)
     (sym (read-there (the_view c.self.inside) (g.S.SlotMap.slots c.args.store.now) (g.S.SlotStore.memory c.args.store.now) c.args.offset
     (ap is_thread_kind (of-state (the_view c.self.inside) (g.S.SlotMap.slots c.args.store.now) (g.S.SlotStore.memory c.args.store.now) c.args.offset
     there)))) in
