@@ -1,6 +1,6 @@
 //! Receiving from an endpoint.
 
-ghost use Rattle.std.specs.Prelude.{ℕ, ◌≡◌, [], Some};
+ghost use Rattle.std.specs.Prelude.{ℕ, ◌≡◌, Some};
 ghost use Rattle.ipc.specs.Buffers.{HaveBuffers, MayHandOver};
 ghost use Rattle.model.specs.Kernel.Kinds.{kind_at};
 ghost use Rattle.model.specs.Kernel.Messages.{deliver_word, receive, receive_from, receives, try_to_receive, waits_to_receive};
@@ -15,20 +15,6 @@ use crate::deliveries::{deliver_sent, deliver_word};
 use crate::receipts::received_waiting;
 use objects::{Live, Status, WaitingSender};
 use slots::SlotStore;
-
-/// A thread waits after the other receivers of an endpoint where nobody sends.
-fn wait_to_receive<S: SlotStore>(live: &mut Live<S>, endpoint: u32, thread: u32)
-    requires endpoint { kind_at (state S.SlotStore live.old) endpoint ≡ Some NewEndpoint }
-    requires there { kind_at (state S.SlotStore live.old) thread ≡ Some NewThread }
-    requires apart { StandsNowhere (state S.SlotStore live.old).objects thread }
-    requires alone { (endpoint_at (state S.SlotStore live.old) endpoint).senders ≡ [] }
-    ensures state { state S.SlotStore live.new
-        ≡ waits_to_receive (state S.SlotStore live.old) endpoint thread }
-    ensures beside { Beside S.SlotStore live.old live.new }
-{
-    live.push_receiver(endpoint, thread);
-    live.block(thread, Status::Blocked { queue: endpoint });
-}
 
 /// A thread that runs receives from a sender that waited.
 fn receive_from<S: SlotStore>(live: &mut Live<S>, sender: WaitingSender, receiver: u32)
@@ -54,7 +40,10 @@ fn receive_or_wait<S: SlotStore>(live: &mut Live<S>, endpoint: u32, thread: u32)
 {
     match live.take_sender(endpoint) {
         Some(sender) => receive_from(live, sender, thread),
-        None => wait_to_receive(live, endpoint, thread),
+        None => {
+            live.push_receiver(endpoint, thread);
+            live.block(thread, Status::Blocked { queue: endpoint });
+        }
     }
 }
 

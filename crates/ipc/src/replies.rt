@@ -2,7 +2,6 @@
 
 ghost use Rattle.std.specs.Prelude.{ℕ, ◌≡◌, None, Some};
 ghost use Rattle.ipc.specs.Buffers.{MayHandOver};
-ghost use Rattle.ipc.specs.Registers.{resumed};
 ghost use Rattle.model.specs.Kernel.Kinds.{kind_at};
 ghost use Rattle.model.specs.Kernel.Messages.{message_between, replied, reply, reply_to_call, reply_to_fault, with_caller};
 ghost use Rattle.model.specs.Kernel.Retype.{NewThread};
@@ -28,19 +27,7 @@ fn reply_to_call<S: SlotStore>(live: &mut Live<S>, thread: u32, caller: u32, mes
     live.wake(caller);
 }
 
-/// A thread that faulted goes on where its handler says, and runs again.
-fn resume<S: SlotStore>(live: &mut Live<S>, thread: u32, message: &Message)
-    requires there { kind_at (state S.SlotStore live.old) thread ≡ Some NewThread }
-    ensures state { state S.SlotStore live.new
-        ≡ resumed (state S.SlotStore live.old) thread message.now }
-    ensures beside { Beside S.SlotStore live.old live.new }
-{
-    let registers = live.registers(thread);
-    live.set_registers(thread, message.resumed(registers));
-    live.wake(thread);
-}
-
-/// A reply with label 0 resumes a thread that faulted, and any other stops it.
+/// A reply with label 0 resumes a thread that faulted, where its handler says, and any other stops it.
 fn reply_to_fault<S: SlotStore>(live: &mut Live<S>, thread: u32, message: &Message)
     requires there { kind_at (state S.SlotStore live.old) thread ≡ Some NewThread }
     ensures state { state S.SlotStore live.new
@@ -48,7 +35,9 @@ fn reply_to_fault<S: SlotStore>(live: &mut Live<S>, thread: u32, message: &Messa
     ensures beside { Beside S.SlotStore live.old live.new }
 {
     if message.resumes() {
-        resume(live, thread, message);
+        let registers = live.registers(thread);
+        live.set_registers(thread, message.resumed(registers));
+        live.wake(thread);
     } else {
         live.block(thread, Status::Inactive);
     }

@@ -1,34 +1,19 @@
 //! Sending to an endpoint.
 
-ghost use Rattle.std.specs.Prelude.{ℕ, ◌≡◌, [], Some};
+ghost use Rattle.std.specs.Prelude.{◌≡◌, Some};
 ghost use Rattle.ipc.specs.Buffers.{MayHandOver};
 ghost use Rattle.model.specs.Kernel.Kinds.{kind_at};
-ghost use Rattle.model.specs.Kernel.Messages.{send, send_to, try_to_send, waits_to_send};
-ghost use Rattle.model.specs.Kernel.Retype.{NewEndpoint, NewThread};
+ghost use Rattle.model.specs.Kernel.Messages.{send, send_to, try_to_send};
+ghost use Rattle.model.specs.Kernel.Retype.{NewEndpoint};
 ghost use Rattle.model.specs.Kernel.Soundness.{IsSound};
-ghost use Rattle.model.specs.Kernel.State.{Runnable, endpoint_at, thread_at};
+ghost use Rattle.model.specs.Kernel.State.{Runnable, thread_at};
 ghost use Rattle.objects.specs.Lives.{Beside, state};
 ghost use Rattle.objects.specs.thread_records.Threads.{sender_of};
-ghost use Rattle.objects.specs.Waiting.{StandsNowhere};
 
 use crate::deliveries::{deliver_sent, pass};
 use crate::receipts::received;
 use objects::{Live, Sending, Status, WaitingSender};
 use slots::SlotStore;
-
-/// A thread waits after the other senders of an endpoint where nobody receives.
-fn wait_to_send<S: SlotStore>(live: &mut Live<S>, endpoint: u32, thread: u32, sending: Sending)
-    requires endpoint { kind_at (state S.SlotStore live.old) endpoint ≡ Some NewEndpoint }
-    requires there { kind_at (state S.SlotStore live.old) thread ≡ Some NewThread }
-    requires apart { StandsNowhere (state S.SlotStore live.old).objects thread }
-    requires alone { (endpoint_at (state S.SlotStore live.old) endpoint).receivers ≡ [] }
-    ensures state { state S.SlotStore live.new
-        ≡ waits_to_send (state S.SlotStore live.old) endpoint (sender_of thread sending) }
-    ensures beside { Beside S.SlotStore live.old live.new }
-{
-    live.push_sender(endpoint, thread, sending);
-    live.block(thread, Status::Blocked { queue: endpoint });
-}
 
 /// A thread that runs sends to a receiver that waits, which runs again.
 fn send_to<S: SlotStore>(live: &mut Live<S>, sender: WaitingSender, receiver: u32)
@@ -53,7 +38,10 @@ pub fn send<S: SlotStore>(live: &mut Live<S>, endpoint: u32, thread: u32, sendin
 {
     match live.take_receiver(endpoint) {
         Some(receiver) => send_to(live, WaitingSender { thread, sending }, receiver),
-        None => wait_to_send(live, endpoint, thread, sending),
+        None => {
+            live.push_sender(endpoint, thread, sending);
+            live.block(thread, Status::Blocked { queue: endpoint });
+        }
     }
 }
 

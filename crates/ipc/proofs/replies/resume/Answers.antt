@@ -1,6 +1,0 @@
--- What two calls leave of bytes, one after the other.
-use Rattle.ipc.proofs.replies.resume.Goals as goal
-use Rattle.objects.proofs.Laws.{beside-then}
-
-pub returns-clause-beside : goal.returns-clause-beside
-returns-clause-beside g c = beside-then c.set_registers.ensures.beside c.wake.ensures.beside
