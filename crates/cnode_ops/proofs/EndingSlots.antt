@@ -4,7 +4,6 @@ use Rattle.std.specs.Option.{option_map_or}
 use Rattle.std.proofs.Math.Bool.{and-false, and-true}
 use Rattle.cnode_ops.specs.Marked.{is_unmarked}
 use Rattle.cnode_ops.specs.Refusals.{goes, is_left_filled, is_named_beside, is_some_left_filled, own_slots, refuses, slots_named, some_own, some_slot, stays}
-use Rattle.cnode_ops.specs.declared.refusals.OwnSlots.{OwnSlots}
 use Rattle.cnode_ops.specs.declared.sets.Removed.{Removed}
 use Rattle.cnode_ops.proofs.SomeSlot.{some-at, some-none}
 use Rattle.model.specs.Capabilities.CapabilityKinds.{object_of}
@@ -12,30 +11,27 @@ use Rattle.model.specs.Capabilities.Slots.{Slots, capability_at, is_full}
 use Rattle.model.specs.declared.capabilities.Cap.{Cap}
 use Rattle.removal_laws.proofs.Laws.{both}
 
-abbrev pub window : ℕ → ℕ → OwnSlots
-window first count = record { first = first; count = count }
-
 pub no-slot : (first : ℕ) (test : ℕ → Bool) → some_slot first 0 test ≡ false
 no-slot first test = some-none first 0 test (λ i less. absurd (omega (arith, less)))
 
 -- what an object's slots are by what is known of it
 pub own-is : (slots : Slots) (size : ℕ) (set : Removed) (capability : Cap) (offset : ℕ) (named : Bool) → object_of capability ≡ Some offset →
     named ≡ is_named_beside slots size set offset
-    → own_slots slots size set capability ≡ window (offset / 16) (if named then 0 else slots_named capability)
+    → own_slots slots size set capability ≡ (offset / 16, if named then 0 else slots_named capability)
 own-is slots size set capability offset named object is =
-    ap (λ (o : Option ℕ). option_map_or (λ at. window (at / 16) (if is_named_beside slots size set at then 0 else slots_named capability)) o (window 0 0))
+    ap (λ (o : Option ℕ). option_map_or (λ at. (at / 16, if is_named_beside slots size set at then 0 else slots_named capability)) o (0, 0))
     object
-    ∙ ap (λ b. window (offset / 16) (if b then 0 else slots_named capability)) (sym is)
+    ∙ ap (λ b. (offset / 16, if b then 0 else slots_named capability)) (sym is)
 
-pub own-none : (slots : Slots) (size : ℕ) (set : Removed) (capability : Cap) → object_of capability ≡ None → own_slots slots size set capability ≡ window 0 0
+pub own-none : (slots : Slots) (size : ℕ) (set : Removed) (capability : Cap) → object_of capability ≡ None → own_slots slots size set capability ≡ (0, 0)
 own-none slots size set capability object =
-    ap (λ (o : Option ℕ). option_map_or (λ at. window (at / 16) (if is_named_beside slots size set at then 0 else slots_named capability)) o (window 0 0))
+    ap (λ (o : Option ℕ). option_map_or (λ at. (at / 16, if is_named_beside slots size set at then 0 else slots_named capability)) o (0, 0))
     object
 
 -- one of them stays exactly if the object is left so
 module _ (slots : Slots) (size : ℕ) (set : Removed) where
   at-object : (count : ℕ) (o : Option ℕ)
-      → some_own (option_map_or (λ at. window (at / 16) (if is_named_beside slots size set at then 0 else count)) o (window 0 0)) (stays slots set)
+      → some_own (option_map_or (λ at. (at / 16, if is_named_beside slots size set at then 0 else count)) o (0, 0)) (stays slots set)
       ≡ option_map_or (λ at. some_slot (at / 16) count (stays slots set) && not (is_named_beside slots size set at)) o false
   at-object count None = no-slot 0 (stays slots set)
   at-object count (Some at) = elim (is_named_beside slots size set at)
@@ -48,12 +44,12 @@ module _ (slots : Slots) (size : ℕ) (set : Removed) where
   own-filled capability = at-object (slots_named capability) (object_of capability)
 
   -- where no object that ends has a full slot, none is left filled
-  less-passes : (own : OwnSlots) (test more : ℕ → Bool) → ((y : ℕ) → test y ≡ true → more y ≡ true) → some_own own more ≡ false → some_own own test ≡ false
-  less-passes own test more is none = some-none own.first own.count test (λ i less.
-      elim (test (own.first + i)) as (λ b. test (own.first + i) ≡ b → b ≡ false) [
+  less-passes : (own : ℕ × ℕ) (test more : ℕ → Bool) → ((y : ℕ) → test y ≡ true → more y ≡ true) → some_own own more ≡ false → some_own own test ≡ false
+  less-passes own test more is none = some-none own.0 own.1 test (λ i less.
+      elim (test (own.0 + i)) as (λ b. test (own.0 + i) ≡ b → b ≡ false) [
         | false ↦ λ _. refl
         | true ↦ λ yes. absurd (let clash : false ≡ true = sym none
-            ∙ some-at own.first own.count (own.first + i) more (omega arith) (omega (arith, less)) (is (own.first + i) yes) in cc)
+            ∙ some-at own.0 own.1 (own.0 + i) more (omega arith) (omega (arith, less)) (is (own.0 + i) yes) in cc)
       ] refl)
 
   pub none-refused : ((slot : ℕ) → goes slots set slot ≡ true → some_own (own_slots slots size set (capability_at slots slot)) (is_full slots) ≡ false)

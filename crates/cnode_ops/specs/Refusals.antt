@@ -4,7 +4,6 @@ use Rattle.std.specs.Prelude.{ℕ, ◌≡◌, ◌/◌, ◌^◌, ◌<◌, ◌&&�
 use Rattle.std.specs.Option.{option_map_or}
 use Rattle.std.specs.List.{list_any, range_with_len}
 use Rattle.cnode_ops.specs.Sets.{listed_in, set_of}
-use Rattle.cnode_ops.specs.declared.refusals.OwnSlots.{OwnSlots}
 use Rattle.cnode_ops.specs.declared.sets.Removed.{Removed}
 use Rattle.model.specs.declared.capabilities.Cap.{Cap}
 use Rattle.model.specs.declared.capabilities.Cap.TheVariants.{Empty, Untyped, Endpoint, Notification, CNode, Frame, PageTable, Tcb, RootTable, InterruptControl}
@@ -57,16 +56,14 @@ is_left_filled slots count set capability =
     option_map_or (λ offset. some_slot (offset / 16) (slots_named capability) (stays slots set) && not (is_named_beside slots count set offset))
     (object_of capability) false
 
--- the slots of the object that a capability names: none, where a slot that stays names it too
-abbrev pub own_slots : Slots → ℕ → Removed → Cap → OwnSlots
-own_slots slots count set capability = option_map_or (λ offset. record {
-  first = offset / 16;
-  count = if is_named_beside slots count set offset then 0 else slots_named capability;
-}) (object_of capability) (record { first = 0; count = 0 })
+-- the slots of the object that a capability names, by the first and their number: none, where a slot that stays names it too
+abbrev pub own_slots : Slots → ℕ → Removed → Cap → ℕ × ℕ
+own_slots slots count set capability =
+    option_map_or (λ offset. (offset / 16, if is_named_beside slots count set offset then 0 else slots_named capability)) (object_of capability) (0, 0)
 
 -- whether one of an object's slots passes a test
-abbrev pub some_own : OwnSlots → (ℕ → Bool) → Bool
-some_own own test = some_slot own.first own.count test
+abbrev pub some_own : ℕ × ℕ → (ℕ → Bool) → Bool
+some_own own test = some_slot own.0 own.1 test
 
 -- a slot goes, and what its capability names is left so
 abbrev pub refuses : Slots → ℕ → Removed → ℕ → Bool

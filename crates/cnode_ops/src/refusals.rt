@@ -18,18 +18,65 @@ use crate::windows::any_full;
 use model::{Cap, Slot};
 use slots::{SlotStore, is_taken, object_of};
 
-/// The slots of an object: so many from `first` on.
+/// The slots of an object, in the largest memory: so many from `first` on.
 #[derive(Clone, Copy)]
 struct OwnSlots {
     first: u32,
     count: u32,
+    ghost inside: { first + count ≤ 2 ^ 20 },
+    ghost near: { first < 2 ^ 20 },
 }
 
-/// Whether these are the same slots.
-fn are_same(own: OwnSlots, other: OwnSlots) -> bool
-    ensures { result ≡ true → own ≡ other }
-{
-    own.first == other.first && own.count == other.count
+impl OwnSlots {
+    /// No slots.
+    fn none() -> Self
+        ensures first { result.first ≡ 0 }
+        ensures count { result.count ≡ 0 }
+    {
+        OwnSlots { first: 0, count: 0 }
+    }
+
+    /// Whether these are the same slots.
+    fn are_same(self, other: OwnSlots) -> bool
+        ensures first { result ≡ true → self.first ≡ other.first }
+        ensures count { result ≡ true → self.count ≡ other.count }
+    {
+        self.first == other.first && self.count == other.count
+    }
+
+    /// Whether one of these is full, if none of those is that were asked for before: these may be the same.
+    fn any_full<S: SlotStore>(self, store: &S, passed: OwnSlots) -> bool
+        requires { some_slot passed.first passed.count (is_full (S.slots store.now)) ≡ false }
+        ensures { result ≡ some_slot self.first self.count (is_full (S.slots store.now)) }
+    {
+        if self.are_same(passed) {
+            return false;
+        }
+        any_full(store, Slot::new(self.first), self.count)
+    }
+
+    /// Whether one of these is full and not marked.
+    fn any_unmarked<S: SlotStore>(self, store: &S, marks: &Marks) -> bool
+        ensures { result ≡ some_slot self.first self.count (is_unmarked (S.slots store.now) marks.now) }
+    {
+        'slots: for index in 0..self.count {
+            if is_unmarked(store, marks, Slot::new(self.first + index)) {
+                return true;
+            }
+        }
+        false
+    }
+
+    /// The same, if it is not so of those slots that were asked for before: these may be the same.
+    fn any_unmarked_yet<S: SlotStore>(self, store: &S, marks: &Marks, passed: OwnSlots) -> bool
+        requires { some_slot passed.first passed.count (is_unmarked (S.slots store.now) marks.now) ≡ false }
+        ensures { result ≡ some_slot self.first self.count (is_unmarked (S.slots store.now) marks.now) }
+    {
+        if self.are_same(passed) {
+            return false;
+        }
+        self.any_unmarked(store, marks)
+    }
 }
 
 /// The last slot that goes, from one on.
@@ -44,21 +91,6 @@ fn last_removed<S: SlotStore>(store: &S, set: &Removed, first: Slot) -> Slot
     last
 }
 
-/// Whether a slot that stays names the object which a slot names that goes. `last` is the last one that goes.
-fn is_named_beside<S: SlotStore>(store: &S, set: &Removed, last: Slot, slot: Slot) -> bool
-    requires goes { goes (S.slots store.now) set.now slot ≡ true }
-    requires last { IsLast (S.order store.now) (S.slots store.now) set.now last }
-    ensures { (offset : ℕ) → object_of (capability_at (S.slots store.now) slot) ≡ Some offset
-        → result ≡ is_named_beside (S.slots store.now) (length (S.memory store.now) / 16) set.now offset }
-{
-    // No slot after these is open.
-    let _count = store.count();
-    match *set {
-        Removed::One(only) => store.is_shared(only),
-        Removed::Below(root) => store.is_shared_beside(root, last, slot),
-    }
-}
-
 /// How many slots the object has that a capability names.
 fn slots_named(capability: Cap) -> u32
     requires { IsCapability capability }
@@ -68,60 +100,6 @@ fn slots_named(capability: Cap) -> u32
         Cap::CNode { radix, .. } => 1 << radix,
         Cap::Tcb { .. } => 3,
         _ => 0,
-    }
-}
-
-/// The slots of the object which a slot names that goes: none, where a slot that stays names it too.
-fn own_slots<S: SlotStore>(store: &S, set: &Removed, last: Slot, slot: Slot) -> OwnSlots
-    requires goes { goes (S.slots store.now) set.now slot ≡ true }
-    requires last { IsLast (S.order store.now) (S.slots store.now) set.now last }
-    ensures value { result ≡ own_slots (S.slots store.now) (length (S.memory store.now) / 16) set.now (capability_at (S.slots store.now) slot) }
-    ensures inside { result.first + result.count ≤ 2 ^ 20 }
-    ensures near { result.first < 2 ^ 20 }
-{
-    let capability = store.capability(slot);
-    let Some(offset) = object_of(capability) else {
-        return OwnSlots { first: 0, count: 0 };
-    };
-    let first = offset / 16;
-    if is_named_beside(store, set, last, slot) {
-        return OwnSlots { first, count: 0 };
-    }
-    let count = slots_named(capability);
-    OwnSlots { first, count }
-}
-
-/// Whether one of some slots is full, if none of those is that were asked for before: these may be the same.
-fn any_full_own<S: SlotStore>(store: &S, own: OwnSlots, passed: OwnSlots) -> bool
-    requires inside { own.first + own.count ≤ 2 ^ 20 }
-    requires near { own.first < 2 ^ 20 }
-    requires none { some_own passed (is_full (S.slots store.now)) ≡ false }
-    ensures { result ≡ some_own own (is_full (S.slots store.now)) }
-{
-    if are_same(own, passed) {
-        return false;
-    }
-    any_full(store, Slot::new(own.first), own.count)
-}
-
-/// Whether an object that ends has a full slot. `last` is the last slot that goes.
-fn any_ends_full<S: SlotStore>(store: &S, set: &Removed, last: Slot) -> bool
-    requires { IsLast (S.order store.now) (S.slots store.now) set.now last }
-    ensures { result ≡ false → (slot : ℕ) → goes (S.slots store.now) set.now slot ≡ true
-        → some_own (own_slots (S.slots store.now) (length (S.memory store.now) / 16) set.now (capability_at (S.slots store.now) slot)) (is_full (S.slots store.now)) ≡ false }
-{
-    let mut passed = OwnSlots { first: 0, count: 0 };
-    let mut at = None;
-    'slots: loop {
-        let Some(slot) = next_removed(store, set, at) else {
-            return false;
-        };
-        let own = own_slots(store, set, last, slot);
-        if any_full_own(store, own, passed) {
-            return true;
-        }
-        passed = own;
-        at = Some(slot);
     }
 }
 
@@ -147,62 +125,100 @@ fn is_unmarked<S: SlotStore>(store: &S, marks: &Marks, slot: Slot) -> bool
     is_taken(store, slot) && !marks.contains(slot)
 }
 
-/// Whether one of some slots is full and not marked.
-fn any_unmarked<S: SlotStore>(store: &S, marks: &Marks, own: OwnSlots) -> bool
-    requires { own.first + own.count ≤ 2 ^ 20 }
-    ensures { result ≡ some_own own (is_unmarked (S.slots store.now) marks.now) }
-{
-    'slots: for index in 0..own.count {
-        if is_unmarked(store, marks, Slot::new(own.first + index)) {
-            return true;
+/// The full slots of a store that go, of which there are some: `last` is the last one in the store's own order.
+#[derive(Drop)]
+struct Going<'s, S: SlotStore> {
+    store: &'s S,
+    set: Removed,
+    last: Slot,
+    ghost ends: { IsLast (S.order store.now) (S.slots store.now) set last },
+}
+
+impl<S: SlotStore> Going<'_, S> {
+    /// Whether a slot that stays names the object which a slot names that goes.
+    fn is_named_beside(&self, slot: Slot) -> bool
+        requires { goes (S.slots self.now.store.now) self.now.set slot ≡ true }
+        ensures { (offset : ℕ) → object_of (capability_at (S.slots self.now.store.now) slot) ≡ Some offset
+            → result ≡ is_named_beside (S.slots self.now.store.now) (length (S.memory self.now.store.now) / 16) self.now.set offset }
+    {
+        // No slot after these is open.
+        let _count = self.store.count();
+        match self.set {
+            Removed::One(only) => self.store.is_shared(only),
+            Removed::Below(root) => self.store.is_shared_beside(root, self.last, slot),
         }
     }
-    false
-}
 
-/// The same, if it is not so of those slots that were asked for before: these may be the same.
-fn any_unmarked_own<S: SlotStore>(store: &S, marks: &Marks, own: OwnSlots, passed: OwnSlots) -> bool
-    requires inside { own.first + own.count ≤ 2 ^ 20 }
-    requires none { some_own passed (is_unmarked (S.slots store.now) marks.now) ≡ false }
-    ensures { result ≡ some_own own (is_unmarked (S.slots store.now) marks.now) }
-{
-    if are_same(own, passed) {
-        return false;
-    }
-    any_unmarked(store, marks, own)
-}
-
-/// Whether an object that ends has a full slot which is not marked. `last` is the last slot that goes.
-fn any_ends_unmarked<S: SlotStore>(store: &S, set: &Removed, last: Slot, marks: &Marks) -> bool
-    requires { IsLast (S.order store.now) (S.slots store.now) set.now last }
-    ensures { result ≡ some_slot 0 (length (S.memory store.now) / 16) (λ slot. goes (S.slots store.now) set.now slot
-        && some_own (own_slots (S.slots store.now) (length (S.memory store.now) / 16) set.now (capability_at (S.slots store.now) slot)) (is_unmarked (S.slots store.now) marks.now)) }
-{
-    // No slot after these is open.
-    let _count = store.count();
-    let mut passed = OwnSlots { first: 0, count: 0 };
-    let mut at = None;
-    'slots: loop {
-        let Some(slot) = next_removed(store, set, at) else {
-            return false;
+    /// The slots of the object which a slot names that goes: none, where a slot that stays names it too.
+    fn own_slots(&self, slot: Slot) -> OwnSlots
+        requires { goes (S.slots self.now.store.now) self.now.set slot ≡ true }
+        ensures { (result.first, result.count) ≡ own_slots (S.slots self.now.store.now) (length (S.memory self.now.store.now) / 16) self.now.set
+            (capability_at (S.slots self.now.store.now) slot) }
+    {
+        let capability = self.store.capability(slot);
+        let Some(offset) = object_of(capability) else {
+            return OwnSlots::none();
         };
-        let own = own_slots(store, set, last, slot);
-        if any_unmarked_own(store, marks, own, passed) {
-            return true;
+        let first = offset / 16;
+        if self.is_named_beside(slot) {
+            return OwnSlots { first, count: 0 };
         }
-        passed = own;
-        at = Some(slot);
+        let count = slots_named(capability);
+        OwnSlots { first, count }
     }
-}
 
-/// Whether an object that ends has a full slot which stays. `last` is the last slot that goes.
-fn any_ends_filled<S: SlotStore>(store: &S, set: &Removed, last: Slot) -> bool
-    requires { IsLast (S.order store.now) (S.slots store.now) set.now last }
-    ensures { result ≡ is_some_left_filled (S.slots store.now) (length (S.memory store.now) / 16) set.now }
-{
-    let mut marks = Marks::none();
-    mark_all(store, set, &mut marks);
-    any_ends_unmarked(store, set, last, &marks)
+    /// Whether an object that ends has a full slot.
+    fn any_ends_full(&self) -> bool
+        ensures { result ≡ false → (slot : ℕ) → goes (S.slots self.now.store.now) self.now.set slot ≡ true
+            → some_own (own_slots (S.slots self.now.store.now) (length (S.memory self.now.store.now) / 16) self.now.set
+            (capability_at (S.slots self.now.store.now) slot)) (is_full (S.slots self.now.store.now)) ≡ false }
+    {
+        let mut passed = OwnSlots::none();
+        let mut at = None;
+        'slots: loop {
+            let Some(slot) = next_removed(self.store, &self.set, at) else {
+                return false;
+            };
+            let own = self.own_slots(slot);
+            if own.any_full(self.store, passed) {
+                return true;
+            }
+            passed = own;
+            at = Some(slot);
+        }
+    }
+
+    /// Whether an object that ends has a full slot which is not marked.
+    fn any_ends_unmarked(&self, marks: &Marks) -> bool
+        ensures { result ≡ some_slot 0 (length (S.memory self.now.store.now) / 16) (λ slot. goes (S.slots self.now.store.now) self.now.set slot
+            && some_own (own_slots (S.slots self.now.store.now) (length (S.memory self.now.store.now) / 16) self.now.set
+            (capability_at (S.slots self.now.store.now) slot)) (is_unmarked (S.slots self.now.store.now) marks.now)) }
+    {
+        // No slot after these is open.
+        let _count = self.store.count();
+        let mut passed = OwnSlots::none();
+        let mut at = None;
+        'slots: loop {
+            let Some(slot) = next_removed(self.store, &self.set, at) else {
+                return false;
+            };
+            let own = self.own_slots(slot);
+            if own.any_unmarked_yet(self.store, marks, passed) {
+                return true;
+            }
+            passed = own;
+            at = Some(slot);
+        }
+    }
+
+    /// Whether an object that ends has a full slot which stays.
+    fn any_ends_filled(&self) -> bool
+        ensures { result ≡ is_some_left_filled (S.slots self.now.store.now) (length (S.memory self.now.store.now) / 16) self.now.set }
+    {
+        let mut marks = Marks::none();
+        mark_all(self.store, &self.set, &mut marks);
+        self.any_ends_unmarked(&marks)
+    }
 }
 
 /// Whether these slots may not go yet: with them would go the last capability to a CNode or a thread that
@@ -217,9 +233,10 @@ pub(crate) fn wants_revoke_first<S: SlotStore>(store: &S, set: Removed) -> bool
         return false;
     };
     let last = last_removed(store, &set, first);
+    let going = Going { store, set, last };
     // Most removals end no object that has a full slot: then nothing is marked.
-    if !any_ends_full(store, &set, last) {
+    if !going.any_ends_full() {
         return false;
     }
-    any_ends_filled(store, &set, last)
+    going.any_ends_filled()
 }
