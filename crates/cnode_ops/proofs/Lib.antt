@@ -1,4 +1,5 @@
 mod Answered
+mod CallRoots
 mod Childless
 mod Emptied
 mod Kept

@@ -3,7 +3,6 @@
 ghost use Rattle.std.specs.Prelude.{◌≡◌, OnErr};
 ghost use Rattle.cnode_ops.specs.Nodes.{CNodesAreOpen, HasOpenSlots};
 ghost use Rattle.cnode_ops.specs.Outcomes.{GivesCopy, GivesMint};
-ghost use Rattle.model.specs.Capabilities.CapabilityWords.{IsCapability};
 ghost use Rattle.model.specs.Capabilities.Slots.{SameOutside};
 
 use crate::named::{NodeCall, named_slots};
@@ -25,8 +24,6 @@ pub fn copy<S: SlotStore>(
     source: SlotName,
     rights: u32,
 ) -> Result<(), KError>
-    requires root { IsCapability call.root }
-    requires node { IsCapability call.node }
     requires there { HasOpenSlots (S.slots store.old) call.node }
     requires nodes { CNodesAreOpen (S.slots store.old) }
     ensures outcome { GivesCopy call destination source rights
@@ -55,8 +52,6 @@ pub fn mint<S: SlotStore>(
     rights: u32,
     payload: u32,
 ) -> Result<(), KError>
-    requires root { IsCapability call.root }
-    requires node { IsCapability call.node }
     requires there { HasOpenSlots (S.slots store.old) call.node }
     requires nodes { CNodesAreOpen (S.slots store.old) }
     ensures outcome { GivesMint call destination source rights payload

@@ -2,15 +2,15 @@
 
 ghost use Rattle.std.specs.Prelude.{◌≡◌, OnErr};
 ghost use Rattle.model.specs.Kernel.Outcomes.{GivesState};
-ghost use Rattle.model.specs.Capabilities.CapabilityWords.{IsCapability};
 ghost use Rattle.model.specs.Kernel.Arguments.{Call};
 ghost use Rattle.model.specs.Kernel.CNodeCalls.{on_cnode};
-ghost use Rattle.model.specs.Kernel.Soundness.{IsSound};
 ghost use Rattle.model.specs.declared.invocations.CNodeCall.TheVariants.{Delete, Revoke};
+ghost use Rattle.objects.specs.Lives.{state_in};
 
-use crate::Ends;
+use crate::Kernel;
 use crate::named::NodeCall;
-use crate::removal::{remove_below, remove_slot};
+use crate::removal::{remove, remove_slot};
+use crate::sets::Removed;
 use cspace::argument_slot;
 use model::{KError, SlotName};
 use slots::SlotStore;
@@ -23,26 +23,18 @@ use slots::SlotStore;
 ///
 /// The depth of the name is out of its range (`RangeError`), the lookup fails or leaves bits over (`FailedLookup`), or a
 /// CNode or a thread would end that still holds another capability (`RevokeFirst`). Nothing changes then.
-pub fn delete<S: SlotStore, E: Ends>(
-    store: &mut S,
-    ends: &mut E,
+pub fn delete<S: SlotStore>(
+    kernel: &mut Kernel<S>,
     call: NodeCall,
     name: SlotName,
 ) -> Result<(), KError>
-    requires valid { IsCapability call.node }
-    requires agree { E.Agree ends.old (S.slots store.old) (S.memory store.old) }
-    requires sound { IsSound (E.state ends.old (S.slots store.old) (S.memory store.old)) }
     ensures outcome { (made : Call) → made.capability ≡ call.node
-        → GivesState (on_cnode (E.state ends.old (S.slots store.old) (S.memory store.old)) made (Delete name)) result
-        (E.state ends.new (S.slots store.new) (S.memory store.new)) }
-    ensures unchanged { OnErr result (store.new ≡ store.old) }
-    ensures same { OnErr result (ends.new ≡ ends.old) }
-    ensures agree { E.Agree ends.new (S.slots store.new) (S.memory store.new) }
+        → GivesState (on_cnode (state_in S.slots S.memory kernel.old) made (Delete name)) result (state_in S.slots S.memory kernel.new) }
+    ensures unchanged { OnErr result (kernel.new ≡ kernel.old) }
 {
-    match argument_slot(store, call.node, name) {
-        Ok(slot) => remove_slot(store, ends, slot),
-        Err(error) => Err(error),
-    }
+    let live = &mut kernel.live;
+    let slot = argument_slot(&live.store, call.node, name)?;
+    remove_slot(&mut live.store, &mut live.objects, slot)
 }
 
 /// Takes all capabilities away that are derived from the one in the slot of a name under a CNode; that one stays.
@@ -52,24 +44,16 @@ pub fn delete<S: SlotStore, E: Ends>(
 /// # Errors
 ///
 /// Those of [`delete`]. Nothing changes then.
-pub fn revoke<S: SlotStore, E: Ends>(
-    store: &mut S,
-    ends: &mut E,
+pub fn revoke<S: SlotStore>(
+    kernel: &mut Kernel<S>,
     call: NodeCall,
     name: SlotName,
 ) -> Result<(), KError>
-    requires valid { IsCapability call.node }
-    requires agree { E.Agree ends.old (S.slots store.old) (S.memory store.old) }
-    requires sound { IsSound (E.state ends.old (S.slots store.old) (S.memory store.old)) }
     ensures outcome { (made : Call) → made.capability ≡ call.node
-        → GivesState (on_cnode (E.state ends.old (S.slots store.old) (S.memory store.old)) made (Revoke name)) result
-        (E.state ends.new (S.slots store.new) (S.memory store.new)) }
-    ensures unchanged { OnErr result (store.new ≡ store.old) }
-    ensures same { OnErr result (ends.new ≡ ends.old) }
-    ensures agree { E.Agree ends.new (S.slots store.new) (S.memory store.new) }
+        → GivesState (on_cnode (state_in S.slots S.memory kernel.old) made (Revoke name)) result (state_in S.slots S.memory kernel.new) }
+    ensures unchanged { OnErr result (kernel.new ≡ kernel.old) }
 {
-    match argument_slot(store, call.node, name) {
-        Ok(slot) => remove_below(store, ends, slot),
-        Err(error) => Err(error),
-    }
+    let live = &mut kernel.live;
+    let slot = argument_slot(&live.store, call.node, name)?;
+    remove(&mut live.store, &mut live.objects, Removed::Below(slot))
 }

@@ -22,7 +22,6 @@ mod sets;
 mod settling;
 mod windows;
 
-pub use beginnings::{Begins, NewRange, Placing};
 pub use copies::{copy, mint};
 pub use deletions::{delete, revoke};
 pub use endings::Ends;
@@ -30,5 +29,5 @@ pub use moves::move_cap;
 pub use mutations::mutate;
 pub use named::NodeCall;
 pub use object_lifetimes::Kernel;
-pub use removal::{remove_below, remove_slot};
+pub use removal::remove_slot;
 pub use retypes::{may_have_child, retype};

@@ -3,7 +3,6 @@
 ghost use Rattle.std.specs.Prelude.{◌≡◌, OnErr};
 ghost use Rattle.cnode_ops.specs.Nodes.{CNodesAreOpen, HasOpenSlots};
 ghost use Rattle.cnode_ops.specs.Outcomes.{GivesMove};
-ghost use Rattle.model.specs.Capabilities.CapabilityWords.{IsCapability};
 ghost use Rattle.model.specs.Capabilities.Slots.{SameOutside};
 
 use crate::named::{NodeCall, named_slots};
@@ -22,8 +21,6 @@ pub fn move_cap<S: SlotStore>(
     destination: SlotName,
     source: SlotName,
 ) -> Result<(), KError>
-    requires root { IsCapability call.root }
-    requires node { IsCapability call.node }
     requires there { HasOpenSlots (S.slots store.old) call.node }
     requires nodes { CNodesAreOpen (S.slots store.old) }
     ensures outcome { GivesMove call destination source

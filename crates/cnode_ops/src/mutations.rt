@@ -3,7 +3,6 @@
 ghost use Rattle.std.specs.Prelude.{◌≡◌, OnErr};
 ghost use Rattle.cnode_ops.specs.Nodes.{CNodesAreOpen, HasOpenSlots};
 ghost use Rattle.cnode_ops.specs.Outcomes.{GivesMutate};
-ghost use Rattle.model.specs.Capabilities.CapabilityWords.{IsCapability};
 ghost use Rattle.model.specs.Capabilities.Slots.{SameOutside};
 
 use crate::named::{NodeCall, named_slots};
@@ -24,8 +23,6 @@ pub fn mutate<S: SlotStore>(
     source: SlotName,
     payload: u32,
 ) -> Result<(), KError>
-    requires root { IsCapability call.root }
-    requires node { IsCapability call.node }
     requires there { HasOpenSlots (S.slots store.old) call.node }
     requires nodes { CNodesAreOpen (S.slots store.old) }
     ensures outcome { GivesMutate call destination source payload

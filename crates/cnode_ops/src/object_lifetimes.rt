@@ -6,4 +6,5 @@ mod kernel_objects;
 mod kernels;
 mod making;
 
+pub(crate) use beginning::begin_objects;
 pub use kernels::Kernel;

@@ -6,7 +6,7 @@ ghost use Rattle.cnode_ops.specs.Lines.{LinesGone, has_line};
 ghost use Rattle.cnode_ops.specs.Sets.{set_of};
 ghost use Rattle.cnode_ops.specs.Unsettled.{Notes, ObjectsLie};
 ghost use Rattle.model.specs.Capabilities.Slots.{IsOpen};
-ghost use Rattle.model.specs.Kernel.Removal.{SlotSet, delete, emptied, remove, revoke};
+ghost use Rattle.model.specs.Kernel.Removal.{SlotSet, delete, emptied, remove};
 ghost use Rattle.model.specs.Kernel.Soundness.{IsSound};
 ghost use Rattle.removal_laws.specs.Steps.{BindingEmptied, IsReady, SameShape, bindings_from, joined};
 
@@ -111,7 +111,11 @@ fn empty_bindings<S: SlotStore, E: Ends>(
 /// Takes a set of slots away at once, with the bindings of the lines whose last handler goes. It is
 /// refused where an object would end that still holds a capability outside the set (`RevokeFirst`); then
 /// nothing changes.
-fn remove<S: SlotStore, E: Ends>(store: &mut S, ends: &mut E, set: Removed) -> Result<(), KError>
+pub(crate) fn remove<S: SlotStore, E: Ends>(
+    store: &mut S,
+    ends: &mut E,
+    set: Removed,
+) -> Result<(), KError>
     requires agree { E.Agree ends.old (S.slots store.old) (S.memory store.old) }
     requires sound { IsSound (E.state ends.old (S.slots store.old) (S.memory store.old)) }
     requires members { (slot : ℕ) → set_of (S.slots store.old) set slot ≡ true → IsOpen (S.slots store.old) slot }
@@ -156,27 +160,4 @@ pub fn remove_slot<S: SlotStore, E: Ends>(
         return Ok(());
     }
     remove(store, ends, Removed::One(slot))
-}
-
-/// Takes all capabilities away that are derived from the one in a slot, which stays.
-///
-/// seL4 Reference Manual, "Deletion, Revocation, and Recycling".
-///
-/// # Errors
-///
-/// A CNode or a thread would end that still holds another capability (`RevokeFirst`). Nothing changes then.
-pub fn remove_below<S: SlotStore, E: Ends>(
-    store: &mut S,
-    ends: &mut E,
-    slot: Slot,
-) -> Result<(), KError>
-    requires agree { E.Agree ends.old (S.slots store.old) (S.memory store.old) }
-    requires sound { IsSound (E.state ends.old (S.slots store.old) (S.memory store.old)) }
-    ensures outcome { GivesState (revoke (E.state ends.old (S.slots store.old) (S.memory store.old)) slot) result
-        (E.state ends.new (S.slots store.new) (S.memory store.new)) }
-    ensures unchanged { OnErr result (store.new ≡ store.old) }
-    ensures same { OnErr result (ends.new ≡ ends.old) }
-    ensures agree { E.Agree ends.new (S.slots store.new) (S.memory store.new) }
-{
-    remove(store, ends, Removed::Below(slot))
 }

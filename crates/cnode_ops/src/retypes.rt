@@ -1,7 +1,6 @@
 //! New objects in untyped memory, with their first capabilities.
 
 ghost use Rattle.std.specs.Prelude.{◌≡◌, ◌≤◌, true, OnErr};
-ghost use Rattle.cnode_ops.specs.Nodes.{HasOpenSlots};
 ghost use Rattle.model.specs.Kernel.Outcomes.{GivesState};
 ghost use Rattle.model.specs.Kernel.ObjectTypes.{new_type};
 ghost use Rattle.cnode_ops.specs.RetypeChecks.{places};
@@ -9,11 +8,14 @@ ghost use Rattle.model.specs.Capabilities.CapabilityWords.{IsCapability};
 ghost use Rattle.model.specs.Capabilities.Slots.{IsOpen, capability_at};
 ghost use Rattle.model.specs.Kernel.Arguments.{may_have_child};
 ghost use Rattle.model.specs.Kernel.Retype.{is_small_enough, retype};
-ghost use Rattle.model.specs.Kernel.Soundness.{IsSound};
 ghost use Rattle.model.specs.declared.capabilities.Cap.TheVariants.{Untyped};
+ghost use Rattle.objects.specs.Lives.{state_in};
+ghost use Rattle.soundness.specs.Calls.{IsRoot};
 
+use crate::Kernel;
+use crate::beginnings::{NewRange, Placing};
+use crate::object_lifetimes::begin_objects;
 use crate::windows::{named_node, window};
-use crate::{Begins, NewRange, Placing};
 use model::{Cap, KError, ObjectType, RetypeCall, Slot, UntypedMemory};
 use slots::SlotStore;
 use untyped::{asked_type, object_bits, place};
@@ -58,29 +60,23 @@ fn places(memory: UntypedMemory, new: ObjectType, count: u32) -> Result<(u32, u3
 /// great (`RangeError`); the CNode's name is wrong (`RangeError`, `FailedLookup`); the objects are none or too many, or the
 /// window leaves the CNode (`RangeError`); a slot of the window is full (`DeleteFirst`); the untyped memory's slot is of
 /// depth 255 (`IllegalOperation`); it has no room (`NotEnoughMemory`). Nothing changes then.
-pub fn retype<S: SlotStore, B: Begins>(
-    store: &mut S,
-    begins: &mut B,
+pub fn retype<S: SlotStore>(
+    kernel: &mut Kernel<S>,
     root: Cap,
     slot: Slot,
     memory: UntypedMemory,
     call: RetypeCall,
 ) -> Result<(), KError>
-    requires valid { IsCapability root }
-    requires there { HasOpenSlots (S.slots store.old) root }
-    requires held { capability_at (S.slots store.old) slot ≡ Untyped memory.offset memory.bits memory.watermark }
-    requires agree { B.Agree begins.old (S.slots store.old) (S.memory store.old) }
-    requires sound { IsSound (B.state begins.old (S.slots store.old) (S.memory store.old)) }
-    ensures outcome { GivesState (retype (B.state begins.old (S.slots store.old) (S.memory store.old)) root slot memory call) result
-        (B.state begins.new (S.slots store.new) (S.memory store.new)) }
-    ensures unchanged { OnErr result (store.new ≡ store.old) }
-    ensures same { OnErr result (begins.new ≡ begins.old) }
-    ensures agree { B.Agree begins.new (S.slots store.new) (S.memory store.new) }
+    requires root { IsRoot (state_in S.slots S.memory kernel.old) root }
+    requires held { capability_at (S.slots kernel.old.store) slot ≡ Untyped memory.offset memory.bits memory.watermark }
+    ensures outcome { GivesState (retype (state_in S.slots S.memory kernel.old) root slot memory call) result (state_in S.slots S.memory kernel.new) }
+    ensures unchanged { OnErr result (kernel.new ≡ kernel.old) }
 {
     let kind = asked_type(call.kind, call.size)?;
-    let node = named_node(store, root, call.node)?;
-    let window = window(store, node, call.index, call.count)?;
-    may_have_child(store, slot)?;
+    let node = named_node(kernel, root, call.node)?;
+    let window = window(kernel, node, call.index, call.count)?;
+    let live = &mut kernel.live;
+    may_have_child(&live.store, slot)?;
     let (first, watermark) = places(memory, kind, call.count)?;
     let new = NewRange {
         kind,
@@ -92,6 +88,6 @@ pub fn retype<S: SlotStore, B: Begins>(
         window,
         watermark,
     };
-    begins.begin(store, new, at);
+    begin_objects(&mut live.objects, &mut live.store, new, at);
     Ok(())
 }

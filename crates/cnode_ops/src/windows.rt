@@ -1,31 +1,34 @@
 //! The window of a CNode that gets the first capabilities of new objects.
 
 ghost use Rattle.std.specs.Prelude.{ℕ, ◌≡◌, ◌+◌, ◌^◌, ◌<◌, ◌≤◌, Some, IfOk};
-ghost use Rattle.cnode_ops.specs.Nodes.{CNodesAreOpen, HasOpenSlots};
 ghost use Rattle.cnode_ops.specs.RetypeChecks.{has_slots, named_node, window};
-ghost use Rattle.model.specs.Capabilities.CapabilityWords.{IsCapability};
-ghost use Rattle.model.specs.Capabilities.Slots.{IsDerivation, empty_entry};
+ghost use Rattle.model.specs.Capabilities.Slots.{empty_entry};
 ghost use Rattle.model.specs.Kernel.Retype.{any_full};
+ghost use Rattle.objects.specs.Lives.{state_in};
+ghost use Rattle.soundness.specs.Calls.{IsRoot};
 
+use crate::Kernel;
 use cspace::argument_slot;
 use model::{Cap, KError, Slot, SlotName};
 use slots::{SlotStore, is_taken};
 
 /// The capability that a CNode is named by; depth 0 names the root itself. The depth is out of its range
 /// (`RangeError`), or the lookup fails or leaves bits over (`FailedLookup`).
-pub(crate) fn named_node<S: SlotStore>(store: &S, root: Cap, name: SlotName) -> Result<Cap, KError>
-    requires valid { IsCapability root }
-    requires there { HasOpenSlots (S.slots store.now) root }
-    requires nodes { CNodesAreOpen (S.slots store.now) }
-    ensures value { result ≡ named_node (S.slots store.now) root name }
-    ensures valid { IfOk result IsCapability }
-    ensures there { IfOk result (HasOpenSlots (S.slots store.now)) }
+pub(crate) fn named_node<S: SlotStore>(
+    kernel: &Kernel<S>,
+    root: Cap,
+    name: SlotName,
+) -> Result<Cap, KError>
+    requires { IsRoot (state_in S.slots S.memory kernel.now) root }
+    ensures value { result ≡ named_node (S.slots kernel.now.store) root name }
+    ensures root { IfOk result (IsRoot (state_in S.slots S.memory kernel.now)) }
 {
     if name.depth == 0 {
         return Ok(root);
     }
-    let slot = argument_slot(store, root, name)?;
-    Ok(store.capability(slot))
+    let live = &kernel.live;
+    let slot = argument_slot(&live.store, root, name)?;
+    Ok(live.store.capability(slot))
 }
 
 /// 2^`radix`, the number of a CNode's slots.
@@ -61,17 +64,16 @@ pub(crate) fn any_full<S: SlotStore>(store: &S, first: Slot, count: u32) -> bool
 /// (`FailedLookup`), they are none or more than 256, or the CNode ends before (`RangeError`), or one of
 /// them is full (`DeleteFirst`).
 pub(crate) fn window<S: SlotStore>(
-    store: &S,
+    kernel: &Kernel<S>,
     node: Cap,
     index: u32,
     count: u32,
 ) -> Result<Slot, KError>
-    requires valid { IsCapability node }
-    requires there { HasOpenSlots (S.slots store.now) node }
-    requires tree { IsDerivation (S.slots store.now) }
-    ensures value { result ≡ window (S.slots store.now) node index count }
-    ensures free { IfOk result (λ first. (i : ℕ) → i < count → S.slots store.now (first + i) ≡ Some empty_entry) }
+    requires { IsRoot (state_in S.slots S.memory kernel.now) node }
+    ensures value { result ≡ window (S.slots kernel.now.store) node index count }
+    ensures free { IfOk result (λ first. (i : ℕ) → i < count → S.slots kernel.now.store (first + i) ≡ Some empty_entry) }
 {
+    let live = &kernel.live;
     let Cap::CNode { offset, radix, .. } = node else {
         return Err(KError::FailedLookup);
     };
@@ -79,7 +81,7 @@ pub(crate) fn window<S: SlotStore>(
         return Err(KError::RangeError);
     }
     let first = Slot::new(offset / 16 + index);
-    if any_full(store, first, count) {
+    if any_full(&live.store, first, count) {
         return Err(KError::DeleteFirst);
     }
     Ok(first)

@@ -5,4 +5,3 @@ mod Lent
 mod MappedTables
 mod Roots
 mod Standing
-pub mod Laws

@@ -1,3 +1,3 @@
 -- What the crates above use of these proofs.
-pub use Rattle.cnode_ops.proofs.object_lifetimes.Kept.{consistent-of, kept, whole-of}
+pub use Rattle.cnode_ops.proofs.object_lifetimes.Kept.{consistent-of, kept, still-whole, whole-of}
 pub use Rattle.cnode_ops.proofs.object_lifetimes.Places.{of-some}

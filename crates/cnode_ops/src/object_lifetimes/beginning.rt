@@ -1,20 +1,20 @@
 //! Making new objects one after another, as Retype asks for them.
 
-ghost use Rattle.std.specs.Prelude.{ℕ, ◌≡◌, ◌+◌, ◌*◌, ◌^◌, ◌≤◌, true};
-ghost use Rattle.kernel_invariant.proofs.Laws.{of_memory-law, of_slots-law};
+ghost use Rattle.std.specs.Prelude.{ℕ, ◌≡◌, ◌+◌, ◌*◌, ◌^◌, ◌<◌, ◌≤◌, Some, true};
 ghost use Rattle.kernel_invariant.specs.Agreement.{Agrees};
 ghost use Rattle.kernel_invariant.specs.Wholeness.{Agreed};
-ghost use Rattle.cnode_ops.specs.Placed.{new_objects, used_to};
+ghost use Rattle.cnode_ops.specs.Placed.{IsPlaced, new_objects, used_to, with_placed};
 ghost use Rattle.model.specs.Kernel.ObjectTypes.{new_object, new_type};
 ghost use Rattle.cnode_ops.specs.object_lifetimes.Beginnings.{AreLaid, AreMade, MayUse};
-ghost use Rattle.model.specs.Capabilities.Slots.{SameOutside, capability_at, recapped};
+ghost use Rattle.model.specs.Capabilities.Slots.{SameOutside, capability_at, depth_of, empty_entry, recapped};
 ghost use Rattle.model.specs.Kernel.Kinds.{kind_of};
 ghost use Rattle.model.specs.Kernel.Retype.{is_small_enough, object_bits, with_new};
+ghost use Rattle.model.specs.Kernel.Soundness.{IsSound};
 ghost use Rattle.objects.specs.Standing.{Standing};
 ghost use Rattle.objects.specs.Tables.{state_of};
 
+use crate::beginnings::{NewRange, Placing};
 use crate::object_lifetimes::making::{ObjectPlace, make_one};
-use crate::{Begins, NewRange, Placing};
 use model::{Cap, ObjectType, Slot};
 use objects::Objects;
 use slots::SlotStore;
@@ -68,17 +68,22 @@ fn make_all<S: SlotStore>(objects: &mut Objects, store: &mut S, new: NewRange, a
     }
 }
 
-impl Begins for Objects {
-    ghost state = { state_of };
-
-    ghost Agree = { Agreed };
-
-    fn begin<S: SlotStore>(&mut self, store: &mut S, new: NewRange, at: Placing) {
-        use_memory(store, at.parent, at.watermark);
-        make_all(self, store, new, at);
-    }
-
-    ghost of_slots = { of_slots-law };
-
-    ghost of_memory = { of_memory-law };
+/// Makes objects in untyped memory, with their slots and zero bytes, and puts their first capabilities.
+pub(crate) fn begin_objects<S: SlotStore>(
+    objects: &mut Objects,
+    store: &mut S,
+    new: NewRange,
+    at: Placing,
+)
+    requires agree { Agreed objects.old (S.slots store.old) (S.memory store.old) }
+    requires sound { IsSound (state_of objects.old (S.slots store.old) (S.memory store.old)) }
+    requires placed { IsPlaced (state_of objects.old (S.slots store.old) (S.memory store.old)) (new_objects new) at }
+    requires window { (i : ℕ) → i < new.count → S.slots store.old (at.window + i) ≡ Some empty_entry }
+    requires room { depth_of (S.slots store.old) at.parent < 255 }
+    ensures state { state_of objects.new (S.slots store.new) (S.memory store.new)
+        ≡ with_placed (state_of objects.old (S.slots store.old) (S.memory store.old)) (new_objects new) at }
+    ensures agree { Agreed objects.new (S.slots store.new) (S.memory store.new) }
+{
+    use_memory(store, at.parent, at.watermark);
+    make_all(objects, store, new, at);
 }

@@ -3,9 +3,7 @@ use Rattle.std.proofs.Common.{ℕ, ◌≡◌, ◌≢◌, ◌∙◌, true, false,
 use Rattle.std.specs.Prelude.{OnErr}
 use Rattle.std.proofs.lemmas.Bool.{not-true}
 use Rattle.kernel_invariant.proofs.Laws.{copy-agrees, follows-law, move-agrees, moved-closes, mutate-agrees, mutate-closes, put-closes}
-use Rattle.cnode_ops.specs.Outcomes.{GivesCopy, GivesMint, GivesMove, GivesMutate, GivesOn}
 use Rattle.model.specs.Kernel.Outcomes.{Gives, GivesState}
-use Rattle.cnode_ops.specs.declared.named.NodeCall.{NodeCall}
 use Rattle.kernel_invariant.specs.Wholeness.{Agreed, IsWhole}
 use Rattle.kernel_machine.proofs.perform_calls.Standing.{Whole, refused-whole}
 use Rattle.model.proofs.Ancestors.{full-open}
@@ -141,13 +139,17 @@ module _ (o : Tables) (slots now : Slots) (old new : List ℕ) (call : Call) (to
 
 -- ---- the answer
 
-given : {A : Type 0} (o : Tables) (slots : Slots) (memory : List ℕ) (defined : State → Call → Result State KError) (on : NodeCall) (now : Slots)
-    (result : Result A KError)
-    → GivesOn defined on slots now result → (call : Call) → call.root ≡ on.root → call.capability ≡ on.node →
-    Gives (defined (state_of o slots memory) call) (state_of o slots memory) now result
+-- what a definition of one of the four gives in every state with these slots, for this root and this CNode
+abbrev pub GivesTo : {A : Type 0} → (State → Call → Result State KError) → Call → Slots → Slots → Result A KError → Type 0
+GivesTo defined call slots now result =
+    (s : State) (made : Call) → made.root ≡ call.root → made.capability ≡ call.capability → Gives (defined (with_slots s slots) made) s now result
+
+given : {A : Type 0} (o : Tables) (slots : Slots) (memory : List ℕ) (defined : State → Call → Result State KError) (now : Slots)
+    (result : Result A KError) (call : Call)
+    → GivesTo defined call slots now result → Gives (defined (state_of o slots memory) call) (state_of o slots memory) now result
 unfolding state_of
-given o slots memory defined on now (Ok x) gives call root node = gives (state_of o slots memory) call root node
-given o slots memory defined on now (Err e) gives call root node = gives (state_of o slots memory) call root node
+given o slots memory defined now (Ok x) call gives = gives (state_of o slots memory) call refl refl
+given o slots memory defined now (Err e) call gives = gives (state_of o slots memory) call refl refl
 
 module _ (o : Tables) (slots now : Slots) (old new : List ℕ) (agreed : Agreed o slots old) (same : SameOutside slots old new) where
   after-state : Left o slots now old new → state_of o now new ≡ with_slots (state_of o slots old) now
@@ -164,65 +166,68 @@ module _ (o : Tables) (slots now : Slots) (old new : List ℕ) (agreed : Agreed 
 
 -- what a call leaves is what its definition says, and whole
 called : {A S : Type 0} (slots_in : S → Slots) (memory_in : S → List ℕ) (o : Tables) (store now : S) (defined : State → Call → Result State KError)
-    (on : NodeCall) (call : Call)
-    (result : Result A KError) → Whole slots_in memory_in o store → SameOutside (slots_in store) (memory_in store) (memory_in now)
+    (call : Call) (result : Result A KError) → Whole slots_in memory_in o store → SameOutside (slots_in store) (memory_in store) (memory_in now)
     → (defined (state_of o (slots_in store) (memory_in store)) call ≡ Ok (with_slots (state_of o (slots_in store) (memory_in store)) (slots_in now))
     → Left o (slots_in store) (slots_in now) (memory_in store) (memory_in now))
-    → GivesOn defined on (slots_in store) (slots_in now) result → call.root ≡ on.root → call.capability ≡ on.node → OnErr result (now ≡ store)
+    → GivesTo defined call (slots_in store) (slots_in now) result → OnErr result (now ≡ store)
     → GivesState (defined (state_of o (slots_in store) (memory_in store)) call) result (state_of o (slots_in now) (memory_in now))
     × Whole slots_in memory_in o now
-called slots_in memory_in o store now defined on call result whole same leaves gives root node unchanged =
+called slots_in memory_in o store now defined call result whole same leaves gives unchanged =
     let s : State = state_of o (slots_in store) (memory_in store) in
-    let known = given o (slots_in store) (memory_in store) defined on (slots_in now) result gives call root node in (
+    let known = given o (slots_in store) (memory_in store) defined (slots_in now) result call gives in (
       gives-after o (slots_in store) (slots_in now) (memory_in store) (memory_in now) (whole.agrees, whole.stands) same (defined s call) result leaves known,
       refused-whole slots_in memory_in result store now o whole unchanged
           (λ x is. whole-after o (slots_in store) (slots_in now) (memory_in store) (memory_in now) (whole.agrees, whole.stands) same
           (leaves (subst (λ r. Gives (defined s call) s (slots_in now) r) is known))),
     )
 
-pub copy-made : {A S : Type 0} (slots_in : S → Slots) (memory_in : S → List ℕ) (o : Tables) (store now : S) (on : NodeCall) (call : Call) (to from : SlotName)
+pub copy-made : {A S : Type 0} (slots_in : S → Slots) (memory_in : S → List ℕ) (o : Tables) (store now : S) (call : Call) (to from : SlotName)
     (word : ℕ)
     (result : Result A KError) → Whole slots_in memory_in o store → IsCall (state_of o (slots_in store) (memory_in store)) call
-    → SameOutside (slots_in store) (memory_in store) (memory_in now) → GivesCopy on to from word (slots_in store) (slots_in now) result
-    → call.root ≡ on.root → call.capability ≡ on.node → OnErr result (now ≡ store)
+    → SameOutside (slots_in store) (memory_in store) (memory_in now)
+    → GivesTo (λ s made. copy s made to from word) call (slots_in store) (slots_in now) result
+    → OnErr result (now ≡ store)
     → GivesState (copy (state_of o (slots_in store) (memory_in store)) call to from word) result (state_of o (slots_in now) (memory_in now))
     × Whole slots_in memory_in o now
-copy-made slots_in memory_in o store now on call to from word result whole is_call same gives root node unchanged =
-    called slots_in memory_in o store now (λ s made. copy s made to from word) on call result whole same
+copy-made slots_in memory_in o store now call to from word result whole is_call same gives unchanged =
+    called slots_in memory_in o store now (λ s made. copy s made to from word) call result whole same
     (copy-left o (slots_in store) (slots_in now) (memory_in store) (memory_in now) call to from whole.sound (whole.agrees, whole.stands) same is_call word)
-    gives root node unchanged
+    gives unchanged
 
-pub mint-made : {A S : Type 0} (slots_in : S → Slots) (memory_in : S → List ℕ) (o : Tables) (store now : S) (on : NodeCall) (call : Call) (to from : SlotName)
+pub mint-made : {A S : Type 0} (slots_in : S → Slots) (memory_in : S → List ℕ) (o : Tables) (store now : S) (call : Call) (to from : SlotName)
     (word payload : ℕ)
     (result : Result A KError) → Whole slots_in memory_in o store → IsCall (state_of o (slots_in store) (memory_in store)) call
-    → SameOutside (slots_in store) (memory_in store) (memory_in now) → GivesMint on to from word payload (slots_in store) (slots_in now) result
-    → call.root ≡ on.root → call.capability ≡ on.node → OnErr result (now ≡ store)
+    → SameOutside (slots_in store) (memory_in store) (memory_in now)
+    → GivesTo (λ s made. mint s made to from word payload) call (slots_in store) (slots_in now) result
+    → OnErr result (now ≡ store)
     → GivesState (mint (state_of o (slots_in store) (memory_in store)) call to from word payload) result (state_of o (slots_in now) (memory_in now))
     × Whole slots_in memory_in o now
-mint-made slots_in memory_in o store now on call to from word payload result whole is_call same gives root node unchanged =
-    called slots_in memory_in o store now (λ s made. mint s made to from word payload) on call result whole same
+mint-made slots_in memory_in o store now call to from word payload result whole is_call same gives unchanged =
+    called slots_in memory_in o store now (λ s made. mint s made to from word payload) call result whole same
     (mint-left o (slots_in store) (slots_in now) (memory_in store) (memory_in now) call to from whole.sound (whole.agrees, whole.stands) same is_call word
-    payload) gives root node unchanged
+    payload) gives unchanged
 
-pub move-made : {A S : Type 0} (slots_in : S → Slots) (memory_in : S → List ℕ) (o : Tables) (store now : S) (on : NodeCall) (call : Call) (to from : SlotName)
+pub move-made : {A S : Type 0} (slots_in : S → Slots) (memory_in : S → List ℕ) (o : Tables) (store now : S) (call : Call) (to from : SlotName)
     (result : Result A KError) → Whole slots_in memory_in o store → IsCall (state_of o (slots_in store) (memory_in store)) call
-    → SameOutside (slots_in store) (memory_in store) (memory_in now) → GivesMove on to from (slots_in store) (slots_in now) result
-    → call.root ≡ on.root → call.capability ≡ on.node → OnErr result (now ≡ store)
+    → SameOutside (slots_in store) (memory_in store) (memory_in now)
+    → GivesTo (λ s made. move s made to from) call (slots_in store) (slots_in now) result
+    → OnErr result (now ≡ store)
     → GivesState (move (state_of o (slots_in store) (memory_in store)) call to from) result (state_of o (slots_in now) (memory_in now))
     × Whole slots_in memory_in o now
-move-made slots_in memory_in o store now on call to from result whole is_call same gives root node unchanged =
-    called slots_in memory_in o store now (λ s made. move s made to from) on call result whole same
-    (move-left o (slots_in store) (slots_in now) (memory_in store) (memory_in now) call to from whole.sound (whole.agrees, whole.stands) same is_call) gives
-    root node unchanged
+move-made slots_in memory_in o store now call to from result whole is_call same gives unchanged =
+    called slots_in memory_in o store now (λ s made. move s made to from) call result whole same
+    (move-left o (slots_in store) (slots_in now) (memory_in store) (memory_in now) call to from whole.sound (whole.agrees, whole.stands) same is_call)
+    gives unchanged
 
-pub mutate-made : {A S : Type 0} (slots_in : S → Slots) (memory_in : S → List ℕ) (o : Tables) (store now : S) (on : NodeCall) (call : Call) (to from : SlotName)
+pub mutate-made : {A S : Type 0} (slots_in : S → Slots) (memory_in : S → List ℕ) (o : Tables) (store now : S) (call : Call) (to from : SlotName)
     (payload : ℕ)
     (result : Result A KError) → Whole slots_in memory_in o store → IsCall (state_of o (slots_in store) (memory_in store)) call
-    → SameOutside (slots_in store) (memory_in store) (memory_in now) → GivesMutate on to from payload (slots_in store) (slots_in now) result
-    → call.root ≡ on.root → call.capability ≡ on.node → OnErr result (now ≡ store)
+    → SameOutside (slots_in store) (memory_in store) (memory_in now)
+    → GivesTo (λ s made. mutate s made to from payload) call (slots_in store) (slots_in now) result
+    → OnErr result (now ≡ store)
     → GivesState (mutate (state_of o (slots_in store) (memory_in store)) call to from payload) result (state_of o (slots_in now) (memory_in now))
     × Whole slots_in memory_in o now
-mutate-made slots_in memory_in o store now on call to from payload result whole is_call same gives root node unchanged =
-    called slots_in memory_in o store now (λ s made. mutate s made to from payload) on call result whole same
+mutate-made slots_in memory_in o store now call to from payload result whole is_call same gives unchanged =
+    called slots_in memory_in o store now (λ s made. mutate s made to from payload) call result whole same
     (mutate-left o (slots_in store) (slots_in now) (memory_in store) (memory_in now) call to from whole.sound (whole.agrees, whole.stands) same is_call payload)
-    gives root node unchanged
+    gives unchanged

@@ -1,10 +1,12 @@
 -- The capabilities of a call are capabilities, and the CNodes among them have open slots.
-use Rattle.std.proofs.Common.{ℕ, ◌≡◌, None, ◌-◌, ◌+◌, ◌/◌, ◌%◌, ◌^◌, ◌<◌, ◌≤◌, List, refl, sym, subst, arith}
-use Rattle.std.proofs.Math.Nat.{zero-mod}
-use Rattle.std.proofs.lemmas.Nat.{pow_pos}
+use Rattle.std.proofs.Common.{ℕ, ◌≡◌, true, None, ◌<◌, List, refl, subst}
 use Rattle.kernel_invariant.specs.Wholeness.{IsWhole}
-use Rattle.cnode_ops.proofs.Laws.{boot-open, sound-nodes}
+use Rattle.cnode_ops.proofs.Laws.{root-open, root-valid, sound-nodes}
 use Rattle.cnode_ops.specs.Nodes.{CNodesAreOpen, HasOpenSlots}
+use Rattle.cnode_ops.specs.object_lifetimes.Kernels.{IsConsistent}
+use Rattle.kernel_machine.proofs.perform_calls.Lent.{asked}
+use Rattle.model.proofs.ConditionTests.{tested-met}
+use Rattle.model.specs.Capabilities.CapabilityFields.{is_capability}
 use Rattle.model.specs.Capabilities.CapabilityWords.{IsCapability}
 use Rattle.model.specs.Capabilities.CapabilityKinds.{cnode_of}
 use Rattle.model.specs.Capabilities.Slots.{Slots, capability_at}
@@ -12,26 +14,12 @@ use Rattle.model.specs.Kernel.Arguments.{Call}
 use Rattle.model.specs.Kernel.Soundness.{IsSound}
 use Rattle.model.specs.Kernel.State.{State}
 use Rattle.model.specs.declared.capabilities.Cap.{Cap}
-use Rattle.model.specs.declared.capabilities.Cap.TheVariants.{CNode, InterruptHandler, Tcb}
+use Rattle.model.specs.declared.capabilities.Cap.TheVariants.{InterruptHandler, Tcb}
+use Rattle.objects.specs.Lives.{Parts, state_in}
 use Rattle.objects.specs.Tables.{Tables, state_of}
 use Rattle.soundness.proofs.Laws.{IsAt, invoked-at, invoked-root}
-use Rattle.soundness.specs.Calls.{IsCall, IsRoot, of_slot, of_loader}
+use Rattle.soundness.specs.Calls.{IsCall}
 use Rattle.vspace.specs.Tables.{Holds}
-
-boot-valid : (radix : ℕ) → 1 ≤ radix → radix ≤ 14 → IsCapability (CNode 0 radix (32 - radix))
-boot-valid radix least most =
-    let size : ℕ = (32 - radix) % 2 ^ 5 in
-    let some = pow_pos size in
-    let none : (32 - radix) / 2 ^ 5 ≡ 0 = omega (arith, least) in
-    ((zero-mod (2 ^ (radix + 4)), omega arith), least, most, (omega arith, omega (arith, none, some), omega (arith, least, most)))
-
-pub root-valid : (s : State) (root : Cap) → IsSound s → IsRoot s root → IsCapability root
-root-valid s root sound (of_slot slot is) = subst IsCapability is (sound.slots.derivation.valid slot)
-root-valid s root sound (of_loader is) = subst IsCapability (sym is) (boot-valid s.boot_radix sound.shape.least_radix sound.shape.most_radix)
-
-root-open : (s : State) (root : Cap) → IsSound s → IsRoot s root → HasOpenSlots s.slots root
-root-open s root sound (of_slot slot is) = subst (λ (c : Cap). HasOpenSlots s.slots c) is ((sound-nodes s sound).nodes slot)
-root-open s root sound (of_loader is) = subst (λ (c : Cap). HasOpenSlots s.slots c) (sym is) (boot-open s sound (32 - s.boot_radix))
 
 -- what the functions below ask of a call
 pub record MayCall (slots : Slots) (call : Call) : Type 0 where
@@ -54,6 +42,16 @@ may-call o slots memory call whole is_call =
       node = root-open s call.capability whole.sound invoked;
       nodes = sound-nodes s whole.sound;
     }
+
+-- the capabilities of a call pass the test of one
+pub call-valid : {S : Type 0} (slots : S → Slots) (memory : S → List ℕ) (call : Call) {parts kernel : Parts S} → parts ≡ kernel
+    → IsConsistent (state_in slots memory parts) (memory parts.store) → IsCall (state_in slots memory kernel) call
+    → (is_capability call.root ≡ true) × (is_capability call.capability ≡ true)
+unfolding is_capability
+call-valid slots memory call {parts} is kept is_call =
+    let s : State = state_in slots memory parts in
+    let here = asked slots memory call is is_call in
+    (tested-met _ (root-valid s call.root kept.sound here.root), tested-met _ (root-valid s call.capability kept.sound (invoked-root s call here.invoked)))
 
 -- what is no CNode is in the slot of the call
 pub held-at : (o : Tables) (slots : Slots) (memory : List ℕ) (call : Call) (c : Cap) → IsCall (state_of o slots memory) call → call.capability ≡ c →

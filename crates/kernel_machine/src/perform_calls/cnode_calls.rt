@@ -26,6 +26,8 @@ pub(crate) fn on_cnode<S: SlotStore>(
         (state_in S.slots S.memory kernel.new) }
     ensures unchanged { OnErr result (kernel.new ≡ kernel.old) }
 {
+    // Both are capabilities, since a kernel's state is sound.
+    let _live = &kernel.live;
     let on = NodeCall {
         root: call.root,
         node: call.capability,
@@ -63,13 +65,7 @@ pub(crate) fn on_cnode<S: SlotStore>(
             let live = &mut kernel.live;
             mutate(&mut live.store, on, destination, source, payload)
         }
-        CNodeCall::Delete { slot } => {
-            let live = &mut kernel.live;
-            delete(&mut live.store, &mut live.objects, on, slot)
-        }
-        CNodeCall::Revoke { slot } => {
-            let live = &mut kernel.live;
-            revoke(&mut live.store, &mut live.objects, on, slot)
-        }
+        CNodeCall::Delete { slot } => delete(kernel, on, slot),
+        CNodeCall::Revoke { slot } => revoke(kernel, on, slot),
     }
 }

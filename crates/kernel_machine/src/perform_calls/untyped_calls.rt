@@ -28,13 +28,5 @@ pub(crate) fn on_untyped<S: SlotStore>(
         (state_in S.slots S.memory kernel.new) }
     ensures unchanged { OnErr result (kernel.new ≡ kernel.old) }
 {
-    let live = &mut kernel.live;
-    retype(
-        &mut live.store,
-        &mut live.objects,
-        call.root,
-        call.slot,
-        memory,
-        asked,
-    )
+    retype(kernel, call.root, call.slot, memory, asked)
 }

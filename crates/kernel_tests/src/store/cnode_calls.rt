@@ -1,7 +1,6 @@
 //! Copy, Mint, Move and Mutate, from the words of a message on.
 
 ghost use Rattle.cnode_ops.specs.Nodes.{CNodesAreOpen, HasOpenSlots};
-ghost use Rattle.model.specs.Capabilities.CapabilityWords.{IsCapability};
 
 use crate::store::asking::slot;
 use crate::store::nodes::{has_open_slots, nodes_are_open};
@@ -19,8 +18,6 @@ fn perform<S: SlotStore>(
     on: NodeCall,
     call: CNodeCall,
 ) -> Result<(), KError>
-    requires root { IsCapability on.root }
-    requires node { IsCapability on.node }
     requires there { HasOpenSlots (S.slots store.old) on.node }
     requires nodes { CNodesAreOpen (S.slots store.old) }
 {

@@ -1,51 +1,77 @@
--- The slot is found first, and then emptied as the definition says.
-use Rattle.std.proofs.Common.{◌≡◌, Result, Ok, Err, refl, sym, subst}
+-- The slot is found first, and then emptied as the definition says. What is left is whole.
+use Rattle.std.proofs.Common.{◌≡◌, ◌∙◌, Result, Ok, Err, refl, sym, subst}
+use Rattle.std.proofs.lemmas.Result.{err_from_is_err_and}
+use Rattle.kernel_invariant.proofs.Laws.{of_slots-law}
+use Rattle.model.proofs.ConditionTests.{met-tested}
+use Rattle.model.specs.Capabilities.CapabilityFields.{is_capability}
 use Rattle.model.specs.Capabilities.Slots.{Slots}
+use Rattle.model.specs.Kernel.CNodeCalls.{on_cnode}
 use Rattle.model.specs.Kernel.Outcomes.{GivesState}
+use Rattle.model.specs.Kernel.Removal.{revoke}
 use Rattle.model.specs.Kernel.State.{State}
 use Rattle.model.specs.declared.errors.KError.{KError}
+use Rattle.model.specs.declared.invocations.CNodeCall.TheVariants.{Revoke}
+use Rattle.objects.specs.Lives.{state_in}
+use Rattle.objects.specs.Tables.{state_of}
+use Rattle.soundness.proofs.Laws.{revoked-sound}
 use Rattle.cnode_ops.proofs.RemovingCalls.{revoke-on}
+use Rattle.cnode_ops.proofs.RemovedSets.{below-open}
+use Rattle.cnode_ops.proofs.object_lifetimes.Laws.{consistent-of, still-whole, whole-of}
 use Rattle.cnode_ops.proofs.deletions.revoke.Goals as goal
 
 pub argument_slot-requires : goal.argument_slot-requires
-argument_slot-requires g c = c.requires.valid
+unfolding is_capability
+argument_slot-requires g c = met-tested _ c.args.call.node_valid
 
-pub remove_below-requires-clause-agree : goal.remove_below-requires-clause-agree
-remove_below-requires-clause-agree g c = c.requires.agree
+pub remove-requires-clause-agree : goal.remove-requires-clause-agree
+remove-requires-clause-agree g c =
+    let whole = whole-of g.S.SlotMap.slots g.S.SlotStore.memory c.live.inside.objects c.live.inside.store c.kernel.invariant c.live.view_is c.live.invariant in
+    (whole.agrees, whole.stands)
 
-pub remove_below-requires-clause-sound : goal.remove_below-requires-clause-sound
-remove_below-requires-clause-sound g c = c.requires.sound
+pub remove-requires-clause-sound : goal.remove-requires-clause-sound
+remove-requires-clause-sound g c =
+    let whole = whole-of g.S.SlotMap.slots g.S.SlotStore.memory c.live.inside.objects c.live.inside.store c.kernel.invariant c.live.view_is c.live.invariant in
+    whole.sound
 
-pub returns-in-Ok-clause-outcome : goal.returns-in-Ok-clause-outcome
-returns-in-Ok-clause-outcome g c = λ made same.
-    let slots : Slots = g.S.SlotMap.slots c.args.store.now in
-    let s : State = g.E.Ends.state c.args.ends.now slots (g.S.SlotStore.memory c.args.store.now) in
-    let after : State = g.E.Ends.state c.remove_below.new.ends (g.S.SlotMap.slots c.remove_below.new.store) (g.S.SlotStore.memory c.remove_below.new.store) in
-    let has : s.slots ≡ slots = g.met.E.Ends.of_slots _ _ _ in
-    subst (λ (defined : Result State KError). GivesState defined c.remove_below.result after)
-    (sym (revoke-on s slots made c.args.call.node c.args.name (Ok c.in-Ok.slot) has same (sym c.in-Ok.ensures))) c.remove_below.ensures.outcome
+pub remove-requires-clause-members : goal.remove-requires-clause-members
+remove-requires-clause-members g c = λ slot is.
+    let whole = whole-of g.S.SlotMap.slots g.S.SlotStore.memory c.live.inside.objects c.live.inside.store c.kernel.invariant c.live.view_is c.live.invariant in
+    below-open _ (g.S.SlotMap.slots c.live.inside.store) c.in_ok-slot.slot slot (of_slots-law _ _ _) whole.sound is
 
-pub returns-in-Ok-clause-unchanged : goal.returns-in-Ok-clause-unchanged
-returns-in-Ok-clause-unchanged g c = c.remove_below.ensures.unchanged
+pub returns-clause-outcome : goal.returns-clause-outcome
+unfolding state_of
+returns-clause-outcome g c = λ made same.
+    let of_kernel = c.live.view_is ∙ c.kernel.view_is in
+    let slots : Slots = g.S.SlotMap.slots c.live.inside.store in
+    let s : State = state_of c.live.inside.objects slots (g.S.SlotStore.memory c.live.inside.store) in
+    let after : State = state_of c.remove.new.ends (g.S.SlotMap.slots c.remove.new.store) (g.S.SlotStore.memory c.remove.new.store) in
+    subst (λ k. GivesState (on_cnode (state_in g.S.SlotMap.slots g.S.SlotStore.memory k) made (Revoke c.args.name)) c.remove.result after) of_kernel
+    (subst (λ (defined : Result State KError). GivesState defined c.remove.result after)
+    (sym (revoke-on s slots made c.args.call.node c.args.name (Ok c.in_ok-slot.slot) refl same (sym c.in_ok-slot.ensures))) c.remove.ensures.outcome)
 
-pub returns-in-Ok-clause-same : goal.returns-in-Ok-clause-same
-returns-in-Ok-clause-same g c = c.remove_below.ensures.same
+pub returns-in_err-slot-clause-outcome : goal.returns-in_err-slot-clause-outcome
+returns-in_err-slot-clause-outcome g c = λ made same.
+    let of_kernel = c.live.view_is ∙ c.kernel.view_is in
+    let slots : Slots = g.S.SlotMap.slots c.live.inside.store in
+    let s : State = state_of c.live.inside.objects slots (g.S.SlotStore.memory c.live.inside.store) in
+    let p = err_from_is_err_and c.from_residual.result c.from_residual.ensures.1 in
+    rw (p.1, p.2) (subst (λ k. on_cnode (state_in g.S.SlotMap.slots g.S.SlotStore.memory k) made (Revoke c.args.name) ≡ Err c.in_err-slot.field-0.0) of_kernel
+    (revoke-on s slots made c.args.call.node c.args.name (Err c.in_err-slot.field-0.0) (of_slots-law _ _ _) same (sym c.in_err-slot.ensures)))
 
-pub returns-in-Ok-clause-agree : goal.returns-in-Ok-clause-agree
-returns-in-Ok-clause-agree g c = c.remove_below.ensures.agree
+pub invariant_of-live : goal.invariant_of-live
+unfolding state_of
+invariant_of-live g c =
+    let whole = whole-of g.S.SlotMap.slots g.S.SlotStore.memory c.live.inside.objects c.live.inside.store c.kernel.invariant c.live.view_is c.live.invariant in
+    let s : State = state_of c.live.inside.objects (g.S.SlotMap.slots c.live.inside.store) (g.S.SlotStore.memory c.live.inside.store) in
+    (still-whole g.S.SlotMap.slots g.S.SlotStore.memory (revoke s c.in_ok-slot.slot) c.remove.result c.live.inside.store c.remove.new.store
+    c.live.inside.objects c.remove.new.ends whole c.remove.ensures.outcome c.remove.ensures.unchanged c.remove.ensures.same
+    (λ t is. revoked-sound s t c.in_ok-slot.slot whole.sound is) c.remove.ensures.agree).stands
 
-pub returns-in-Err-clause-outcome : goal.returns-in-Err-clause-outcome
-returns-in-Err-clause-outcome g c = λ made same.
-    let slots : Slots = g.S.SlotMap.slots c.args.store.now in
-    let s : State = g.E.Ends.state c.args.ends.now slots (g.S.SlotStore.memory c.args.store.now) in
-    let has : s.slots ≡ slots = g.met.E.Ends.of_slots _ _ _ in
-    revoke-on s slots made c.args.call.node c.args.name (Err c.in-Err.error) has same (sym c.in-Err.ensures)
-
-pub returns-in-Err-clause-unchanged : goal.returns-in-Err-clause-unchanged
-returns-in-Err-clause-unchanged g c = refl
-
-pub returns-in-Err-clause-same : goal.returns-in-Err-clause-same
-returns-in-Err-clause-same g c = refl
-
-pub returns-in-Err-clause-agree : goal.returns-in-Err-clause-agree
-returns-in-Err-clause-agree g c = c.requires.agree
+pub invariant_of-kernel-2 : goal.invariant_of-kernel-2
+unfolding state_of
+invariant_of-kernel-2 g c =
+    let whole = whole-of g.S.SlotMap.slots g.S.SlotStore.memory c.live.inside.objects c.live.inside.store c.kernel.invariant c.live.view_is c.live.invariant in
+    let s : State = state_of c.live.inside.objects (g.S.SlotMap.slots c.live.inside.store) (g.S.SlotStore.memory c.live.inside.store) in
+    consistent-of (still-whole g.S.SlotMap.slots g.S.SlotStore.memory (revoke s c.in_ok-slot.slot) c.remove.result c.live.inside.store
+    c.remove.new.store c.live.inside.objects c.remove.new.ends whole c.remove.ensures.outcome c.remove.ensures.unchanged c.remove.ensures.same
+    (λ t is. revoked-sound s t c.in_ok-slot.slot whole.sound is) c.remove.ensures.agree)

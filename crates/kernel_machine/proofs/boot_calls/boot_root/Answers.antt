@@ -1,6 +1,6 @@
 -- The boot CNode's capability is one.
 use Rattle.std.proofs.Common.{ℕ, ◌-◌, ap}
-use Rattle.kernel_machine.proofs.perform_calls.Laws.{root-valid}
+use Rattle.cnode_ops.proofs.Laws.{root-valid}
 use Rattle.kernel_machine.proofs.boot_calls.boot_root.Goals as goal
 use Rattle.model.specs.declared.capabilities.Cap.TheVariants.{CNode}
 use Rattle.soundness.specs.Calls.{of_loader}

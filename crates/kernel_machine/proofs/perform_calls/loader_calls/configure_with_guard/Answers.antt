@@ -3,7 +3,8 @@ use Rattle.std.proofs.Common.{◌∙◌, Result, subst, sym}
 use Rattle.model.specs.Kernel.Outcomes.{GivesState}
 use Rattle.objects.specs.Tables.{state_of}
 use Rattle.kernel_machine.proofs.perform_calls.Guarded.{guarded-long, guarded-none, guarded-short, tcb-of}
-use Rattle.kernel_machine.proofs.perform_calls.Roots.{root-valid, thread-held}
+use Rattle.cnode_ops.proofs.Laws.{root-valid}
+use Rattle.kernel_machine.proofs.perform_calls.Roots.{thread-held}
 use Rattle.kernel_machine.proofs.perform_calls.loader_calls.configure_with_guard.Goals as goal
 use Rattle.kernel_machine.specs.perform_calls.Calls.{call_of}
 use Rattle.model.specs.Kernel.State.{State}

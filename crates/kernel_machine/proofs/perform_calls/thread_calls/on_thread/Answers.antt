@@ -6,7 +6,8 @@ use Rattle.model.specs.Kernel.ThreadCalls.{on_thread}
 use Rattle.model.specs.declared.invocations.ThreadCall.{ThreadCall}
 use Rattle.objects.specs.Lives.{state_in}
 use Rattle.objects.specs.Tables.{state_of}
-use Rattle.kernel_machine.proofs.perform_calls.Roots.{root-valid, thread-held}
+use Rattle.cnode_ops.proofs.Laws.{root-valid}
+use Rattle.kernel_machine.proofs.perform_calls.Roots.{thread-held}
 use Rattle.kernel_machine.proofs.perform_calls.thread_calls.on_thread.Goals as goal
 use Rattle.kernel_machine.specs.perform_calls.Calls.{call_of}
 
