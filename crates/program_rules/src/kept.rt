@@ -37,6 +37,14 @@ impl Kept {
         matches!(self, Kept::Known(_))
     }
 
+    /// Whether the part of its state is empty: its slots are those that the image lists.
+    pub(crate) fn has_empty_part(&self) -> bool {
+        match self {
+            Kept::Known(known) => known.part.first == known.part.end,
+            Kept::Missing | Kept::Unmeasured => false,
+        }
+    }
+
     /// Shows the part of its state, if it has one, in place of another one of this log. Memory may be refused.
     pub(crate) fn show(&self, log: &SlotLog, shown: &mut ShownPart) -> Result<(), AllocError>
         requires held { HasPart log.now self.now }

@@ -1,6 +1,6 @@
 //! The rules on all points of a program, and on its entry.
 
-ghost use Rattle.std.specs.Prelude.{◌≡◌, IfOk, flat_map};
+ghost use Rattle.std.specs.Prelude.{◌≡◌, IfOk, List, flat_map};
 ghost use Rattle.std.specs.List.{range_with_len};
 ghost use Rattle.model.specs.Acceptance.NotedStates.{are_same_slots, image_slots};
 ghost use Rattle.model.specs.Acceptance.PointRules.{entry_rules, point_rules, rules_of_program, state_rules};
@@ -13,6 +13,7 @@ ghost use Rattle.program_rules.specs.SameParts.{AreSame};
 ghost use Rattle.program_rules.specs.declared.kept.Kept.TheVariants as kept;
 ghost use Rattle.typestate.specs.Logs.{Holds, KeepsParts, Shows, ShowsSome, part_of};
 ghost use Rattle.typestate.specs.Replays.{replayed};
+ghost use Rattle.typestate.specs.declared.log_entries.LogEntry.{LogEntry};
 ghost use Rattle.wellformed.specs.Answering.{Answers};
 
 use crate::kept::{Kept, Known};
@@ -26,6 +27,7 @@ use crate::visits::{PlainPoint, Visit, VisitedSlots};
 use model::{Instr, Refusal};
 use rv32_isa::decode;
 use std::alloc::AllocError;
+use std::mem::swap;
 use typestate::{Part, ShownPart, SlotLog};
 
 impl<'a> Visit<'_, '_, 'a, '_> {
@@ -138,8 +140,19 @@ impl ReadPoints<'_, '_, '_, '_> {
     }
 }
 
+/// Shows another part that was set aside, if it is asked for, and sets aside what was shown.
+fn turn(is_asked: bool, shown: &mut ShownPart, aside: &mut ShownPart)
+    ensures shown { (log : List LogEntry) → ShowsSome log shown.old → ShowsSome log aside.old → ShowsSome log shown.new }
+    ensures aside { (log : List LogEntry) → ShowsSome log shown.old → ShowsSome log aside.old → ShowsSome log aside.new }
+{
+    if is_asked {
+        swap(shown, aside);
+    }
+}
+
 impl<'a> Program<'a, '_> {
-    /// The rules on all points, in their order. What is shown at first may be any part.
+    /// The rules on all points, in their order. What is shown at first may be any part. It is set aside where a point has an empty part,
+    /// and is gone on from behind it.
     fn points_rules(&self, points: &mut Points<'a>, shown: &mut ShownPart) -> Result<(), Refusal>
         requires read { IsRead self.now.space.image.now (thread_of self.now) self.now.slots.now points.old.log points.old.kept }
         requires shown { ShowsSome points.old.log shown.old }
@@ -148,6 +161,8 @@ impl<'a> Program<'a, '_> {
         let mut records = RecordsLeft::of(self.space.thread);
         let mut same = SameParts::new(self.alloc);
         let mut found = FoundPages::new(self.alloc);
+        let mut aside = ShownPart::new(self.alloc);
+        let mut was_empty = false;
         let read = ReadPoints {
             program: self,
             points: &*points,
@@ -162,6 +177,9 @@ impl<'a> Program<'a, '_> {
                 noted: noted.as_ref(),
                 is_next_noted,
             };
+            let is_empty = kept.has_empty_part();
+            turn(is_empty != was_empty, shown, &mut aside);
+            was_empty = is_empty;
             visit.point_rules(points, shown, &kept, &mut same, &mut found)?;
             let still_read = ReadPoints {
                 program: self,

@@ -6,6 +6,7 @@ use Rattle.program_rules.proofs.EachPoint.{grown-at}
 use Rattle.program_rules.proofs.NextRecords.{AreLeft, all-left, is-next, next-record}
 use Rattle.program_rules.proofs.Outcomes.{passed-on}
 use Rattle.program_rules.proofs.PointLists.{one-more-kept, refused-here}
+use Rattle.program_rules.proofs.ShownParts.{some-grown}
 use Rattle.program_rules.proofs.programs.Program.points_rules.Goals as goal
 use Rattle.program_rules.specs.Programs.{thread_of}
 
@@ -16,10 +17,14 @@ rules-init c =
       subst (λ (rs : List StateRecord). AreLeft own 0 rs) (sym c.of-records.ensures) (all-left own c.args.self.now.fits),
       refl,
       c.requires.shown,
+      c.new-aside.ensures.shown c.args.points.now.log,
       c.new-same.ensures c.args.self.now.slots.now c.args.points.now.log,
       c.new-found.ensures c.args.self.now.space.image.now own c.args.self.now.slots.now c.args.points.now.log,
       λ less. c.at-kept.ensures,
     )
+
+pub point_rules-requires-clause-some : goal.point_rules-requires-clause-some
+point_rules-requires-clause-some c = c.turn.ensures.shown c.rules.points.log c.rules.invariant.3 c.rules.invariant.4
 
 pub at-kept-requires : goal.at-kept-requires
 at-kept-requires c = let entry = c.args.self.now.entry in omega (arith, entry)
@@ -28,7 +33,7 @@ pub point_rules-requires-clause-kept : goal.point_rules-requires-clause-kept
 point_rules-requires-clause-kept c =
     let least = c.rules-test.true in
     let count = c.word_count-point-end.ensures.value in
-    c.rules.invariant.6 (omega (arith, least, count))
+    c.rules.invariant.7 (omega (arith, least, count))
 
 pub pass-requires : goal.pass-requires
 pass-requires c =
@@ -36,7 +41,7 @@ pass-requires c =
     let count = c.word_count-point-end.ensures.value in
     grown-at c.args.self.now.space.image.now (thread_of c.args.self.now) c.args.self.now.slots.now c.rules.points.log c.point_rules.new.points.log c.rules.point
     c.rules.kept
-    c.in_ok-point_rules.ensures.others (c.rules.invariant.6 (omega (arith, least, count)))
+    c.in_ok-point_rules.ensures.others (c.rules.invariant.7 (omega (arith, least, count)))
 
 pub invariant_of-visit : goal.invariant_of-visit
 invariant_of-visit c =
@@ -68,6 +73,8 @@ rules-preserved c =
           (next-record own c.rules.point c.rules.records c.rules.invariant.1).1,
       one-more-kept (point_rules image t) c.rules.point c.rules.invariant.2 c.in_ok-point_rules.ensures.broken,
       c.in_ok-point_rules.ensures.shown,
+      some-grown c.rules.points.log c.point_rules.new.points.log c.turn.new.aside c.in_ok-point_rules.ensures.others
+          (c.turn.ensures.aside c.rules.points.log c.rules.invariant.3 c.rules.invariant.4),
       c.in_ok-point_rules.ensures.same,
       c.in_ok-point_rules.ensures.found,
       c.pass.ensures,
