@@ -4,10 +4,10 @@ use Rattle.std.proofs.Common.{refl, sym, ap, subst, arith}
 use Rattle.std.specs.Iterator.{YieldsFirst}
 use Rattle.std.specs.Prelude.{find, slice_get}
 use Rattle.std.proofs.lemmas.Bool.Decides.{eqb_tells}
-use Rattle.format_laws.specs.Fitting.{CertificateFits, RecordFits}
+use Rattle.format_laws.specs.Fitting.{CertificateFits}
 use Rattle.model.specs.Acceptance.NotedStates.{record_of}
 use Rattle.model.specs.Images.Image.{StateRecord, Thread}
-use Rattle.program_rules.specs.Left.{behind, left_of, taken}
+use Rattle.program_rules.specs.Left.{AreLimited, IsLimited, behind, left_of, taken}
 
 -- what an iterator gives, and what is left of it
 pub left-after : (old new : List StateRecord) (next : Option StateRecord) → YieldsFirst (λ s. s) old next new → left_of next new ≡ old
@@ -77,18 +77,24 @@ next-record t point (r ∷ rest) left = elim (eqb_tells r.header.point point) [
       )
 ]
 
--- a record that is found is one of those
-found-fits : (words point : ℕ) (rs : List StateRecord) (r : StateRecord) → ((k : ℕ) (s : StateRecord) → slice_get rs k ≡ Some s → RecordFits words s)
-    → found point rs ≡ Some r → RecordFits words r
-found-fits words point [] r fit is = absurd (let clash : ◌≡◌ {A = Option StateRecord} None (Some r) = is in cc)
-found-fits words point (s ∷ rest) r fit is = elim (eqb_tells s.header.point point) [
-  | inl here ↦ fit 0 r (sym (ap (λ (b : Bool). if b then Some s else found point rest) here.0) ∙ is)
-  | inr apart ↦ found-fits words point rest r (λ k other at. fit (suc k) other at)
-      (sym (ap (λ (b : Bool). if b then Some s else found point rest) apart.0) ∙ is)
-]
+-- ---- records that a certificate may have
 
-pub record-fits : (t : Thread) (point : ℕ) (r : StateRecord) → CertificateFits t → record_of t point ≡ Some r → RecordFits t.header.words r
-record-fits t point r fits is = found-fits t.header.words point t.records r fits.each is
+pub all-limited : (t : Thread) → CertificateFits t → AreLimited t.records
+all-limited t fits = λ k r at. let fit = fits.each k r at in (fit.terms, fit.constant)
+
+-- the next one of them, and the rest
+pub first-limited : (old new : List StateRecord) (next : Option StateRecord) (r : StateRecord) → YieldsFirst (λ s. s) old next new → next ≡ Some r
+    → AreLimited old → (slice_get old 0 ≡ Some r) × IsLimited r
+first-limited old new None r yields is all = absurd (let clash : ◌≡◌ {A = Option StateRecord} None (Some r) = is in cc)
+first-limited old new (Some s) r yields is all =
+    let first : slice_get old 0 ≡ Some r = ap (λ (rs : List StateRecord). slice_get rs 0) yields ∙ is in (first, all 0 r first)
+
+pub rest-limited : (old new : List StateRecord) (next : Option StateRecord) → YieldsFirst (λ s. s) old next new → AreLimited old → AreLimited new
+rest-limited old new None yields all = λ k r at.
+    absurd (let clash : ◌≡◌ {A = Option StateRecord} None (Some r) = ap (λ (rs : List StateRecord). slice_get rs k) (sym yields.1) ∙ at in cc)
+rest-limited old new (Some s) yields all = λ k r at. all (suc k) r (ap (λ (rs : List StateRecord). slice_get rs (suc k)) yields ∙ at)
+
+-- ---- the next point
 
 -- whether the next point has a record, by the records that are left
 pub is-next : (t : Thread) (point : ℕ) (rest next : List StateRecord) (is : Bool) → AreLeft t point rest → next ≡ behind point rest →

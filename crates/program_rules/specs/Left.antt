@@ -1,5 +1,5 @@
 -- The records of a certificate that are left, in the order of their points.
-use Rattle.std.specs.Prelude.{ℕ, ◌==◌, Option, Some, None, List, [], ◌∷◌, if◌then◌else◌}
+use Rattle.std.specs.Prelude.{ℕ, ◌≡◌, ◌==◌, ◌≤◌, ◌≤ℤ◌, ◌^◌, negsuc, Option, Some, None, List, [], ◌∷◌, length, slice_get, if◌then◌else◌}
 use Rattle.model.specs.Images.Image.{StateRecord}
 
 -- the next one, and those behind it
@@ -16,3 +16,10 @@ taken point (r ∷ rs) = if r.header.point == point then Some r else None
 abbrev pub behind : ℕ → List StateRecord → List StateRecord
 behind point [] = []
 behind point (r ∷ rs) = if r.header.point == point then rs else r ∷ rs
+
+-- the record is one that a certificate may have: its measure has few terms, and is not far below 0
+abbrev pub IsLimited : StateRecord → Type 0
+IsLimited r = (length r.terms ≤ 4) × (negsuc (2 ^ 62) ≤ℤ r.header.constant)
+
+abbrev pub AreLimited : List StateRecord → Type 0
+AreLimited rs = (k : ℕ) (r : StateRecord) → slice_get rs k ≡ Some r → IsLimited r

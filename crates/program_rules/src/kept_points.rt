@@ -110,7 +110,6 @@ impl<'a> KeptPoints<'a> {
 
     /// Keeps where the record of a state is. Memory may be refused.
     fn keep_record(&mut self, noted: &PlacedRecord<'a>, known: &Known) -> Result<Place, AllocError>
-        requires { length noted.now.terms ≤ 4 }
         ensures same { IfOk result (λ _. self.new.places ≡ self.old.places) }
         ensures others { IfOk result (λ _. KeepsAll self.old self.new) }
         ensures at { IfOk result (λ place. (image : Image) (t : Numbered) (slots : List NotedSlot) (log : List LogEntry) (point : ℕ) → record_of t.thread point ≡ Some noted.now

@@ -2,12 +2,13 @@
 
 ghost use Rattle.std.specs.Prelude.{◌≡◌, Some, is_some, option_map, slice_get};
 ghost use Rattle.std.specs.Iterator.{YieldsFirst};
-ghost use Rattle.program_rules.specs.Left.{behind, taken};
+ghost use Rattle.program_rules.specs.Left.{IsLimited, behind, taken};
 
-use image_reading::{RecordRef, Records, ThreadRef};
+use crate::programs::Program;
+use image_reading::{RecordRef, Records};
 use std::marker::Model;
 
-/// A record, with the records from it on, which say where it is in fewer bytes. A clause sees the record.
+/// A record that a certificate may have, with the records from it on, which say where it is in fewer bytes. A clause sees the record.
 #[derive(Drop)]
 pub(crate) struct PlacedRecord<'a> {
     record: RecordRef<'a>,
@@ -17,38 +18,70 @@ pub(crate) struct PlacedRecord<'a> {
 impl<'a> Model for PlacedRecord<'a> {
     ghost use Rattle.std.specs.Prelude.{◌≡◌, Some, slice_get};
     ghost use Rattle.model.specs.Images.Image.{StateRecord};
+    ghost use Rattle.program_rules.specs.Left.{IsLimited};
 
     ghost Value = { StateRecord };
 
     ghost view = { λ placed. placed.record };
 
-    ghost invariant = { λ placed. slice_get placed.from 0 ≡ Some placed.record };
+    ghost invariant = { λ placed. (slice_get placed.from 0 ≡ Some placed.record) × IsLimited placed.record };
 }
 
 impl<'a> PlacedRecord<'a> {
-    /// The next one of records.
-    fn next_of(records: &mut Records<'a>) -> Option<Self>
-        ensures { YieldsFirst (λ s. s) records.old result records.new }
-    {
-        let from = records.again();
-        match records.next() {
-            Some(record) => Some(PlacedRecord { record, from }),
-            None => None,
-        }
-    }
-
     /// The record.
     pub(crate) fn record(&self) -> &RecordRef<'a>
-        ensures { result.now ≡ self.now }
+        ensures same { result.now ≡ self.now }
+        ensures limited { IsLimited self.now }
     {
         &self.record
     }
 
     /// The records from this one on.
     pub(crate) fn from_here(&self) -> Records<'a>
-        ensures { slice_get result 0 ≡ Some self.now }
+        ensures first { slice_get result 0 ≡ Some self.now }
+        ensures limited { IsLimited self.now }
     {
         self.from.again()
+    }
+}
+
+/// The records of a certificate that are left. A clause sees their list.
+#[derive(Drop)]
+struct NotedRecords<'a> {
+    records: Records<'a>,
+}
+
+impl<'a> Model for NotedRecords<'a> {
+    ghost use Rattle.std.specs.Prelude.{List};
+    ghost use Rattle.model.specs.Images.Image.{StateRecord};
+    ghost use Rattle.program_rules.specs.Left.{AreLimited};
+
+    ghost Value = { List StateRecord };
+
+    ghost view = { λ noted. noted.records };
+
+    ghost invariant = { λ noted. AreLimited noted.records };
+}
+
+impl<'a> NotedRecords<'a> {
+    /// All records of a program's certificate.
+    fn of(program: &Program<'a, '_>) -> Self
+        ensures { result ≡ program.now.space.thread.now.records }
+    {
+        NotedRecords {
+            records: program.space.thread.records(),
+        }
+    }
+
+    /// Takes the next one out.
+    fn next(&mut self) -> Option<PlacedRecord<'a>>
+        ensures { YieldsFirst (λ s. s) self.old result self.new }
+    {
+        let from = self.records.again();
+        match self.records.next() {
+            Some(record) => Some(PlacedRecord { record, from }),
+            None => None,
+        }
     }
 }
 
@@ -62,11 +95,11 @@ pub(crate) fn record_in<'n, 'a>(placed: Option<&'n PlacedRecord<'a>>) -> Option<
     }
 }
 
-/// The records that are left. A clause sees their list.
+/// The records that are left, of which the next one is known. A clause sees their list.
 #[derive(Drop)]
 pub(crate) struct RecordsLeft<'a> {
     next: Option<PlacedRecord<'a>>,
-    records: Records<'a>,
+    records: NotedRecords<'a>,
 }
 
 impl<'a> Model for RecordsLeft<'a> {
@@ -80,12 +113,12 @@ impl<'a> Model for RecordsLeft<'a> {
 }
 
 impl<'a> RecordsLeft<'a> {
-    /// All records of a thread.
-    pub(crate) fn of(thread: &ThreadRef<'a>) -> Self
-        ensures { result ≡ thread.now.records }
+    /// All records of a program's certificate.
+    pub(crate) fn of(program: &Program<'a, '_>) -> Self
+        ensures { result ≡ program.now.space.thread.now.records }
     {
-        let mut records = thread.records();
-        let next = PlacedRecord::next_of(&mut records);
+        let mut records = NotedRecords::of(program);
+        let next = records.next();
         RecordsLeft { next, records }
     }
 
@@ -108,7 +141,7 @@ impl<'a> RecordsLeft<'a> {
             return None;
         }
         let placed = self.next.take();
-        self.next = PlacedRecord::next_of(&mut self.records);
+        self.next = self.records.next();
         placed
     }
 }

@@ -5,7 +5,7 @@ ghost use Rattle.model.specs.Images.Image.{StateRecord};
 ghost use Rattle.ranges.specs.Orders.{IsOrdered};
 
 use crate::kept::Known;
-use crate::records::{bounds_of, measure_of};
+use crate::records::{MeasuredRecord, bounds_of};
 use image_reading::Records;
 use model::Range;
 use std::alloc::AllocError;
@@ -61,12 +61,15 @@ impl RecordedPoint<'_> {
     {
         let mut records = self.from.again();
         match records.next() {
-            Some(noted) => Known {
-                bounds: bounds_of(&noted),
-                measure: measure_of(&noted),
-                part: self.part.part(),
-                is_clean,
-            },
+            Some(noted) => {
+                let measured = MeasuredRecord { noted: &noted };
+                Known {
+                    bounds: bounds_of(&noted),
+                    measure: measured.measure(),
+                    part: self.part.part(),
+                    is_clean,
+                }
+            }
             None => unreachable!(),
         }
     }

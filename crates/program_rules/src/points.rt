@@ -1,6 +1,6 @@
 //! What is noted of all points of a program.
 
-ghost use Rattle.std.specs.Prelude.{ℕ, ◌≡◌, ◌+◌, ◌<◌, ◌≤◌, ◌≤ℤ◌, ◌^◌, IfOk, IfSome, List, is_some, length, negsuc, option_map};
+ghost use Rattle.std.specs.Prelude.{ℕ, ◌≡◌, ◌+◌, ◌<◌, IfOk, List, is_some, option_map};
 ghost use Rattle.model.specs.Acceptance.NotedStates.{NotedSlot, image_slots, record_of, record_state};
 ghost use Rattle.model.specs.Acceptance.PointStates as states;
 ghost use Rattle.model.specs.Images.Image.{Image, Thread};
@@ -13,9 +13,8 @@ use crate::kept::{Kept, Known};
 use crate::kept_points::KeptPoints;
 use crate::notes::{PlacedRecord, RecordsLeft};
 use crate::programs::Program;
-use crate::records::{bounds_of, measure_of};
+use crate::records::{MeasuredRecord, bounds_of};
 use crate::visits::Visit;
-use image_reading::RecordRef;
 use std::alloc::AllocError;
 use typestate::{ShownPart, SlotLog};
 
@@ -28,18 +27,18 @@ pub(crate) struct Points<'a> {
 
 /// What is kept of a point that has a record.
 #[tactic(auto, unfolding(model::specs::Acceptance::NotedStates::record_state))]
-fn recorded(log: &mut SlotLog, noted: &RecordRef<'_>) -> Result<Kept, AllocError>
-    requires terms { length noted.now.terms ≤ 4 }
-    requires constant { negsuc (2 ^ 62) ≤ℤ noted.now.header.constant }
-    ensures same { IfOk result (λ k. (image : Image) (t : Thread) → Rise (image_slots image t) → noted_by (image_slots image t) log.new k ≡ states.Known (record_state image t noted.now)) }
+fn recorded(log: &mut SlotLog, placed: &PlacedRecord<'_>) -> Result<Kept, AllocError>
+    ensures same { IfOk result (λ k. (image : Image) (t : Thread) → Rise (image_slots image t) → noted_by (image_slots image t) log.new k ≡ states.Known (record_state image t placed.now)) }
     ensures sound { IfOk result (λ k. (point : ℕ) → IsSound log.new point k) }
     ensures clean { IfOk result (λ k. (image : Image) (t : Thread) (slots : List NotedSlot) → IsCleanIn image t slots log.new k) }
     ensures others { IfOk result (λ _. KeepsParts log.old log.new) }
 {
+    let noted = placed.record();
     let part = log.note(noted)?;
+    let measured = MeasuredRecord { noted };
     Ok(Kept::Known(Known {
         bounds: bounds_of(noted),
-        measure: measure_of(noted),
+        measure: measured.measure(),
         part,
         is_clean: false,
     }))
@@ -51,7 +50,6 @@ fn note_own(
     noted: Option<&PlacedRecord<'_>>,
     derived: &mut Kept,
 ) -> Result<(), AllocError>
-    requires { IfSome noted (λ r. (length r.now.terms ≤ 4) × (negsuc (2 ^ 62) ≤ℤ r.now.header.constant)) }
     ensures same { IfOk result (λ _. (image : Image) (t : Thread) → Rise (image_slots image t) → noted_by (image_slots image t) log.new derived.new
         ≡ states.noted_or image t (option_map (λ r. r.now) noted.entry) (noted_by (image_slots image t) log.old derived.old)) }
     ensures sound { IfOk result (λ _. (point : ℕ) → IsSound log.old point derived.old → IsSound log.new point derived.new) }
@@ -60,7 +58,7 @@ fn note_own(
 {
     match noted {
         Some(placed) => {
-            *derived = recorded(log, placed.record())?;
+            *derived = recorded(log, placed)?;
             Ok(())
         }
         None => Ok(()),
@@ -97,7 +95,7 @@ impl<'a> Points<'a> {
         ensures read { IfOk result (λ all. IsRead program.now.space.image.now (thread_of program.now) program.now.slots.now all.0.log all.0.kept) }
         ensures shown { IfOk result (λ all. ShowsSome all.0.log all.1) }
     {
-        let mut records = RecordsLeft::of(program.space.thread);
+        let mut records = RecordsLeft::of(program);
         let mut points = Points {
             kept: KeptPoints::new(program.alloc),
             log: SlotLog::new(program.alloc),

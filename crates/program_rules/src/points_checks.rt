@@ -158,7 +158,7 @@ impl<'a> Program<'a, '_> {
         requires shown { ShowsSome points.old.log shown.old }
         ensures { Answers (first_broken (flat_map (point_rules self.now.space.image.now (thread_of self.now)) (range_with_len 0 self.now.space.thread.now.header.words))) result }
     {
-        let mut records = RecordsLeft::of(self.space.thread);
+        let mut records = RecordsLeft::of(self);
         let mut same = SameParts::new(self.alloc);
         let mut found = FoundPages::new(self.alloc);
         let mut aside = ShownPart::new(self.alloc);

@@ -29,14 +29,23 @@ pub(crate) fn bounds_of(noted: &RecordRef<'_>) -> Bounds
     bounds
 }
 
-/// The measure that a record notes.
-pub(crate) fn measure_of(noted: &RecordRef<'_>) -> Measure
-    requires { length noted.now.terms ≤ 4 }
-    ensures { measure_of result ≡ record_measure noted.now }
-{
-    let mut measure = Measure::new(noted.constant());
-    for term in noted.terms() {
-        measure.push(term);
+/// A record with no more terms than a measure has.
+#[derive(Clone, Copy)]
+pub(crate) struct MeasuredRecord<'r, 'a> {
+    pub(crate) noted: &'r RecordRef<'a>,
+    ghost few: { length noted.now.terms ≤ 4 },
+}
+
+impl MeasuredRecord<'_, '_> {
+    /// The measure that it notes.
+    pub(crate) fn measure(&self) -> Measure
+        ensures { measure_of result ≡ record_measure self.now.noted.now }
+    {
+        let noted = self.noted;
+        let mut measure = Measure::new(noted.constant());
+        for term in noted.terms() {
+            measure.push(term);
+        }
+        measure
     }
-    measure
 }

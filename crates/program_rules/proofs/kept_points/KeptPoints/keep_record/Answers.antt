@@ -25,7 +25,7 @@ returns-then-known-clause-at c = λ image t slots log point has is.
     let count : vec_len old.recorded ≡ length old.recorded.items = search rules in
     subst (λ (clean : Bool). IsInRecord image t slots log c.push.new.self.items point c.in_ok-at.at clean) c.if-known.true
     (record-at image t slots log old.recorded.items c.push.new.self.items _ c.args.noted.now c.args.known.now point c.in_ok-at.at c.in_ok-push.ensures.items
-    (c.in_ok-at.ensures ∙ c.len.ensures ∙ count) has c.from_here-from.ensures c.in-Some.ensures is)
+    (c.in_ok-at.ensures ∙ c.len.ensures ∙ count) has c.from_here-from.ensures.first c.in-Some.ensures is)
 
 pub returns-else-known-clause-at : goal.returns-else-known-clause-at
 returns-else-known-clause-at c = λ image t slots log point has is.
@@ -33,4 +33,4 @@ returns-else-known-clause-at c = λ image t slots log point has is.
     let count : vec_len old.recorded ≡ length old.recorded.items = search rules in
     subst (λ (clean : Bool). IsInRecord image t slots log c.push.new.self.items point c.in_ok-at.at clean) c.if-known.false
     (record-at image t slots log old.recorded.items c.push.new.self.items _ c.args.noted.now c.args.known.now point c.in_ok-at.at c.in_ok-push.ensures.items
-    (c.in_ok-at.ensures ∙ c.len.ensures ∙ count) has c.from_here-from.ensures c.in-Some.ensures is)
+    (c.in_ok-at.ensures ∙ c.len.ensures ∙ count) has c.from_here-from.ensures.first c.in-Some.ensures is)

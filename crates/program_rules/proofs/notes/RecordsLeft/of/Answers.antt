@@ -4,4 +4,4 @@ use Rattle.program_rules.proofs.NextRecords.{left-after}
 use Rattle.program_rules.proofs.notes.RecordsLeft.of.Goals as goal
 
 pub returns : goal.returns
-returns c = left-after c.records-records.result c.next_of-next.new.records c.next_of-next.result c.next_of-next.ensures ∙ c.records-records.ensures
+returns c = left-after c.of-records.result c.next-next.new.self c.next-next.result c.next-next.ensures ∙ c.of-records.ensures

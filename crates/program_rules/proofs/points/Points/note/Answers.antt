@@ -1,27 +1,14 @@
 -- A point has the state of its record, or what the point before leaves.
-use Rattle.std.proofs.Common.{ℕ, ◌≡◌, ◌∙◌, ◌+◌, ◌≤◌, ◌^◌, negsuc, Option, Some, None, option_map, is_some, IfSome, List, length, refl, sym, ap, subst, arith}
-use Rattle.std.specs.Prelude.{◌≤ℤ◌}
+use Rattle.std.proofs.Common.{ℕ, ◌≡◌, ◌∙◌, ◌+◌, Option, is_some, List, refl, sym, ap, subst, arith}
 use Rattle.model.specs.Acceptance.NotedStates.{NotedSlot, image_slots, record_of}
 use Rattle.model.specs.Acceptance.PointStates.{follows, noted, noted_or}
 use Rattle.model.specs.Images.Image.{StateRecord}
 use Rattle.program_rules.proofs.EachPoint.{grown, grown-at, has-part, next-before, noted-is, noted-or-same}
-use Rattle.program_rules.proofs.NextRecords.{record-fits}
 use Rattle.program_rules.proofs.ShownParts.{some-grown}
 use Rattle.program_rules.proofs.points.Points.note.Goals as goal
 use Rattle.program_rules.specs.Kept.{IsKeptAt, before as states_before, noted_by}
 use Rattle.program_rules.specs.Programs.{thread_of}
 use Rattle.typestate.specs.Orders.{Rise}
-
-pub note_own-requires : goal.note_own-requires
-note_own-requires c =
-    let program = c.args.visit.now.program.now in
-    let own = program.space.thread.now in
-    let point = c.args.visit.now.point in
-    elim c.args.visit.now.noted as (λ o. option_map (λ r. r.now) o ≡ record_of own point
-    → IfSome o (λ r. (length r.now.terms ≤ 4) × (negsuc (2 ^ 62) ≤ℤ r.now.header.constant))) [
-      | None ↦ λ is. tt
-      | Some r ↦ λ is. let fits = record-fits own point r.now program.fits (sym is) in (fits.terms, fits.constant)
-    ] c.args.visit.now.listed
 
 pub look-requires : goal.look-requires
 look-requires c = record {
