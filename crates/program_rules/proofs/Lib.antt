@@ -13,4 +13,5 @@ mod ShownParts
 mod MappedSoFar
 mod Outcomes
 mod OwnKept
+mod Spelled
 mod ThreadsLeft

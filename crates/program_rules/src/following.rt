@@ -213,8 +213,7 @@ impl Visit<'_, '_, '_, '_> {
             *kept = Kept::Missing;
             return Ok(());
         };
-        let program = self.program;
-        match decode(program.space.thread.word(self.point)) {
+        match self.instr {
             None => {
                 *kept = Kept::Missing;
                 Ok(())
@@ -224,7 +223,7 @@ impl Visit<'_, '_, '_, '_> {
                 Ok(())
             }
             Some(instr) => {
-                let passed = known.pass(program.address(self.point), instr);
+                let passed = known.pass(self.program.address(self.point), instr);
                 kept.leave(passed);
                 Ok(())
             }

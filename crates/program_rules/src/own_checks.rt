@@ -1,6 +1,6 @@
 //! The rules at a point with a state, up to its system call and its ways on.
 
-ghost use Rattle.std.specs.Prelude.{ℕ, ◌≡◌, IfSome, List, None, Option, Some, false, true};
+ghost use Rattle.std.specs.Prelude.{ℕ, ◌≡◌, List, None, Option, Some, false, true};
 ghost use Rattle.std.specs.Result.{result_err};
 ghost use Rattle.measure.specs.Measures.{measure_of};
 ghost use Rattle.model.specs.Acceptance.Edges.{after};
@@ -10,7 +10,6 @@ ghost use Rattle.model.specs.Acceptance.PointRules.{is_computed_jump, is_illegal
 ghost use Rattle.model.specs.Acceptance.PointStates.{point_of};
 ghost use Rattle.model.specs.Acceptance.Rules.{first_broken};
 ghost use Rattle.model.specs.Images.Image.{Image, Thread};
-ghost use Rattle.model.specs.Machine.Instructions.{IsInstr};
 ghost use Rattle.model.specs.declared.instructions.Instr.{Instr as RuleInstr};
 ghost use Rattle.model.specs.declared.ranges.Range.{Range};
 ghost use Rattle.program_rules.specs.FoundPages.{AreMapped};
@@ -21,11 +20,11 @@ ghost use Rattle.typestate.specs.Differences.{slots_of};
 ghost use Rattle.typestate.specs.Strays.{NoneStray};
 
 use crate::kept::Known;
-use crate::point_rules::{FoundPages, Pages};
+use crate::point_rules::{FoundPages, Pages, ReachedBytes, size_of_load, size_of_store};
 use crate::programs::Program;
 use crate::visits::{Visit, VisitedSlots};
 use measure::least;
-use model::{Instr, Point, Refusal};
+use model::{Access, Instr, Point, Refusal};
 use ranges::Bounds;
 
 /// Whether a word is no instruction that a program may have.
@@ -80,15 +79,18 @@ impl Program<'_, '_> {
 }
 
 impl VisitedSlots<'_, '_, '_, '_, '_> {
-    /// Whether a load or store at the point may reach what the thread may not.
+    /// Whether a load or store at the point may reach a byte that the thread may not read, or not write. Pages that were found mapped
+    /// are not asked again, and those that are found now are noted.
     #[tactic(auto, unfolding(model::specs::Acceptance::PointRules::is_unmapped))]
-    fn is_unmapped(&self, instr: Option<Instr>, bounds: &Bounds, found: &mut FoundPages) -> bool
-        requires instr { IfSome instr IsInstr }
-        requires found { AreMapped self.now.visit.program.now.space.image.now self.now.visit.program.now.space.thread.now (slots_of self.now.slots) found.old }
-        ensures is { (measure : NotedMeasure) → result ≡ is_unmapped self.now.visit.program.now.space.image.now self.now.visit.program.now.space.thread.now (known_with bounds.now (slots_of self.now.slots) measure) instr }
+    fn is_unmapped(&self, bounds: &Bounds, found: &mut FoundPages) -> bool
+        requires { AreMapped self.now.visit.program.now.space.image.now self.now.visit.program.now.space.thread.now (slots_of self.now.slots) found.old }
+        ensures is { (measure : NotedMeasure) → result ≡ is_unmapped self.now.visit.program.now.space.image.now self.now.visit.program.now.space.thread.now (known_with bounds.now (slots_of self.now.slots) measure) self.now.visit.instr }
         ensures found { AreMapped self.now.visit.program.now.space.image.now self.now.visit.program.now.space.thread.now (slots_of self.now.slots) found.new }
         ensures part { found.new.part ≡ found.old.part }
     {
+        let Some(instr) = self.visit.instr else {
+            return false;
+        };
         let program = self.visit.program;
         let pages = Pages {
             image: program.space.image,
@@ -99,8 +101,37 @@ impl VisitedSlots<'_, '_, '_, '_, '_> {
             stores: program.stores,
         };
         match instr {
-            Some(instr) => pages.is_unmapped(instr, bounds, found),
-            None => false,
+            Instr::Load {
+                op,
+                rs1,
+                offset,
+                ..
+            } => {
+                let size = size_of_load(op);
+                let range = bounds.get(rs1);
+                let bytes = ReachedBytes {
+                    size,
+                    range,
+                    offset,
+                };
+                !pages.reaches(Access::Load, bytes, &mut found.loads)
+            }
+            Instr::Store {
+                op,
+                rs1,
+                offset,
+                ..
+            } => {
+                let size = size_of_store(op);
+                let range = bounds.get(rs1);
+                let bytes = ReachedBytes {
+                    size,
+                    range,
+                    offset,
+                };
+                !pages.reaches(Access::Store, bytes, &mut found.stores)
+            }
+            _ => false,
         }
     }
 
@@ -108,19 +139,14 @@ impl VisitedSlots<'_, '_, '_, '_, '_> {
     /// is an instruction (`IllegalInstruction`), and no jump to an address in a register (`ComputedJump`); no slot is one that the
     /// thread may not have (`CapNotThere`); the measure is at least 1 (`MeasureNotFalling`); and it loads and stores only where it
     /// may (`NotMapped`). Pages that are found mapped are noted.
-    pub(crate) fn own_rules(
-        &self,
-        instr: Option<Instr>,
-        known: &Known,
-        found: &mut FoundPages,
-    ) -> Result<(), Refusal>
-        requires instr { IfSome instr IsInstr }
-        requires found { AreMapped self.now.visit.program.now.space.image.now self.now.visit.program.now.space.thread.now (slots_of self.now.slots) found.old }
+    pub(crate) fn own_rules(&self, known: &Known, found: &mut FoundPages) -> Result<(), Refusal>
+        requires { AreMapped self.now.visit.program.now.space.image.now self.now.visit.program.now.space.thread.now (slots_of self.now.slots) found.old }
         ensures found { AreMapped self.now.visit.program.now.space.image.now self.now.visit.program.now.space.thread.now (slots_of self.now.slots) found.new }
         ensures part { found.new.part ≡ found.old.part }
-        ensures broken { result_err result ≡ first_broken (own_rules self.now.visit.program.now.space.image.now (thread_of self.now.visit.program.now) self.now.visit.point (known_with known.now.bounds (slots_of self.now.slots) (measure_of known.now.measure)) instr) }
+        ensures broken { result_err result ≡ first_broken (own_rules self.now.visit.program.now.space.image.now (thread_of self.now.visit.program.now) self.now.visit.point (known_with known.now.bounds (slots_of self.now.slots) (measure_of known.now.measure)) self.now.visit.instr) }
     {
         let at = self.visit.program.at(self.visit.point);
+        let instr = self.visit.instr;
         if is_illegal(instr) {
             return Err(Refusal::IllegalInstruction(at));
         }
@@ -133,7 +159,7 @@ impl VisitedSlots<'_, '_, '_, '_, '_> {
         if least(&known.measure, &known.bounds) < 1 {
             return Err(Refusal::MeasureNotFalling(at));
         }
-        if self.is_unmapped(instr, &known.bounds, found) {
+        if self.is_unmapped(&known.bounds, found) {
             return Err(Refusal::NotMapped(at));
         }
         Ok(())
@@ -143,10 +169,10 @@ impl VisitedSlots<'_, '_, '_, '_, '_> {
 impl Visit<'_, '_, '_, '_> {
     /// Whether the point keeps its own rules with this state whatever slots it has, and has no way on but to the next point: no record
     /// notes it, it is known that no slot is one that the thread may not have, and the instruction asks for none.
-    pub(crate) fn keeps_own_unseen(&self, instr: Option<Instr>, known: &Known) -> bool
+    pub(crate) fn keeps_own_unseen(&self, known: &Known) -> bool
         ensures own { (slots : List NotedSlot) → result ≡ true → (known.now.is_clean ≡ true → NoneStray self.now.program.now.space.image.now self.now.program.now.space.thread.now slots)
-            → first_broken (own_rules self.now.program.now.space.image.now (thread_of self.now.program.now) self.now.point (known_with known.now.bounds slots (measure_of known.now.measure)) instr) ≡ None }
-        ensures ways { (pc : ℕ) (ranges : List Range) (i : RuleInstr) → result ≡ true → instr ≡ Some i → (after pc i ranges).taken ≡ None }
+            → first_broken (own_rules self.now.program.now.space.image.now (thread_of self.now.program.now) self.now.point (known_with known.now.bounds slots (measure_of known.now.measure)) self.now.instr) ≡ None }
+        ensures ways { (pc : ℕ) (ranges : List Range) (i : RuleInstr) → result ≡ true → self.now.instr ≡ Some i → (after pc i ranges).taken ≡ None }
     {
         if self.noted.is_some() {
             return false;
@@ -154,7 +180,7 @@ impl Visit<'_, '_, '_, '_> {
         if !known.is_clean {
             return false;
         }
-        if !goes_on_plainly(instr) {
+        if !goes_on_plainly(self.instr) {
             return false;
         }
         if least(&known.measure, &known.bounds) < 1 {

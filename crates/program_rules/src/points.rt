@@ -15,6 +15,7 @@ use crate::notes::{PlacedRecord, RecordsLeft};
 use crate::programs::Program;
 use crate::records::{MeasuredRecord, bounds_of};
 use crate::visits::Visit;
+use rv32_isa::decode;
 use std::alloc::AllocError;
 use typestate::{ShownPart, SlotLog};
 
@@ -109,6 +110,7 @@ impl<'a> Points<'a> {
             let visit = Visit {
                 program,
                 point,
+                instr: decode(program.space.thread.word(point)),
                 noted: noted.as_ref(),
                 is_next_noted,
             };

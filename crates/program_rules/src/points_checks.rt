@@ -55,15 +55,14 @@ impl<'a> Visit<'_, '_, 'a, '_> {
         ensures others { IfOk result (λ _. KeepsParts points.old.log points.new.log) }
     {
         let program = self.program;
-        let instr = decode(program.space.thread.word(self.point));
         let slots = shown.slots(program.slots);
         let here = VisitedSlots {
             visit: *self,
             slots,
             is_clean: known.is_clean,
         };
-        here.own_rules(instr, known, found)?;
-        match instr {
+        here.own_rules(known, found)?;
+        match self.instr {
             Some(Instr::Ecall) => self.call_rules(points, shown, known),
             Some(instr) => {
                 let plain = PlainPoint {
@@ -104,9 +103,7 @@ impl<'a> Visit<'_, '_, 'a, '_> {
     {
         match kept {
             Kept::Known(known) => {
-                let program = self.program;
-                let instr = decode(program.space.thread.word(self.point));
-                if self.keeps_own_unseen(instr, known) {
+                if self.keeps_own_unseen(known) {
                     if self.leaves_next(points) {
                         return Ok(());
                     }
@@ -174,6 +171,7 @@ impl<'a> Program<'a, '_> {
             let visit = Visit {
                 program: self,
                 point,
+                instr: decode(self.space.thread.word(point)),
                 noted: noted.as_ref(),
                 is_next_noted,
             };

@@ -7,6 +7,7 @@ ghost use Rattle.model.specs.Acceptance.PointStates.{instruction_at, noted};
 ghost use Rattle.model.specs.Acceptance.PointStates as states;
 ghost use Rattle.model.specs.Machine.Instructions.{IsInstr};
 ghost use Rattle.model.specs.declared.instructions.Instr.TheVariants.{Ecall};
+ghost use Rattle.model.specs.declared.instructions.Instr.{Instr as RuleInstr};
 ghost use Rattle.program_rules.specs.Propositions.{IsAt-prop, IsInstr-prop};
 ghost use Rattle.program_rules.specs.Kept.{IsRead, state_by};
 ghost use Rattle.program_rules.specs.Programs.{thread_of};
@@ -26,11 +27,15 @@ use typestate::{NotedSlots, Part, ShownPart};
 pub(crate) struct Visit<'p, 'n, 'a, 's> {
     pub(crate) program: &'p Program<'a, 's>,
     pub(crate) point: u32,
+    /// The instruction there, if its word is one.
+    pub(crate) instr: Option<Instr>,
     /// The record of the point, if it has one.
     pub(crate) noted: Option<&'n PlacedRecord<'a>>,
     /// Whether the next point has a record.
     pub(crate) is_next_noted: bool,
     ghost within: { point < program.now.space.thread.now.header.words },
+    ghost is: { instruction_at program.now.space.thread.now point ≡ instr },
+    ghost valid: { (i : RuleInstr) → instr ≡ Some i → IsInstr i } by { Prim.hlevel (props, IsInstr-prop) },
     ghost listed: { option_map (λ r. r.now) noted ≡ record_of program.now.space.thread.now point },
     ghost next: { is_next_noted ≡ is_some (record_of program.now.space.thread.now (point + 1)) },
 }

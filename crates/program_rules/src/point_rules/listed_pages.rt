@@ -1,19 +1,17 @@
 //! Pages that an image maps, those one after another together.
 //! RISC-V Privileged ISA, "Sv32: Page-Based 32-bit Virtual-Memory Systems".
 
-ghost use Rattle.std.specs.Prelude.{ℕ, ◌≡◌, ◌<◌, ◌≤◌, ◌^◌, Bool, IfOk, true};
+ghost use Rattle.std.specs.Prelude.{ℕ, ◌≡◌, ◌<◌, ◌≤◌, Bool, IfOk, true};
 ghost use Rattle.std.specs.List.{list_any};
 ghost use Rattle.model.specs.Acceptance.PointRules.{maps_for};
 ghost use Rattle.model.specs.Capabilities.Rights.{rights};
 ghost use Rattle.program_rules.specs.point_rules.Runs.{AreRuns, IsRun};
 
+use crate::point_rules::page_numbers::{PAGE, Page};
 use image_reading::{ImageRef, ThreadRef, frame_at, header_of};
 use model::{Access, FrameEntry, Rights};
 use std::alloc::{AllocError, Global};
 use typestate::allows;
-
-/// How many bytes a page has.
-pub(crate) const PAGE: u32 = 4096;
 
 /// Pages from one on to before another, by their numbers.
 #[derive(Clone, Copy)]
@@ -35,13 +33,12 @@ pub(crate) fn is_listed(
     image: &ImageRef<'_>,
     thread: &ThreadRef<'_>,
     access: Access,
-    page: u32,
+    page: Page,
 ) -> bool
-    requires { page < 2 ^ 20 }
-    ensures { result ≡ list_any (maps_for access thread.now page) image.now.frames }
+    ensures { result ≡ list_any (maps_for access thread.now page.number) image.now.frames }
 {
     let root = thread.header().root;
-    match frame_at(image, root, page * PAGE) {
+    match frame_at(image, root, page.number * PAGE) {
         Some(frame) => allows(access, rights_of(frame)),
         None => false,
     }
@@ -49,21 +46,21 @@ pub(crate) fn is_listed(
 
 /// The last run with a page more: where that is apart from it, the run goes to the others, and the page begins the next one.
 /// Memory may be refused.
-fn with_page(runs: &mut Vec<PageRun>, last: PageRun, page: u32) -> Result<PageRun, AllocError>
-    requires { page < 2 ^ 20 }
+fn with_page(runs: &mut Vec<PageRun>, last: PageRun, page: Page) -> Result<PageRun, AllocError>
     ensures runs { IfOk result (λ _. (test : ℕ → Bool) → AreRuns test runs.old.items → IsRun test last → AreRuns test runs.new.items) }
-    ensures last { IfOk result (λ longer. (test : ℕ → Bool) → IsRun test last → test page ≡ true → IsRun test longer) }
+    ensures last { IfOk result (λ longer. (test : ℕ → Bool) → IsRun test last → test page.number ≡ true → IsRun test longer) }
 {
-    if page == last.end {
+    let end = page.number + 1;
+    if page.number == last.end {
         return Ok(PageRun {
             first: last.first,
-            end: page + 1,
+            end,
         });
     }
     runs.push(last)?;
     Ok(PageRun {
-        first: page,
-        end: page + 1,
+        first: page.number,
+        end,
     })
 }
 
@@ -85,7 +82,7 @@ pub fn runs_of(
     let mut last = PageRun { first: 0, end: 0 };
     'frames: for number in 0..header_of(image).frames {
         let entry = image.frame(number);
-        let page = entry.address / PAGE;
+        let page = Page::of(entry.address);
         if entry.root == root && is_listed(image, thread, access, page) {
             last = with_page(&mut runs, last, page)?;
         }

@@ -1,23 +1,19 @@
 //! Whether loads and stores reach only bytes that the thread may read or write.
 //! RISC-V Unprivileged ISA, 2.6 "Load and Store Instructions".
 
-ghost use Rattle.std.specs.Prelude.{ℕ, ◌≡◌, ◌<◌, ◌≤◌, ◌≤ℤ◌, ◌+ℤ◌, ◌^◌, IfNone, IfSome, Some, false, pos, true};
+ghost use Rattle.std.specs.Prelude.{ℕ, ◌≡◌, ◌<◌, ◌≤◌, ◌≤ℤ◌, ◌+ℤ◌, ◌^◌, IfNone, IfSome, false, pos, true};
 ghost use Rattle.std.specs.Int.{byte_len};
 ghost use Rattle.std.specs.List.{list_any};
-ghost use Rattle.model.specs.Acceptance.PointRules.{are_mapped, is_allowed, is_mapped_for, is_unmapped, maps_for};
-ghost use Rattle.model.specs.Acceptance.Measures.{Measure};
+ghost use Rattle.model.specs.Acceptance.PointRules.{are_mapped, is_allowed, is_mapped_for, maps_for};
 ghost use Rattle.model.specs.Machine.Effects.{load_size, store_size};
-ghost use Rattle.model.specs.Machine.Instructions.{IsInstr};
 ghost use Rattle.model.specs.Machine.ProgramMemory.{width_of};
-ghost use Rattle.program_rules.specs.FoundPages.{AreMapped};
 ghost use Rattle.program_rules.specs.point_rules.Runs.{AreRuns};
-ghost use Rattle.typestate.specs.Calls.{known_with};
 ghost use Rattle.typestate.specs.Differences.{slots_of};
 
-use crate::point_rules::listed_pages::{PAGE, PageRun, is_listed, run_end};
-use crate::point_rules::{FoundPages, FoundRuns, Pages};
-use model::{Access, AccessSize, Instr, LoadOp, Range, StoreOp};
-use ranges::Bounds;
+use crate::point_rules::listed_pages::{PageRun, is_listed, run_end};
+use crate::point_rules::page_numbers::Page;
+use crate::point_rules::{AccessPages, FoundRuns, Pages, ReachedBytes};
+use model::{Access, AccessSize, LoadOp, StoreOp};
 
 /// How many bytes an access of this size has.
 fn width(size: AccessSize) -> u32
@@ -32,7 +28,7 @@ fn width(size: AccessSize) -> u32
 }
 
 /// How much a load reads.
-fn size_of_load(op: LoadOp) -> AccessSize
+pub(crate) fn size_of_load(op: LoadOp) -> AccessSize
     ensures { result ≡ load_size op }
 {
     match op {
@@ -43,7 +39,7 @@ fn size_of_load(op: LoadOp) -> AccessSize
 }
 
 /// How much a store writes.
-fn size_of_store(op: StoreOp) -> AccessSize
+pub(crate) fn size_of_store(op: StoreOp) -> AccessSize
     ensures { result ≡ store_size op }
 {
     match op {
@@ -61,107 +57,104 @@ fn moved(address: u32, offset: i32) -> i64
     i64::from(address) + i64::from(offset)
 }
 
-impl Pages<'_, '_> {
-    /// The pages, run by run, that the image maps for an access.
-    fn runs(&self, access: Access) -> &[PageRun]
-        ensures { AreRuns (λ page. list_any (maps_for access self.now.thread.now page) self.now.image.now.frames) result.now }
+impl AccessPages<'_, '_, '_, '_> {
+    /// The pages, run by run, that the image maps.
+    fn runs(&self) -> &[PageRun]
+        ensures { AreRuns (λ page. list_any (maps_for self.now.access self.now.pages.now.thread.now page) self.now.pages.now.image.now.frames) result.now }
     {
-        match access {
-            Access::Load => self.loads,
-            Access::Store => self.stores,
+        let pages = self.pages;
+        match self.access {
+            Access::Load => pages.loads,
+            Access::Store => pages.stores,
             Access::Fetch => &[],
         }
     }
 
-    /// Whether a page is mapped for an access.
-    fn is_mapped(&self, access: Access, page: u32) -> bool
-        requires { page < 2 ^ 20 }
-        ensures { result ≡ is_mapped_for self.now.image.now self.now.thread.now (slots_of self.now.slots) access page }
+    /// Whether a page is mapped.
+    fn is_mapped(&self, page: Page) -> bool
+        ensures { result ≡ is_mapped_for self.now.pages.now.image.now self.now.pages.now.thread.now (slots_of self.now.pages.now.slots) self.now.access page.number }
     {
-        is_listed(self.image, self.thread, access, page) || self.slots.maps(access, self.root, page)
+        let pages = self.pages;
+        is_listed(pages.image, pages.thread, self.access, page)
+            || pages.slots.maps(self.access, pages.root, page.number)
     }
 
-    /// A page after this one, up to which all are mapped for an access: none, where this one is not. Those that the image maps
-    /// one after another are one step, and so are those that were found.
-    fn mapped_to(&self, access: Access, page: u32, found: &FoundRuns) -> Option<u32>
-        requires page { page < 2 ^ 20 }
-        requires found { AreRuns (is_mapped_for self.now.image.now self.now.thread.now (slots_of self.now.slots) access) found.now }
-        ensures later { IfSome result (λ next. page < next) }
-        ensures mapped { IfSome result (λ next. (p : ℕ) → page ≤ p → p < next → is_mapped_for self.now.image.now self.now.thread.now (slots_of self.now.slots) access p ≡ true) }
-        ensures missing { IfNone result (is_mapped_for self.now.image.now self.now.thread.now (slots_of self.now.slots) access page ≡ false) }
+    /// A page after this one, up to which all are mapped: none, where this one is not. Those that the image maps one after another
+    /// are one step, and so are those that were found.
+    fn mapped_to(&self, page: Page) -> Option<u32>
+        ensures later { IfSome result (λ next. page.number < next) }
+        ensures mapped { IfSome result (λ next. (p : ℕ) → page.number ≤ p → p < next → is_mapped_for self.now.pages.now.image.now self.now.pages.now.thread.now (slots_of self.now.pages.now.slots) self.now.access p ≡ true) }
+        ensures missing { IfNone result (is_mapped_for self.now.pages.now.image.now self.now.pages.now.thread.now (slots_of self.now.pages.now.slots) self.now.access page.number ≡ false) }
     {
-        let known = found.end(page);
-        if page < known {
+        let found = self.found;
+        let known = found.end(page.number);
+        if page.number < known {
             return Some(known);
         }
-        let end = run_end(self.runs(access), page);
-        if page < end {
+        let end = run_end(self.runs(), page.number);
+        if page.number < end {
             return Some(end);
         }
-        if self.is_mapped(access, page) {
-            Some(page + 1)
+        if self.is_mapped(page) {
+            Some(page.number + 1)
         } else {
             None
         }
     }
 
-    /// The first page from one on that is not mapped for an access, if it lies before an end: else a page at the end or after it, up
-    /// to which all are mapped.
-    fn mapped_before(&self, access: Access, first: u32, end: u32, found: &FoundRuns) -> u32
-        requires few { end ≤ 2 ^ 20 }
-        requires found { AreRuns (is_mapped_for self.now.image.now self.now.thread.now (slots_of self.now.slots) access) found.now }
-        ensures from { first ≤ result }
-        ensures mapped { (p : ℕ) → first ≤ p → p < result → is_mapped_for self.now.image.now self.now.thread.now (slots_of self.now.slots) access p ≡ true }
-        ensures missing { result < end → is_mapped_for self.now.image.now self.now.thread.now (slots_of self.now.slots) access result ≡ false }
+    /// The first page from one on that is not mapped, if it does not lie after the last one: else a page after that, up to which all
+    /// are mapped.
+    fn mapped_before(&self, first: Page, last: Page) -> u32
+        ensures from { first.number ≤ result }
+        ensures mapped { (p : ℕ) → first.number ≤ p → p < result → is_mapped_for self.now.pages.now.image.now self.now.pages.now.thread.now (slots_of self.now.pages.now.slots) self.now.access p ≡ true }
+        ensures missing { result ≤ last.number → is_mapped_for self.now.pages.now.image.now self.now.pages.now.thread.now (slots_of self.now.pages.now.slots) self.now.access result ≡ false }
     {
-        let mut page = first;
-        'pages: for _ in first..end {
-            if end <= page {
+        let mut page = first.number;
+        'pages: for _ in first.number..last.number + 1 {
+            if last.number < page {
                 return page;
             }
-            page = match self.mapped_to(access, page, found) {
+            page = match self.mapped_to(Page { number: page }) {
                 Some(next) => next,
                 None => return page,
             };
         }
         page
     }
+}
 
+impl Pages<'_, '_> {
     /// Whether every page from that of one byte to that of another is mapped. Those that are found mapped are noted.
     fn are_mapped(&self, access: Access, first: u32, last: u32, found: &mut FoundRuns) -> bool
-        requires order { first ≤ last }
-        requires found { AreRuns (is_mapped_for self.now.image.now self.now.thread.now (slots_of self.now.slots) access) found.old }
+        requires { AreRuns (is_mapped_for self.now.image.now self.now.thread.now (slots_of self.now.slots) access) found.old }
         ensures is { result ≡ are_mapped self.now.image.now self.now.thread.now (slots_of self.now.slots) access first last }
         ensures found { AreRuns (is_mapped_for self.now.image.now self.now.thread.now (slots_of self.now.slots) access) found.new }
     {
-        let start = first / PAGE;
-        let end = last / PAGE + 1;
-        let page = self.mapped_before(access, start, end, found);
+        let start = Page::of(first);
+        let last = Page::of(last);
+        let mapped = AccessPages {
+            pages: self,
+            access,
+            found: &*found,
+        };
+        let end = mapped.mapped_before(start, last);
         found.note(PageRun {
-            first: start,
-            end: page,
+            first: start.number,
+            end,
         });
-        end <= page
+        last.number < end
     }
 
-    /// Whether an access of so many bytes meets only mapped pages, from each address that lies between two, as whole numbers.
-    fn is_allowed(
-        &self,
-        access: Access,
-        width: u32,
-        least: i64,
-        greatest: i64,
-        found: &mut FoundRuns,
-    ) -> bool
-        requires some { 1 ≤ width }
-        requires few { width ≤ 4 }
-        requires order { least ≤ℤ greatest }
-        requires high { greatest ≤ℤ pos (2 ^ 40) }
-        requires found { AreRuns (is_mapped_for self.now.image.now self.now.thread.now (slots_of self.now.slots) access) found.old }
-        ensures is { result ≡ is_allowed self.now.image.now self.now.thread.now (slots_of self.now.slots) access width least greatest }
+    /// Whether all accesses to bytes meet only mapped pages. Pages that were found mapped are not asked again, and those that are
+    /// found now are noted.
+    pub(crate) fn reaches(&self, access: Access, bytes: ReachedBytes, found: &mut FoundRuns) -> bool
+        requires { AreRuns (is_mapped_for self.now.image.now self.now.thread.now (slots_of self.now.slots) access) found.old }
+        ensures is { result ≡ is_allowed self.now.image.now self.now.thread.now (slots_of self.now.slots) access (byte_len (width_of bytes.size)) (pos bytes.range.low +ℤ bytes.offset) (pos bytes.range.high +ℤ bytes.offset) }
         ensures found { AreRuns (is_mapped_for self.now.image.now self.now.thread.now (slots_of self.now.slots) access) found.new }
     {
-        let last = greatest + i64::from(width - 1);
+        let least = moved(bytes.range.low, bytes.offset);
+        let greatest = moved(bytes.range.high, bytes.offset);
+        let last = greatest + i64::from(width(bytes.size) - 1);
         if least < 0 {
             return false;
         }
@@ -169,69 +162,5 @@ impl Pages<'_, '_> {
             return false;
         }
         self.are_mapped(access, least as u32, last as u32, found)
-    }
-
-    /// Whether an access from an address in this range and this offset after it meets only mapped pages.
-    fn reaches(
-        &self,
-        access: Access,
-        size: AccessSize,
-        range: Range,
-        offset: i32,
-        found: &mut FoundRuns,
-    ) -> bool
-        requires order { range.low ≤ range.high }
-        requires found { AreRuns (is_mapped_for self.now.image.now self.now.thread.now (slots_of self.now.slots) access) found.old }
-        ensures is { result ≡ is_allowed self.now.image.now self.now.thread.now (slots_of self.now.slots) access (byte_len (width_of size)) (pos range.low +ℤ offset) (pos range.high +ℤ offset) }
-        ensures found { AreRuns (is_mapped_for self.now.image.now self.now.thread.now (slots_of self.now.slots) access) found.new }
-    {
-        let least = moved(range.low, offset);
-        let greatest = moved(range.high, offset);
-        self.is_allowed(access, width(size), least, greatest, found)
-    }
-
-    /// Whether a load or store may reach a byte that the thread may not read, or not write. Pages that were found mapped are not
-    /// asked again, and those that are found now are noted.
-    #[tactic(auto, unfolding(model::specs::Acceptance::PointRules::is_unmapped))]
-    pub fn is_unmapped(&self, instr: Instr, bounds: &Bounds, found: &mut FoundPages) -> bool
-        requires instr { IsInstr instr }
-        requires found { AreMapped self.now.image.now self.now.thread.now (slots_of self.now.slots) found.old }
-        ensures is { (measure : Measure) → result ≡ is_unmapped self.now.image.now self.now.thread.now (known_with bounds.now (slots_of self.now.slots) measure) (Some instr) }
-        ensures found { AreMapped self.now.image.now self.now.thread.now (slots_of self.now.slots) found.new }
-        ensures part { found.new.part ≡ found.old.part }
-    {
-        match instr {
-            Instr::Load {
-                op,
-                rs1,
-                offset,
-                ..
-            } => {
-                let range = bounds.get(rs1);
-                !self.reaches(
-                    Access::Load,
-                    size_of_load(op),
-                    range,
-                    offset,
-                    &mut found.loads,
-                )
-            }
-            Instr::Store {
-                op,
-                rs1,
-                offset,
-                ..
-            } => {
-                let range = bounds.get(rs1);
-                !self.reaches(
-                    Access::Store,
-                    size_of_store(op),
-                    range,
-                    offset,
-                    &mut found.stores,
-                )
-            }
-            _ => false,
-        }
     }
 }

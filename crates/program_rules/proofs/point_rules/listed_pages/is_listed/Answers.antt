@@ -15,11 +15,11 @@ returns-in-Some c =
     let frames = c.args.image.now.frames in
     let found = c.frame_at.ensures.only usable ∙ ap (λ (f : Option FrameEntry). option_map_or usable f false) c.in-Some.is in
     c.allows.ensures ∙ ap (λ (r : Rights). allows c.args.access r) c.rights_of.ensures ∙ sym found
-    ∙ ap (λ (h : ThreadHeader). list_any (λ f. f.root == h.root && (f.address == c.args.page * 4096) && usable f) frames) c.header-root.ensures
+    ∙ ap (λ (h : ThreadHeader). list_any (λ f. f.root == h.root && (f.address == c.args.page.number * 4096) && usable f) frames) c.header-root.ensures
 
 pub returns-in-None : goal.returns-in-None
 returns-in-None c =
     let usable : FrameEntry → Bool = λ f. allows c.args.access (rights f.rights) in
     let frames = c.args.image.now.frames in
     let found = c.frame_at.ensures.only usable ∙ ap (λ (f : Option FrameEntry). option_map_or usable f false) c.in-None.is in
-    sym found ∙ ap (λ (h : ThreadHeader). list_any (λ f. f.root == h.root && (f.address == c.args.page * 4096) && usable f) frames) c.header-root.ensures
+    sym found ∙ ap (λ (h : ThreadHeader). list_any (λ f. f.root == h.root && (f.address == c.args.page.number * 4096) && usable f) frames) c.header-root.ensures

@@ -1,7 +1,9 @@
 -- One point after another.
-use Rattle.std.proofs.Common.{◌∙◌, ◌+◌, List, refl, sym, subst, arith}
+use Rattle.std.proofs.Common.{◌∙◌, ◌+◌, List, refl, sym, ap, subst, arith}
 use Rattle.model.specs.Images.Image.{StateRecord}
+use Rattle.model.specs.Machine.Decoding.{decoded}
 use Rattle.program_rules.proofs.NextRecords.{AreLeft, all-left, is-next, next-record}
+use Rattle.program_rules.proofs.Spelled.{valid-instr}
 use Rattle.program_rules.proofs.points.Points.of.Goals as goal
 use Rattle.program_rules.specs.Programs.{thread_of}
 
@@ -30,6 +32,8 @@ invariant_of-visit c =
     let count = c.word_count-point-end.ensures.value in
     record {
       within = omega (arith, least, count);
+      is = ap decoded (sym c.word.ensures) ∙ sym c.decode.ensures.value;
+      valid = valid-instr c.word.result c.decode.result c.decode.ensures.some;
       listed = c.as_ref.ensures.value ∙ c.take-noted.ensures.record ∙ sym (next-record own c.notes.point c.notes.records c.notes.invariant.1).0;
       next = is-next own c.notes.point c.notes.records c.take-noted.new.self c.is_next-is_next_noted.result c.notes.invariant.1
           c.take-noted.ensures.left

@@ -20,6 +20,6 @@ returns-clause-own c = λ slots is clean.
     let known-clean : known.is_clean ≡ true = search rules in
     let plain : c.goes_on_plainly.result ≡ true = search rules in
     let falls : int_lt (least_value (measure_of known.measure) known.bounds) (pos 1) ≡ false = search rules in
-    own-kept image t v.point s c.args.instr (c.goes_on_plainly.ensures.legal plain) (c.goes_on_plainly.ensures.direct plain)
+    own-kept image t v.point s v.instr (c.goes_on_plainly.ensures.legal plain) (c.goes_on_plainly.ensures.direct plain)
     (none-stray image t.thread v.point s (sym v.listed ∙ ap (λ (o : Option (Bor RecordRef)). option_map (λ r. r.now) o) none) (clean known-clean)) falls
     (c.goes_on_plainly.ensures.mapped plain image t.thread s)

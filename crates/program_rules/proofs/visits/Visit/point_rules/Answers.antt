@@ -1,7 +1,6 @@
 -- By what is kept of the point.
 use Rattle.std.proofs.Common.{◌≡◌, ◌∙◌, inl, inr, Option, refl, sym, ap, subst}
-use Rattle.model.specs.Acceptance.PointStates.{Known, Missing, Unmeasured, address_of, instruction_at, noted}
-use Rattle.model.specs.Machine.Decoding.{decoded}
+use Rattle.model.specs.Acceptance.PointStates.{Known, Missing, Unmeasured, address_of, noted}
 use Rattle.model.specs.declared.refusals.Refusal.{Refusal}
 use Rattle.program_rules.proofs.OwnKept.{unseen-kept}
 use Rattle.program_rules.proofs.PointLists.{noted-rules}
@@ -72,10 +71,9 @@ returns-then-leaves_next-clause-broken c =
     let known = c.in-Known.known in
     let s = state_by slots log known in
     let same : Known s ≡ noted image t v.point = ap (noted_by slots log) (sym c.in-Known.is) ∙ is.same in
-    let read : instruction_at t.thread v.point ≡ c.decode-instr.result = ap decoded (sym c.word.ensures) ∙ sym c.decode-instr.ensures.value in
     let clean = subst (λ (k : Kept). IsCleanIn image t.thread slots log k) c.in-Known.is is.clean in
     sym (noted-rules image t v.point (Known s) same)
     ∙ unseen-kept image t v.point s (λ i at plain. c.leaves_next.ensures.plain s i c.if-leaves_next.true same at plain)
-    (λ at. c.leaves_next.ensures.call s c.if-leaves_next.true same at) c.decode-instr.result read
+    (λ at. c.leaves_next.ensures.call s c.if-leaves_next.true same at) v.instr v.is
     (c.keeps_own_unseen.ensures.own (replayed slots (part_of log known.part)) c.if-keeps_own_unseen.true clean)
     (λ i at. c.keeps_own_unseen.ensures.ways (address_of t.thread v.point) known.bounds i c.if-keeps_own_unseen.true at)

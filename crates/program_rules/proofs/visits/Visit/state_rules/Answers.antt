@@ -4,7 +4,6 @@ use Rattle.std.specs.Option.{option_or}
 use Rattle.measure.specs.Measures.{measure_of}
 use Rattle.model.specs.Acceptance.NotedStates.{NotedSlot}
 use Rattle.model.specs.Acceptance.Rules.{first_broken}
-use Rattle.model.specs.Machine.Decoding.{decoded}
 use Rattle.model.specs.declared.instructions.Instr.TheVariants.{Ecall}
 use Rattle.model.specs.declared.refusals.Refusal.{Refusal}
 use Rattle.program_rules.proofs.MappedSoFar.{at-part, found-grown, still-found}
@@ -38,7 +37,7 @@ returns-in_err-own_rules-clause-broken c =
     let image = c.args.self.now.program.now.space.image.now in
     let t = thread_of c.args.self.now.program.now in
     let s = state_by c.args.self.now.program.now.slots.now c.args.points.now.log c.args.known.now in
-    let instr = c.decode-instr.result in
+    let instr = c.args.self.now.instr in
     let refusal = c.in_err-own_rules.field-0.0 in
     let own : Some refusal ≡ first_broken (own_rules image t c.args.self.now.point s instr) =
     c.in_err-own_rules.ensures.broken
@@ -47,18 +46,18 @@ returns-in_err-own_rules-clause-broken c =
     (c.slots-slots.ensures.slots ∙ c.requires.part.same c.args.self.now.program.now.slots.now c.args.self.now.program.now.rising
     c.args.self.now.program.now.unlinked) in
     passed-on _ c.from_residual.result refusal c.from_residual.ensures.1
-    (inr (state-first image t c.args.self.now.point s instr (ap decoded (sym c.word.ensures) ∙ sym c.decode-instr.ensures.value)
+    (inr (state-first image t c.args.self.now.point s instr c.args.self.now.is
     ∙ ap (λ (o : Option Refusal). option_or o (first_broken (later_rules image t c.args.self.now.point s instr))) (sym own)))
 
 pub returns-in-Some-Ecall-clause-broken : goal.returns-in-Some-Ecall-clause-broken
 returns-in-Some-Ecall-clause-broken c =
     let bounds = c.args.known.now.bounds in
     let m = measure_of c.args.known.now.measure in
-    let call : c.decode-instr.result ≡ Some Ecall = search rules in
+    let call : c.args.self.now.instr ≡ Some Ecall = search rules in
     later-answers c.args.self.now.program.now.space.image.now (thread_of c.args.self.now.program.now) c.args.self.now.point (known_with bounds (slots_of
     c.slots-slots.result) m)
-    (state_by c.args.self.now.program.now.slots.now c.args.points.now.log c.args.known.now) c.decode-instr.result (Some Ecall) c.call_rules.result
-    (ap decoded (sym c.word.ensures) ∙ sym c.decode-instr.ensures.value) call
+    (state_by c.args.self.now.program.now.slots.now c.args.points.now.log c.args.known.now) c.args.self.now.instr (Some Ecall) c.call_rules.result
+    c.args.self.now.is call
     (ap (λ (all : List NotedSlot). known_with bounds all m) (c.slots-slots.ensures.slots
     ∙ c.requires.part.same c.args.self.now.program.now.slots.now c.args.self.now.program.now.rising c.args.self.now.program.now.unlinked))
     c.in_ok-own_rules.ensures.broken c.call_rules.ensures.broken
@@ -66,7 +65,7 @@ returns-in-Some-Ecall-clause-broken c =
 pub returns-in-None-clause-broken : goal.returns-in-None-clause-broken
 returns-in-None-clause-broken c =
     absurd (illegal-breaks c.args.self.now.program.now.space.image.now (thread_of c.args.self.now.program.now) c.args.self.now.point
-    (known_with c.args.known.now.bounds (slots_of c.slots-slots.result) (measure_of c.args.known.now.measure)) c.decode-instr.result c.in-None.is
+    (known_with c.args.known.now.bounds (slots_of c.slots-slots.result) (measure_of c.args.known.now.measure)) c.args.self.now.instr c.in-None.is
     c.in_ok-own_rules.ensures.broken)
 
 pub returns-in-Some-clause-broken : goal.returns-in-Some-clause-broken
@@ -77,9 +76,9 @@ returns-in-Some-clause-broken c =
     let bounds = c.args.known.now.bounds in
     let m = measure_of c.args.known.now.measure in
     let is-plain : c.in-Some.instr ≢ Ecall = search rules in
-    later-answers image t c.args.self.now.point (known_with bounds (slots_of c.slots-slots.result) m) s c.decode-instr.result (Some c.in-Some.instr)
+    later-answers image t c.args.self.now.point (known_with bounds (slots_of c.slots-slots.result) m) s c.args.self.now.instr (Some c.in-Some.instr)
     c.ways_rules.result
-    (ap decoded (sym c.word.ensures) ∙ sym c.decode-instr.ensures.value) c.in-Some.is
+    c.args.self.now.is c.in-Some.is
     (ap (λ (all : List NotedSlot). known_with bounds all m) (c.slots-slots.ensures.slots
     ∙ c.requires.part.same c.args.self.now.program.now.slots.now c.args.self.now.program.now.rising c.args.self.now.program.now.unlinked))
     c.in_ok-own_rules.ensures.broken
@@ -103,8 +102,8 @@ returns-in-Some-Ecall-clause-same c =
     follows-from (λ _. KeepsParts old new) (λ _. AreSame slots new c.args.same.now) c.call_rules.result
     (λ _ keeps. same-grown slots old new c.args.same.now keeps c.requires.same) c.call_rules.ensures.others
 
-pub own_rules-requires-clause-found : goal.own_rules-requires-clause-found
-own_rules-requires-clause-found c =
+pub own_rules-requires : goal.own_rules-requires
+own_rules-requires c =
     let image = c.args.self.now.program.now.space.image.now in
     let own = c.args.self.now.program.now.space.thread.now in
     let slots = c.args.self.now.program.now.slots.now in
@@ -159,7 +158,7 @@ invariant_of-plain c =
       read = c.requires.read;
       shows = c.requires.part;
       kept = c.requires.kept.same;
-      valid = search rules;
-      is = ap decoded (sym c.word.ensures) ∙ sym c.decode-instr.ensures.value ∙ c.in-Some.is;
+      valid = c.args.self.now.valid c.in-Some.instr c.in-Some.is;
+      is = c.args.self.now.is ∙ c.in-Some.is;
       plain = search rules;
     }
