@@ -1,10 +1,10 @@
 //! What follows from the state of a point.
 
-ghost use Rattle.std.specs.Prelude.{ℕ, ◌≡◌, ◌≢◌, ◌+◌, ◌<◌, ◌≤ℤ◌, ◌^◌, ◌-◌, ◌≤◌, IfOk, List, false, negsuc, true};
+ghost use Rattle.std.specs.Prelude.{ℕ, ◌≡◌, ◌≢◌, ◌+◌, ◌<◌, ◌≤ℤ◌, ◌^◌, ◌-◌, IfOk, List, false, negsuc};
 ghost use Rattle.measure.specs.Measures.{measure_of};
 ghost use Rattle.model.specs.Acceptance.Edges.{after};
 ghost use Rattle.model.specs.Acceptance.NotedStates.{NotedSlot};
-ghost use Rattle.model.specs.Acceptance.PointStates.{address_of, behind_call, call_at, follows, follows_call, follows_edge, instruction_at};
+ghost use Rattle.model.specs.Acceptance.PointStates.{address_of, call_at, follows, follows_call, follows_edge, instruction_at};
 ghost use Rattle.model.specs.Images.Image.{Image, Thread};
 ghost use Rattle.model.specs.Machine.Instructions.{IsInstr};
 ghost use Rattle.model.specs.declared.instructions.Instr.TheVariants.{Ecall};
@@ -12,10 +12,7 @@ ghost use Rattle.program_rules.specs.Kept.{IsCleanIn, IsKeptAt, IsLookedAt, IsSo
 ghost use Rattle.program_rules.specs.Programs.{thread_of};
 ghost use Rattle.program_rules.specs.declared.kept.Kept.TheVariants as kept;
 ghost use Rattle.program_rules.specs.declared.kept.Known.{Known as State};
-ghost use Rattle.typestate.specs.Calls.{behind_with};
-ghost use Rattle.typestate.specs.Logs.{Holds, KeepsParts, part_of};
-ghost use Rattle.typestate.specs.Strays.{NoneStray};
-ghost use Rattle.typestate.specs.Replays.{replayed};
+ghost use Rattle.typestate.specs.Logs.{KeepsParts};
 ghost use Rattle.typestate.specs.declared.log_entries.LogEntry.{LogEntry};
 
 use crate::kept::{Kept, Known};
@@ -24,11 +21,10 @@ use crate::point_rules::{Left, follows, follows_call};
 use crate::programs::Program;
 use crate::space_rules::Called;
 use crate::visits::{Visit, VisitedSlots};
-use measure::Measure;
 use model::Instr;
 use rv32_isa::decode;
 use std::alloc::AllocError;
-use typestate::{Behind, Part, ShownPart, SlotLog, points_without_stray_slots_have_none};
+use typestate::{Part, ShownPart, SlotLog, points_without_stray_slots_have_none};
 
 /// What is kept of what a point leaves for the next one, with the part that its slots have, and whether it is known that none of
 /// them is one that the thread may not have.
@@ -81,18 +77,6 @@ impl Kept {
     }
 }
 
-/// What is kept of the point after a system call that leaves the slots of this part.
-fn behind_call(budget: u64, measure: &Measure, behind: &Behind, part: Part) -> Kept
-    requires budget { budget ≤ 2 ^ 62 }
-    requires measure { negsuc (2 ^ 63 - 2) ≤ℤ (measure_of measure.now).constant }
-    ensures same { (slots : List NotedSlot) (log : List LogEntry) (t : Thread) → t.header.budget ≡ budget
-        → noted_by slots log result ≡ behind_call t (measure_of measure.now) (behind_with (replayed slots (part_of log part)) behind.now) }
-    ensures sound { (log : List LogEntry) (t : Thread) (point : ℕ) → t.header.budget ≡ budget → Holds log part → negsuc (2 ^ 62 + point) ≤ℤ (measure_of measure.now).constant → IsSound log (point + 1) result }
-    ensures clean { (image : Image) (t : Thread) (slots : List NotedSlot) (log : List LogEntry) → (behind.now.is_tidy ≡ true → NoneStray image t (replayed slots (part_of log part))) → IsCleanIn image t slots log result }
-{
-    keep(follows_call(budget, measure, behind), part, behind.is_tidy)
-}
-
 impl Program<'_, '_> {
     /// The address of a point.
     pub(crate) fn address(&self, point: u32) -> u32
@@ -126,25 +110,6 @@ impl Program<'_, '_> {
 }
 
 impl Visit<'_, '_, '_, '_> {
-    /// Whether no slot of a state is one that the thread may not have, by what is known of it, or by a look at all of them.
-    fn has_no_stray_slot(&self, known: &Known, log: &SlotLog, shown: &ShownPart) -> bool
-        requires { IsLookedAt self.now.program.now.space.image.now self.now.program.now.space.thread.now self.now.program.now.slots.now log.now self.now.point shown.now (kept.Known known.now) }
-        ensures { result ≡ true → NoneStray self.now.program.now.space.image.now self.now.program.now.space.thread.now (replayed self.now.program.now.slots.now (part_of log.now known.now.part)) }
-    {
-        points_without_stray_slots_have_none();
-        if known.is_clean {
-            return true;
-        }
-        let program = self.program;
-        let slots = shown.slots(program.slots);
-        let here = VisitedSlots {
-            visit: *self,
-            slots,
-            is_clean: false,
-        };
-        !here.has_stray_slots()
-    }
-
     /// Adds to what is kept of the point what a look at its slots shows, where nothing is known of them.
     pub(crate) fn look(&self, kept: &mut Kept, log: &SlotLog, shown: &ShownPart)
         requires { IsLookedAt self.now.program.now.space.image.now self.now.program.now.space.thread.now self.now.program.now.slots.now log.now self.now.point shown.now kept.old }
@@ -153,9 +118,19 @@ impl Visit<'_, '_, '_, '_> {
         ensures shown { ShowsKept log.now shown.now kept.new }
         ensures clean { IsCleanIn self.now.program.now.space.image.now self.now.program.now.space.thread.now self.now.program.now.slots.now log.now kept.new }
     {
+        points_without_stray_slots_have_none();
         if let Kept::Known(known) = kept {
-            let is_clean = self.has_no_stray_slot(known, log, shown);
-            known.is_clean = is_clean;
+            if known.is_clean {
+                return;
+            }
+            let program = self.program;
+            let slots = shown.slots(program.slots);
+            let here = VisitedSlots {
+                visit: *self,
+                slots,
+                is_clean: false,
+            };
+            known.is_clean = !here.has_stray_slots();
         }
     }
 
@@ -186,7 +161,8 @@ impl Visit<'_, '_, '_, '_> {
             Called::Leaves(behind, made) => {
                 let part = log.follow(known.part, &made)?;
                 let budget = program.space.thread.header().budget;
-                Ok(behind_call(budget, &known.measure, &behind, part))
+                let left = follows_call(budget, &known.measure, &behind);
+                Ok(keep(left, part, behind.is_tidy))
             }
         }
     }

@@ -90,11 +90,9 @@ impl<'a> Points<'a> {
         Ok(())
     }
 
-    /// The points of a program, with the part that was shown last: each has the state of its record, or what the point before leaves.
-    /// Memory may be refused.
-    pub(crate) fn of(program: &Program<'a, '_>) -> Result<(Self, ShownPart), AllocError>
-        ensures read { IfOk result (λ all. IsRead program.now.space.image.now (thread_of program.now) program.now.slots.now all.0.log all.0.kept) }
-        ensures shown { IfOk result (λ all. ShowsSome all.0.log all.1) }
+    /// The points of a program: each has the state of its record, or what the point before leaves. Memory may be refused.
+    pub(crate) fn of(program: &Program<'a, '_>) -> Result<Self, AllocError>
+        ensures { IfOk result (λ all. IsRead program.now.space.image.now (thread_of program.now) program.now.slots.now all.log all.kept) }
     {
         let mut records = RecordsLeft::of(program);
         let mut points = Points {
@@ -116,6 +114,6 @@ impl<'a> Points<'a> {
             };
             points.note(&visit, &mut last, &mut derived, &mut shown)?;
         }
-        Ok((points, shown))
+        Ok(points)
     }
 }

@@ -46,7 +46,6 @@ impl<'a> Visit<'_, '_, 'a, '_> {
         requires part { Shows points.old.log known.now.part shown.old }
         requires same { AreSame self.now.program.now.slots.now points.old.log same.old }
         requires found { AreFound self.now.program.now.space.image.now self.now.program.now.space.thread.now self.now.program.now.slots.now points.old.log found.old }
-        requires found_part { found.old.part ≡ known.now.part }
         ensures same { IfOk result (λ _. AreSame self.now.program.now.slots.now points.new.log same.new) }
         ensures found { IfOk result (λ _. AreFound self.now.program.now.space.image.now self.now.program.now.space.thread.now self.now.program.now.slots.now points.new.log found.new) }
         ensures broken { Answers (first_broken (state_rules self.now.program.now.space.image.now (thread_of self.now.program.now) self.now.point (state_by self.now.program.now.slots.now points.old.log known.now))) result }
@@ -54,6 +53,7 @@ impl<'a> Visit<'_, '_, 'a, '_> {
         ensures shown { IfOk result (λ _. ShowsSome points.new.log shown.new) }
         ensures others { IfOk result (λ _. KeepsParts points.old.log points.new.log) }
     {
+        found.go_on(known.part);
         let program = self.program;
         let slots = shown.slots(program.slots);
         let here = VisitedSlots {
@@ -109,7 +109,6 @@ impl<'a> Visit<'_, '_, 'a, '_> {
                     }
                 }
                 points.log.show(shown, known.part)?;
-                found.go_on(known.part);
                 self.state_rules(points, shown, known, same, found)
             }
             Kept::Missing | Kept::Unmeasured => Ok(()),
@@ -148,14 +147,14 @@ fn turn(is_asked: bool, shown: &mut ShownPart, aside: &mut ShownPart)
 }
 
 impl<'a> Program<'a, '_> {
-    /// The rules on all points, in their order. What is shown at first may be any part. It is set aside where a point has an empty part,
-    /// and is gone on from behind it.
-    fn points_rules(&self, points: &mut Points<'a>, shown: &mut ShownPart) -> Result<(), Refusal>
-        requires read { IsRead self.now.space.image.now (thread_of self.now) self.now.slots.now points.old.log points.old.kept }
-        requires shown { ShowsSome points.old.log shown.old }
+    /// The rules on all points, in their order. What is shown of the slots is set aside where a point has an empty part, and is gone
+    /// on from after it.
+    fn points_rules(&self, points: &mut Points<'a>) -> Result<(), Refusal>
+        requires { IsRead self.now.space.image.now (thread_of self.now) self.now.slots.now points.old.log points.old.kept }
         ensures { Answers (first_broken (flat_map (point_rules self.now.space.image.now (thread_of self.now)) (range_with_len 0 self.now.space.thread.now.header.words))) result }
     {
         let mut records = RecordsLeft::of(self);
+        let mut shown = ShownPart::new(self.alloc);
         let mut same = SameParts::new(self.alloc);
         let mut found = FoundPages::new(self.alloc);
         let mut aside = ShownPart::new(self.alloc);
@@ -176,9 +175,9 @@ impl<'a> Program<'a, '_> {
                 is_next_noted,
             };
             let is_empty = kept.has_empty_part();
-            turn(is_empty != was_empty, shown, &mut aside);
+            turn(is_empty != was_empty, &mut shown, &mut aside);
             was_empty = is_empty;
-            visit.point_rules(points, shown, &kept, &mut same, &mut found)?;
+            visit.point_rules(points, &mut shown, &kept, &mut same, &mut found)?;
             let still_read = ReadPoints {
                 program: self,
                 points: &*points,
@@ -204,12 +203,12 @@ impl<'a> Program<'a, '_> {
     pub(crate) fn check(&self) -> Result<(), Refusal>
         ensures { Answers (first_broken (rules_of_program self.now.space.image.now (thread_of self.now))) result }
     {
-        let (mut points, mut shown) = Points::of(self)?;
+        let mut points = Points::of(self)?;
         let read = ReadPoints {
             program: self,
             points: &points,
         };
         read.entry_rules()?;
-        self.points_rules(&mut points, &mut shown)
+        self.points_rules(&mut points)
     }
 }

@@ -11,7 +11,7 @@ ghost use Rattle.model.specs.Acceptance.Rules.{first_broken};
 ghost use Rattle.model.specs.declared.instructions.Instr.TheVariants.{Ecall};
 ghost use Rattle.model.specs.declared.ranges.Range.{Range};
 ghost use Rattle.program_rules.specs.point_rules.Points.{edge_of};
-ghost use Rattle.program_rules.specs.Kept.{HasPart, IsRead, noted_by, state_by};
+ghost use Rattle.program_rules.specs.Kept.{HasPart, IsRead, noted_by};
 ghost use Rattle.program_rules.specs.PointChecks.{IsBefore, is_branch, later_rules, way_rules};
 ghost use Rattle.program_rules.specs.Programs.{thread_of};
 ghost use Rattle.program_rules.specs.SameParts.{AreSame};
@@ -112,32 +112,6 @@ impl Seen<'_, '_, '_, '_, '_> {
         Ok(true)
     }
 
-    /// Whether a way on from these slots to a point with a state keeps its rules.
-    fn way_known<S: Step>(
-        &self,
-        way: &Way<'_>,
-        step: &S,
-        known: &Known,
-        same: &mut SameParts,
-    ) -> Result<(), Refusal>
-        requires held { Holds self.now.points.now.log known.now.part }
-        requires same { AreSame self.now.program.now.slots.now self.now.points.now.log same.old }
-        ensures same { IfOk result (λ _. AreSame self.now.program.now.slots.now self.now.points.now.log same.new) }
-        ensures answers { (address : ℕ) → Answers (first_broken (edge_rules self.now.program.now.space.thread.now way.now.at (measure_of way.now.measure.now)
-            (edge_of address (S.value_of step.now) (replayed self.now.program.now.slots.now (part_of self.now.points.now.log self.now.part)) way.now)
-            (states.Known (state_by self.now.program.now.slots.now self.now.points.now.log known.now)))) result }
-    {
-        let has_slots = self.has_same_slots(known.part, same)?;
-        let program = self.program;
-        kept_at(
-            program.space.thread.header().budget,
-            way,
-            step,
-            known,
-            has_slots,
-        )
-    }
-
     /// Whether a way on from these slots to an address keeps its rules. An `Err` names the first that it breaks, or says that memory
     /// was refused.
     pub(crate) fn way_to<S: Step>(
@@ -153,8 +127,14 @@ impl Seen<'_, '_, '_, '_, '_> {
             (edge_of address (S.value_of step.now) (replayed self.now.program.now.slots.now (part_of self.now.points.now.log self.now.part)) way.now)
             (noted_at self.now.program.now.space.image.now (thread_of self.now.program.now) address))) result }
     {
-        match self.kept_at(address) {
-            Kept::Known(known) => self.way_known(way, step, &known, same),
+        let there = self.kept_at(address);
+        match &there {
+            Kept::Known(known) => {
+                let has_slots = self.has_same_slots(known.part, same)?;
+                let program = self.program;
+                let budget = program.space.thread.header().budget;
+                kept_at(budget, way, step, known, has_slots)
+            }
             Kept::Missing => Err(Refusal::BadTarget(way.at)),
             Kept::Unmeasured => Err(Refusal::MeasureNotFalling(way.at)),
         }

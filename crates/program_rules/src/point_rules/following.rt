@@ -1,12 +1,12 @@
 //! What an instruction leaves for the next point, where no record notes that one.
 
-ghost use Rattle.std.specs.Prelude.{◌≡◌, ◌≤ℤ◌, ◌-◌, ◌^◌, List, false, negsuc, pos, if◌then◌else◌};
+ghost use Rattle.std.specs.Prelude.{◌≡◌, ◌≤ℤ◌, ◌-◌, ◌^◌, List, false, negsuc};
 ghost use Rattle.std.specs.Option.{option_map_or};
 ghost use Rattle.measure.specs.Measures.{measure_of};
 ghost use Rattle.model.specs.Acceptance.Edges.{after};
-ghost use Rattle.model.specs.Acceptance.Measures.{has_term, lowered};
+ghost use Rattle.model.specs.Acceptance.Measures.{has_term};
 ghost use Rattle.model.specs.Acceptance.NotedStates.{NotedSlot};
-ghost use Rattle.model.specs.Acceptance.PointStates.{Known, Unmeasured, follows_edge};
+ghost use Rattle.model.specs.Acceptance.PointStates.{follows_edge};
 ghost use Rattle.model.specs.Acceptance.RangeRules.{destination};
 ghost use Rattle.model.specs.Machine.Instructions.{IsInstr};
 ghost use Rattle.program_rules.specs.point_rules.Points.{left_with};
@@ -37,29 +37,19 @@ fn writes_term(instr: Instr, measure: &Measure) -> bool
     }
 }
 
-/// What is left with these ranges after the instruction: one instruction less is left to run.
-fn behind(instr: Instr, measure: &Measure, bounds: Bounds) -> Left
-    requires { negsuc (2 ^ 63 - 2) ≤ℤ (measure_of measure.now).constant }
-    ensures { (slots : List NotedSlot) → left_with slots result ≡ (if option_map_or (λ rd. has_term (measure_of measure.now) rd.0) (destination instr) false then Unmeasured
-        else Known (record { ranges = bounds; slots = slots; measure = lowered (measure_of measure.now) (pos 1) })) }
-{
-    if writes_term(instr, measure) {
-        return Left::Unmeasured;
-    }
-    Left::Known {
-        bounds,
-        measure: measure.lowered(),
-    }
-}
-
-/// What the instruction at a pc leaves for the next point, whose slots are those of this one. It is no system call.
+/// What the instruction at a pc leaves for the next point, whose slots are those of this one: one instruction less is left to run. It is
+/// no system call.
 pub fn follows(pc: u32, instr: Instr, bounds: &Bounds, measure: &Measure) -> Left
     requires instr { IsInstr instr }
     requires measure { negsuc (2 ^ 63 - 2) ≤ℤ (measure_of measure.now).constant }
     ensures { (slots : List NotedSlot) → left_with slots result ≡ follows_edge instr (known_with bounds.now slots (measure_of measure.now)) (after pc instr bounds.now).fall_through }
 {
     match after(pc, instr, bounds).fall_through {
-        Some(edge) => behind(instr, measure, edge.bounds),
+        Some(_) if writes_term(instr, measure) => Left::Unmeasured,
+        Some(edge) => Left::Known {
+            bounds: edge.bounds,
+            measure: measure.lowered(),
+        },
         None => Left::Missing,
     }
 }

@@ -15,10 +15,10 @@ use Rattle.program_rules.specs.Programs.{thread_of}
 pub rules-init : goal.rules-init
 rules-init c =
     let own = c.args.self.now.space.thread.now in (
-      c.requires.read,
+      c.requires,
       subst (λ (rs : List StateRecord). AreLeft own 0 rs) (sym c.of-records.ensures) (all-left own c.args.self.now.fits),
       refl,
-      c.requires.shown,
+      c.new-shown.ensures.shown c.args.points.now.log,
       c.new-aside.ensures.shown c.args.points.now.log,
       c.new-same.ensures c.args.self.now.slots.now c.args.points.now.log,
       c.new-found.ensures c.args.self.now.space.image.now own c.args.self.now.slots.now c.args.points.now.log,

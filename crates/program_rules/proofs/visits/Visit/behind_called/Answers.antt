@@ -1,11 +1,12 @@
 -- By what the rule on calls says.
-use Rattle.std.proofs.Common.{◌∙◌, List, sym, ap, subst}
+use Rattle.std.proofs.Common.{◌∙◌, ◌+◌, ◌^◌, negsuc, [], List, sym, ap, subst}
 use Rattle.measure.specs.Measures.{measure_of}
 use Rattle.model.specs.Acceptance.NotedStates.{NotedSlot}
 use Rattle.model.specs.Acceptance.PointStates.{behind_call, follows_call}
 use Rattle.program_rules.proofs.Called.{call-any, clean-made}
+use Rattle.program_rules.proofs.Followed.{IsAtLeast, call-least, kept-clean, kept-same, kept-sound}
 use Rattle.program_rules.proofs.visits.Visit.behind_called.Goals as goal
-use Rattle.program_rules.specs.Kept.{call_of}
+use Rattle.program_rules.specs.Kept.{IsCleanIn, IsSound, call_of, noted_by}
 use Rattle.program_rules.specs.Programs.{thread_of}
 use Rattle.typestate.specs.Calls.{behind_with}
 use Rattle.typestate.specs.Differences.{slots_of}
@@ -30,7 +31,10 @@ returns-in_ok-part-in-Leaves-clause-same c =
     let m = measure_of c.args.known.now.measure in
     let part = part_of c.args.log.now c.args.known.now.part in
     let b = c.in-Leaves.behind in
-    c.behind_call.ensures.same slots c.follow.new.self own (sym (ap (λ h. h.budget) c.header-budget.ensures))
+    let log = c.follow.new.self in
+    let left = c.follows_call-left.result in
+    ap (noted_by slots log) c.keep.ensures ∙ kept-same slots log left c.in_ok-part-in-Leaves.part b.is_tidy
+    ∙ c.follows_call-left.ensures own (replayed slots (part_of log c.in_ok-part-in-Leaves.part)) (sym (ap (λ h. h.budget) c.header-budget.ensures))
     ∙ ap (λ (all : List NotedSlot). behind_call own m (behind_with all b))
     (c.in_ok-part-in-Leaves.ensures.same slots c.args.self.now.program.now.rising ∙ ap (replayed (replayed slots part)) c.deref.ensures.value)
     ∙ ap (follows_call own m) (sym (call-any c.args.self.now.program.now.space.image.now (thread_of c.args.self.now.program.now) c.args.self.now.point
@@ -41,8 +45,14 @@ returns-in_ok-part-in-Leaves-clause-same c =
 
 pub returns-in_ok-part-in-Leaves-clause-sound : goal.returns-in_ok-part-in-Leaves-clause-sound
 returns-in_ok-part-in-Leaves-clause-sound c =
-    c.behind_call.ensures.sound c.follow.new.self c.args.self.now.program.now.space.thread.now c.args.self.now.point (sym (ap (λ h. h.budget) c.header-budget.ensures))
-    c.in_ok-part-in-Leaves.ensures.held c.requires.sound.1
+    let own = c.args.self.now.program.now.space.thread.now in
+    let point = c.args.self.now.point in
+    let log = c.follow.new.self in
+    let b = c.in-Leaves.behind in
+    subst (IsSound log (point + 1)) (sym c.keep.ensures)
+    (kept-sound [] log (point + 1) c.follows_call-left.result c.in_ok-part-in-Leaves.part b.is_tidy c.in_ok-part-in-Leaves.ensures.held
+    (subst (IsAtLeast (negsuc (2 ^ 62 + (point + 1)))) (sym (c.follows_call-left.ensures own [] (sym (ap (λ h. h.budget) c.header-budget.ensures))))
+    (call-least own (measure_of c.args.known.now.measure) (behind_with [] b) point c.requires.sound.1)))
 
 pub returns-in_ok-part-in-Leaves-clause-clean : goal.returns-in_ok-part-in-Leaves-clause-clean
 returns-in_ok-part-in-Leaves-clause-clean c =
@@ -51,12 +61,14 @@ returns-in_ok-part-in-Leaves-clause-clean c =
     let slots = c.args.self.now.program.now.slots.now in
     let old = c.args.log.now in
     let part = part_of old c.args.known.now.part in
-    c.behind_call.ensures.clean image t.thread slots c.follow.new.self
+    let log = c.follow.new.self in
+    subst (IsCleanIn image t.thread slots log) (sym c.keep.ensures)
+    (kept-clean image t.thread slots log c.follows_call-left.result c.in_ok-part-in-Leaves.part c.in-Leaves.behind.is_tidy
     (clean-made image t.thread (slots_of c.slots-slots.result) (replayed slots part) c.in_ok-called.field-0 c.in-Leaves.behind c.in-Leaves.made
-    (replayed slots (part_of c.follow.new.self c.in_ok-part-in-Leaves.part))
+    (replayed slots (part_of log c.in_ok-part-in-Leaves.part))
     (c.slots-slots.ensures.slots ∙ c.requires.shows.same slots c.args.self.now.program.now.rising c.args.self.now.program.now.unlinked)
     c.in-Leaves.is c.in_ok-called.ensures.clean
-    (c.in_ok-part-in-Leaves.ensures.same slots c.args.self.now.program.now.rising ∙ ap (replayed (replayed slots part)) c.deref.ensures.value))
+    (c.in_ok-part-in-Leaves.ensures.same slots c.args.self.now.program.now.rising ∙ ap (replayed (replayed slots part)) c.deref.ensures.value)))
 
 pub returns-in-Stray-clause-same : goal.returns-in-Stray-clause-same
 returns-in-Stray-clause-same c =

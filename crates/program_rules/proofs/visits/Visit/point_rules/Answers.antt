@@ -53,13 +53,6 @@ show-requires-clause-held c =
     let is = c.requires.kept in
     (subst (λ (k : Kept). IsSound c.args.points.now.log c.args.self.now.point k) c.in-Known.is is.sound).0
 
-pub state_rules-requires-clause-found : goal.state_rules-requires-clause-found
-state_rules-requires-clause-found c =
-    let is = c.requires.kept in
-    c.go_on.ensures.found c.args.self.now.program.now.space.image.now c.args.self.now.program.now.space.thread.now c.args.self.now.program.now.slots.now
-    c.args.points.now.log
-    (subst (λ (k : Kept). IsSound c.args.points.now.log c.args.self.now.point k) c.in-Known.is is.sound).0 c.requires.found
-
 pub returns-then-leaves_next-clause-broken : goal.returns-then-leaves_next-clause-broken
 returns-then-leaves_next-clause-broken c =
     let v = c.args.self.now in

@@ -107,9 +107,12 @@ own_rules-requires c =
     let image = c.args.self.now.program.now.space.image.now in
     let own = c.args.self.now.program.now.space.thread.now in
     let slots = c.args.self.now.program.now.slots.now in
-    subst (λ (all : List NotedSlot). AreMapped image own all c.args.found.now)
+    let log = c.args.points.now.log in
+    let found = c.go_on.new.self in
+    subst (λ (all : List NotedSlot). AreMapped image own all found)
     (sym (c.slots-slots.ensures.slots ∙ c.requires.part.same slots c.args.self.now.program.now.rising c.args.self.now.program.now.unlinked))
-    (at-part image own slots c.args.points.now.log c.args.known.now.part c.args.found.now c.requires.found_part c.requires.found)
+    (at-part image own slots log c.args.known.now.part found c.go_on.ensures.part
+    (c.go_on.ensures.found image own slots log c.requires.part.held c.requires.found))
 
 pub returns-in-Some-clause-found : goal.returns-in-Some-clause-found
 returns-in-Some-clause-found c =
@@ -119,7 +122,7 @@ returns-in-Some-clause-found c =
     let log = c.args.points.now.log in
     let found = c.own_rules.new.found in
     always (AreFound image own slots log found) c.ways_rules.result
-    (still-found image own slots log c.args.known.now.part found c.requires.part.held (c.in_ok-own_rules.ensures.part ∙ c.requires.found_part)
+    (still-found image own slots log c.args.known.now.part found c.requires.part.held (c.in_ok-own_rules.ensures.part ∙ c.go_on.ensures.part)
     (subst (λ (all : List NotedSlot). AreMapped image own all found)
     (c.slots-slots.ensures.slots ∙ c.requires.part.same slots c.args.self.now.program.now.rising c.args.self.now.program.now.unlinked)
     c.in_ok-own_rules.ensures.found))
@@ -131,7 +134,7 @@ returns-in-None-clause-found c =
     let slots = c.args.self.now.program.now.slots.now in
     let log = c.args.points.now.log in
     let found = c.own_rules.new.found in
-    still-found image own slots log c.args.known.now.part found c.requires.part.held (c.in_ok-own_rules.ensures.part ∙ c.requires.found_part)
+    still-found image own slots log c.args.known.now.part found c.requires.part.held (c.in_ok-own_rules.ensures.part ∙ c.go_on.ensures.part)
     (subst (λ (all : List NotedSlot). AreMapped image own all found)
     (c.slots-slots.ensures.slots ∙ c.requires.part.same slots c.args.self.now.program.now.rising c.args.self.now.program.now.unlinked)
     c.in_ok-own_rules.ensures.found)
@@ -146,7 +149,7 @@ returns-in-Some-Ecall-clause-found c =
     let found = c.own_rules.new.found in
     follows-from (λ _. KeepsParts old new) (λ _. AreFound image own slots new found) c.call_rules.result
     (λ _ keeps. found-grown image own slots old new found keeps
-    (still-found image own slots old c.args.known.now.part found c.requires.part.held (c.in_ok-own_rules.ensures.part ∙ c.requires.found_part)
+    (still-found image own slots old c.args.known.now.part found c.requires.part.held (c.in_ok-own_rules.ensures.part ∙ c.go_on.ensures.part)
     (subst (λ (all : List NotedSlot). AreMapped image own all found)
     (c.slots-slots.ensures.slots ∙ c.requires.part.same slots c.args.self.now.program.now.rising c.args.self.now.program.now.unlinked)
     c.in_ok-own_rules.ensures.found)))
