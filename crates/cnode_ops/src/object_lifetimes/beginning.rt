@@ -1,31 +1,21 @@
 //! Making new objects one after another, as Retype asks for them.
 
-ghost use Rattle.std.specs.Prelude.{ℕ, ◌≡◌, ◌+◌, ◌*◌, ◌^◌, ◌<◌, ◌≤◌, Some, true};
+ghost use Rattle.std.specs.Prelude.{ℕ, ◌≡◌, ◌+◌, ◌^◌, ◌<◌, ◌≤◌, Some};
 ghost use Rattle.kernel_invariant.specs.Agreement.{Agrees};
 ghost use Rattle.kernel_invariant.specs.Wholeness.{Agreed};
 ghost use Rattle.cnode_ops.specs.Placed.{IsPlaced, new_objects, used_to, with_placed};
-ghost use Rattle.model.specs.Kernel.ObjectTypes.{new_object, new_type};
-ghost use Rattle.cnode_ops.specs.object_lifetimes.Beginnings.{AreLaid, AreMade, MayUse};
+ghost use Rattle.cnode_ops.specs.object_lifetimes.Beginnings.{AreMade, MayUse};
 ghost use Rattle.model.specs.Capabilities.Slots.{SameOutside, capability_at, depth_of, empty_entry, recapped};
-ghost use Rattle.model.specs.Kernel.Kinds.{kind_of};
-ghost use Rattle.model.specs.Kernel.Retype.{is_small_enough, object_bits, with_new};
+ghost use Rattle.model.specs.Kernel.Retype.{with_new};
 ghost use Rattle.model.specs.Kernel.Soundness.{IsSound};
 ghost use Rattle.objects.specs.Standing.{Standing};
 ghost use Rattle.objects.specs.Tables.{state_of};
 
 use crate::beginnings::{NewRange, Placing};
 use crate::object_lifetimes::making::{ObjectPlace, make_one};
-use model::{Cap, ObjectType, Slot};
+use model::{Cap, Slot};
 use objects::Objects;
 use slots::SlotStore;
-
-/// How many bytes an object of a type has.
-fn new_size(kind: ObjectType) -> u32
-    requires { is_small_enough (new_type kind) ≡ true }
-    ensures { result ≡ 2 ^ object_bits (new_type kind) }
-{
-    1 << kind.bits()
-}
 
 /// Untyped memory is used up to a watermark.
 fn use_memory<S: SlotStore>(store: &mut S, slot: Slot, watermark: u32)
@@ -45,7 +35,6 @@ fn use_memory<S: SlotStore>(store: &mut S, slot: Slot, watermark: u32)
 
 /// Makes the objects one after another, with their first capabilities in the slots of the window.
 fn make_all<S: SlotStore>(objects: &mut Objects, store: &mut S, new: NewRange, at: Placing)
-    requires laid { AreLaid (new_objects new) }
     requires none_yet { AreMade (state_of objects.old (S.slots store.old) (S.memory store.old))
         (state_of objects.old (S.slots store.old) (S.memory store.old)) (S.memory store.old) (new_objects new) at.window at.parent 0 }
     requires near { at.window + new.count ≤ 2 ^ 20 }
@@ -55,7 +44,7 @@ fn make_all<S: SlotStore>(objects: &mut Objects, store: &mut S, new: NewRange, a
     ensures agree { Agrees (state_of objects.new (S.slots store.new) (S.memory store.new)) (S.memory store.new) }
     ensures stands { Standing objects.new (S.slots store.new) (S.memory store.new) }
 {
-    let size = new_size(new.kind);
+    let size = new.size();
     let window = at.window.number();
     let mut place = new.first;
     'objects: for index in 0..new.count {

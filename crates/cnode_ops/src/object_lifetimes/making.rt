@@ -3,9 +3,8 @@
 ghost use Rattle.std.specs.Prelude.{ℕ, ◌≡◌, ◌+◌, ◌*◌, ◌/◌, ◌%◌, ◌^◌, ◌<◌, ◌≤◌, Some, None, true, length};
 ghost use Rattle.kernel_invariant.specs.Growing.{Growing, one_placed};
 ghost use Rattle.kernel_invariant.specs.Rooms.{RoomMade};
-ghost use Rattle.model.specs.Kernel.ObjectTypes.{new_object, new_type};
+ghost use Rattle.model.specs.Kernel.ObjectTypes.{new_type};
 ghost use Rattle.model.specs.Capabilities.Slots.{IsFull, OutsideSlots, SameOutside, depth_of, empty_entry, opened};
-ghost use Rattle.model.specs.Kernel.Kinds.{kind_of};
 ghost use Rattle.model.specs.Kernel.Retype.{is_large_enough, is_small_enough, object_bits};
 ghost use Rattle.cnode_ops.specs.object_lifetimes.Beginnings.{NoneNamed, with_begun};
 ghost use Rattle.objects.specs.Frames.{IsRoom, SameBesideObjects};
@@ -35,15 +34,13 @@ pub(crate) struct ObjectPlace {
 }
 
 /// Opens the slots of a new object.
-fn open_slots<S: SlotStore>(store: &mut S, place: u32, count: u32)
-    requires aligned { place % 16 ≡ 0 }
-    requires near { place < 2 ^ 24 }
-    requires within { place + 16 * count ≤ length (S.memory store.old) }
-    requires closed { OutsideSlots (S.slots store.old) place (16 * count) }
-    ensures slots { S.slots store.new ≡ opened (S.slots store.old) (place / 16) count }
+fn open_slots<S: SlotStore>(store: &mut S, new: ObjectPlace, count: u32)
+    requires within { new.place + 16 * count ≤ length (S.memory store.old) }
+    requires closed { OutsideSlots (S.slots store.old) new.place (16 * count) }
+    ensures slots { S.slots store.new ≡ opened (S.slots store.old) (new.place / 16) count }
     ensures bytes { SameOutside (S.slots store.new) (S.memory store.old) (S.memory store.new) }
 {
-    store.open_range(Slot::new(place / 16), count);
+    store.open_range(Slot::new(new.place / 16), count);
 }
 
 /// How many slots a CNode has.
@@ -55,34 +52,22 @@ fn node_slots(radix: u8) -> u32
     1 << radix
 }
 
-/// Makes room for a new object: its slots are open and empty, or its page is zero.
-fn make_object_room<S: SlotStore>(store: &mut S, kind: ObjectKind, place: u32)
-    requires aligned { place % 16 ≡ 0 }
-    requires near { place < 2 ^ 24 }
-    requires within { place + 2 ^ object_bits (kind_of (new_object kind)) ≤ length (S.memory store.old) }
-    requires small { is_small_enough (kind_of (new_object kind)) ≡ true }
-    requires closed { OutsideSlots (S.slots store.old) place (2 ^ object_bits (kind_of (new_object kind))) }
-    ensures { RoomMade (S.slots store.old) (S.slots store.new) (S.memory store.old) (S.memory store.new) (kind_of (new_object kind)) place }
-{
-    match kind {
-        ObjectKind::Thread => open_slots(store, place, THREAD_SLOTS),
-        ObjectKind::CNode { radix } => open_slots(store, place, node_slots(radix)),
-        ObjectKind::Frame => store.zero(place, PAGE_SIZE),
-        ObjectKind::PageTable => store.zero(place, PAGE_SIZE),
-        ObjectKind::RootTable => store.zero(place, PAGE_SIZE),
-        ObjectKind::Endpoint | ObjectKind::Notification => {}
-    }
-}
-
-/// The same of whatever Retype makes: untyped memory needs none.
+/// Makes room for whatever Retype makes: an object's slots are open and empty, or its page is zero. Untyped memory needs none.
 fn make_room<S: SlotStore>(store: &mut S, new: ObjectPlace)
     requires within { new.place + 2 ^ object_bits (new_type new.kind) ≤ length (S.memory store.old) }
     requires closed { OutsideSlots (S.slots store.old) new.place (2 ^ object_bits (new_type new.kind)) }
     ensures { RoomMade (S.slots store.old) (S.slots store.new) (S.memory store.old) (S.memory store.new) (new_type new.kind) new.place }
 {
-    match new.kind {
-        ObjectType::Untyped { .. } => {}
-        ObjectType::Object(kind) => make_object_room(store, kind, new.place),
+    let ObjectType::Object(kind) = new.kind else {
+        return;
+    };
+    match kind {
+        ObjectKind::Thread => open_slots(store, new, THREAD_SLOTS),
+        ObjectKind::CNode { radix } => open_slots(store, new, node_slots(radix)),
+        ObjectKind::Frame => store.zero(new.place, PAGE_SIZE),
+        ObjectKind::PageTable => store.zero(new.place, PAGE_SIZE),
+        ObjectKind::RootTable => store.zero(new.place, PAGE_SIZE),
+        ObjectKind::Endpoint | ObjectKind::Notification => {}
     }
 }
 

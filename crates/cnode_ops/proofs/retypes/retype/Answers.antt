@@ -5,15 +5,15 @@ use Rattle.kernel_invariant.proofs.Laws.{of_slots-law}
 use Rattle.model.proofs.Ancestors.{full-open}
 use Rattle.model.specs.Kernel.Arguments.{may_have_child}
 use Rattle.model.specs.Kernel.ObjectTypes.{new_type}
-use Rattle.cnode_ops.specs.Placed.{new_objects, with_placed}
-use Rattle.cnode_ops.specs.declared.beginnings.NewRange.{NewRange}
+use Rattle.cnode_ops.specs.Placed.{with_placed}
 use Rattle.cnode_ops.specs.declared.beginnings.Placing.{Placing}
 use Rattle.cnode_ops.proofs.FreeWindows.{window-counted}
 use Rattle.cnode_ops.proofs.PlacedObjects.{asked-sized, placed}
 use Rattle.cnode_ops.proofs.RetypeSteps.{child-refused, child-room, made-placed, node-refused, place-refused, retype-gives, type-refused, window-refused}
-use Rattle.cnode_ops.proofs.object_lifetimes.Laws.{whole-of}
+use Rattle.cnode_ops.proofs.object_lifetimes.Laws.{are-laid, whole-of}
 use Rattle.model.specs.Capabilities.CapabilityWords.{IsCapability}
 use Rattle.model.specs.Capabilities.Slots.{Slots, capability_at, empty_entry, is_empty}
+use Rattle.model.specs.Kernel.Retype.{NewObjects}
 use Rattle.model.specs.Kernel.Soundness.{IsSound}
 use Rattle.model.specs.Kernel.State.{State}
 use Rattle.model.specs.declared.capabilities.Cap.{Cap}
@@ -113,6 +113,26 @@ begin_objects-requires-clause-sound g c =
     let whole = whole-of g.S.SlotMap.slots g.S.SlotStore.memory c.live.inside.objects c.live.inside.store c.kernel.invariant c.live.view_is c.live.invariant in
     whole.sound
 
+pub invariant_of-new : goal.invariant_of-new
+invariant_of-new g c =
+    let whole = whole-of g.S.SlotMap.slots g.S.SlotStore.memory c.live.inside.objects c.live.inside.store c.kernel.invariant c.live.view_is c.live.invariant in
+    let of_kernel = c.live.view_is ∙ c.kernel.view_is in
+    let held = subst (λ k. capability_at (g.S.SlotMap.slots k.store) c.args.slot ≡ Untyped c.args.memory.offset c.args.memory.bits c.args.memory.watermark)
+    (sym of_kernel) c.requires.held in
+    let slots : Slots = g.S.SlotMap.slots c.live.inside.store in
+    let s : State = state_of c.live.inside.objects slots (g.S.SlotStore.memory c.live.inside.store) in
+    let has : s.slots ≡ slots = of_slots-law _ _ _ in
+    let sizes = asked-sized c.args.call.kind c.args.call.size (new_type c.in_ok-kind.kind) c.in_ok-kind.ensures.value in
+    let counted = window-counted (g.S.SlotMap.slots c.args.kernel.now.store) c.in_ok-node.node c.args.call.index c.args.call.count c.in_ok-window.window
+    c.in_ok-window.ensures.value in
+    let at : Placing = record { parent = c.args.slot; window = c.in_ok-window.window; watermark = c.in_ok-first.watermark } in
+    record {
+      laid =
+          are-laid s _ at (placed s slots c.args.memory (new_type c.in_ok-kind.kind) c.args.call.count c.in_ok-first.first c.in_ok-first.watermark _ has held
+          (subst IsCapability (ap (λ (t : Slots). capability_at t c.args.slot) has ∙ held) (whole.sound.slots.derivation.valid c.args.slot))
+          sizes.0 sizes.1 counted.0 counted.1 refl c.in_ok-first.ensures) whole.sound;
+    }
+
 pub begin_objects-requires-clause-placed : goal.begin_objects-requires-clause-placed
 begin_objects-requires-clause-placed g c =
     let whole = whole-of g.S.SlotMap.slots g.S.SlotStore.memory c.live.inside.objects c.live.inside.store c.kernel.invariant c.live.view_is c.live.invariant in
@@ -145,14 +165,14 @@ returns-clause-outcome g c =
     let s : State = state_in g.S.SlotMap.slots g.S.SlotStore.memory c.args.kernel.now in
     let has : s.slots ≡ slots = of_slots-law _ _ _ in
     let room = subst (λ k. Ok tt ≡ may_have_child (g.S.SlotMap.slots k.store) c.args.slot) of_kernel c.in_ok-may_have_child.ensures in
-    let new : NewRange = record { kind = c.in_ok-kind.kind; first = c.in_ok-first.first; count = c.args.call.count } in
+    let new : NewObjects = record { kind = new_type c.in_ok-kind.kind; first = c.in_ok-first.first; count = c.args.call.count } in
     let at : Placing = record { parent = c.args.slot; window = c.in_ok-window.window; watermark = c.in_ok-first.watermark } in
     let given = retype-gives s slots c.args.root c.args.slot c.args.memory c.args.call has _ c.in_ok-kind.ensures.value _ c.in_ok-node.ensures.value _
     c.in_ok-window.ensures.value tt room c.in_ok-first.first c.in_ok-first.watermark c.in_ok-first.ensures
     ∙ ap (λ (t : State). Ok t) (made-placed s slots c.args.root c.args.slot c.args.memory c.args.call has c.requires.held
     (new_type c.in_ok-kind.kind) c.in_ok-window.window c.in_ok-first.first c.in_ok-first.watermark
     ∙ sym (c.begin_objects.ensures.state
-    ∙ ap (λ k. with_placed (state_in g.S.SlotMap.slots g.S.SlotStore.memory k) (new_objects new) at) of_kernel)) in
+    ∙ ap (λ k. with_placed (state_in g.S.SlotMap.slots g.S.SlotStore.memory k) new at) of_kernel)) in
     given
 
 pub invariant_of-live : goal.invariant_of-live
@@ -166,14 +186,14 @@ invariant_of-kernel-2 g c =
     let s : State = state_in g.S.SlotMap.slots g.S.SlotStore.memory c.args.kernel.now in
     let has : s.slots ≡ slots = of_slots-law _ _ _ in
     let room = subst (λ k. Ok tt ≡ may_have_child (g.S.SlotMap.slots k.store) c.args.slot) of_kernel c.in_ok-may_have_child.ensures in
-    let new : NewRange = record { kind = c.in_ok-kind.kind; first = c.in_ok-first.first; count = c.args.call.count } in
+    let new : NewObjects = record { kind = new_type c.in_ok-kind.kind; first = c.in_ok-first.first; count = c.args.call.count } in
     let at : Placing = record { parent = c.args.slot; window = c.in_ok-window.window; watermark = c.in_ok-first.watermark } in
     let given = retype-gives s slots c.args.root c.args.slot c.args.memory c.args.call has _ c.in_ok-kind.ensures.value _ c.in_ok-node.ensures.value _
     c.in_ok-window.ensures.value tt room c.in_ok-first.first c.in_ok-first.watermark c.in_ok-first.ensures
     ∙ ap (λ (t : State). Ok t) (made-placed s slots c.args.root c.args.slot c.args.memory c.args.call has c.requires.held
     (new_type c.in_ok-kind.kind) c.in_ok-window.window c.in_ok-first.first c.in_ok-first.watermark
     ∙ sym (c.begin_objects.ensures.state
-    ∙ ap (λ k. with_placed (state_in g.S.SlotMap.slots g.S.SlotStore.memory k) (new_objects new) at) of_kernel)) in
+    ∙ ap (λ k. with_placed (state_in g.S.SlotMap.slots g.S.SlotStore.memory k) new at) of_kernel)) in
     record {
       sound = retype-whole s _ c.args.root c.args.slot c.args.memory c.args.call
           (subst (λ k. IsSound (state_in g.S.SlotMap.slots g.S.SlotStore.memory k)) of_kernel whole.sound) c.requires.root

@@ -1,7 +1,7 @@
 -- The watermark is set, and then all objects are made.
 use Rattle.std.proofs.Common.{◌∙◌, ap}
 use Rattle.cnode_ops.specs.Placed.{new_objects}
-use Rattle.cnode_ops.proofs.object_lifetimes.Marked.{are-laid, marked-stands, may-use, none-made, placed-state, window-near}
+use Rattle.cnode_ops.proofs.object_lifetimes.Marked.{marked-stands, may-use, none-made, placed-state, window-near}
 use Rattle.cnode_ops.proofs.object_lifetimes.beginning.begin_objects.Goals as goal
 use Rattle.model.specs.Kernel.Retype.{with_new}
 use Rattle.model.specs.Kernel.State.{State}
@@ -13,11 +13,6 @@ use_memory-requires g c = record {
   fits = may-use (state_of c.args.objects.now (g.S.SlotMap.slots c.args.store.now) (g.S.SlotStore.memory c.args.store.now)) (new_objects c.args.new) c.args.at
       c.requires.placed;
 }
-
-pub make_all-requires-clause-laid : goal.make_all-requires-clause-laid
-make_all-requires-clause-laid g c =
-    are-laid (state_of c.args.objects.now (g.S.SlotMap.slots c.args.store.now) (g.S.SlotStore.memory c.args.store.now)) (new_objects c.args.new) c.args.at
-    c.requires.placed c.requires.sound
 
 pub make_all-requires-clause-none_yet : goal.make_all-requires-clause-none_yet
 make_all-requires-clause-none_yet g c =

@@ -13,26 +13,26 @@ pub make_one-requires-clause-growing : goal.make_one-requires-clause-growing
 make_one-requires-clause-growing g c =
     let now = state_of c.objects.objects (g.S.SlotMap.slots c.objects.store) (g.S.SlotStore.memory c.objects.store) in
     subst (λ (p : ℕ). Growing now (g.S.SlotStore.memory c.objects.store) p (p + 2 ^ object_bits (new_type c.args.new.kind))) (sym c.objects.invariant.place)
-    (room-for_one _ now _ (new_objects c.args.new) c.args.at.window c.args.at.parent c.objects.index c.objects.invariant.made c.requires.laid
+    (room-for_one _ now _ (new_objects c.args.new) c.args.at.window c.args.at.parent c.objects.index c.objects.invariant.made c.args.new.laid
     c.objects-test.true)
 
 pub invariant_of-one : goal.invariant_of-one
 invariant_of-one g c = record {
   near = subst (λ (p : ℕ). p < 2 ^ 24) (sym c.objects.invariant.place)
-      (one-near _ _ _ (new_objects c.args.new) c.args.at.window c.args.at.parent c.objects.index c.objects.invariant.made c.requires.laid c.objects-test.true);
+      (one-near _ _ _ (new_objects c.args.new) c.args.at.window c.args.at.parent c.objects.index c.objects.invariant.made c.args.new.laid c.objects-test.true);
   aligned =
       ap (λ (p : ℕ). p % 2 ^ object_bits (new_type c.args.new.kind)) c.objects.invariant.place
-      ∙ one-aligned _ _ _ (new_objects c.args.new) c.args.at.window c.args.at.parent c.objects.index c.objects.invariant.made c.requires.laid
+      ∙ one-aligned _ _ _ (new_objects c.args.new) c.args.at.window c.args.at.parent c.objects.index c.objects.invariant.made c.args.new.laid
       c.objects-test.true;
-  large = c.requires.laid.large;
-  small = c.requires.laid.small;
+  large = c.args.new.laid.large;
+  small = c.args.new.laid.small;
 }
 
 pub make_one-requires-clause-empty : goal.make_one-requires-clause-empty
 unfolding state_of
 make_one-requires-clause-empty g c =
     ap (g.S.SlotMap.slots c.objects.store) (c.new.ensures ∙ ap (λ (n : ℕ). n + c.objects.index) c.number-window.ensures.value)
-    ∙ one-empty _ _ _ (new_objects c.args.new) c.args.at.window c.args.at.parent c.objects.index c.objects.invariant.made c.requires.laid c.objects-test.true
+    ∙ one-empty _ _ _ (new_objects c.args.new) c.args.at.window c.args.at.parent c.objects.index c.objects.invariant.made c.args.new.laid c.objects-test.true
 
 pub make_one-requires-clause-full : goal.make_one-requires-clause-full
 unfolding state_of
@@ -43,7 +43,7 @@ unfolding state_of
 make_one-requires-clause-unnamed g c =
     let now = state_of c.objects.objects (g.S.SlotMap.slots c.objects.store) (g.S.SlotStore.memory c.objects.store) in
     subst (λ (p : ℕ). NoneNamed (g.S.SlotMap.slots c.objects.store) p (p + 2 ^ object_bits (new_type c.args.new.kind))) (sym c.objects.invariant.place)
-    (one-unnamed _ now _ (new_objects c.args.new) c.args.at.window c.args.at.parent c.objects.index c.objects.invariant.made c.requires.laid
+    (one-unnamed _ now _ (new_objects c.args.new) c.args.at.window c.args.at.parent c.objects.index c.objects.invariant.made c.args.new.laid
     c.objects-test.true)
 
 pub make_one-requires-clause-nameless : goal.make_one-requires-clause-nameless
@@ -56,12 +56,12 @@ make_one-requires-clause-room g c = c.objects.invariant.made.room
 
 pub objects-preserved : goal.objects-preserved
 objects-preserved g c =
-    let size = c.new_size-size.ensures in
+    let size = c.size-size.ensures in
     record {
       made =
           made-at (state_of c.args.objects.now (g.S.SlotMap.slots c.args.store.now) (g.S.SlotStore.memory c.args.store.now))
           (state_of c.objects.objects (g.S.SlotMap.slots c.objects.store) (g.S.SlotStore.memory c.objects.store)) (g.S.SlotStore.memory c.objects.store)
-          (new_objects c.args.new) c.args.at.window c.args.at.parent c.objects.index c.objects.invariant.made c.requires.laid c.objects-test.true
+          (new_objects c.args.new) c.args.at.window c.args.at.parent c.objects.index c.objects.invariant.made c.args.new.laid c.objects-test.true
           (state_of c.make_one.new.objects (g.S.SlotMap.slots c.make_one.new.store) (g.S.SlotStore.memory c.make_one.new.store))
           (g.S.SlotStore.memory c.make_one.new.store)
           c.objects.place c.new.result c.objects.invariant.place (c.new.ensures ∙ ap (λ (n : ℕ). n + c.objects.index) c.number-window.ensures.value)
