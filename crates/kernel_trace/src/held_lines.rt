@@ -6,8 +6,8 @@ ghost use Rattle.kernel_trace.specs.Lines.{ended};
 
 use arrayvec::ArrayVec;
 use kernel::Labels;
-use model::Label;
-use trace::{line, plain_line};
+use model::{Label, Outcome};
+use trace::{PlainLine, line};
 
 /// How many bytes the longest line has, with its line feed.
 const LONGEST_LINE: usize = 33;
@@ -16,6 +16,7 @@ const LONGEST_LINE: usize = 33;
 #[derive(Drop)]
 pub(crate) struct HeldLines {
     pub(crate) bytes: ArrayVec<u8, 8192>,
+    plain_line: PlainLine,
 }
 
 impl HeldLines {
@@ -25,6 +26,7 @@ impl HeldLines {
     {
         HeldLines {
             bytes: ArrayVec::new(),
+            plain_line: PlainLine::new(0, 0),
         }
     }
 }
@@ -43,12 +45,25 @@ impl Labels for HeldLines {
     }
 
     fn put(&mut self, label: Label) {
-        let text = line(label);
-        let _fits = self.bytes.try_extend_from_slice(text.as_slice());
-        self.bytes.push(b'\n');
+        match label {
+            Label::Ran {
+                thread,
+                pc,
+                outcome: Outcome::Plain,
+            } => self.plain(thread, pc),
+            Label::Idle => {
+                let _fits = self.bytes.try_extend_from_slice(b"idle\n");
+            }
+            _ => {
+                let text = line(label);
+                let _fits = self.bytes.try_extend_from_slice(text.as_slice());
+                self.bytes.push(b'\n');
+            }
+        }
     }
 
     fn plain(&mut self, thread: u32, pc: u32) {
-        let _fits = self.bytes.try_extend_from_slice(&plain_line(thread, pc));
+        let text = self.plain_line.line(thread, pc);
+        let _fits = self.bytes.try_extend_from_slice(text);
     }
 }

@@ -32,7 +32,7 @@ pub(crate) fn push_decimal(to: &mut Line, number: u8)
 const DIGITS: [u8; 16] = *b"0123456789abcdef";
 
 /// The hexadecimal digit of a number below 16.
-fn hex_digit(digit: u32) -> u8
+pub(crate) fn hex_digit(digit: u32) -> u8
     requires { digit < 16 }
     ensures { result ≡ hex_digit digit }
 {

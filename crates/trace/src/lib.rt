@@ -3,5 +3,7 @@
 
 mod digits;
 mod lines;
+mod plain_lines;
 
-pub use lines::{line, plain_line};
+pub use lines::line;
+pub use plain_lines::PlainLine;

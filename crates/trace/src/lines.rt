@@ -67,16 +67,3 @@ pub fn line(label: Label) -> ArrayVec<u8, 32>
     }
     text
 }
-
-/// The line of an instruction at `pc` of which nothing else is reported, with its line feed: that of `Label::Ran` with
-/// the outcome `Plain`, for the thread whose TCB is at the physical address `thread`.
-pub fn plain_line(thread: u32, pc: u32) -> [u8; 24]
-    ensures { result ≡ line_of (Label.Ran thread pc Outcome.Plain) ++ 0x0A ∷ [] }
-{
-    let who = hex_word(thread);
-    let at = hex_word(pc);
-    [
-        who[0], who[1], who[2], who[3], who[4], who[5], who[6], who[7], b' ', at[0], at[1], at[2],
-        at[3], at[4], at[5], at[6], at[7], b' ', b'p', b'l', b'a', b'i', b'n', b'\n',
-    ]
-}
