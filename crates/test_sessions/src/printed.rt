@@ -18,6 +18,7 @@ pub fn words_of<R: Env + AllocGlobal>(rt: &R, line: &str) -> Result<Vec<String>,
 }
 
 /// What a program has put into its output and into its errors.
+#[derive(Drop)]
 pub struct Printed {
     pub output: MemorySink,
     pub errors: MemorySink,
