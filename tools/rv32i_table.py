@@ -8,7 +8,7 @@ qemu-user. The table is committed, so no other tool of the repository needs eith
     tools/rv32i_table.py > crates/kernel_tests/src/machine/table.rt
 
 Each row is one instruction at its own address. Before it x5 and x6 hold the row's operands, x7 holds
-what x5 does, and memory at BASE holds the two words MEMORY. Behind it stand x7, the address where
+what x5 does, and memory at BASE holds the two words MEMORY. After it are x7, the address where
 the program went on, and the two words of memory. What does not go by its address has PLACE for it in
 the table.
 """
@@ -95,7 +95,7 @@ def program(rows):
 
 
 def run(rows):
-    """For each row: address and word; x5 and x6 before it; x7, the pc and memory behind it."""
+    """For each row: address and word; x5 and x6 before it; x7, the pc and memory after it."""
     with tempfile.TemporaryDirectory() as folder:
         path = Path(folder)
         (path / "rows.s").write_text(program(rows))
@@ -116,7 +116,7 @@ def run(rows):
 
 
 def printed(rows):
-    """The rows of the table: numbers, and behind them the instruction's text."""
+    """The rows of the table: numbers, and after them the instruction's text."""
     for (text, _, _), (pc, word, a, b, c, behind, low, high) in zip(rows, run(rows)):
         op = text.split()[0]
         assert op in STORES or (low, high) == MEMORY

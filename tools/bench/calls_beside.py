@@ -1,11 +1,11 @@
 #!/usr/bin/env python3
-"""Tells what each kind of call costs beside capabilities that it does not touch, of the proved program. Asks for `make build` before,
+"""Reports what each kind of call costs beside capabilities that it does not touch, of the proved program. Asks for `make build` before,
 and for valgrind.
 
   tools/bench/calls_beside.py [--program PROGRAM] [--counts N,N,..] [KIND ..]     no kind named: all
 
 A thread makes the same few calls over and over, which undo one another, beside N capabilities in its CNode: to N endpoints that it made
-itself, or (`--listed`) to up to 3,900 endpoints of the image. What is told is the instructions of the processor for each call, by
+itself, or (`--listed`) to up to 3,900 endpoints of the image. What is reported is the instructions of the processor for each call, by
 valgrind's callgrind: a run of some rounds, less a run of half as many, less what the same rounds take with an ADDI in the place of each
 ECALL. What else the machine does makes no difference.
 """

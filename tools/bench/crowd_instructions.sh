@@ -1,5 +1,5 @@
 #!/usr/bin/env bash
-# Tells how many instructions a step of the program `crowd_bench` takes beside other threads, by valgrind's callgrind: a run of
+# Reports how many instructions a step of the program `crowd_bench` takes beside other threads, by valgrind's callgrind: a run of
 # 120,000 steps, less one of 20,000. What else the machine does makes no difference.
 # The one word is the built program, as tools/bench/run.sh leaves it.
 set -e

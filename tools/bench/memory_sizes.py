@@ -1,5 +1,5 @@
 #!/usr/bin/env python3
-"""Tells what the size of memory costs, of the proved program. Asks for `make build` before, and for valgrind.
+"""Reports what the size of memory costs, of the proved program. Asks for `make build` before, and for valgrind.
 
   tools/bench/memory_sizes.py [--program PROGRAM]
 

@@ -1,5 +1,5 @@
 #!/usr/bin/env bash
-# Tells how many million instructions the Revoke of the program `revoke_bench` takes, by valgrind's callgrind: those of the
+# Reports how many million instructions the Revoke of the program `revoke_bench` takes, by valgrind's callgrind: those of the
 # whole run, less those of a run that only makes the copies. What else the machine does makes no difference.
 # The one word is the built program, as tools/bench/run.sh leaves it.
 set -e

@@ -9,7 +9,7 @@ Threads with and without buffers send, call, receive and answer messages of 0 to
 promises. They write to buffers, also to each other's, and put bytes of them and of what they received. After 300 events the
 thread of the greatest priority wakes and puts a byte of each of the first 128 words of each buffer. Some systems are refused for a
 buffer. Verdicts are reckoned by `tools/damage`, traces by `tools/traces`, both apart from the product; no line may have a fault or an
-error. `reckon` also runs each system with each of several wrong deliveries, to show how many traces tell them.
+error. `reckon` also runs each system with each of several wrong deliveries, to show how many traces reveal them.
 """
 
 import collections
@@ -350,7 +350,7 @@ WRONG = [Past, Short, Seventh, Longer, OfSender, OfReceiver, NoReply, Early]
 
 def reckoned(program, seed, told):
     """`accepted` or the name of the refusal, and how many messages there were, and how many of them by buffers. Notes which wrong
-    deliveries the trace tells."""
+    deliveries the trace reveals."""
     said = system(seed)
     data = assembled(said[0])
     wanted, machine, lines = verdict(data), None, []
@@ -376,7 +376,7 @@ def main():
     while found["accepted"] < count:
         said, *numbers = reckoned(program, seed, told)
         found[said], sums, seed = found[said] + 1, [a + b for a, b in zip(sums, numbers)], seed + 1
-    # that there are such messages at all; and such systems, and each wrong delivery is told, where there are enough of them
+    # that there are such messages at all; and such systems, and each wrong delivery is reported, where there are enough of them
     assert sums[1] > count, sums
     assert count < 100 or found["BadBuffer"] and (program or all(told[it] for it in WRONG)), (found, told)
     print(f"as reckoned: {sums[0]} messages, {sums[1]} of them by buffers; " + ", ".join(f"{number} {it}" for it, number in sorted(found.items())))

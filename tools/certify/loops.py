@@ -6,7 +6,7 @@
 
 Loops count down or up, by 1 or more, to a constant or to a limit in a register, tested at the end or at the beginning; they stand in
 one another, some count as far as the loop around them stands, some are left early, and some have branches inside. No loop has a
-stride above 1 and ends where its counter is equal to something: rules on ranges can't tell that it meets its end.
+stride above 1 and ends where its counter is equal to something: rules on ranges cannot show that it meets its end.
 """
 import random
 import sys
@@ -164,7 +164,7 @@ def short(seed):
 
 
 def long(points):
-    """Loops and waits, one behind the other: the jump back to the start is as long as jumps may be, by steps."""
+    """Loops and waits, one after the other: the jump back to the start is as long as jumps may be, by steps."""
     program = Program(random.Random(points))
     program.put(*BEGIN)
     while program.points() < points - 200:

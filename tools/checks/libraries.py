@@ -3,7 +3,7 @@
 also looks for contracts that no call can meet, which takes a twentieth more and proves nothing.
 
 A library that is built by several processes at once takes up to half as much time of processors again. So each has one process,
-but that with the longest chain of others behind it has as many as there are processors, where that chain is longer than what all
+but that with the longest chain of others after it has as many as there are processors, where that chain is longer than what all
 processors have left, or where fewer libraries than processors are under way, at the beginning and at the end.
 
   tools/checks/libraries.py NAME ..     at the top of the repository: these crates and all below them (none named: all)
@@ -39,9 +39,9 @@ def toolchain():
 
 RT = toolchain()
 SUMS = {}
-# What the toolchain takes for a crate before its first proof and behind its last, in lines of code.
+# What the toolchain takes for a crate before its first proof and after its last, in lines of code.
 CRATE_IN_LINES = 400
-# A crate's command gives way to those of crates with a longer chain of others behind them.
+# A crate's command gives way to those of crates with a longer chain of others after them.
 NICENESS = {}
 
 
@@ -96,7 +96,7 @@ def build_logged(crate, jobs):
 
 
 def build_all(names):
-    """Builds each library once those below it stand, first those with the longest chain of others behind them."""
+    """Builds each library once those below it are built, first those with the longest chain of others after them."""
     crates = [it for it in RT.rtlib.crates_below(os.getcwd()) if not names or it.name in names]
     left = list({it.name: it for crate in crates for it in [*crate.below(), crate] if it.makes_rlib()}.values())
     own = {it.name: it.count(rb"\n") + CRATE_IN_LINES for it in left}

@@ -1,4 +1,4 @@
-"""What a program may call at a point, and what is known behind it, on the slots that are noted there."""
+"""What a program may call at a point, and what is known after it, on the slots that are noted there."""
 
 from rules import ALL_ONES, CNODE, ENDPOINT, FRAME, NOTIFICATION, ROOT, TABLE, TCB, UNTYPED, BITS, Refused, align, is_guard, kind_of
 
@@ -256,7 +256,7 @@ def single(state, register, here):
 
 
 def after_call(image, t, state, here):
-    """The ranges and slots behind a system call, whether it is a wait, and the registers that it writes."""
+    """The ranges and slots after a system call, whether it is a wait, and the registers that it writes."""
     number = single(state, A7, here)
     if not 1 <= number <= 9:
         raise Refused(24, *here, 3)

@@ -134,7 +134,7 @@ class State:
 
 
 class Way:
-    """A way on: the point, the ranges behind it, the slots, whether it is a wait, what a call wrote, and the narrowed ranges."""
+    """A way on: the point, the ranges after it, the slots, whether it is a wait, what a call wrote, and the narrowed ranges."""
 
     def __init__(self, target, ranges, slots, wait, written, before):
         self.target, self.ranges, self.slots, self.wait, self.written, self.before = target, ranges, slots, wait, written, before
@@ -145,7 +145,7 @@ def extreme(terms, ranges):
 
 
 def greatest(i, state, target, way):
-    """The greatest that the measure behind the way can be; without a wait, less the measure before it."""
+    """The greatest that the measure after the way can be; without a wait, less the measure before it."""
     fresh, terms, constant = 0, {}, target.constant
     for x, c in target.terms.items():
         if x in way.written:

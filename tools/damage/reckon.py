@@ -3,7 +3,7 @@
 
 `reckon.py compare IMG all|few ANSWERS` reckons each line of the answers of `tools/damage/run.sh` anew, and names those that differ.
 `reckon.py counts IMG all|few FIRST END` counts what becomes of the image with one byte changed, at places from FIRST to END, by the
-number of the refusal, as the rows of `crates/program_tests/src/damage` have them. `all` stands for the 255 other values of each byte, `few` for
+number of the refusal, as the rows of `crates/program_tests/src/damage` have them. `all` means the 255 other values of each byte, `few` for
 its low bit, its high bit and all of its bits.
 """
 

@@ -1,4 +1,4 @@
-"""The format of images, and the rules of acceptance before those on programs. A breach is told by `Refused`: its number and items."""
+"""The format of images, and the rules of acceptance before those on programs. A breach is reported by `Refused`: its number and items."""
 
 import struct
 
@@ -13,7 +13,7 @@ class Refused(Exception):
 
 
 class Reader:
-    """Reads fields one after the other. Each is told at its offset where it does not fit or fails its test."""
+    """Reads fields one after the other. Each is reported at its offset where it does not fit or fails its test."""
 
     def __init__(self, data):
         self.data, self.at = data, 0

@@ -1,6 +1,6 @@
 #!/usr/bin/env python3
-"""Plants the mistakes of mistakes.py into texts without certificates, and looks whether `explain` and `certify` tell
-each: by its line, as `FILE:LINE: ..` on standard error, with the words that are wanted there. Nothing else may be told.
+"""Plants the mistakes of mistakes.py into texts without certificates, and looks whether `explain` and `certify` report
+each: by its line, as `FILE:LINE: ..` on standard error, with the words that are wanted there. Nothing else may be reported.
 
   tools/explaining/check.py BINARY      BINARY is the built program for makers, crates/microsys_tool/out/microsys_tool
 """
@@ -24,7 +24,7 @@ def planted(name, lines):
 
 
 def blocks_of(told, file):
-    """What is told, by lines: each begins with its place, and goes on with lines that are indented."""
+    """What is reported, by lines: each begins with its place, and goes on with lines that are indented."""
     blocks = {}
     number = None
     for line in told.splitlines():
@@ -40,7 +40,7 @@ def blocks_of(told, file):
 
 
 def missed(told, file, wanted):
-    """What is not told as it is wanted, in words."""
+    """What is not reported as it is wanted, in words."""
     blocks = blocks_of(told, file)
     for number, words in wanted.items():
         if number not in blocks:
@@ -63,7 +63,7 @@ def answers(binary, room, text):
 
 
 def main(binary):
-    """Tells what is missed, and how many are told."""
+    """Reports what is missed, and how many are reported."""
     right = 0
     with tempfile.TemporaryDirectory() as room:
         for name, text in TEXTS.items():

@@ -1,6 +1,6 @@
 """Mistakes, one in each text, or two that are independent of each other.
 
-Each has the name of a text, the lines that are put otherwise, and what is to be told: of each line at fault some words.
+Each has the name of a text, the lines that are put otherwise, and what is to be reported: of each line at fault some words.
 What stands here was written by hand from the rules of the manual.
 """
 

@@ -51,7 +51,7 @@ class Program:
 
 @dataclass(frozen=True)
 class Caller:
-    """What a copy has to know of the functions that it is called by: where it goes on behind the return, the place of
+    """What a copy has to know of the functions that it is called by: where it goes on after the return, the place of
     the call, their names, the registers that they keep values in, and the bytes of stack that they use."""
 
     after: str | None = None
@@ -199,7 +199,7 @@ def refusal_of(name: str) -> str:
 
 
 def without(lines: list[Line], idle: Callable[[Line, Line], bool]) -> list[Line]:
-    """The lines but for those that `idle` tells, given the line behind them. Labels and notes of these go to that
+    """The lines but for those that `idle` names, given the line after them. Labels and notes of these go to that
     line."""
     kept: list[Line] = []
     for line, following in zip(lines, lines[1:]):
@@ -211,7 +211,7 @@ def without(lines: list[Line], idle: Callable[[Line, Line], bool]) -> list[Line]
 
 
 def leads_on(line: Line, following: Line) -> bool:
-    """Whether it is a jump to the line behind it."""
+    """Whether it is a jump to the line after it."""
     return line.words[:2] == ["jal", "x0"] and line.target in following.labels
 
 

@@ -41,7 +41,7 @@ def head_of(function: Function) -> list[Instruction]:
 
 def frame_of(function: Function) -> int:
     """How many bytes of stack the function takes by itself: what it moves the stack pointer by at its beginning, by
-    constants. Behind that it may only move it back."""
+    constants. After that it may only move it back."""
     head = head_of(function)
     values = {"x0": 0, "x2": 0}
     for instruction in head:
@@ -56,7 +56,7 @@ def frame_of(function: Function) -> int:
 
 
 def step(values: dict[str, int], instruction: Instruction) -> None:
-    """Brings the values that are known of registers behind an instruction of a function's beginning."""
+    """Brings the values that are known of registers after an instruction of a function's beginning."""
     if not instruction.operands or instruction.name in STORES:
         return
     name, (rd, *rest) = instruction.name, instruction.operands
@@ -72,7 +72,7 @@ def step(values: dict[str, int], instruction: Instruction) -> None:
 
 def saves_of(function: Function) -> dict[str, str]:
     """The registers that the function saves at its beginning, each with its place on the stack, as `12(x2)`. None are
-    told of a function that moves the stack pointer down more than once, since places are not comparable there."""
+    given for a function that moves the stack pointer down more than once, since places are not comparable there."""
     down = [it for it in function.body if moves_stack(it.words) and not moves_back(it.words)]
     if len(down) > 1 or any(it.name != "addi" for it in function.body if moves_stack(it.words)):
         return {}

@@ -11,7 +11,7 @@ from faults import Fault, Place
 
 @dataclass(frozen=True)
 class Part:
-    """Some bytes of a thread's address space: what they are for, the first address and the one behind the last."""
+    """Some bytes of a thread's address space: what they are for, the first address and the one after the last."""
 
     what: str
     start: int

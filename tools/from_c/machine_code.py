@@ -35,7 +35,7 @@ FLAGS = (
     "-fno-jump-tables -fno-optimize-sibling-calls -fno-shrink-wrap -fno-reorder-blocks-and-partition "
     # Loops stay as they are written: an index is no pointer and no second counter, and no loop a call of memset.
     "-fno-ivopts -fno-tree-loop-ivcanon -fno-tree-loop-distribute-patterns -fno-tree-vectorize "
-    # A test stays a branch, behind which the verifier knows its outcome.
+    # A test stays a branch, after which the verifier knows its outcome.
     "-fno-if-conversion -fno-if-conversion2 -fno-ssa-phiopt -fno-tree-switch-conversion "
     # Remarks are read, and shown in one form.
     "-Wall -Wextra -fdiagnostics-format=json -pipe"
@@ -147,7 +147,7 @@ def compile_one(source: Path, made: Path, order: Order, prefix: str, *options: s
 
 
 def remarks_of(errors: str, order: Order) -> Iterator[Remark]:
-    """What gcc says on standard error, with `-fdiagnostics-format=json`. The assembler's words come as lines behind
+    """What gcc says on standard error, with `-fdiagnostics-format=json`. The assembler's words come as lines after
     that; a line of a file that gcc made by itself is no place."""
     _, bracket, rest = errors.partition("[")
     remarks, end = json.JSONDecoder().raw_decode(bracket + rest) if bracket else ([], 0)
@@ -161,7 +161,7 @@ def remarks_of(errors: str, order: Order) -> Iterator[Remark]:
 
 
 def return_of(order: Order, begin: Place | None, end: Place, room: Path, prefix: str) -> Place:
-    """The last `return` of a `THREAD` between two places of a source, as gcc tells it where a `THREAD` says that it
+    """The last `return` of a `THREAD` between two places of a source, as gcc reports it where a `THREAD` says that it
     never returns; the end, where there is none."""
     for source in order.sources:
         if source.name != end.file:

@@ -41,7 +41,7 @@ bytes_of() {
     sed 's/#.*//' "$1" | tr -s ' ' '\n' | grep .
 }
 
-# Runs a step of a check, whose errors are kept with what it prints; a failure is told as the title.
+# Runs a step of a check, whose errors are kept with what it prints; a failure is reported as the title.
 step() {
     local name="$1" title="$2"
     shift 2

@@ -105,7 +105,7 @@ def text():
 
 
 def events():
-    """10,000 events: ticks and interrupts among steps, and a ring at each quarter's end, the last one with ten steps behind it."""
+    """10,000 events: ticks and interrupts among steps, and a ring at each quarter's end, the last one with ten steps after it."""
     found = []
     for number in range(10_000):
         if number in (2500, 5000, 7500, 9989):

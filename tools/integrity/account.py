@@ -79,7 +79,7 @@ class Account:
         return self.view.registers[thread.tcb][0]
 
     def passes(self, deed, thread):
-        """It goes on behind its system call, at the end of its queue."""
+        """It goes on after its system call, at the end of its queue."""
         deed.set_pc(thread, self.pc(thread) + 4)
         deed.reached.setdefault(thread.tcb, set()).add(0)
         self.wake(thread)

@@ -124,7 +124,7 @@ class Bounds:
         return any(root == self.root and rights & WRITE and frame == place // 4096 * 4096 for (root, _), (frame, rights) in pages)
 
     def is_delivered(self, place, byte, sender, receiver, length):
-        """Whether the byte is one of a word behind the eighth that a message brings, and comes from the same place of the sender's buffer."""
+        """Whether the byte is one of a word after the eighth that a message brings, and comes from the same place of the sender's buffer."""
         buffers = [self.view.held((it.tcb, BUFFER_SLOT)) for it in (sender, receiver)]
         if None in buffers or any(held[0] != FRAME or held[2] != READ | WRITE for held in buffers):
             return False

@@ -5,7 +5,7 @@ does (valgrind's callgrind). Asks for `make build` before, and for valgrind.
   tools/large_images/instructions.py [--program PROGRAM] [KIND ..]     no kind named: all
 
 A line for each kind: the bytes of its three images, million instructions, instructions a byte, and by how much these differ at most. What the
-smallest sample takes, and so what the program takes to start, is taken off, and so are its bytes where instructions a byte are told.
+smallest sample takes, and so what the program takes to start, is taken off, and so are its bytes where instructions a byte are reported.
 """
 import argparse
 import os

@@ -61,7 +61,7 @@ def untypeds_of(small):
     return [(0x41000 + 0x1000 * i, 12) for i in range(small)] + [(1 << bits, bits) for bits in range(19, 24)]
 
 
-# What puts an object into the untyped of a number, or the next one behind it that still has room (where sizes never rise, none is lost),
+# What puts an object into the untyped of a number, or the next one after it that still has room (where sizes never rise, none is lost),
 # and answers the object's number; the room that is left in each; and the untyped of the last object.
 def placing(untypeds, objects, first):
     room = [1 << bits for _, bits in untypeds]
@@ -140,7 +140,7 @@ def jump_back(distance):
     return (back >> 20 & 1) << 31 | (back >> 1 & 0x3FF) << 21 | (back >> 11 & 1) << 20 | (back >> 12 & 0xFF) << 12 | 0x6F
 
 
-# Sixteen instructions: three up to the wait, and the rest behind it.
+# Sixteen instructions: three up to the wait, and the rest after it.
 BLOCK = (
     immediate(0, 10, 0, 1),  # addi x10, x0, 1
     immediate(0, 17, 0, 5),  # addi x17, x0, 5

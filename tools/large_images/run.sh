@@ -29,7 +29,7 @@ python3 "$here/make.py" count 1 "$copy/count.img"
     exit 1
 }
 
-# The time that the words behind the title take.
+# The time that the words after the title take.
 timed() {
     echo "$1"
     shift

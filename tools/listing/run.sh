@@ -15,7 +15,7 @@ comes_back() {
     "$tool" list "$1" >"$room/list" && "$program" build "$room/list" "$room/again" && cmp "$1" "$room/again"
 }
 
-# Asserts that an image comes back. It is told of by a name.
+# Asserts that an image comes back. It is referred to by a name.
 checks() {
     count=$((count + 1))
     if ! comes_back "$2" >"$room/said" 2>&1; then

@@ -26,7 +26,7 @@ from from_c import built, written  # noqa: E402
 from machine_code import NoCompiler  # noqa: E402
 from sizes import grown, said_in, with_sizes  # noqa: E402
 
-# Which of the words behind each word of the program are systems, and how many there are at least and at most.
+# Which of the words after each word of the program are systems, and how many there are at least and at most.
 SYSTEMS = {
     "make": ((0,), 2, 2),
     "expand": ((0,), 2, 2),
@@ -37,7 +37,7 @@ SYSTEMS = {
     "chart": ((1,), 2, 2),
     "diff": ((0, 1), 2, 2),
 }
-# The words that have one more behind them.
+# The words that have one more after them.
 OPTIONS = {"--from", "--to"}
 STANDARD = "-"
 # What a description begins with.

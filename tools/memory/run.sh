@@ -1,5 +1,5 @@
 #!/usr/bin/env bash
-# Refuses each allocation of the program in turn, and then that one with all behind it. The answer must be `memory` with
+# Refuses each allocation of the program in turn, and then that one with all after it. The answer must be `memory` with
 # status 3 and nothing on standard output, `source LINE 5` with status 1 for a text, or the whole answer, where the
 # program can do without. Then makes each call of the libraries by itself, with each of its allocations refused in turn:
 # it has to answer out of memory, and put nothing; a second call has to give the whole answer.
@@ -15,7 +15,7 @@ cp "$root/samples/bell.img" "$room/refused.img"
 printf '\003' | dd of="$room/refused.img" bs=1 seek=256 conv=notrunc status=none
 bad=0
 
-# The status, standard output and standard error of a program with allocation $1 refused, and those behind it if $2
+# The status, standard output and standard error of a program with allocation $1 refused, and those after it if $2
 # is `on`. No allocation has the number 0.
 answer() {
     local refused="$1" on="$2" status=0

@@ -99,7 +99,7 @@ class Service:
         return 6 if self.polls else 3
 
     def budget(self):
-        """From behind the wait to the next one: three instructions for each round, or one that uses the word and the jump."""
+        """From after the wait to the next one: three instructions for each round, or one that uses the word and the jump."""
         return self.to_wait() + (1 + 3 * self.port.words[0][1] if self.port.use == "count" else 3)
 
     def lines(self):

@@ -1,7 +1,7 @@
 """A run of an accepted image by the rules of the machine and the kernel alone (docs/MANUAL.md), apart from the product.
 
 The slots of a thread, and what calls do to them, are those of `tools/damage/calls.py`. Calls that an accepted program does not make
-are not told here, nor faults.
+are not reported here, nor faults.
 """
 
 import os

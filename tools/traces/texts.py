@@ -132,7 +132,7 @@ def assembled(text):
             declared["irq"].append((number(rest[1]), names[rest[2]], number(rest[3])))
         elif first:
             declared[first].append(rest)
-    # a handler stands behind the objects, by the order of the lines
+    # a handler comes after the objects, by the order of the lines
     order = sorted(lines.values())
     source = lambda name: len(declared["object"]) + order.index(lines[name]) if name in lines else names[name]
     sections = [

@@ -1,4 +1,4 @@
--- An image whose lines are being read: what is known of it behind some of them, and behind all.
+-- An image whose lines are being read: what is known of it after some of them, and after all.
 use Rattle.std.specs.Prelude.{ℕ, List, [], length, map, Option, Some, None, slice_index_or, if◌then◌else◌}
 use Rattle.std.specs.List.{range_with_len}
 use Rattle.model.specs.declared.entries.CapabilityEntry.{CapabilityEntry}
@@ -27,7 +27,7 @@ pub record Draft : Type 0 where
 abbrev pub nothing_read : Draft
 nothing_read = record { memory = None; declared = nothing_declared; threads = []; open_thread = None }
 
--- ---- behind all lines of an image's listing
+-- ---- after all lines of an image's listing
 
 abbrev pub names_of : Image → KnownNames
 names_of image = record {
@@ -39,7 +39,7 @@ names_of image = record {
 abbrev pub line_of_interrupt : Image → ℕ → ℕ
 line_of_interrupt image number = (slice_index_or image.interrupts number (record { line = 0; notification = 0; badge = 0 })).line
 
--- what a capability is made from: interrupts are told by their lines
+-- what a capability is made from: interrupts are named by their lines
 abbrev pub source_said : Image → ℕ → Source
 source_said image source =
     if is_handler image source then Handler (line_of_interrupt image (interrupt_of image source)) else Object source
@@ -69,7 +69,7 @@ draft_of image = record {
   open_thread = None;
 }
 
--- ---- what is put together behind the last line
+-- ---- what is put together after the last line
 
 abbrev pub counted_header : Memory → Declared → List CapabilityEntry → List Thread → ImageHeader
 counted_header m d cs ts = record {

@@ -23,7 +23,7 @@ place_named labels name = lookup (bytes_eq name) labels.places
 abbrev pub point_of : FoundLabels → Text → ℕ
 point_of labels name = option_map_or (λ place. place.point) (place_named labels name) 0
 
--- a label stands first on this line
+-- a label is first on this line
 abbrev pub is_first_on : FoundLabels → Text → ℕ → Bool
 is_first_on labels name number = option_map_or (λ place. place.line == number) (place_named labels name) false
 
@@ -60,7 +60,7 @@ in_open change s = record s { open_labels = option_map change s.open_labels }
 abbrev pub begun : Searched → Searched
 begun s = if is_some s.open_labels then s else record s { open_labels = Some no_labels }
 
--- behind a line with this number
+-- after a line with this number
 abbrev pub searched_line : Searched → ℕ → Line → Searched
 searched_line s number (line.Thread t) = begun s
 searched_line s number line.End = closed s
@@ -68,7 +68,7 @@ searched_line s number (line.Label name) = in_open (λ labels. with_label labels
 searched_line s number (line.Code label code) = in_open (λ labels. with_code labels label number) s
 searched_line s number _ = s
 
--- the number of the line behind one: numbers stop at the greatest of 64 bits
+-- the number of the line after one: numbers stop at the greatest of 64 bits
 abbrev pub next_number : ℕ → ℕ
 next_number number = min (number + 1) (2 ^ 64 - 1)
 

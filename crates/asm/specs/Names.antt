@@ -21,11 +21,11 @@ pub record KnownNames : Type 0 where
 abbrev pub no_names : KnownNames
 no_names = record { untypeds = []; objects = []; interrupts = [] }
 
--- the number that a name stands for: its place among those of its sort
+-- the number that a name denotes: its place among those of its sort
 abbrev pub number_of : List Text → Text → ℕ
 number_of names name = unwrap_or (position (bytes_eq name) names) 0
 
--- a name is among these, at a place that a number tells
+-- a name is among these, at a place that a number gives
 pub record IsNamed (names : List Text) (name : Text) : Type 0 where
   pub known : position (bytes_eq name) names ≡ Some (number_of names name)
   pub small : number_of names name < 2 ^ 32
@@ -44,13 +44,13 @@ source_of names name = option_map_or (λ line. Handler line) (line_of_name names
 abbrev pub HasSource : KnownNames → Text → Type 0
 HasSource names name = MatchOption (line_of_name names name) (IsNamed names.objects name) (λ _. Unit {0})
 
--- ---- what a name stands for, for every name
+-- ---- what a name denotes, for every name
 
 -- nothing has this name
 abbrev pub free : KnownNames → Text → Result (Unit {0}) ℕ
 free names name = must (not (is_taken names name)) 3
 
--- the number that a name stands for, or it is unknown
+-- the number that a name denotes, or it is unknown
 abbrev pub number_at : Option ℕ → Result ℕ ℕ
 number_at place = elim place [ Some number ↦ Ok number | None ↦ Err 2 ]
 

@@ -1,4 +1,4 @@
--- Lines as listings have them: where each may stand, and what is known behind it.
+-- Lines as listings have them: where each may be, and what is known after it.
 use Rattle.std.specs.Prelude.{◌≡◌, ℕ, ◌<◌, true, List, [], ◌∷◌, ◌++◌, length, Some, None, MatchOption, slice_index_or}
 use Rattle.std.specs.Option.{option_map_or}
 use Rattle.asm_line.specs.declared.lines.Line.{Line}
@@ -23,7 +23,7 @@ abbrev pub with_first : Draft → Line → Draft
 with_first d (line.Memory bits radix) = record d { memory = Some (record { bits = bits; boot_radix = radix }) }
 with_first d _ = d
 
--- ---- lines that stand in no thread
+-- ---- lines outside of threads
 
 -- the labels of the thread with this number
 abbrev pub labels_at : List FoundLabels → ℕ → FoundLabels
@@ -70,7 +70,7 @@ with_declaration labels d (line.Thread said) =
     record d { open_thread = Some (thread_begun d.declared.names (labels_at labels (length d.threads)) said) }
 with_declaration labels d said = with_placement d said
 
--- ---- lines that stand in a thread
+-- ---- lines of a thread
 
 abbrev pub IsThreadLine : FoundLabels → ℕ → KnownNames → OpenDraft → Line → Type 0
 IsThreadLine labels number names o (line.Buffer frame) = MayAddBuffer names o frame
@@ -83,7 +83,7 @@ IsThreadLine labels number names o (line.Code None code) = MayAddCode o code
 IsThreadLine labels number names o line.End = MayEnd o
 IsThreadLine labels number names o _ = ⊥
 
--- the thread behind a line of it that is not its last one
+-- the thread after a line of it that is not its last one
 abbrev pub thread_behind : KnownNames → OpenDraft → Line → OpenDraft
 thread_behind names o (line.Buffer frame) = with_buffer o (number_of names.objects frame)
 thread_behind names o (line.Register entry) = with_register o entry
@@ -99,7 +99,7 @@ with_thread_line d o said = record d { open_thread = Some (thread_behind d.decla
 
 -- ---- all lines
 
--- a line with this number stands where listings have it; the labels of all threads are known
+-- a line with this number is where listings have it; the labels of all threads are known
 abbrev pub IsInPlace : List FoundLabels → ℕ → Draft → Line → Type 0
 IsInPlace labels number d said = MatchOption d.memory (IsFirst said) (λ _. MatchOption d.open_thread (IsDeclaration labels d said)
     (λ o. (length d.threads < length labels) × IsThreadLine (labels_at labels (length d.threads)) number d.declared.names o said))
@@ -109,7 +109,7 @@ with_line labels d said =
     option_map_or (λ _. option_map_or (λ o. with_thread_line (record d { open_thread = None }) o said) d.open_thread (with_declaration labels d said))
     d.memory (with_first d said)
 
--- the same of all lines behind the one with this number
+-- the same of all lines after the one with this number
 abbrev pub AreInPlace : List FoundLabels → ℕ → Draft → List Line → Type 0
 AreInPlace labels number d [] = Unit {0}
 AreInPlace labels number d (said ∷ others) =

@@ -1,5 +1,5 @@
 -- The sections before the threads, as far as they are declared, and what one more line makes of them. A step is said
--- for lines as listings have them: each name is known, and each key is behind the others.
+-- for lines as listings have them: each name is known, and each key is greater than the others.
 use Rattle.std.specs.Prelude.{◌≡◌, ◌==◌, ℕ, ◌+◌, ◌-◌, ◌^◌, ◌<◌, ◌≤◌, Bool, true, false, List, [], ◌∷◌, ◌++◌, length, map, slice_get, Result, Ok, Err, nat_le}
 use Rattle.std.specs.List.{position_or_len}
 use Rattle.std.specs.Option.{option_map_or}
@@ -47,7 +47,7 @@ with_untyped d name entry = record d { names = with_untyped_name d.names name; u
 abbrev pub object_entry : Declared → Text → ℕ → ℕ → ObjectEntry
 object_entry d untyped kind size = record { untyped = number_of d.names.untypeds untyped; kind = kind; size = size }
 
--- the last object's untyped, if there is one, is not behind this one
+-- the last object's untyped, if there is one, is not after this one
 abbrev pub is_in_order : ℕ → List ObjectEntry → Bool
 is_in_order untyped objects = option_map_or (λ last. nat_le last.untyped untyped) (slice_get objects (length objects - 1)) true
 
@@ -164,12 +164,12 @@ promise_said d endpoint low high words = promise_with (number_of d.names.objects
 abbrev pub with_promise : Declared → ImagePromise → Declared
 with_promise d promise = record d { promises = d.promises ++ promise ∷ [] }
 
--- ---- behind the last line: the numbers of sources
+-- ---- after the last line: the numbers of sources
 
 abbrev pub on_line : ℕ → InterruptEntry → Bool
 on_line number i = i.line == number
 
--- that of an object, or behind the objects that of an interrupt
+-- that of an object, or after the objects that of an interrupt
 abbrev pub number_of_source : Declared → Source → ℕ
 number_of_source d (Object number) = number
 number_of_source d (Handler number) = length d.objects + position_or_len (on_line number) d.interrupts

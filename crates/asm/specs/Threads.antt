@@ -93,7 +93,7 @@ terms_of (name ∷ factor ∷ words) = term_or_zero (term_of name factor) ∷ te
 abbrev pub term_key : TermEntry → ℕ
 term_key t = t.register
 
--- each of these keys is behind the ones before it
+-- each of these keys is greater than the ones before it
 abbrev pub AreBehind : {E : Type 0} → (E → ℕ) → List E → List E → Type 0
 AreBehind key_of front [] = Unit {0}
 AreBehind key_of front (x ∷ xs) = (is_behind key_of (key_of x) front ≡ true) × AreBehind key_of (front ++ x ∷ []) xs

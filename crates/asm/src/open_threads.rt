@@ -27,7 +27,7 @@ const MOST_SLOTS: usize = model::MOST_SLOTS as usize;
 
 const MOST_TERMS: usize = 4;
 
-/// What stands for no parent CNode and no index.
+/// What says that there is no parent CNode and no index.
 const NO_PARENT: u32 = u32::MAX;
 
 /// The number for no message buffer.

@@ -31,7 +31,7 @@ struct Writer {
 }
 
 impl Writer {
-    /// The end of what stands on a line of the text at hand. What is no longer there has no line in the second text.
+    /// The end of what a line of the text at hand says. What is no longer there has no line in the second text.
     fn end(&mut self, line: u64) -> Result<(), AllocError> {
         match self.list {
             List::More => write!(&mut self.text, " (line {line})\n"),

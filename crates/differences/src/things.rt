@@ -38,7 +38,7 @@ pub(crate) struct Thing<'n> {
 }
 
 impl Deed {
-    /// What stands before the name.
+    /// What precedes the name.
     fn words(self) -> &'static str {
         match self {
             Deed::Send => "send to ",

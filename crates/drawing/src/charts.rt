@@ -485,7 +485,7 @@ fn names_in<'t>(alloc: Global, text: Option<&'t str>) -> Result<Option<TextNames
 /// Puts a trace as a picture (SVG): a lane for each thread, in the order in which they first run, with what it did and where it waits,
 /// and ticks and interrupts above. Long runs of one thread are drawn shorter, and what does not fit beside it is put in
 /// the next band. With the text of the image threads have their names, with the most instructions from one wait to the next and the
-/// budget, and where they wait or faulted is told by label and line. Of the events before and after those that are drawn it is read who
+/// budget, and where they wait or faulted is said by label and line. Of the events before and after those that are drawn it is read who
 /// runs.
 ///
 /// # Errors

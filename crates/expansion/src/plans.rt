@@ -43,7 +43,7 @@ pub(crate) struct Plan<'a> {
     pub(crate) memory: Memory,
 }
 
-/// There are not to be more of something than an image can have. Where there are, that is told of this line.
+/// There are not to be more of something than an image can have. Where there are, that is reported at this line.
 fn check_count(alloc: Global, line: u64, what: &str, count: u64, most: u64) -> Result<(), Fault> {
     if count <= most {
         return Ok(());

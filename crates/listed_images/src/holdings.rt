@@ -12,18 +12,18 @@ use std::mem;
 /// The number for no object.
 const NO_OBJECT: u32 = u32::MAX;
 
-/// A text in which CNodes and address spaces are told of, each once.
+/// A text in which CNodes and address spaces are listed, each once.
 #[derive(Drop)]
 struct Holdings<'e> {
     text: String,
     entries: &'e Entries,
-    /// The CNodes that are told of, in this order.
+    /// The CNodes that are listed, in this order.
     cnodes: Vec<u32>,
-    /// Whether an object is told of, by its number.
+    /// Whether an object is listed, by its number.
     is_told: Vec<bool>,
 }
 
-/// Nothing is told of so many objects.
+/// None of so many objects is listed yet.
 fn nothing_told(alloc: Global, objects: usize) -> Result<Vec<bool>, AllocError> {
     let mut is_told = Vec::new(alloc);
     for _ in 0..objects {
@@ -100,7 +100,7 @@ fn put_running(text: &mut String, header: &ThreadHeader) -> Result<(), AllocErro
 }
 
 impl Holdings<'_> {
-    /// Notes that an object is told of, and says whether this is the first time.
+    /// Notes that an object is listed, and says whether this is the first time.
     fn is_first(&mut self, object: u32) -> bool {
         match self.is_told.get_mut(object as usize) {
             Some(is_told) => !mem::replace(is_told, true),
@@ -132,7 +132,7 @@ impl Holdings<'_> {
         }
     }
 
-    /// What is in the slots of a CNode, which is told of for the first time.
+    /// What is in the slots of a CNode, which is listed for the first time.
     fn put_slots(&mut self, cnode: u32) -> Result<(), AllocError> {
         self.cnodes.push(cnode)?;
         write!(&mut self.text, "# CNode o{cnode}:\n")?;
@@ -143,7 +143,7 @@ impl Holdings<'_> {
         Ok(())
     }
 
-    /// What is mapped under a root table, which is told of for the first time.
+    /// What is mapped under a root table, which is listed for the first time.
     fn put_pages(&mut self, root: u32) -> Result<(), AllocError> {
         write!(&mut self.text, "# root table o{root}:\n")?;
         let entries = self.entries;
@@ -169,7 +169,7 @@ impl Holdings<'_> {
         }
     }
 
-    /// The CNodes that the capabilities in one name, if they are not told of yet.
+    /// The CNodes that the capabilities in one name, if they are not listed yet.
     fn put_named(&mut self, cnode: u32) -> Result<(), AllocError> {
         let entries = self.entries;
         for capability in entries.held_in(cnode) {

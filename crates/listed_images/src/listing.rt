@@ -85,7 +85,7 @@ fn put_version_note(
     )
 }
 
-/// A note on each thread that begins behind its program, which no text describes.
+/// A note on each thread that begins after its program, which no text describes.
 fn put_entry_notes(text: &mut String, image: &ImageRef<'_>) -> Result<(), AllocError> {
     for thread in image.threads() {
         let header = thread.header();
@@ -124,9 +124,9 @@ fn text_of(alloc: Global, image: &ImageRef<'_>, length: usize) -> Result<String,
 
 /// The text of an image, accepted or not, by which `asm` makes the same bytes again. Objects, untypeds and interrupts have their
 /// numbers as names. In comments it has: the size of memory, of each object and of the file, where objects are, what is free
-/// behind them, what words spell, and at the end what each thread holds. A CNode and an address space are told of once.
+/// after them, what words spell, and at the end what each thread holds. A CNode and an address space are listed once.
 ///
-/// No text describes an image of a later version than what it holds asks for, nor one with a thread that begins behind its program; a
+/// No text describes an image of a later version than what it holds asks for, nor one with a thread that begins after its program; a
 /// comment says so. It takes time and memory in proportion to the file.
 ///
 /// # Errors

@@ -1,4 +1,4 @@
-//! Descriptions of systems: what is wrong or odd is told by its line, and systems come out accepted.
+//! Descriptions of systems: what is wrong or odd is reported by its line, and systems come out accepted.
 
 mod notes;
 mod places;

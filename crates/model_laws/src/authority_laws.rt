@@ -113,7 +113,7 @@ pub fn objects_stay_what_they_are()
     ensures boot_area { (image : Image) (t : Thread) (s after : State) → s.boot_radix ≢ after.boot_radix → WithinAuthority image t s after → ⊥ }
 {}
 
-/// Where the thread may not write, a byte of a frame that stays changes by a message alone: it is in a thread's buffer, behind the 32 bytes
+/// Where the thread may not write, a byte of a frame that stays changes by a message alone: it is in a thread's buffer, after the 32 bytes
 /// of the words that registers hold and before the message's end, and becomes what is there in a sender's buffer; and none changes where
 /// the call names nothing, or a fault is the first that is sent, and the thread may answer nobody. It checks what a message changes (`ByteChange.delivered`).
 pub fn a_message_changes_its_words_in_a_buffer()

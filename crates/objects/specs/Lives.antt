@@ -9,7 +9,7 @@ pub record Parts (S : Type 0) : Type 0 where
   pub store : S
   pub tables : Tables
 
--- the state, where one is told which slots and which bytes a store holds
+-- the state, where it is given which slots and which bytes a store holds
 abbrev pub state_in : {S : Type 0} → (S → Slots) → (S → List ℕ) → Parts S → State
 state_in slots memory live = state_of live.tables (slots live.store) (memory live.store)
 

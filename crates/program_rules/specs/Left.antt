@@ -2,7 +2,7 @@
 use Rattle.std.specs.Prelude.{ℕ, ◌≡◌, ◌==◌, ◌≤◌, ◌≤ℤ◌, ◌^◌, negsuc, Option, Some, None, List, [], ◌∷◌, length, slice_get, if◌then◌else◌}
 use Rattle.model.specs.Images.Image.{StateRecord}
 
--- the next one, and those behind it
+-- the next one, and those after it
 abbrev pub left_of : Option StateRecord → List StateRecord → List StateRecord
 left_of None records = []
 left_of (Some r) records = r ∷ records
@@ -12,7 +12,7 @@ abbrev pub taken : ℕ → List StateRecord → Option StateRecord
 taken point [] = None
 taken point (r ∷ rs) = if r.header.point == point then Some r else None
 
--- what is left behind that point
+-- what is left after that point
 abbrev pub behind : ℕ → List StateRecord → List StateRecord
 behind point [] = []
 behind point (r ∷ rs) = if r.header.point == point then rs else r ∷ rs

@@ -105,7 +105,7 @@ pub(crate) fn worker(alloc: Global) -> Result<Vec<u8>, Fail> {
 /// An image with one word changed, which is within it.
 pub(crate) fn with_word(mut image: Vec<u8>, at: usize, word: u32) -> Result<Vec<u8>, Fail> {
     if image.len() < at.saturating_add(4) {
-        return Err("the word stands behind the image".into());
+        return Err("the word is after the image".into());
     }
     for (place, byte) in image.iter_mut().skip(at).zip(word.to_le_bytes()) {
         *place = byte;

@@ -1,4 +1,4 @@
-//! The effect of RV32I instructions on registers, and on memory behind a [`View`]
+//! The effect of RV32I instructions on registers, and on memory that a [`View`] shows
 //! (RISC-V Unprivileged ISA, chapter 2).
 #![tactic(auto)]
 

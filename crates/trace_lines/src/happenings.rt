@@ -2,7 +2,7 @@
 
 use std::alloc::AllocError;
 
-/// What came of an instruction. Errors and faults are told by their numbers.
+/// What came of an instruction. Errors and faults are named by their numbers.
 #[derive(Clone, Copy, Debug, PartialEq, Eq)]
 pub enum Mark {
     Plain,
@@ -13,7 +13,7 @@ pub enum Mark {
     Faulted(u8),
 }
 
-/// What one line of a trace says. A thread is told by the physical address of its TCB.
+/// What one line of a trace says. A thread is named by the physical address of its TCB.
 #[derive(Clone, Copy, Debug, PartialEq, Eq)]
 pub enum Happening {
     Idle,

@@ -30,7 +30,7 @@ pub record AreTwice {A : Type 0} (key : A → ℕ) (xs : List A) (set : List ℕ
 abbrev pub with_number : ℕ → List ℕ → List ℕ
 with_number n set = if is_member n set then set else set ++ n ∷ []
 
--- The numbers in a set are those of the frames that are buffers of these threads. It need not tell of the number for no buffer.
+-- The numbers in a set are those of the frames that are buffers of these threads. It need not say anything of the number for no buffer.
 pub record AreBuffers (threads : List Thread) (set : List ℕ) : Type 0 where
   pub is : (n : ℕ) → (n == no_buffer) ≡ false → is_member n set ≡ list_any (λ t. t.header.buffer == n) threads
 

@@ -173,7 +173,7 @@ CompletedStayWithin =
     → s.objects (self_of image t) ≡ Some (ThreadObject own) → own.status ≡ Runnable → after.objects (self_of image t) ≡ Some (ThreadObject now)
     → WithinAuthority image t s after → WithinAuthority image t s (completed after (self_of image t) kind)
 
--- ---- where all threads of an accepted image stand
+-- ---- where all threads of an accepted image are
 
 -- a step whose system call invokes nothing
 abbrev pub MessagesStayWithin : Type 0

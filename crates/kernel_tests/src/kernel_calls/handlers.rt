@@ -21,7 +21,7 @@ const HANDLER_AND_THREAD: &str = "
     call tcb1 resume
 ";
 
-// The handler waits, and the thread faults for want of a capability.
+// The handler waits, and the thread faults since it lacks a capability.
 const FAULTED: &str = "
     80013000 0000100c wait
     80013200 00001000 fault 1

@@ -1,4 +1,4 @@
-//! What is wrong in a part's program is told by the line of the description, too.
+//! What is wrong in a part's program is reported by the line of the description, too.
 
 use expansion::expand;
 use explaining::{Explanation, Text, explain};

@@ -1,4 +1,4 @@
--- The states and the ways on of the rules that those of the code stand for.
+-- The states and the ways on of the rules that those of the code represent.
 use Rattle.std.specs.Prelude.{ℕ, List}
 use Rattle.measure.specs.Measures.{measure_of}
 use Rattle.model.specs.Acceptance.Measures.{Form}
@@ -14,7 +14,7 @@ use Rattle.program_rules.specs.declared.point_rules.ways.Way.{Way}
 abbrev pub known_of : List NotedSlot → State → PointState
 known_of slots k = record { ranges = k.bounds; slots = slots; measure = measure_of k.measure }
 
--- the edge to an address, behind which each register is what a form says, and slots are these
+-- the edge to an address, after which each register is what a form says, and slots are these
 abbrev pub edge_of : ℕ → (ℕ → Form) → List NotedSlot → Way → ProgramEdge
 edge_of address value_of slots way = record {
   target = address;
