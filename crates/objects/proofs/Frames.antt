@@ -170,3 +170,20 @@ objects-then s t u a b c one two = record {
   frames = λ place none. two.frames place (one.frames place none);
   bytes = beside-then s t a b c one two.bytes;
 }
+
+-- ---- one call that leaves the objects, by the state that it makes
+
+pub unmoved-objects : {s t u : State} {old new : List ℕ} → t ≡ u → Unmoved s u → SameBesideRecords s old new → SameObjects s t old new
+unmoved-objects is unmoved same = same-objects _ _ _ _ (moved-to _ _ _ is unmoved) same
+
+pub put-objects : {s t : State} {old new : List ℕ} (place : ℕ) (object : Object) → t ≡ with_object s place object
+    → kind_at s place ≡ Some (kind_of object) → SameBesideRecords s old new → SameObjects s t old new
+put-objects place object is there = unmoved-objects is (one-put _ place object there)
+
+pub served-objects : {s t : State} {old new : List ℕ} (place : ℕ) (sending : Option Sending) → t ≡ changed_at s place (served sending)
+    → SameBesideRecords s old new → SameObjects s t old new
+served-objects place sending is = unmoved-objects is (one-changed _ place (served sending) (kind-served sending))
+
+pub joined-objects : {s t : State} {old new : List ℕ} (place thread : ℕ) (sending : Option Sending) → t ≡ changed_at s place (joined thread sending)
+    → SameBesideRecords s old new → SameObjects s t old new
+joined-objects place thread sending is = unmoved-objects is (one-changed _ place (joined thread sending) (kind-joined thread sending))

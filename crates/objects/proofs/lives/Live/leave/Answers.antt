@@ -1,6 +1,6 @@
 -- A thread leaves, and the objects are the same.
 use Rattle.std.proofs.Common.{◌==◌, refl}
-use Rattle.objects.proofs.Frames.{kind-left, moved-to, same-objects}
+use Rattle.objects.proofs.Frames.{kind-left, unmoved-objects}
 use Rattle.objects.proofs.OneThread.{of-state}
 use Rattle.objects.proofs.lives.Live.leave.Goals as goal
 use Rattle.objects.specs.Tables.{state_of}
@@ -12,13 +12,11 @@ forget-requires-clause-there g c =
 
 pub returns-clause-beside : goal.returns-clause-beside
 returns-clause-beside g c =
-    let slots = g.S.SlotMap.slots c.self.inside.store in
-    let old = g.S.SlotStore.memory c.self.inside.store in
-    let before = state_of c.self.inside.objects slots old in
+    let before = state_of c.self.inside.objects (g.S.SlotMap.slots c.self.inside.store) (g.S.SlotStore.memory c.self.inside.store) in
     rw (← c.self.view_is) (record {
       slots = c.forget.ensures.slots;
       order = c.forget.ensures.order;
-      bytes = (same-objects before _ _ _ (moved-to before _ _ c.forget.ensures.state
-          (record { kinds = λ offset. kind-left (λ other. other == c.args.thread) (before.objects offset); bytes = refl; slots = refl; bits = refl }))
-          c.forget.ensures.bytes);
+      bytes = unmoved-objects c.forget.ensures.state
+          (record { kinds = λ offset. kind-left (λ other. other == c.args.thread) (before.objects offset); bytes = refl; slots = refl; bits = refl })
+          c.forget.ensures.bytes;
     })

@@ -1,7 +1,7 @@
 -- It is after the others, and the objects are the same.
 use Rattle.std.proofs.Common.{◌∙◌, None, ap}
 use Rattle.objects.proofs.Endpoints.{changed-notification}
-use Rattle.objects.proofs.Frames.{kind-joined, moved-to, one-changed, same-objects}
+use Rattle.objects.proofs.Frames.{joined-objects}
 use Rattle.objects.proofs.lives.Live.push_waiter.Goals as goal
 use Rattle.objects.specs.Tables.{state_of}
 use Rattle.objects.specs.Waiting.{has_waiting, joined}
@@ -21,12 +21,8 @@ returns-clause-state g c =
 
 pub returns-clause-beside : goal.returns-clause-beside
 returns-clause-beside g c =
-    let slots = g.S.SlotMap.slots c.self.inside.store in
-    let old = g.S.SlotStore.memory c.self.inside.store in
-    let before = state_of c.self.inside.objects slots old in
     rw (← c.self.view_is) (record {
       slots = c.enqueue.ensures.slots;
       order = c.enqueue.ensures.order;
-      bytes = (same-objects before _ _ _ (moved-to before _ _ c.enqueue.ensures.state
-          (one-changed before c.args.notification (joined c.args.thread None) (kind-joined c.args.thread None))) c.enqueue.ensures.bytes);
+      bytes = joined-objects c.args.notification c.args.thread None c.enqueue.ensures.state c.enqueue.ensures.bytes;
     })

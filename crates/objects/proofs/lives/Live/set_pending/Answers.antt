@@ -1,10 +1,10 @@
 -- The tables change, and the store does not.
 use Rattle.std.proofs.Common.{refl, subst, sym}
-use Rattle.objects.proofs.Frames.{moved-to, same-objects, same-records}
+use Rattle.objects.proofs.Frames.{same-records, unmoved-objects}
 use Rattle.objects.proofs.Lines.{lines-stand}
 use Rattle.objects.proofs.lives.Live.set_pending.Goals as goal
 use Rattle.objects.specs.Standing.{Standing}
-use Rattle.objects.specs.Tables.{Tables, state_of}
+use Rattle.objects.specs.Tables.{Tables}
 
 pub returns-clause-state : goal.returns-clause-state
 returns-clause-state g c = rw (← c.self.view_is) (c.set_pending.ensures.state (g.S.SlotMap.slots c.self.inside.store) (g.S.SlotStore.memory c.self.inside.store))
@@ -13,13 +13,11 @@ pub returns-clause-beside : goal.returns-clause-beside
 returns-clause-beside g c =
     let slots = g.S.SlotMap.slots c.self.inside.store in
     let memory = g.S.SlotStore.memory c.self.inside.store in
-    let before = state_of c.self.inside.objects slots memory in
     rw (← c.self.view_is) (record {
       slots = refl;
       order = refl;
-      bytes = same-objects before _ memory memory
-          (moved-to before _ _ (c.set_pending.ensures.state slots memory) (record { kinds = λ offset. refl; bytes = refl; slots = refl; bits = refl }))
-          (same-records before memory);
+      bytes = unmoved-objects (c.set_pending.ensures.state slots memory) (record { kinds = λ offset. refl; bytes = refl; slots = refl; bits = refl })
+          (same-records _ memory);
     })
 
 pub invariant_of-self : goal.invariant_of-self

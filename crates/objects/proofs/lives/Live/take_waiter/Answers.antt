@@ -2,7 +2,7 @@
 use Rattle.std.proofs.Common.{◌∙◌, refl, sym}
 use Rattle.objects.proofs.Endpoints.{changed-notification}
 use Rattle.objects.proofs.PointsHere.{nobody-waits, waiter-first}
-use Rattle.objects.proofs.Frames.{kind-served, moved-to, one-changed, same-objects}
+use Rattle.objects.proofs.Frames.{served-objects}
 use Rattle.objects.proofs.lives.Live.take_waiter.Goals as goal
 use Rattle.objects.specs.Tables.{sending_in, state_of}
 use Rattle.objects.specs.Waiting.{served}
@@ -34,14 +34,8 @@ returns-clause-state g c =
 
 pub returns-clause-beside : goal.returns-clause-beside
 returns-clause-beside g c =
-    let slots = g.S.SlotMap.slots c.self.inside.store in
-    let old = g.S.SlotStore.memory c.self.inside.store in
-    let before = state_of c.self.inside.objects slots old in
     rw (← c.self.view_is) (record {
       slots = c.serve.ensures.slots;
       order = c.serve.ensures.order;
-      bytes = (same-objects before _ _ _ (moved-to before _ _ c.serve.ensures.state
-          (one-changed before c.args.notification (served (sending_in c.self.inside.objects old c.in-Some.thread))
-          (kind-served (sending_in c.self.inside.objects old c.in-Some.thread))))
-          c.serve.ensures.bytes);
+      bytes = served-objects c.args.notification _ c.serve.ensures.state c.serve.ensures.bytes;
     })
