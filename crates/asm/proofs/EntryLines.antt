@@ -12,7 +12,8 @@ use Rattle.model.specs.declared.entries.PromisedWord.{PromisedWord}
 use Rattle.model.specs.declared.entries.TableEntry.{TableEntry}
 use Rattle.model.specs.declared.entries.UntypedEntry.{UntypedEntry}
 use Rattle.model.specs.Images.Format.{field, many_fit}
-use Rattle.model.specs.Images.Image.{Image, ImageContent, ImagePromise, anything, below, between, capability_format, content_format, frame_format, interrupt_format}
+use Rattle.model.specs.Images.Image.{Image, ImageContent, ImagePromise, anything, below, between, capability_format, content_format, frame_format}
+use Rattle.model.specs.Images.Image.{interrupt_format}
 use Rattle.model.specs.Images.Image.{object_format, pair_key, promise_format, promised_word_format, size_fits, table_format, untyped_format}
 use Rattle.model.specs.Images.Listing.{untyped_line, object_line, interrupt_line, capability_line, table_line, frame_line, content_line, promise_line}
 use Rattle.asm_line.specs.Listed.{Lists, untyped, object, interrupt, capability, table, frame, content, promise, IsPromisedWord, IsWord}

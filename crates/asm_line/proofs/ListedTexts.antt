@@ -11,12 +11,15 @@ use Rattle.model.specs.Images.Listing.{promised_words, size_words}
 use Rattle.asm_line.specs.declared.lines.Line.{Line}
 use Rattle.asm_line.specs.Words.{words_of}
 use Rattle.asm_line.specs.Parsing.{line_of}
-use Rattle.asm_line.specs.Listed.{Lists, memory, untyped, object, interrupt, capability, table, frame, content, promise, thread, buffer, measure, range, slot, register}
+use Rattle.asm_line.specs.Listed.{Lists, memory, untyped, object, interrupt, capability, table, frame, content, promise, thread, buffer, measure, range, slot}
+use Rattle.asm_line.specs.Listed.{register}
 use Rattle.asm_line.specs.Listed.{label, word, end, IsWord}
 use Rattle.asm_line.proofs.PlainWords.{IsPlainWord, is_plain, decimal-plain, words-line, line-all, none-there}
 use Rattle.asm_line.proofs.ListedLines.{Reads, named-plain, named-digits, number-plain, plain-literal, memory-says, untyped-says, object-says, size-says}
-use Rattle.asm_line.proofs.ListedLines.{interrupt-says, capability-says, table-says, frame-says, content-says, promise-says, promised-say, thread-says, measure-says, constant-plain}
-use Rattle.asm_line.proofs.ListedLines.{terms-say, range-says, buffer-says, register-says, label-says, word-says, end-says, kind-says, source-says, plain-numbers}
+use Rattle.asm_line.proofs.ListedLines.{interrupt-says, capability-says, table-says, frame-says, content-says, promise-says, promised-say, thread-says}
+use Rattle.asm_line.proofs.ListedLines.{measure-says, constant-plain}
+use Rattle.asm_line.proofs.ListedLines.{terms-say, range-says, buffer-says, register-says, label-says, word-says, end-says, kind-says, source-says}
+use Rattle.asm_line.proofs.ListedLines.{plain-numbers}
 use Rattle.asm_line.proofs.ListedLines.{slot-reads}
 
 most : (low high n : ℕ) → between low high n ≡ true → high < 2 ^ 63 → n < 2 ^ 63

@@ -48,7 +48,10 @@ position-or p xs = by (ltb (position_or_len p xs) (length xs)) refl
   where
     by : (b : Bool) → ltb (position_or_len p xs) (length xs) ≡ b → unwrap_or (cond b (Some (position_or_len p xs)) None) (length xs) ≡ position_or_len p xs
     by true e = refl
-    by false e = let most : position_or_len p xs ≤ length xs = prefix-le (λ x. not (p x)) xs in let least : length xs ≤ position_or_len p xs = ltb-false _ _ e in omega arith
+    by false e =
+        let most : position_or_len p xs ≤ length xs = prefix-le (λ x. not (p x)) xs in
+        let least : length xs ≤ position_or_len p xs = ltb-false _ _ e in
+        omega arith
 
 -- ---- blanks before a word
 

@@ -21,7 +21,8 @@ use Rattle.model.specs.Capabilities.CapabilityWords.{IsCapability, words_of}
 use Rattle.model.specs.Images.Format.{fits_signed}
 use Rattle.model.specs.Images.Image.{Image, Thread, ImageContent, ImagePromise, StateRecord, between, size_fits, not_zero, is_constant, no_parent, names_parent}
 use Rattle.model.specs.Images.Listing.{Text, line, untyped_name, object_name, interrupt_name, source_name, term_words, memory_line, untyped_line, object_line}
-use Rattle.model.specs.Images.Listing.{interrupt_line, capability_line, table_line, frame_line, content_line, promise_line, promised_words, thread_line, register_line}
+use Rattle.model.specs.Images.Listing.{interrupt_line, capability_line, table_line, frame_line, content_line, promise_line, promised_words, thread_line}
+use Rattle.model.specs.Images.Listing.{register_line}
 use Rattle.model.specs.Images.Listing.{range_line, measure_line, slot_line}
 use Rattle.asm_line.specs.declared.lines.Line.{Line}
 use Rattle.asm_line.specs.declared.lines.Line.TheVariants as said

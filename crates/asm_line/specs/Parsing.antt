@@ -14,7 +14,8 @@ use Rattle.asm_line.specs.declared.lines.Line.TheVariants as line
 use Rattle.asm_line.specs.declared.lines.Code.{Code}
 use Rattle.asm_line.specs.declared.lines.Code.TheVariants as code
 use Rattle.asm_line.specs.Words.{◌>>=◌, ends, last_number, name_of}
-use Rattle.asm_line.specs.Lines.{buffer_of, capability_of, content_of, frame_of, interrupt_of, keyword_of, measure_of, memory_of, object_of, range_of, register_line_of}
+use Rattle.asm_line.specs.Lines.{buffer_of, capability_of, content_of, frame_of, interrupt_of, keyword_of, measure_of, memory_of, object_of, range_of}
+use Rattle.asm_line.specs.Lines.{register_line_of}
 use Rattle.asm_line.specs.Lines.{promise_of, slot_of, table_of, thread_of, untyped_of, word}
 
 unfoldable pub plain_word_of : List Text → Result Code ℕ

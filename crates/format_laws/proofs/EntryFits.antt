@@ -14,8 +14,10 @@ use Rattle.model.specs.declared.entries.UntypedEntry.{UntypedEntry}
 use Rattle.format_laws.specs.Fitting.{CapabilityFits, FrameFits, HeaderFits, InterruptFits, ObjectFits, PromiseFits, PromisedWordFits, TableFits, ThreadFits}
 use Rattle.format_laws.specs.Fitting.{UntypedFits}
 use Rattle.format_laws.proofs.FormatFits.{between-bounds, field-between, field-parts, many-each, many-length}
-use Rattle.model.specs.Images.Image.{Image, ImagePromise, Thread, anything, below, between, capability_format, frame_format, header_format, interrupt_format, magic}
-use Rattle.model.specs.Images.Image.{has_buffers, has_promises, latest_version, no_buffer, object_format, pair_key, promise_format, promised_word_format, size_fits}
+use Rattle.model.specs.Images.Image.{Image, ImagePromise, Thread, anything, below, between, capability_format, frame_format, header_format, interrupt_format}
+use Rattle.model.specs.Images.Image.{magic}
+use Rattle.model.specs.Images.Image.{has_buffers, has_promises, latest_version, no_buffer, object_format, pair_key, promise_format, promised_word_format}
+use Rattle.model.specs.Images.Image.{size_fits}
 use Rattle.model.specs.Images.Image.{slots_format, table_format, thread_format, thread_header_format, untyped_format}
 use Rattle.model.specs.Images.Format.{Format, both, field, number_or, only_if}
 use Rattle.model.specs.declared.refusals.Refusal.TheVariants.{Magic, Version}

@@ -5,7 +5,8 @@ use Rattle.format_laws.proofs.FormatFits.{many-each, many-length, many-rises}
 use Rattle.model.specs.Images.Image.{Image, capability_format, frame_format, image_with, interrupt_format, object_format, pair_key, sections_format}
 use Rattle.model.specs.Images.Image.{promise_format, slots_format, table_format, thread_format, untyped_format, whole_image}
 use Rattle.format_laws.specs.Fitting.{IsFitting}
-use Rattle.format_laws.proofs.EntryFits.{capability-fits, frame-fits, header-fits, interrupt-fits, object-fits, promise-fits, table-fits, thread-fits, untyped-fits}
+use Rattle.format_laws.proofs.EntryFits.{capability-fits, frame-fits, header-fits, interrupt-fits, object-fits, promise-fits, table-fits, thread-fits}
+use Rattle.format_laws.proofs.EntryFits.{untyped-fits}
 
 pub is-fitting : (image : Image) → whole_image.fits image ≡ true → IsFitting image
 unfolding image_with sections_format

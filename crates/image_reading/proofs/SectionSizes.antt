@@ -4,7 +4,8 @@ use Rattle.std.specs.Int.{w32, cast_signed}
 use Rattle.std.proofs.lemmas.Bool.{and_parts, le-leb, ltb-false}
 use Rattle.model.specs.declared.refusals.Refusal.TheVariants.{Limit}
 use Rattle.model.specs.Images.Format.{Format, ◌>>=◌, number_at, field, both, named, signed_number}
-use Rattle.model.specs.Images.Image.{anything, below, between, capability_format, frame_format, interrupt_format, object_format, names_parent, no_parent, not_zero, pair_key, size_fits}
+use Rattle.model.specs.Images.Image.{anything, below, between, capability_format, frame_format, interrupt_format, object_format, names_parent, no_parent}
+use Rattle.model.specs.Images.Image.{not_zero, pair_key, size_fits}
 use Rattle.model.specs.Images.Image.{promised_word_format, range_format, register_format, slot_format, table_format, term_format, untyped_format}
 use Rattle.model.specs.Capabilities.CapabilityFields.{unpacked}
 use Rattle.std.specs.Prelude.{is_some}
@@ -126,7 +127,8 @@ pub slot_size : (objects least : ℕ) → HasSize 24 (slot_format objects least)
 unfolding slot_format
 slot_size objects least = named_size 24 _ _ _ _
     (both_size 4 20 _ _ _ _ (same_field (below objects)) (λ (cnode : ℕ).
-    both_size 4 16 _ _ _ _ (field_size (λ index. leb least (pair_key cnode index) && ltb index (2 ^ 14)) (λ index. leb 0 (pair_key cnode index) && ltb index (2 ^ 14))
+    both_size 4 16 _ _ _ _ (field_size (λ index. leb least (pair_key cnode index) && ltb index (2 ^ 14))
+    (λ index. leb 0 (pair_key cnode index) && ltb index (2 ^ 14))
     (λ index h. and-from-0 (leb least (pair_key cnode index)) (ltb index (2 ^ 14)) (pair_key cnode index) h)) (λ (a : ℕ).
     both_size 4 12 _ _ _ _ (same_field anything) (λ (word0 : ℕ).
     both_size 4 8 _ _ _ _ (same_field (λ word1. is_some (unpacked word0 word1))) (λ (word1 : ℕ).

@@ -7,7 +7,8 @@ use Rattle.std.proofs.lemmas.Int.{ints}
 use Rattle.std.specs.List.{list_any}
 use Rattle.std.specs.Option.{option_map_or}
 use Rattle.model.specs.Acceptance.Measures.{After, Before, Form, Measure, Variable, after_form, before_form, behind_form, call_form, constant_form}
-use Rattle.model.specs.Acceptance.Measures.{difference_form, exact_sum, falls, greatest, greatest_on, greatest_term, has_term, is_register, lowered, other_value}
+use Rattle.model.specs.Acceptance.Measures.{difference_form, exact_sum, falls, greatest, greatest_on, greatest_term, has_term, is_register, lowered}
+use Rattle.model.specs.Acceptance.Measures.{other_value}
 use Rattle.model.specs.Acceptance.Measures.{range_at, stays_below, substituted, sum_form, times_form}
 use Rattle.model.specs.Acceptance.RangeRules.{destination}
 use Rattle.model.specs.declared.entries.TermEntry.{TermEntry}

@@ -24,7 +24,8 @@ constant-step value_of start terms i d s p less few is small next size =
           (sum-small s p (2 ^ 64 + i * 2 ^ 96) (2 ^ 94) (2 ^ 64 + (i + 1) * 2 ^ 96) small size room),
     )
 
-pub coefficient-step : (value_of : ℕ → Form) (variable : Variable) (terms : List TermEntry) (i : ℕ) (d : TermEntry) (s p : ℤ) → i < length terms → length terms ≤ 4
+pub coefficient-step : (value_of : ℕ → Form) (variable : Variable) (terms : List TermEntry) (i : ℕ) (d : TermEntry) (s p : ℤ) → i < length terms →
+    length terms ≤ 4
     → s ≡ coefficient_sum value_of variable (pos 0) (take i terms) → IsSmall (i * 2 ^ 39) s
     → p ≡ (get_or terms i d).coefficient *ℤ (value_of (get_or terms i d).register).coefficient variable → IsSmall (2 ^ 38) p
     → (to_z w64 (of_z w64 (s +ℤ to_z w64 (of_z w64 p))) ≡ coefficient_sum value_of variable (pos 0) (take (i + 1) terms))

@@ -7,7 +7,8 @@ use Rattle.model.specs.declared.entries.TermEntry.{TermEntry}
 use Rattle.model.specs.declared.ranges.Range.{Range}
 use Rattle.model.specs.Machine.ProgramMemory.{RegisterFile, read}
 use Rattle.model.specs.Acceptance.Measures.{After, Before, Form, Measure, Variable, before_form, constant_form, difference_form, falls, greatest, greatest_term}
-use Rattle.model.specs.Acceptance.Measures.{least, least_term, least_value, measured, range_at, register_numbered, stays_below, substituted, sum_form, sum_of, sum_over}
+use Rattle.model.specs.Acceptance.Measures.{least, least_term, least_value, measured, range_at, register_numbered, stays_below, substituted, sum_form, sum_of}
+use Rattle.model.specs.Acceptance.Measures.{sum_over}
 use Rattle.model.specs.Acceptance.Measures.{times_form}
 use Rattle.model.specs.Acceptance.Ranges.{range_of}
 

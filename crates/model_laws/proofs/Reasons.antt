@@ -39,7 +39,8 @@ never_stopped s after self Held other endpoint old waits nobody (set_back queue 
 
 pub no_word : (s after : State) (self : ℕ) (Held : (Cap → Type 0) → Type 0) (other : ℕ) (old new : ThreadState) → old.status ≡ AwaitsReply
     → (thread_at s self).caller ≡ None → Reason s after self Held other old new → ⊥
-no_word s after self Held other old new waits nobody (receiver e badge c first blocked held right is) = let f : AwaitsReply ≡ Blocked e = sym waits ∙ blocked in cc
+no_word s after self Held other old new waits nobody (receiver e badge c first blocked held right is) =
+    let f : AwaitsReply ≡ Blocked e = sym waits ∙ blocked in cc
 no_word s after self Held other old new waits nobody (sender e first there names blocked held is) = let f : AwaitsReply ≡ Blocked e = sym waits ∙ blocked in cc
 no_word s after self Held other old new waits nobody (waiter n badge first blocked held is) = let f : AwaitsReply ≡ Blocked n = sym waits ∙ blocked in cc
 no_word s after self Held other old new waits nobody (caller right awaits is) = let f : None ≡ Some other = sym nobody ∙ right in cc
@@ -71,8 +72,10 @@ no_third s after self Held other third endpoint old new another waits none has (
     let f : None ≡ Some third = sym none ∙ sym (received_caller first first.sent old) ∙ sym (ap (λ (t : ThreadState). t.caller) is) ∙ has in cc
 no_third s after self Held other third endpoint old new another waits none has (waiter n badge first blocked held is) =
     let f : None ≡ Some third = sym none ∙ sym (ap (λ (t : ThreadState). t.caller) is) ∙ has in cc
-no_third s after self Held other third endpoint old new another waits none has (caller right awaits is) = let f : Blocked endpoint ≡ AwaitsReply = sym waits ∙ awaits in cc
-no_third s after self Held other third endpoint old new another waits none has (faulted right awaits is) = let f : Blocked endpoint ≡ AwaitsHandler = sym waits ∙ awaits in cc
+no_third s after self Held other third endpoint old new another waits none has (caller right awaits is) =
+    let f : Blocked endpoint ≡ AwaitsReply = sym waits ∙ awaits in cc
+no_third s after self Held other third endpoint old new another waits none has (faulted right awaits is) =
+    let f : Blocked endpoint ≡ AwaitsHandler = sym waits ∙ awaits in cc
 no_third s after self Held other third endpoint old new another waits none has (set_back queue blocked there gone is) =
     let f : None ≡ Some third = sym none ∙ sym (ap (λ (t : ThreadState). t.caller) is) ∙ has in cc
 
@@ -121,7 +124,8 @@ nothing_reached s after self Held other queue old new waits stays none (receiver
 nothing_reached s after self Held other queue old new waits stays none (sender e first there names blocked held is) = none (ReceivesFrom e) held
 nothing_reached s after self Held other queue old new waits stays none (waiter n b first blocked held is) = none (Signals s n b) held
 nothing_reached s after self Held other queue old new waits stays none (caller right awaits is) = let f : Blocked queue ≡ AwaitsReply = sym waits ∙ awaits in cc
-nothing_reached s after self Held other queue old new waits stays none (faulted right awaits is) = let f : Blocked queue ≡ AwaitsHandler = sym waits ∙ awaits in cc
+nothing_reached s after self Held other queue old new waits stays none (faulted right awaits is) =
+    let f : Blocked queue ≡ AwaitsHandler = sym waits ∙ awaits in cc
 nothing_reached s after self Held other queue old new waits stays none (set_back q blocked there gone is) =
     stays (ap after.objects (blocked_is queue q old waits blocked) ∙ gone)
 

@@ -184,7 +184,8 @@ module _ (s : State) (memory : List ℕ) (kind : ObjectKind) (offset : ℕ) (fit
 
 -- ---- the invariant of objects is kept
 
-module _ (o n : Contents) (before after : Slots) (old new : List ℕ) (kind : ObjectKind) (offset : ℕ) (stands : Linked o before old) (same_slots : after ≡ before)
+module _ (o n : Contents) (before after : Slots) (old new : List ℕ) (kind : ObjectKind) (offset : ℕ) (stands : Linked o before old)
+    (same_slots : after ≡ before)
     (free : (contents_state o before old).objects offset ≡ None) (room : IsRoom (contents_state o before old) (kind_of (new_object kind)) offset)
     (same_ready : n.ready ≡ o.ready)
     (begins : (ready : ℕ → List ℕ) → state_with n (waiting_of o old) ready before old ≡ begun (state_with o (waiting_of o old) ready before old) old kind

@@ -79,7 +79,8 @@ tables-begun o entries_now kind bits offset are long entered may = record {
   ];
 }
 
-module _ (o : Tables) (slots : Slots) (memory : List ℕ) (kind : ObjectKind) (offset : ℕ) (are : AreTables o) (fits : FitsMemory (state_of o slots memory) memory)
+module _ (o : Tables) (slots : Slots) (memory : List ℕ) (kind : ObjectKind) (offset : ℕ) (are : AreTables o)
+    (fits : FitsMemory (state_of o slots memory) memory)
     (may : MayStand (state_of o slots memory).memory_bits kind offset) (room : IsRoom (state_of o slots memory) (kind_of (new_object kind)) offset) where
   size : length memory ≡ 2 ^ o.bits
   size = long o are slots memory fits
@@ -120,10 +121,13 @@ module _ (o : Tables) (slots : Slots) (memory : List ℕ) (kind : ObjectKind) (o
                   empty place (room'.slots place (omega (arith, from)) (omega (arith, below)) refl),
             )
         | kinds.Thread ↦ λ is. absurd (let clash : false ≡ true = sym (ap (λ (x : ObjectKind). has_waiting (Some (kind_of (new_object x)))) is) ∙ waits in cc)
-        | kinds.CNode radix ↦ λ is. absurd (let clash : false ≡ true = sym (ap (λ (x : ObjectKind). has_waiting (Some (kind_of (new_object x)))) is) ∙ waits in cc)
+        | kinds.CNode radix ↦ λ is. absurd
+            (let clash : false ≡ true = sym (ap (λ (x : ObjectKind). has_waiting (Some (kind_of (new_object x)))) is) ∙ waits in cc)
         | kinds.Frame ↦ λ is. absurd (let clash : false ≡ true = sym (ap (λ (x : ObjectKind). has_waiting (Some (kind_of (new_object x)))) is) ∙ waits in cc)
-        | kinds.PageTable ↦ λ is. absurd (let clash : false ≡ true = sym (ap (λ (x : ObjectKind). has_waiting (Some (kind_of (new_object x)))) is) ∙ waits in cc)
-        | kinds.RootTable ↦ λ is. absurd (let clash : false ≡ true = sym (ap (λ (x : ObjectKind). has_waiting (Some (kind_of (new_object x)))) is) ∙ waits in cc)
+        | kinds.PageTable ↦ λ is. absurd
+            (let clash : false ≡ true = sym (ap (λ (x : ObjectKind). has_waiting (Some (kind_of (new_object x)))) is) ∙ waits in cc)
+        | kinds.RootTable ↦ λ is. absurd
+            (let clash : false ≡ true = sym (ap (λ (x : ObjectKind). has_waiting (Some (kind_of (new_object x)))) is) ∙ waits in cc)
       ] refl
 
   pub room-at : IsRoomAt kind slots (length memory) offset

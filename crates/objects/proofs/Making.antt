@@ -159,7 +159,8 @@ module _ (o : Tables) (before after : Slots) (old new : List ℕ) (kind : Object
     | kinds.Thread ↦ λ is. as-thread is
     | kinds.Endpoint ↦ λ is. as-record Endpoint (ap record_of is) (ap fresh is) (ap (λ k. held k word) is)
     | kinds.Notification ↦ λ is. as-record (Notification 0) (ap record_of is) (ap fresh is)
-        (ap (λ k. held k word) is ∙ ap (λ (w : ℕ). Some (Notification w)) (bytes.word (ap (λ (k : ObjectKind). has_waiting (Some (kind_of (new_object k)))) is)))
+        (ap (λ k. held k word) is ∙ ap (λ (w : ℕ). Some (Notification w))
+        (bytes.word (ap (λ (k : ObjectKind). has_waiting (Some (kind_of (new_object k)))) is)))
     | kinds.CNode radix ↦ λ is. as-record (CNode radix) (ap record_of is) (ap fresh is) (ap (λ k. held k word) is)
     | kinds.Frame ↦ λ is. as-record Frame (ap record_of is) (ap fresh is) (ap (λ k. held k word) is)
     | kinds.PageTable ↦ λ is. as-record PageTable (ap record_of is) (ap fresh is) (ap (λ k. held k word) is)

@@ -48,7 +48,10 @@ other-tells : (refusal : Refusal) → refusal ≢ refusals.OutOfMemory → fault
 other-tells refusal other as-refused = record {
   no-output = λ is. let clash : Refused refusal ≡ Output = sym as-refused ∙ is in cc;
   no-boot = λ fault is. let clash : Refused refusal ≡ Boot fault = sym as-refused ∙ is in cc;
-  no-want = λ is. let same : Refused refusal ≡ Refused refusals.OutOfMemory = sym as-refused ∙ is in let want : refusal ≡ refusals.OutOfMemory = cc same in other want;
+  no-want = λ is.
+      let same : Refused refusal ≡ Refused refusals.OutOfMemory = sym as-refused ∙ is in
+      let want : refusal ≡ refusals.OutOfMemory = cc same in
+      other want;
 }
 
 pub refusal-tells : (refusal : Refusal) → RefusalTells refusal

@@ -331,7 +331,8 @@ module _ (s : State) (whole : IsSound s) (q : ℕ) where
       (λ thread other.
       times-append senders (e.receivers ++ x ∷ []) thread ∙ ap (λ (n : ℕ). times_in senders thread + n) (times-end_other e.receivers x thread other)
       ∙ sym (times-append senders e.receivers thread))
-      (let a = times-append senders (e.receivers ++ x ∷ []) x in let b = times-end_same e.receivers x in let c = times-append senders e.receivers x in let d = here-once q in
+      (let a = times-append senders (e.receivers ++ x ∷ []) x in let b = times-end_same e.receivers x in
+      let c = times-append senders e.receivers x in let d = here-once q in
       let f = none-yet x runs in let g = ap (λ (o : Option Object). times_in (waiting_at o) x) is in omega (arith, a, b, c, d, f, g))
       (λ queue other. sym (here-only q queue other)) (inl none) (whole.threads.senders q e is)
 
@@ -341,7 +342,8 @@ module _ (s : State) (whole : IsSound s) (q : ℕ) where
       notified (kind_at s) s x q (runs_of (s.objects x)) (λ _. 0) (in_queue (Blocked q)) false n (record n { waiters = n.waiters ++ x ∷ [] })
       (running s x whole runs) is
       (λ thread other. times-end_other n.waiters x thread other)
-      (let b = times-end_same n.waiters x in let d = here-once q in let f = none-yet x runs in let g = ap (λ (o : Option Object). times_in (waiting_at o) x) is in omega (arith, b, d, f, g))
+      (let b = times-end_same n.waiters x in let d = here-once q in
+      let f = none-yet x runs in let g = ap (λ (o : Option Object). times_in (waiting_at o) x) is in omega (arith, b, d, f, g))
       (λ queue other. sym (here-only q queue other)) (whole.threads.words q n is) (inr clear)
 
   -- another word

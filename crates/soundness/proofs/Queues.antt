@@ -34,4 +34,7 @@ pub times-end_same : (threads : List ℕ) (thread : ℕ) → times_in (threads +
 times-end_same threads thread = let both = times-append threads (thread ∷ []) thread in let one = times-first_same thread [] in omega (arith, both, one)
 
 pub times-end_other : (threads : List ℕ) (thread other : ℕ) → other ≢ thread → times_in (threads ++ thread ∷ []) other ≡ times_in threads other
-times-end_other threads thread other differs = let both = times-append threads (thread ∷ []) other in let one = times-first_other thread [] other differs in omega (arith, both, one)
+times-end_other threads thread other differs =
+    let both = times-append threads (thread ∷ []) other in
+    let one = times-first_other thread [] other differs in
+    omega (arith, both, one)

@@ -93,7 +93,9 @@ checks-taken low aligned free last a b c = rw (a, b, c) refl
 checks-all : (low aligned free : Bool) (last : Result State KError) → low ≡ true → aligned ≡ true → free ≡ true → checks low aligned free last ≡ last
 checks-all low aligned free last a b c = rw (a, b, c) refl
 
-pub gives-taken : (slots : Slots) (cspace : Cap) (x t : ℕ) (o : Option TableMapping) (n : SlotName) (address root region : ℕ) (e : KError) → is_some o ≡ false → root_named slots cspace n ≡ Ok root → region_named address ≡ Ok region → RegionAnswer slots root region (Err e) → let refused : Result (Unit {0}) KError = Err e in GivesTableMapped slots cspace x t o n address slots refused
+pub gives-taken : (slots : Slots) (cspace : Cap) (x t : ℕ) (o : Option TableMapping) (n : SlotName) (address root region : ℕ) (e : KError)
+    → is_some o ≡ false → root_named slots cspace n ≡ Ok root → region_named address ≡ Ok region → RegionAnswer slots root region (Err e)
+    → let refused : Result (Unit {0}) KError = Err e in GivesTableMapped slots cspace x t o n address slots refused
 gives-taken slots cspace x t (Some m) n address root region e absent is named answer = absurd cc
 gives-taken slots cspace x t None n address root region e absent is named answer = λ s caller near.
     let low = low_region address region named in

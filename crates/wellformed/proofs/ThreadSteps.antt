@@ -37,7 +37,8 @@ with_no-buffer : (buffer n : ℕ) (set : List ℕ) (b : Bool) → (buffer == no_
     → is_member n (if b then set else with_number buffer set) ≡ (is_member n set || (buffer == n))
 with_no-buffer buffer n set false some other = member-with n buffer set
 with_no-buffer buffer n set true none other =
-    let apart : (buffer == n) ≡ false = grind (arith, nat_tests, none, other) in sym (ap (λ (b : Bool). is_member n set || b) apart ∙ or-false (is_member n set))
+    let apart : (buffer == n) ≡ false = grind (arith, nat_tests, none, other) in
+    sym (ap (λ (b : Bool). is_member n set || b) apart ∙ or-false (is_member n set))
   where
     or-false : (b : Bool) → (b || false) ≡ b
     or-false true = refl

@@ -7,8 +7,10 @@ use Rattle.std.specs.Option.{option_map_or}
 use Rattle.std.proofs.lemmas.Bool.Decides.{eqb_tells}
 use Rattle.std.proofs.lemmas.List.Elements.{Contains-append_cases}
 use Rattle.model.specs.declared.capabilities.Cap.{Cap}
-use Rattle.model.specs.Acceptance.Authority.{AsksAs, CallNames, Delivers, EndpointChange, waits_to_send, waits_to_receive, takes_sender, takes_receiver, IsWoken, LineChange}
-use Rattle.model.specs.Acceptance.Authority.{opens, delivers, NotificationChange, joins, passes_on, taken, waits, RightChange, kept, dropped, of_sender, same_slice}
+use Rattle.model.specs.Acceptance.Authority.{AsksAs, CallNames, Delivers, EndpointChange, waits_to_send, waits_to_receive, takes_sender, takes_receiver}
+use Rattle.model.specs.Acceptance.Authority.{IsWoken, LineChange}
+use Rattle.model.specs.Acceptance.Authority.{opens, delivers, NotificationChange, joins, passes_on, taken, waits, RightChange, kept, dropped, of_sender}
+use Rattle.model.specs.Acceptance.Authority.{same_slice}
 use Rattle.model.specs.Acceptance.Authority.{ReadyChange, self_of}
 use Rattle.model.specs.Capabilities.Lookup.{called_slot}
 use Rattle.model.specs.Images.Image.{Image, Thread}
@@ -20,7 +22,8 @@ use Rattle.model.specs.Kernel.Retype.{NewEndpoint}
 use Rattle.model.specs.Kernel.Scheduling.{is_runnable, wake}
 use Rattle.model.specs.Kernel.Soundness.{IsSound}
 use Rattle.model.specs.Kernel.State.{State, Inactive, Runnable, Blocked, AwaitsReply, Object, ThreadObject, EndpointObject, NotificationObject, EndpointState}
-use Rattle.model.specs.Kernel.State.{NotificationState, Sender, ThreadState, as_endpoint, as_notification, as_thread, endpoint_at, new_endpoint, new_notification}
+use Rattle.model.specs.Kernel.State.{NotificationState, Sender, ThreadState, as_endpoint, as_notification, as_thread, endpoint_at, new_endpoint}
+use Rattle.model.specs.Kernel.State.{new_notification}
 use Rattle.model.specs.Kernel.State.{new_thread, notification_at, thread_at}
 use Rattle.model.specs.Kernel.Steps.{cspace_of, named_slot}
 use Rattle.model.specs.Machine.Effects.{advanced}

@@ -23,7 +23,8 @@ runs-apart image t s sound own is runs = record {
   own = own;
   is = is;
   runs = runs;
-  another = λ right. awaited-apart s sound (self_of image t) (self_of image t) own is right (self_of image t) (runs-awaits s (self_of image t) own is runs) refl;
+  another = λ right. awaited-apart s sound (self_of image t) (self_of image t) own is right (self_of image t) (runs-awaits s (self_of image t) own is runs)
+      refl;
 }
 
 pub called-as : (image : Image) (t : Thread) (s : State) (number : ℕ) (capability : Cap) (call : CallsOn image t s number capability) (c : SystemCall)
@@ -48,7 +49,8 @@ pub completed-within : (image : Image) (t : Thread) (s m : State) → RunsApart 
     → m.objects (self_of image t) ≡ Some (ThreadObject now) → WithinAuthority image t s m → (kind : SendCall)
     → WithinAuthority image t s (completed m (self_of image t) kind)
 completed-within image t s m apart now there within kind =
-    subst (λ (b : Bool). WithinAuthority image t s (if b then (if is_runnable (thread_at m (self_of image t)).status then answered m (self_of image t) kind 0 else
+    subst (λ (b : Bool). WithinAuthority image t s
+    (if b then (if is_runnable (thread_at m (self_of image t)).status then answered m (self_of image t) kind 0 else
     passes m (self_of image t)) else m)) (sym (ap (λ (o : Option Object). is_some (as_thread o)) there))
     (elim (is_runnable (thread_at m (self_of image t)).status)
     as (λ (b : Bool). WithinAuthority image t s (if b then answered m (self_of image t) kind 0 else passes m (self_of image t))) [

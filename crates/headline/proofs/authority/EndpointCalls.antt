@@ -103,7 +103,8 @@ module _ (image : Image) (t : Thread) (s : State) (sound : IsSound s) (number e 
         elim (endpoint_at s e).receivers as (λ (l : List ℕ). (endpoint_at s e).receivers ≡ l
         → WithinAuthority image t s (sends s e (sender self BySend badge grants) l)) [
           | [] ↦ λ none.
-              changes-within image t s _ (waits-changes image t s sound call.own call.is call.runs e queue.0 queue.1 badge BySend grants (asks BySend (inl refl)))
+              changes-within image t s _ (waits-changes image t s sound call.own call.is call.runs e queue.0 queue.1 badge BySend grants
+              (asks BySend (inl refl)))
           | r ∷ others ↦ λ first. given r others first
         ] refl
 
@@ -120,7 +121,8 @@ module _ (image : Image) (t : Thread) (s : State) (sound : IsSound s) (number e 
         elim (endpoint_at s e).receivers as (λ (l : List ℕ). (endpoint_at s e).receivers ≡ l
         → WithinAuthority image t s (sends s e (sender self ByCall badge grants) l)) [
           | [] ↦ λ none.
-              changes-within image t s _ (waits-changes image t s sound call.own call.is call.runs e queue.0 queue.1 badge ByCall grants (asks ByCall (inr refl)))
+              changes-within image t s _ (waits-changes image t s sound call.own call.is call.runs e queue.0 queue.1 badge ByCall grants
+              (asks ByCall (inr refl)))
           | r ∷ others ↦ λ first.
               let listed = sym (ap (λ (q : EndpointState). q.receivers) queue-is) ∙ first in
               let told = bytes_between s self r (length_between s self r) in

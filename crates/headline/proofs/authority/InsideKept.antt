@@ -16,7 +16,8 @@ use Rattle.model.specs.declared.capabilities.Cap.TheVariants.{Empty, Untyped, En
 use Rattle.model.specs.declared.capabilities.Cap.TheVariants.{InterruptHandler}
 use Rattle.model.specs.declared.slot_entries.Entry.{Entry}
 use Rattle.model.specs.Acceptance.Accepted.{IsAccepted}
-use Rattle.model.specs.Acceptance.Authority.{Granted, held, appeared, pool, handler, made_handler, control, Holds, IsUntypedAround, ObjectChange, appears, ends as ended}
+use Rattle.model.specs.Acceptance.Authority.{Granted, held, appeared, pool, handler, made_handler, control, Holds, IsUntypedAround, ObjectChange, appears}
+use Rattle.model.specs.Acceptance.Authority.{ends as ended}
 use Rattle.model.specs.Acceptance.Authority.{WithinAuthority, without_use}
 use Rattle.model.specs.Acceptance.NotedStates.{NotedSlot}
 use Rattle.model.specs.Capabilities.CapabilityKinds.{names_object}

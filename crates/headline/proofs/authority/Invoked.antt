@@ -22,7 +22,8 @@ module _ (image : Image) (t : Thread) (s : State) (number : ℕ) (capability : C
 
   -- what the call asks for is performed
   pub invoked-as : (c : Invocation) → asked s (self_of image t) call.slot ≡ Ok c → invoked s (self_of image t) call.slot
-      ≡ perform s (record { root = cspace_of s (self_of image t); caller = Some (self_of image t); slot = call.slot; capability = capability_at s.slots call.slot })
+      ≡ perform s
+      (record { root = cspace_of s (self_of image t); caller = Some (self_of image t); slot = call.slot; capability = capability_at s.slots call.slot })
       c
   unfolding invoke
   invoked-as c asks =

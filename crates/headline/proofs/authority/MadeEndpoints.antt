@@ -62,7 +62,8 @@ not-within window x differs = grind arith
 -- ---- how much a Retype uses
 
 -- a full slot is in no window that is empty
-pub outside-window : (slots : Slots) (first count slot : ℕ) → any_full slots first count ≡ false → is_full slots slot ≡ true → is_within first count slot ≡ false
+pub outside-window : (slots : Slots) (first count slot : ℕ) → any_full slots first count ≡ false → is_full slots slot ≡ true →
+    is_within first count slot ≡ false
 outside-window slots first count slot none full = elim (is_within first count slot) as (λ b. is_within first count slot ≡ b → b ≡ false) [
   | true ↦ λ inside.
       let parts = and_parts (nat_le first slot) (nat_lt slot (first + count)) inside in

@@ -29,7 +29,8 @@ use Rattle.headline.proofs.authority.Stored.{passed}
 use Rattle.headline.specs.authority.Scenarios.{CallsOn, MapsFrame, asked, invoked}
 
 module _ (image : Image) (t : Thread) (s : State) (offset : ℕ) (allowed : Rights) (kind : SendCall) (number : ℕ)
-    (is : call_of number ≡ Some (Sends kind)) (sound : IsSound s) (call : CallsOn image t s number (Frame offset allowed None)) (maps : MapsFrame image t s call.slot allowed) where
+    (is : call_of number ≡ Some (Sends kind)) (sound : IsSound s) (call : CallsOn image t s number (Frame offset allowed None))
+    (maps : MapsFrame image t s call.slot allowed) where
   abbrev self : ℕ
   self = self_of image t
 

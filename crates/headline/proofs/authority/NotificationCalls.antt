@@ -17,7 +17,8 @@ use Rattle.model.specs.Kernel.Messages.{deliver_word, poll, signal, signals, wai
 use Rattle.model.specs.Kernel.Retype.{NewNotification}
 use Rattle.model.specs.Kernel.Soundness.{IsSound}
 use Rattle.model.specs.Kernel.State.{State, NotificationObject, NotificationState, notification_at, with_notification}
-use Rattle.model.specs.Kernel.Steps.{Done, call_of, lacks_capability, receive_by, receive_named, receive_on_notification, refused, send_by, send_named, signal_on}
+use Rattle.model.specs.Kernel.Steps.{Done, call_of, lacks_capability, receive_by, receive_named, receive_on_notification, refused, send_by, send_named}
+use Rattle.model.specs.Kernel.Steps.{signal_on}
 use Rattle.model.specs.Kernel.Steps.{system_call}
 use Rattle.headline.proofs.authority.Changes.{ChangesObjects, KeepsSlice, changes-within}
 use Rattle.headline.proofs.authority.CallsMade.{answered-within, called-as, runs-apart}

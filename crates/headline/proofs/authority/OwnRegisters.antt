@@ -3,7 +3,8 @@ use Rattle.std.proofs.Common.{ℕ, ◌≡◌, ◌≢◌, true, false, Option, So
 use Rattle.std.specs.Option.{option_map_or}
 use Rattle.std.proofs.lemmas.Bool.Decides.{eqb_tells}
 use Rattle.model.specs.declared.capabilities.Cap.{Cap}
-use Rattle.model.specs.Acceptance.Authority.{ByteChange, written, comes_with_frame, goes_with_frame, CallNames, Delivers, EndpointChange, waits_to_send, waits_to_receive}
+use Rattle.model.specs.Acceptance.Authority.{ByteChange, written, comes_with_frame, goes_with_frame, CallNames, Delivers, EndpointChange, waits_to_send}
+use Rattle.model.specs.Acceptance.Authority.{waits_to_receive}
 use Rattle.model.specs.Acceptance.Authority.{takes_sender, takes_receiver, Granted, held, appeared, pool, handler, made_handler, control, IsWoken, LineChange}
 use Rattle.model.specs.Acceptance.Authority.{opens, delivers, NewParent, emptied, own as own_parent, of_own, NotificationChange, joins, passes_on, taken, waits}
 use Rattle.model.specs.Acceptance.Authority.{ObjectChange, appears, ends, RightChange, kept, dropped, of_sender, SliceChange, same_slice, new_slice}

@@ -93,7 +93,8 @@ module _ (image : Image) (t : Numbered) (s : State) where
   Keeps slots = PoolsIn image t s.slots slots
 
   -- what is no untyped memory changes
-  kept-entered : (place : ℕ) (entry : Entry) → ((offset bits old : ℕ) → capability_at s.slots place ≡ Untyped offset bits old → ⊥) → Keeps (entered s place entry)
+  kept-entered : (place : ℕ) (entry : Entry) → ((offset bits old : ℕ) → capability_at s.slots place ≡ Untyped offset bits old → ⊥) →
+      Keeps (entered s place entry)
   kept-entered place entry none slot offset bits old mine is = elim (eqb_tells slot place) [
     | inl here ↦ absurd (none offset bits old (ap (capability_at s.slots) (sym here.1) ∙ is))
     | inr apart ↦ (old, ap capability_of (entered-away s place entry slot apart.1) ∙ is)

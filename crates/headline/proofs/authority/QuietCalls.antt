@@ -23,7 +23,8 @@ use Rattle.model.specs.Kernel.Faults.{capability_fault, unknown_call}
 use Rattle.model.specs.Kernel.Messages.{a0, a7, passes, reply, signal}
 use Rattle.model.specs.Kernel.State.{State, BySend, ByCall}
 use Rattle.model.specs.Kernel.Steps.{call_of, calls, calls_known, lacks_capability, named_slot, receive_by, receive_call, receive_named, receive_on_endpoint}
-use Rattle.model.specs.Kernel.Steps.{receive_on_notification, refused, registers_of, send_by, send_named, send_on, sender, sends_nothing, signal_on, system_call}
+use Rattle.model.specs.Kernel.Steps.{receive_on_notification, refused, registers_of, send_by, send_named, send_on, sender, sends_nothing, signal_on}
+use Rattle.model.specs.Kernel.Steps.{system_call}
 use Rattle.model.specs.Machine.ProgramMemory.{read}
 use Rattle.model.specs.Shared.Labels.{error_number}
 

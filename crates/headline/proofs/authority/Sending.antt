@@ -7,7 +7,8 @@ use Rattle.model.specs.Acceptance.Authority.{self_of}
 use Rattle.model.specs.Capabilities.Slots.{Slots}
 use Rattle.model.specs.Images.Image.{Image, Thread}
 use Rattle.model.specs.Kernel.Deliveries.{as_before, CallsTo, receiver, SendsTo, to_sender, woken}
-use Rattle.model.specs.Kernel.Messages.{Message, bytes_between, deliver, deliver_with, delivered, length_between, message_between, waits_to_send as waits_in_queue, with_caller}
+use Rattle.model.specs.Kernel.Messages.{Message, bytes_between, deliver, deliver_with, delivered, length_between, message_between}
+use Rattle.model.specs.Kernel.Messages.{waits_to_send as waits_in_queue, with_caller}
 use Rattle.model.specs.Kernel.Scheduling.{block, wake}
 use Rattle.model.specs.Kernel.Soundness.{IsSound, awaits_answer}
 use Rattle.model.specs.Kernel.State.{State, Status, Runnable, Blocked, AwaitsReply, Object, ThreadObject, EndpointObject, EndpointState, Sender, Sent}

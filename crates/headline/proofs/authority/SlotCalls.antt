@@ -9,7 +9,8 @@ use Rattle.model.specs.declared.errors.KError.TheVariants.{DeleteFirst, IllegalO
 use Rattle.model.specs.declared.invocations.SlotName.{SlotName}
 use Rattle.model.specs.declared.rights.Rights.{Rights}
 use Rattle.model.specs.Acceptance.Authority.{IsOwnSlot, WithinAuthority, self_of, without_use}
-use Rattle.model.specs.Capabilities.CapabilityKinds.{badge_fits, copied, frame_mapping, guard_fits, is_badged, may_be_copied, table_mapping, unmapped, with_payload}
+use Rattle.model.specs.Capabilities.CapabilityKinds.{badge_fits, copied, frame_mapping, guard_fits, is_badged, may_be_copied, table_mapping, unmapped}
+use Rattle.model.specs.Capabilities.CapabilityKinds.{with_payload}
 use Rattle.model.specs.Capabilities.Slots.{IsFull, Slots, capability_at, depth_of, inserted, is_empty, is_full, parent_at, recapped, relocated}
 use Rattle.model.specs.Images.Image.{Image, Thread}
 use Rattle.model.specs.Images.Places.{offset_of}

@@ -14,7 +14,8 @@ use Rattle.model.specs.declared.capabilities.FrameMapping.{FrameMapping}
 use Rattle.model.specs.declared.capabilities.TableMapping.{TableMapping}
 use Rattle.model.specs.declared.slot_entries.Entry.{Entry}
 use Rattle.model.specs.Acceptance.Authority.{Covers, Granted, held, pool, handler, control, IsOwnSlot, MappingGranted, moved_along}
-use Rattle.model.specs.Acceptance.Authority.{NewParent, emptied, own as own_parent, of_own, UsedChange, WithinAuthority, badge_of, rights_of, self_of, without_use}
+use Rattle.model.specs.Acceptance.Authority.{NewParent, emptied, own as own_parent, of_own, UsedChange, WithinAuthority, badge_of, rights_of, self_of}
+use Rattle.model.specs.Acceptance.Authority.{without_use}
 use Rattle.model.specs.Capabilities.CapabilityKinds.{copied, frame_mapping, is_badged, may_be_copied, table_mapping, with_payload}
 use Rattle.model.specs.Capabilities.Slots.{IsFull, Slots, adopted, capability_at, empty_entry, inserted, is_empty, is_full, parent_at, recapped}
 use Rattle.model.specs.Capabilities.Slots.{relocated}

@@ -140,15 +140,18 @@ module _ (laws : Laws) (bytes : List ℕ) (image : Image) (s : State) (labels : 
       by-send kind names.slot is names.named names.own (quiet kind names.slot refl names.named)
       (laws.sends image t.thread (point_of t point) state kind names.slot (capability_at s.slots names.slot) left names.rule)
   calls-within (Receives Receiving) is rule quiet =
-      let names = named-here laws bytes image s labels accepted t listed own point state left at (λ slot. receive_rule image (point_of t point) state true) rule in
+      let names = named-here laws bytes image s labels accepted t listed own point state left at (λ slot. receive_rule image (point_of t point) state true)
+      rule in
       by-receive Receiving names.slot true is names.named names.own
       (laws.receives image (point_of t point) state true (capability_at s.slots names.slot) left names.rule)
   calls-within (Receives Polling) is rule quiet =
-      let names = named-here laws bytes image s labels accepted t listed own point state left at (λ slot. receive_rule image (point_of t point) state false) rule in
+      let names = named-here laws bytes image s labels accepted t listed own point state left at (λ slot. receive_rule image (point_of t point) state false)
+      rule in
       by-receive Polling names.slot false is names.named names.own
       (laws.receives image (point_of t point) state false (capability_at s.slots names.slot) left names.rule)
   calls-within RepliesAndReceives is rule quiet =
-      let names = named-here laws bytes image s labels accepted t listed own point state left at (λ slot. receive_rule image (point_of t point) state true) rule in
+      let names = named-here laws bytes image s labels accepted t listed own point state left at (λ slot. receive_rule image (point_of t point) state true)
+      rule in
       by-reply names.slot true is names.named names.own
       (laws.receives image (point_of t point) state true (capability_at s.slots names.slot) left names.rule)
   calls-within Replies is rule quiet = reply-within image t.thread s all.sound number is own at.there at.status handles-nobody refl

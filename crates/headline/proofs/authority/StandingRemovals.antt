@@ -155,7 +155,8 @@ module _ (image : Image) (t : Numbered) (s : State) (slots : List NotedSlot) (m 
       by-end true gone None none = absurd (differs (none ∙ sym (ap (λ (b : Bool). if b then None else s.bytes byte) gone)))
       by-end true gone (Some value) there =
           goes_with_frame ((m.all.sound.memory.bytes byte).0 (subst (λ (o : Option ℕ). IsSome o) (sym there) (present value)))
-          (λ now. none-some NewFrame (sym (ap (option_map kind_of) (objects-are (frame_at byte) ∙ ap (λ (b : Bool). if b then None else s.objects (frame_at byte)) gone)) ∙ now))
+          (λ now. none-some NewFrame
+          (sym (ap (option_map kind_of) (objects-are (frame_at byte) ∙ ap (λ (b : Bool). if b then None else s.objects (frame_at byte)) gone)) ∙ now))
           (ap (λ (b : Bool). if b then None else s.bytes byte) gone)
 
   -- ---- slots
@@ -264,7 +265,8 @@ module _ (image : Image) (t : Numbered) (s : State) (slots : List NotedSlot) (m 
           let near = full-near s m.all.sound.shape m.all.sound.slots m.all.sound.memory child full in
           let parts = and_parts (list_any (λ other. all other && is_some_slot slot (parent_at s.slots other)) (slots_of s)) _ lost in
           let found = found-at s.memory_bits child (λ other. not (all other) && is_some_slot slot (new_parent s all other)) near
-          (ap (λ (b : Bool). not b && is_some_slot slot (new_parent s all child)) stays ∙ ap (λ (p : Option ℕ). is_some_slot slot p) new ∙ eq-eqb slot slot refl) in
+          (ap (λ (b : Bool). not b && is_some_slot slot (new_parent s all child)) stays ∙ ap (λ (p : Option ℕ). is_some_slot slot p) new
+          ∙ eq-eqb slot slot refl) in
           false≢true (sym (negated _ parts.1) ∙ found)
 
   -- ---- the thread

@@ -27,7 +27,8 @@ use Rattle.model.specs.Images.Described.{Numbered}
 use Rattle.model.specs.Images.Image.{Image}
 use Rattle.model.specs.Kernel.Invocations.{perform}
 use Rattle.model.specs.Kernel.Kinds.{Names, frame_around, kind_at, kind_of}
-use Rattle.model.specs.Kernel.Retype.{NewObject, NewUntyped, NewThread, NewEndpoint, NewNotification, NewCNode, NewFrame, NewPageTable, NewRootTable, NewObjects}
+use Rattle.model.specs.Kernel.Retype.{NewObject, NewUntyped, NewThread, NewEndpoint, NewNotification, NewCNode, NewFrame, NewPageTable, NewRootTable}
+use Rattle.model.specs.Kernel.Retype.{NewObjects}
 use Rattle.model.specs.Kernel.Retype.{first_capability, is_frame, object, object_bits, place_of_new, size_of, some_new}
 use Rattle.model.specs.Kernel.Soundness.{awaits_answer}
 use Rattle.model.specs.Kernel.State.{State, Object, ThreadObject, EndpointObject, NotificationObject, ThreadState, as_thread, new_thread}
@@ -201,7 +202,8 @@ module _ (image : Image) (t : Numbered) (s : State) (slots : List NotedSlot) (mi
           let i = (byte - new.first) / 4096 in
           let here : place i ≡ frame_around byte = ap (λ (n : ℕ). new.first + i * n) size ∙ at.around in
           comes_with_frame
-          (λ was. let none : ◌≡◌ {A = Option NewObject} None (Some NewFrame) = sym (ap (option_map kind_of) (none-before i at.less)) ∙ ap (kind_at s) here ∙ was in
+          (λ was. let none : ◌≡◌ {A = Option NewObject} None (Some NewFrame) = sym (ap (option_map kind_of) (none-before i at.less)) ∙ ap (kind_at s) here
+          ∙ was in
           absurd cc)
           (ap (kind_at after) (sym here) ∙ kind-now i at.less ∙ ap (λ (k : NewObject). Some k) kind) zeroed
 
@@ -224,7 +226,8 @@ module _ (image : Image) (t : Numbered) (s : State) (slots : List NotedSlot) (mi
 
   empty : (x : ℕ) → is_within window asked.count x ≡ true → capability_at s.slots x ≡ Empty
   empty x inside =
-      empty-capability (capability_at s.slots x) (elim (is_full s.slots x) as (λ (b : Bool). is_full s.slots x ≡ b → is_empty (capability_at s.slots x) ≡ true) [
+      empty-capability (capability_at s.slots x)
+      (elim (is_full s.slots x) as (λ (b : Bool). is_full s.slots x ≡ b → is_empty (capability_at s.slots x) ≡ true) [
         | true ↦ λ full. absurd (let clash : true ≡ false = sym inside ∙ outside-window s.slots window asked.count x of.free full in cc)
         | false ↦ λ none. not-false (is_empty (capability_at s.slots x)) none
       ] refl)

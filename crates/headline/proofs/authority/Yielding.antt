@@ -49,7 +49,8 @@ module _ (image : Image) (t : Thread) (s : State) (sound : IsSound s) (own : Thr
 
   -- where it goes
   tail-is : (thread_at one self).priority ≡ own.priority
-  tail-is = ap (λ (u : ThreadState). u.priority) (at-place one self fresh (with-here (passes s self) self fresh)) ∙ ap (λ (u : ThreadState). u.priority) fresh-is
+  tail-is = ap (λ (u : ThreadState). u.priority) (at-place one self fresh (with-here (passes s self) self fresh))
+      ∙ ap (λ (u : ThreadState). u.priority) fresh-is
 
   abbrev at_priority : ℕ → ℕ → List ℕ
   at_priority tail priority = if priority == tail then without self (s.ready tail) ++ self ∷ [] else without self (s.ready priority)

@@ -3,7 +3,8 @@ use Rattle.std.proofs.Common.{ℕ, ◌≡◌, Bool, true, false, Option, Some, N
 use Rattle.std.proofs.lemmas.Bool.{and_parts}
 use Rattle.std.proofs.lemmas.Option.{none-some, same_Some}
 use Rattle.headline.proofs.calls.KnownCalls.{passes, range-known}
-use Rattle.headline.specs.calls.Messages.{KnownToKeep, KnownToKeepAt, NeedsNothing, ReceivesBy, on_endpoint, on_notification, SendsBy, calls, sends, tries, signals, invokes}
+use Rattle.headline.specs.calls.Messages.{KnownToKeep, KnownToKeepAt, NeedsNothing, ReceivesBy, on_endpoint, on_notification, SendsBy, calls, sends, tries}
+use Rattle.headline.specs.calls.Messages.{signals, invokes}
 use Rattle.model.specs.declared.capabilities.Cap.{Cap}
 use Rattle.model.specs.declared.capabilities.Cap.TheVariants.{Empty, Untyped, Endpoint, Notification, CNode, Frame, PageTable, Tcb, RootTable, InterruptControl}
 use Rattle.model.specs.declared.capabilities.Cap.TheVariants.{InterruptHandler}
@@ -12,7 +13,8 @@ use Rattle.model.specs.declared.refusals.Refusal.{Refusal}
 use Rattle.model.specs.declared.rights.Rights.{Rights}
 use Rattle.model.specs.declared.refusals.Refusal.TheVariants.{CapNotThere, PromiseNotKept}
 use Rattle.model.specs.Acceptance.CallRules.{AfterCall, after_message, answers, badges, by_call, changes_nothing, demand, known, known_behind, may_send}
-use Rattle.model.specs.Acceptance.CallRules.{message_registers, promise_received, promise_rule, receive_rule, send_rule, sends_message, with_answer, with_received}
+use Rattle.model.specs.Acceptance.CallRules.{message_registers, promise_received, promise_rule, receive_rule, send_rule, sends_message, with_answer}
+use Rattle.model.specs.Acceptance.CallRules.{with_received}
 use Rattle.model.specs.Acceptance.NotedStates.{PointState}
 use Rattle.model.specs.Acceptance.Promises.{keeps_promise, promise_at}
 use Rattle.model.specs.Acceptance.Ranges.{range_of, with_range}

@@ -11,7 +11,8 @@ use Rattle.model.specs.declared.entries.UntypedEntry.{UntypedEntry}
 use Rattle.model.specs.declared.refusals.Refusal.TheVariants.{BadMapping, BadObject, NoRoom, UntypedOverlap}
 use Rattle.model.specs.Acceptance.Accepted.{AreKept, IsWellFormed}
 use Rattle.model.specs.Acceptance.Rules.{Rule, refuse_if}
-use Rattle.model.specs.Acceptance.WellFormed.{content_rule, frame_rules, has_no_room, has_writable_code, mapping_rules, misplaces_frame, misplaces_table, promise_rule}
+use Rattle.model.specs.Acceptance.WellFormed.{content_rule, frame_rules, has_no_room, has_writable_code, mapping_rules, misplaces_frame, misplaces_table}
+use Rattle.model.specs.Acceptance.WellFormed.{promise_rule}
 use Rattle.model.specs.Acceptance.WellFormed.{object_rules, overlaps, too_few_boot_slots}
 use Rattle.model.specs.Images.Described.{numbered}
 use Rattle.model.specs.Images.Image.{Image}

@@ -240,7 +240,8 @@ by-single v s k x false less is single = value-after v k less ∙ ap pos is
 abbrev ReadsBehind : RegisterFile → (Variable → ℕ) → Type 0
 ReadsBehind r v = (k : ℕ) → k < 32 → v (After k) ≡ word r k
 
-by-sum : (r : RegisterFile) (content : Content) (v : Variable → ℕ) (instr : Instr) (before behind : List Range) (k : ℕ) (found : Option Form) → AreWords r content →
+by-sum : (r : RegisterFile) (content : Content) (v : Variable → ℕ) (instr : Instr) (before behind : List Range) (k : ℕ) (found : Option Form) →
+    AreWords r content →
     IsInstr instr
     → LieWithin r before → LieWithin (effect r content instr).registers behind → Reads r v → ReadsBehind (effect r content instr).registers v → 1 ≤ k → k < 32
     → is_register (destination instr) k ≡ true → exact_sum instr before ≡ found
@@ -252,7 +253,8 @@ by-sum r content v instr before behind k None are fits within after reads later 
     let x : ℕ = word (effect r content instr).registers k in
     by-single v s k x (is_single s) less (later k less) (single-value s x (after k less))
 
-pub behind-valued : (r : RegisterFile) (content : Content) (v : Variable → ℕ) (instr : Instr) (before behind : List Range) (k : ℕ) → AreWords r content → IsInstr instr
+pub behind-valued : (r : RegisterFile) (content : Content) (v : Variable → ℕ) (instr : Instr) (before behind : List Range) (k : ℕ) → AreWords r content →
+    IsInstr instr
     → LieWithin r before → LieWithin (effect r content instr).registers behind → Reads r v → ReadsBehind (effect r content instr).registers v → 1 ≤ k → k < 32
     → value v (behind_form instr before behind k) ≡ pos (word (effect r content instr).registers k)
 behind-valued r content v instr before behind k are fits within after reads later some less =

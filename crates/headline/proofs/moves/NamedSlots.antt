@@ -99,7 +99,8 @@ module _ (holds : HoldsNoted) (finds : LooksUpNoted) (bytes : List ℕ) (image :
       let here : lookup s.slots (noted_root image t.thread) address 32 ≡ Ok found = by.same ∙ CallsBoth.is both in
       let same : found.0 ≡ slot = IsCalled.same (CallsBoth.at both) in
       let own_found : IsOwnSlot image t.thread found.0 = by.own found here in
-      let held : capability_at s.slots found.0 ≡ capability_at noted_here found.0 = holds bytes image t s state accepted listed stands.slots found.0 own_found in
+      let held : capability_at s.slots found.0 ≡ capability_at noted_here found.0 =
+      holds bytes image t s state accepted listed stands.slots found.0 own_found in
       let full : is_full s.slots found.0 ≡ true = ap (λ (c : Cap). not (is_empty c)) held ∙ IsCalled.full (CallsBoth.at both) in
       record {
         own = subst (IsOwnSlot image t.thread) same own_found;

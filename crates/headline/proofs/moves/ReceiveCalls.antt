@@ -1,5 +1,6 @@
 -- Recv and NBRecv on what the thread names: the step goes well.
-use Rattle.std.proofs.Common.{ℕ, ◌≡◌, ◌∙◌, ◌+◌, ◌<◌, ◌≤◌, ◌++◌, inl, inr, Bool, true, false, if◌then◌else◌, Option, Some, None, Ok, List, [], ◌∷◌, refl, sym, ap, subst}
+use Rattle.std.proofs.Common.{ℕ, ◌≡◌, ◌∙◌, ◌+◌, ◌<◌, ◌≤◌, ◌++◌, inl, inr, Bool, true, false, if◌then◌else◌, Option, Some, None, Ok, List, [], ◌∷◌, refl, sym}
+use Rattle.std.proofs.Common.{ap, subst}
 use Rattle.std.specs.Prelude.{Contains}
 use Rattle.std.proofs.lemmas.Option.{none-some}
 use Rattle.headline.specs.calls.Messages.{ReceivesBy}
@@ -183,7 +184,8 @@ module _ (laws : Laws) (bytes : List ℕ) (image : Image) (s : State) (labels : 
       AllStand image after (behind outcome) → IsFine image t labels pc (after, outcome)
   fine outcome after runs allowed stands = record { faults = runs; errors = allowed; stands = stands }
 
-  by-object : (kind : ReceiveCall) (slot : ℕ) → NamesThere image t state (capability_at s.slots slot) → ReceivesBy image state (is_wait_of kind) (capability_at s.slots slot) left
+  by-object : (kind : ReceiveCall) (slot : ℕ) → NamesThere image t state (capability_at s.slots slot) →
+      ReceivesBy image state (is_wait_of kind) (capability_at s.slots slot) left
       → IsSound (receive_by s tcb kind (capability_at s.slots slot)).0 → IsFine image t labels pc (receive_by s tcb kind (capability_at s.slots slot))
   by-object Receiving slot names (ReceivesBy.on_endpoint offset r badge is reads asks) =
       let there = endpoint-named image t s labels all state slot names offset r badge is in

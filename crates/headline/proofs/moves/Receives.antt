@@ -77,7 +77,8 @@ module _ (laws : Laws) (bytes : List ℕ) (image : Image) (s : State) (labels la
 
   -- ---- nobody sends
 
-  module _ (none : ep.senders ≡ []) (objects : (y : ℕ) → after.objects y ≡ (waits_to_receive ready e tcb).objects y) (asks : left ≡ behind_receive image e state)
+  module _ (none : ep.senders ≡ []) (objects : (y : ℕ) → after.objects y ≡ (waits_to_receive ready e tcb).objects y)
+      (asks : left ≡ behind_receive image e state)
       (capability : Cap) (named : NamesThere image t state capability) (leads : NamesQueue e capability) where
     abbrev queued : EndpointState
     queued = record ep { receivers = ep.receivers ++ tcb ∷ [] }

@@ -1,5 +1,6 @@
 -- Call, Send and NBSend on an endpoint or a notification: the step goes well.
-use Rattle.std.proofs.Common.{ℕ, ◌≡◌, ◌∙◌, ◌+◌, ◌++◌, ◌^◌, ◌<◌, ◌≤◌, inl, Bool, true, false, if◌then◌else◌, Some, option_map, Ok, List, [], ◌∷◌, refl, sym, ap, subst}
+use Rattle.std.proofs.Common.{ℕ, ◌≡◌, ◌∙◌, ◌+◌, ◌++◌, ◌^◌, ◌<◌, ◌≤◌, inl, Bool, true, false, if◌then◌else◌, Some, option_map, Ok, List, [], ◌∷◌, refl, sym, ap}
+use Rattle.std.proofs.Common.{subst}
 use Rattle.std.specs.Prelude.{Contains}
 use Rattle.headline.specs.calls.Messages.{IsInvoked, KnownToKeepAt, SendsBy}
 use Rattle.headline.specs.facts.Standing.{AllStand, IsControlBlock}
@@ -217,7 +218,11 @@ module _ (laws : Laws) (bytes : List ℕ) (image : Image) (s : State) (labels : 
       used kind slot (capability_at s.slots slot) by r writes
       (ap (λ k. send_by s tcb k slot (capability_at s.slots slot)) kind_is ∙ ap (send_by s tcb Trying slot) is
       ∙ ap (λ k. if may_write r then by else refused s tcb k InvalidCapability) (sym kind_is))
-      (λ sound. record { faults = refl; errors = refl; stands = by-try offset r badge there.small there.old there.was there.named keeps (may_grant_reply r) asks sound })
+      (λ sound. record {
+        faults = refl;
+        errors = refl;
+        stands = by-try offset r badge there.small there.old there.was there.named keeps (may_grant_reply r) asks sound;
+      })
   by-object kind slot names quiet (SendsBy.signals offset r badge is writes asks) =
       let there = notification-named image t s labels all state slot names offset r badge is in
       let by : Done = signal_on s tcb kind offset badge in

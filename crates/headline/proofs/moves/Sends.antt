@@ -278,7 +278,8 @@ module _ (laws : Laws) (bytes : List ℕ) (image : Image) (s : State) (labels la
         (λ at_state behind so fit_registers.
         let among : Contains ep.receivers (tcb_of image waits-so.thread) =
         subst (λ (xs : List ℕ). Contains xs (tcb_of image waits-so.thread)) (sym first) (0, omega arith, waits-so.is) in
-        let behind_is : behind ≡ behind_receive image e at_state = (subst (WaitsSo image waits-so.thread s at_state behind) blocked-at.status so).receives ep was-ep
+        let behind_is : behind ≡ behind_receive image e at_state =
+        (subst (WaitsSo image waits-so.thread s at_state behind) blocked-at.status so).receives ep was-ep
         among in
         let fit = laws.message receiver.registers at_state.ranges (promise_at image e) badge message fit_registers small fine kept in
         subst (λ (l : AfterCall). FitsBehind at_state l receiver.registers written) (sym behind_is)

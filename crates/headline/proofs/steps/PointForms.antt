@@ -21,8 +21,10 @@ use Rattle.model.specs.declared.refusals.Refusal.{Refusal}
 use Rattle.model.specs.declared.refusals.Refusal.TheVariants.{CallRefused, CapNotThere, PoolLost}
 use Rattle.model.specs.declared.errors.KError.TheVariants.{IllegalOperation}
 use Rattle.model.specs.declared.rights.Rights.{Rights}
-use Rattle.model.specs.Acceptance.CallRules.{AfterCall, after_call, after_message, all_known, answers, badges, by_call, by_capability, by_number, demand, found_slot}
-use Rattle.model.specs.Acceptance.CallRules.{invocation, invoked, kernel_allows, known, loses_pool, may_call, may_send, message_registers, promise_received, promise_rule}
+use Rattle.model.specs.Acceptance.CallRules.{AfterCall, after_call, after_message, all_known, answers, badges, by_call, by_capability, by_number, demand}
+use Rattle.model.specs.Acceptance.CallRules.{found_slot}
+use Rattle.model.specs.Acceptance.CallRules.{invocation, invoked, kernel_allows, known, loses_pool, may_call, may_send, message_registers, promise_received}
+use Rattle.model.specs.Acceptance.CallRules.{promise_rule}
 use Rattle.model.specs.Acceptance.CallRules.{receive_rule, send_rule, sends_message, sends_signal, with_answer, with_message, with_received}
 use Rattle.model.specs.Acceptance.Edges.{Edge, after}
 use Rattle.model.specs.Acceptance.Measures.{has_term, lowered}
@@ -39,7 +41,8 @@ use Rattle.model.specs.Capabilities.Slots.{capability_at}
 use Rattle.model.specs.Images.Described.{Numbered}
 use Rattle.model.specs.Images.Format.{◌>>=◌, field, many_fit}
 use Rattle.model.specs.Images.Image.{Image, ImagePromise, StateRecord, Thread, anything, below, image_with, names_parent, no_parent, pair_key, record_format}
-use Rattle.model.specs.Images.Image.{records_format, registers_format, sections_format, sections_of, slot_format, slots_format, thread_format, thread_header_format}
+use Rattle.model.specs.Images.Image.{records_format, registers_format, sections_format, sections_of, slot_format, slots_format, thread_format}
+use Rattle.model.specs.Images.Image.{thread_header_format}
 use Rattle.model.specs.Images.Image.{whole_image, words_format}
 use Rattle.model.specs.Images.Places.{offset_of}
 use Rattle.model.specs.Kernel.Arguments.{Call}

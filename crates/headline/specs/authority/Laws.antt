@@ -105,7 +105,8 @@ RepliesToWaitStayWithin =
 -- ---- calls that concern the thread alone
 
 abbrev pub YieldsStayWithin : Type 0
-YieldsStayWithin = (image : Image) (t : Thread) (s : State) (number : ℕ) → IsSound s → call_of number ≡ Some Yields → RunsAt image t s number → CallStaysWithin image t s
+YieldsStayWithin = (image : Image) (t : Thread) (s : State) (number : ℕ) → IsSound s → call_of number ≡ Some Yields → RunsAt image t s number →
+    CallStaysWithin image t s
 
 abbrev pub CharactersStayWithin : Type 0
 CharactersStayWithin =

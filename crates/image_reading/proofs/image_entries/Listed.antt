@@ -48,7 +48,8 @@ module _ (image : Image) (fits : IsFitting image) where
   listed-last cnode first end is size few low = record {
     within = omega (arith, size);
     before = λ k c less at. other c.cnode cnode (λ same. let small = (fits.capability k c at).cnode in omega (arith, small, few, same, is));
-    there = λ k c most less at. absurd (let lower = low.above k (key c) most (key-is k c at) in let small = (fits.capability k c at).cnode in let index = (fits.capability k c at).index in
+    there = λ k c most less at. absurd (let lower = low.above k (key c) most (key-is k c at) in
+        let small = (fits.capability k c at).cnode in let index = (fits.capability k c at).index in
         omega (arith, small, few, lower, index, is));
     behind = λ k c most at. absurd (let inside = slice_get_within image.capabilities k c at in omega (arith, inside, most, size));
   }

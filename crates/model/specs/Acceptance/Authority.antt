@@ -1,7 +1,8 @@
 -- Authority: what an event may change. A thread holds what the slots of the CNodes that the image gives it hold, before
 -- its step.
 -- seL4 Reference Manual, "Capability-based Access Control"; the clauses are our own.
-use Rattle.std.specs.Prelude.{ℕ, ◌≡◌, ◌≢◌, ◌+◌, ◌*◌, ◌^◌, ◌<◌, ◌≤◌, ◌⊎◌, Bool, true, false, IsSome, IsTrue, bit_and, bit_or, Contains, Option, Some, None, Ok, List}
+use Rattle.std.specs.Prelude.{ℕ, ◌≡◌, ◌≢◌, ◌+◌, ◌*◌, ◌^◌, ◌<◌, ◌≤◌, ◌⊎◌, Bool, true, false, IsSome, IsTrue, bit_and, bit_or, Contains, Option, Some, None, Ok}
+use Rattle.std.specs.Prelude.{List}
 use Rattle.std.specs.Prelude.{[], ◌∷◌, ◌++◌}
 use Rattle.std.specs.List.{list_any}
 use Rattle.model.specs.declared.capabilities.Cap.{Cap}
@@ -27,7 +28,8 @@ use Rattle.model.specs.Kernel.Kinds.{Names, frame_around, kind_at}
 use Rattle.model.specs.Kernel.Messages.{a0, buffer_of, length_between, register_words}
 use Rattle.model.specs.Kernel.Retype.{NewObject, NewFrame, object, object_bits}
 use Rattle.model.specs.Kernel.Scheduling.{current, full_slice, head_of, is_runnable}
-use Rattle.model.specs.Kernel.State.{State, Runnable, Blocked, AwaitsReply, ThreadObject, EndpointObject, NotificationObject, EndpointState, NotificationState, Sender}
+use Rattle.model.specs.Kernel.State.{State, Runnable, Blocked, AwaitsReply, ThreadObject, EndpointObject, NotificationObject, EndpointState, NotificationState}
+use Rattle.model.specs.Kernel.State.{Sender}
 use Rattle.model.specs.Kernel.State.{Sent, BySend}
 use Rattle.model.specs.Kernel.State.{ByCall, ByFault, ThreadState, endpoint_at, notification_at, thread_at}
 use Rattle.model.specs.Kernel.Steps.{named_slot}

@@ -23,7 +23,8 @@ use Rattle.model.specs.Kernel.Retype.{first_capability, object}
 use Rattle.model.specs.Capabilities.Rights.{rights, endpoint_rights, frame_rights, mapping_rights}
 use Rattle.model.specs.Kernel.Scheduling.{full_slice}
 use Rattle.model.specs.Capabilities.Slots.{Slots, empty_entry, is_within}
-use Rattle.model.specs.Kernel.State.{State, ThreadState, Object, ThreadObject, Runnable, boot_area_slots, buffer_slot, cspace_slot, line_slot, vspace_slot, slot_of}
+use Rattle.model.specs.Kernel.State.{State, ThreadState, Object, ThreadObject, Runnable, boot_area_slots, buffer_slot, cspace_slot, line_slot, vspace_slot}
+use Rattle.model.specs.Kernel.State.{slot_of}
 use Rattle.model.specs.Machine.ProgramMemory.{RegisterFile}
 
 -- a full slot

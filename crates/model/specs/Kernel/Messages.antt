@@ -1,7 +1,8 @@
 -- Messages between threads: endpoints, replies and notifications.
 -- seL4 Reference Manual, "Message Passing (IPC)" and "Notifications"; ours keeps the right to reply in the thread that
 -- received a call, and sends no capabilities.
-use Rattle.std.specs.Prelude.{ℕ, ◌==◌, ◌+◌, ◌-◌, ◌*◌, ◌/◌, ◌%◌, ◌^◌, min, is_some, bit_or, if◌then◌else◌, Option, Some, None, List, [], ◌∷◌, ◌++◌, length, take, map}
+use Rattle.std.specs.Prelude.{ℕ, ◌==◌, ◌+◌, ◌-◌, ◌*◌, ◌/◌, ◌%◌, ◌^◌, min, is_some, bit_or, if◌then◌else◌, Option, Some, None, List, [], ◌∷◌, ◌++◌, length, take}
+use Rattle.std.specs.Prelude.{map}
 use Rattle.std.specs.Option.{option_map_or}
 use Rattle.model.specs.declared.instructions.Register.{Register}
 use Rattle.model.specs.Capabilities.CapabilityKinds.{frame_of}
@@ -10,7 +11,8 @@ use Rattle.model.specs.Machine.ProgramMemory.{RegisterFile, read, write}
 use Rattle.model.specs.Machine.Effects.{advanced}
 use Rattle.model.specs.Shared.Labels.{fault_number}
 use Rattle.model.specs.Kernel.State.{State, Status, Inactive, Runnable, Blocked, AwaitsReply, AwaitsHandler, FaultMessage, ThreadState, Sender, Sent}
-use Rattle.model.specs.Kernel.State.{BySend, ByCall, ByFault, NotificationState, buffer_slot, thread_at, with_thread, endpoint_at, with_endpoint, notification_at, with_notification}
+use Rattle.model.specs.Kernel.State.{BySend, ByCall, ByFault, NotificationState, buffer_slot, thread_at, with_thread, endpoint_at, with_endpoint}
+use Rattle.model.specs.Kernel.State.{notification_at, with_notification}
 use Rattle.model.specs.Kernel.Scheduling.{block, wake}
 
 -- ---- registers of a call, in the names of the RISC-V calling convention

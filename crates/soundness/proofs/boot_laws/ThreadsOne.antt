@@ -294,7 +294,8 @@ module _ (image : Image) (p : Progress) (t : Thread) (comes : ThreadComes image 
       → Leads image (standing s spaced x first_thread) (map Calls (if b then [] else buffer_call ∷ []))
       (standing s (if b then spaced else buffered (original image t.header.buffer)) x first_thread)) [
         | true ↦ λ _. leads-none image (standing s spaced x first_thread)
-        | false ↦ λ some. leads-call image (standing s spaced x first_thread) (standing s (buffered (original image t.header.buffer)) x first_thread) buffer_call
+        | false ↦ λ some. leads-call image (standing s spaced x first_thread) (standing s (buffered (original image t.header.buffer)) x first_thread)
+            buffer_call
             (buffer-set some)
       ] refl)
 

@@ -17,5 +17,6 @@ words-preserved c =
     let all : c.words.rest ≡ c.in-Some.low.now ∷ c.in-Some-first.high.now ∷ c.in-Some-first.words =
     c.in-Some.ensures ∙ ap (λ words. c.in-Some.low.now ∷ words) c.in-Some-first.ensures in
     let some : 0 < c.words.left = grind (arith, c.if-left-eq0.false) in
-    sym (one-less c.words.left c.in-Some.low.now c.in-Some-first.high.now c.in-Some-first.words c.in_ok-promised_in.field-0 some (sym c.in_ok-promised_in.ensures))
+    sym (one-less c.words.left c.in-Some.low.now c.in-Some-first.high.now c.in-Some-first.words c.in_ok-promised_in.field-0 some
+    (sym c.in_ok-promised_in.ensures))
     ∙ (ap (few_promised c.words.left) (sym all) ∙ c.words.invariant)

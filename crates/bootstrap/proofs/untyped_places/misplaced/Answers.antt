@@ -8,12 +8,14 @@ overlaps-requires-clause-bits c = (c.args.image.now.limits.untypeds.entries c.lo
 
 pub returns-then-overlaps : goal.returns-then-overlaps
 returns-then-overlaps c =
-    sym (overlapping-here c.args.image.now.read.now c.loop-number.number c.untyped-entry.result c.untyped-entry.ensures (sym c.overlaps.ensures ∙ c.if-overlaps.true)
+    sym (overlapping-here c.args.image.now.read.now c.loop-number.number c.untyped-entry.result c.untyped-entry.ensures
+    (sym c.overlaps.ensures ∙ c.if-overlaps.true)
     c.loop-number.invariant)
 
 pub loop-number-preserved : goal.loop-number-preserved
 loop-number-preserved c =
-    overlapping-later c.args.image.now.read.now c.loop-number.number c.untyped-entry.result c.untyped-entry.ensures (sym c.overlaps.ensures ∙ c.if-overlaps.false)
+    overlapping-later c.args.image.now.read.now c.loop-number.number c.untyped-entry.result c.untyped-entry.ensures
+    (sym c.overlaps.ensures ∙ c.if-overlaps.false)
     c.loop-number.invariant
 
 pub returns : goal.returns

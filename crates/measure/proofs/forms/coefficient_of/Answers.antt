@@ -14,6 +14,7 @@ loop-term-preserved g c =
 
 pub returns-clause-value : goal.returns-clause-value
 returns-clause-value g c =
-    coefficient-end (measure_of c.args.measure.now) (g.S.Step.value_of c.args.step.now) (variable_of c.args.variable) c.terms-terms.result.now c.loop-term.term-index
+    coefficient-end (measure_of c.args.measure.now) (g.S.Step.value_of c.args.step.now) (variable_of c.args.variable) c.terms-terms.result.now
+    c.loop-term.term-index
     (to_z w64 c.loop-term.sum-bits)
     c.terms-terms.ensures.value (search rules) c.loop-term.invariant.0

@@ -29,7 +29,8 @@ returns c =
     let key : ImagePromise → ℕ = λ (e : ImagePromise). e.header.endpoint in
     let entry : ImagePromise = promise_with c.in_ok-endpoint.endpoint c.args.badge_low c.args.badge_high c.in_ok-words.words.items in
     let grown : List ImagePromise → Result Declared ℕ = λ entries. Ok (record d { promises = entries }) in
-    let chain : placed_with d (line.Promise c.args.endpoint.now c.args.badge_low c.args.badge_high c.args.words) ≡ (sorted_with key 4096 entry d.promises >>= grown) =
+    let chain : placed_with d (line.Promise c.args.endpoint.now c.args.badge_low c.args.badge_high c.args.words)
+    ≡ (sorted_with key 4096 entry d.promises >>= grown) =
     goes (number_known d.names.objects c.args.endpoint.now) _ c.in_ok-endpoint.endpoint _ c.in_ok-endpoint.ensures
     (goes (promised_said c.args.words) _ c.in_ok-words.words.items _ c.in_ok-words.ensures refl) in
     subst (λ (old : Declared). Means c.insert.result (λ _. record d { promises = c.insert.new.entries.items })

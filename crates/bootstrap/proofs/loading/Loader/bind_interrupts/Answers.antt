@@ -32,7 +32,8 @@ pub returns-clause-outcome : goal.returns-clause-outcome
 returns-clause-outcome c =
     let image = c.args.image.now.read.now in
     done (signals_from image c.loop-number.number) _ (progress_of c.loop-number.self)
-    (signals-none image c.loop-number.number (omega (arith, ap (λ h. h.interrupts) c.header-number-end.ensures.value, c.args.image.now.limits.interrupts.count)))
+    (signals-none image c.loop-number.number
+    (omega (arith, ap (λ h. h.interrupts) c.header-number-end.ensures.value, c.args.image.now.limits.interrupts.count)))
     c.loop-number.invariant.same
 
 pub bind_interrupt-requires-clause-fits : goal.bind_interrupt-requires-clause-fits

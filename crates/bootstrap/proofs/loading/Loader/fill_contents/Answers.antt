@@ -11,7 +11,8 @@ use Rattle.bootstrap.proofs.loading.Loader.fill_contents.Goals as goal
 
 pub fill_content-requires-clause-fits : goal.fill_content-requires-clause-fits
 fill_content-requires-clause-fits c =
-    (subst (λ (xs : List ImageContent). AllByRecursion (ContentFits c.args.image.now.read.now.header) xs) c.in-Some.ensures.steps c.loop-content.invariant.fits).0
+    (subst (λ (xs : List ImageContent). AllByRecursion (ContentFits c.args.image.now.read.now.header) xs) c.in-Some.ensures.steps
+    c.loop-content.invariant.fits).0
 
 pub returns-in_err-fill_content-clause-outcome : goal.returns-in_err-fill_content-clause-outcome
 returns-in_err-fill_content-clause-outcome c =

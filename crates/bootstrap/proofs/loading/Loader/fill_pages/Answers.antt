@@ -22,7 +22,8 @@ returns-in_err-fill_page-clause-outcome c =
     let now = progress_of c.loop-page.self in
     let lt : n < page_count t = omega (arith, ap (λ h. h.words) c.header.ensures) in
     let p = err_from_is_err_and c.from_residual.result c.from_residual.ensures.1 in
-    rw (p.1, p.2) (c.loop-page.invariant.same ∙ ap (λ (pages : List ℕ). placed c.args.number now.calls (pages_filled c.args.image.now.read.now t now.state pages))
+    rw (p.1, p.2) (c.loop-page.invariant.same
+    ∙ ap (λ (pages : List ℕ). placed c.args.number now.calls (pages_filled c.args.image.now.read.now t now.state pages))
     (pages-next t n lt)
     ∙ page-fails c.args.number now.calls (λ s. pages_filled c.args.image.now.read.now t s (pages_from t (n + 1)))
     (page_filled c.args.image.now.read.now t now.state (t.header.base + n * page_size)) _ c.in_err-fill_page.ensures.outcome)
@@ -40,7 +41,8 @@ loop-page-preserved c =
       same = c.loop-page.invariant.same ∙ ap (λ (pages : List ℕ). placed c.args.number now.calls (pages_filled c.args.image.now.read.now t now.state pages))
           (pages-next t n lt)
           ∙ page-more c.args.number now.calls (λ s. pages_filled c.args.image.now.read.now t s (pages_from t (n + 1)))
-          (page_filled c.args.image.now.read.now t now.state (t.header.base + n * page_size)) (progress_of c.fill_page.new.self) c.in_ok-fill_page.ensures.outcome;
+          (page_filled c.args.image.now.read.now t now.state (t.header.base + n * page_size)) (progress_of c.fill_page.new.self)
+          c.in_ok-fill_page.ensures.outcome;
       calls = c.fill_page.ensures.counted ∙ c.loop-page.invariant.calls;
     }
 

@@ -17,6 +17,7 @@ returns-then-is_root_table-clause-outcome c =
     let aligned : (t.header.base % page_size == 0) ≡ true = elim (eqb_tells (t.header.base % page_size) 0)
     [ inl same ↦ same.0 | inr other ↦ absurd (other.1 none) ] in
     let root : is_root_type (type_at image t.header.root) ≡ true =
-    ap (λ h. is_root_type (type_at image h.root)) (sym c.header-header.ensures) ∙ sym (c.is_root_table.ensures ∙ ap is_root_type c.type_at.ensures) ∙ c.if-is_root_table.true in
+    ap (λ h. is_root_type (type_at image h.root)) (sym c.header-header.ensures) ∙ sym (c.is_root_table.ensures ∙ ap is_root_type c.type_at.ensures)
+    ∙ c.if-is_root_table.true in
     subst (λ d. GivesState d c.fill_pages.result (progress_of c.fill_pages.new.self))
     (sym (program-filled image t c.args.number image.header.untypeds (progress_of c.args.self.now) aligned root)) c.fill_pages.ensures.outcome

@@ -37,7 +37,8 @@ loop-thread-preserved c =
           c.in_ok-fill_program.ensures.outcome;
       calls = c.fill_program.ensures.counted ∙ c.loop-thread.invariant.calls;
       few = omega (arith, ap length c.in-Some.ensures.steps, c.loop-thread.invariant.few);
-      fits = (subst (λ (ts : List Thread). AllByRecursion (ThreadFits c.args.image.now.read.now.header) ts) c.in-Some.ensures.steps c.loop-thread.invariant.fits).1;
+      fits = (subst (λ (ts : List Thread). AllByRecursion (ThreadFits c.args.image.now.read.now.header) ts) c.in-Some.ensures.steps
+          c.loop-thread.invariant.fits).1;
     }
 
 pub returns-clause-outcome : goal.returns-clause-outcome

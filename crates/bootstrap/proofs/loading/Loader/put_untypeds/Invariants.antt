@@ -6,7 +6,7 @@ use Rattle.bootstrap.proofs.loading.Loader.put_untypeds.Given as goal
 
 abbrev pub invariant-loop-number : goal.invariant-loop-number
 invariant-loop-number l = record {
-  same : all_performed l.image.read.now.header.untypeds (progress_of l.fn.self) (untypeds_from l.image.read.now 0) ≡ all_performed l.image.read.now.header.untypeds (progress_of l.self)
-      (untypeds_from l.image.read.now l.number);
+  same : all_performed l.image.read.now.header.untypeds (progress_of l.fn.self) (untypeds_from l.image.read.now 0)
+      ≡ all_performed l.image.read.now.header.untypeds (progress_of l.self) (untypeds_from l.image.read.now l.number);
   calls : l.self.calls ≡ l.fn.self.calls;
 }

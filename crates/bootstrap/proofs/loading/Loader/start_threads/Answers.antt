@@ -29,7 +29,8 @@ loop-thread-preserved c =
           (progress_of c.start_thread.new.self)
           (ap (flat_map f) c.in-Some.ensures.steps) c.loop-thread.invariant.same c.in_ok-start_thread.ensures.outcome;
       room = omega (arith, ap length c.in-Some.ensures.steps, c.start_thread.ensures.counted);
-      fits = (subst (λ (ts : List Thread). AllByRecursion (ThreadFits c.args.image.now.read.now.header) ts) c.in-Some.ensures.steps c.loop-thread.invariant.fits).1;
+      fits = (subst (λ (ts : List Thread). AllByRecursion (ThreadFits c.args.image.now.read.now.header) ts) c.in-Some.ensures.steps
+          c.loop-thread.invariant.fits).1;
     }
 
 pub returns-clause-outcome : goal.returns-clause-outcome

@@ -32,5 +32,6 @@ pub returns-clause-outcome : goal.returns-clause-outcome
 returns-clause-outcome c =
     let image = c.args.image.now.read.now in
     done (handlers_from image c.loop-number.number) _ (progress_of c.loop-number.self)
-    (handlers-none image c.loop-number.number (omega (arith, ap (λ h. h.interrupts) c.header-number-end.ensures.value, c.args.image.now.limits.interrupts.count)))
+    (handlers-none image c.loop-number.number
+    (omega (arith, ap (λ h. h.interrupts) c.header-number-end.ensures.value, c.args.image.now.limits.interrupts.count)))
     c.loop-number.invariant.same

@@ -7,7 +7,8 @@ use Rattle.objects.specs.Standing.{Standing}
 use Rattle.objects.specs.Tables.{Tables}
 
 pub returns-clause-state : goal.returns-clause-state
-returns-clause-state g c = rw (← c.self.view_is) (c.set_pending.ensures.state (g.S.SlotMap.slots c.self.inside.store) (g.S.SlotStore.memory c.self.inside.store))
+returns-clause-state g c = rw (← c.self.view_is)
+    (c.set_pending.ensures.state (g.S.SlotMap.slots c.self.inside.store) (g.S.SlotStore.memory c.self.inside.store))
 
 pub returns-clause-beside : goal.returns-clause-beside
 returns-clause-beside g c =

@@ -14,7 +14,8 @@ to_tail_at-requires g c =
     let before = state_of c.self.inside.objects slots old in
     record {
       there = replaced-there before
-          (state_of c.set_priority_at.new.self (g.S.SlotMap.slots c.set_priority_at.new.store) (g.S.SlotStore.memory c.set_priority_at.new.store)) c.args.thread _
+          (state_of c.set_priority_at.new.self (g.S.SlotMap.slots c.set_priority_at.new.store) (g.S.SlotStore.memory c.set_priority_at.new.store)) c.args.thread
+          _
           c.set_priority_at.ensures.state;
       stands = c.set_priority_at.ensures.stands;
     }

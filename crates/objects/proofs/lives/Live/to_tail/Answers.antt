@@ -8,5 +8,6 @@ returns-clause-beside g c =
     rw (← c.self.view_is) (record {
       slots = c.to_tail_at.ensures.slots;
       order = c.to_tail_at.ensures.order;
-      bytes = unmoved-objects c.to_tail_at.ensures.state (record { kinds = λ offset. refl; bytes = refl; slots = refl; bits = refl }) c.to_tail_at.ensures.bytes;
+      bytes = unmoved-objects c.to_tail_at.ensures.state (record { kinds = λ offset. refl; bytes = refl; slots = refl; bits = refl })
+          c.to_tail_at.ensures.bytes;
     })

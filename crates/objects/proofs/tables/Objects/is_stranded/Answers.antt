@@ -16,7 +16,8 @@ new-requires g c = inside c.args.self.now (g.S.SlotMap.slots c.args.store.now) (
 pub returns-then-has_thread : goal.returns-then-has_thread
 returns-then-has_thread g c = c.waits_nowhere.ensures (g.S.SlotMap.slots c.args.store.now) (g.S.SlotStore.memory c.args.store.now)
     ∙ ap (λ (x : Status). waits_nowhere (state_of c.args.self.now (g.S.SlotMap.slots c.args.store.now) (g.S.SlotStore.memory c.args.store.now)) (status_of x))
-    (c.status.ensures ∙ ap (λ (t : Thread). t.status) c.new.ensures) ∙ sym (stranded-there c.args.self.now (g.S.SlotMap.slots c.args.store.now) (g.S.SlotStore.memory c.args.store.now) c.args.offset
+    (c.status.ensures ∙ ap (λ (t : Thread). t.status) c.new.ensures)
+    ∙ sym (stranded-there c.args.self.now (g.S.SlotMap.slots c.args.store.now) (g.S.SlotStore.memory c.args.store.now) c.args.offset
     (sym c.has_thread.ensures ∙ c.if-has_thread.true))
 
 pub returns-else-has_thread : goal.returns-else-has_thread

@@ -9,7 +9,8 @@ new-requires g c = inside c.args.self.now (g.S.SlotMap.slots c.args.store.now) (
     (sym c.has_thread.ensures ∙ c.if-has_thread.true)
 
 pub returns-then-has_thread : goal.returns-then-has_thread
-returns-then-has_thread g c = c.sending.ensures ∙ ap (λ (t : Thread). t.sending) c.new.ensures ∙ sends-there c.args.self.now (g.S.SlotMap.slots c.args.store.now) (g.S.SlotStore.memory c.args.store.now)
+returns-then-has_thread g c = c.sending.ensures ∙ ap (λ (t : Thread). t.sending) c.new.ensures
+    ∙ sends-there c.args.self.now (g.S.SlotMap.slots c.args.store.now) (g.S.SlotStore.memory c.args.store.now)
     c.args.thread (sym c.has_thread.ensures ∙ c.if-has_thread.true)
 
 pub returns-else-has_thread : goal.returns-else-has_thread

@@ -33,7 +33,8 @@ returns-then-has_writable_code c =
     let item = image.header.tables + n in
     inr (one_broken (frame_rules image) image.frames n e _ (WritableCode item) c.frame-entry.ensures
     (rule_kept (misplaces_frame image e) (BadMapping item) _ (sym c.misplaces_frame.ensures ∙ c.if-misplaces_frame.false)
-    ∙ rule_broken (has_writable_code image (n, e)) (WritableCode item) _ (sym c.has_writable_code.ensures ∙ c.if-has_writable_code.true)) c.loop-number.invariant
+    ∙ rule_broken (has_writable_code image (n, e)) (WritableCode item) _ (sym c.has_writable_code.ensures ∙ c.if-has_writable_code.true))
+    c.loop-number.invariant
     ∙ ap (λ (h : ImageHeader). Some (WritableCode (h.tables + n))) (sym c.header_of-header.ensures.value))
 
 pub loop-number-preserved : goal.loop-number-preserved
