@@ -399,10 +399,11 @@ module _ (s : State) (x : ℕ) (tree : IsDerivation s.slots) (near : (y : ℕ) �
       let none : found s.memory_bits (λ c. not (alone x c) && is_some_slot y (new_parent s (alone x) c)) ≡ false =
       found-none s.memory_bits _ (λ c. elim (eqb_tells c x) [
         | inl here ↦ ap (λ b. not b && is_some_slot y (new_parent s (alone x) c)) here.0
-        | inr other ↦ elim (is_some_slot y (new_parent s (alone x) c)) as (λ b. is_some_slot y (new_parent s (alone x) c) ≡ b → (not (alone x c) && b) ≡ false) [
-          | true ↦ λ passes. absurd (childless c (third-parent c other.1 ∙ some-slot y _ passes))
-          | false ↦ λ fails. and-false (not (alone x c))
-        ] refl
+        | inr other ↦ elim (is_some_slot y (new_parent s (alone x) c))
+            as (λ b. is_some_slot y (new_parent s (alone x) c) ≡ b → (not (alone x c) && b) ≡ false) [
+              | true ↦ λ passes. absurd (childless c (third-parent c other.1 ∙ some-slot y _ passes))
+              | false ↦ λ fails. and-false (not (alone x c))
+            ] refl
       ]) in
       join (found s.memory_bits (λ c. alone x c && is_some_slot y (parent_at s.slots c))) _
       (found-at s.memory_bits x _ (near x full) (join (alone x x) _ (eq-eqb x x refl) (ap (is_some_slot y) is ∙ eq-eqb y y refl)))

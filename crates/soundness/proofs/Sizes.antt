@@ -211,7 +211,8 @@ module _ (r : RegisterFile) (content : Content) (sound : RegistersAreSound r) (s
 
   jump-sound : (after : RegisterFile) (target : ℕ) → RegistersAreSound after → target < 2 ^ 32 → EffectIsSound (jumps r content after target)
   jump-sound after target written less =
-      elim (target % 4 == 0) as (λ b. EffectIsSound (if b then goes_on (record after { pc = target }) content else stays r content (outcomes.Trap Misaligned))) [
+      elim (target % 4 == 0)
+      as (λ b. EffectIsSound (if b then goes_on (record after { pc = target }) content else stays r content (outcomes.Trap Misaligned))) [
         | true ↦ goes-sound (record after { pc = target }) content (with-pc after target written less) small
         | false ↦
             stays-sound r content (outcomes.Trap Misaligned) sound small

@@ -49,7 +49,8 @@ module _ (note : SlotKey → Option NotedSlot) (keeps : (k : SlotKey) (s : Noted
   looks [] are = refl
   looks (k ∷ rest) are =
       let others = looks rest are.1 in
-      elim (is_same_key k key) as (λ b. is_same_key k key ≡ b → slot_at (filter_map note (k ∷ rest)) key ≡ (if b || is_among key rest then note key else None)) [
+      elim (is_same_key k key)
+      as (λ b. is_same_key k key ≡ b → slot_at (filter_map note (k ∷ rest)) key ≡ (if b || is_among key rest then note key else None)) [
         | true ↦ λ same. here k rest (same-low-key k key are.0 low (eqb-true (number_of k) (number_of key) same)) others
         | false ↦ λ other. later k rest other others
       ] refl

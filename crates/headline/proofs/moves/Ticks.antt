@@ -124,7 +124,8 @@ module _ (stand-on : StandsOn) (bytes : List ℕ) (image : Image) (s : State) (l
 
   tick-stands : IsSound (tick s) → AllStand image (tick s) (labels ++ Ticked ∷ [])
   tick-stands =
-      elim (current s) as (λ o. current s ≡ o → IsSound (option_map_or (ticked s) o s) → AllStand image (option_map_or (ticked s) o s) (labels ++ Ticked ∷ [])) [
+      elim (current s)
+      as (λ o. current s ≡ o → IsSound (option_map_or (ticked s) o s) → AllStand image (option_map_or (ticked s) o s) (labels ++ Ticked ∷ [])) [
         | None ↦ λ none sound.
             stands-over s sound (record { memory_bits = refl; boot_radix = refl; slots = λ slot. refl; bytes = λ frame place code low high. refl }) rest-same
         | Some x ↦ λ some sound. ticked-stands x (thread_at s x) (thread-there (s.objects x) (current-runs s all.sound.threads x some).kind) sound

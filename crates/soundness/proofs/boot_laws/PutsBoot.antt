@@ -51,7 +51,8 @@ none-shown test (h ∷ hs) slot empty each =
 pub none-boot : (test : Cap → Bool) (radix : ℕ) (full : List Holding) (slot : ℕ) → test Empty ≡ false
     → ((j : ℕ) (h : Holding) → slice_get full j ≡ Some h → test h.1.capability ≡ false) → test (capability_at (boot_slots_with radix full) slot) ≡ false
 none-boot test radix full slot empty each =
-    elim (nat_lt slot (boot_area_slots radix)) as (λ b. test (option_map_or (λ h. h.capability) (if b then Some (shown_in full slot) else None) Empty) ≡ false) [
+    elim (nat_lt slot (boot_area_slots radix))
+    as (λ b. test (option_map_or (λ h. h.capability) (if b then Some (shown_in full slot) else None) Empty) ≡ false) [
       | true ↦ none-shown test full slot empty each
       | false ↦ empty
     ]

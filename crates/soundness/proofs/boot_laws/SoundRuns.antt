@@ -53,7 +53,8 @@ unfolding run_from
 run-sound image [] n s t sound fine is = let e : s ≡ t = cc is in subst IsSound e sound
 run-sound image (PutsUntyped number u ∷ ops) n s t sound fine is = absurd (All-head IsFine (PutsUntyped number u) ops fine)
 run-sound image (PutsControl slot ∷ ops) n s t sound fine is =
-    elim (put_control s slot) as (λ o. put_control s slot ≡ o → goes_on_inside image.header.untypeds (λ after. run_from image n after ops) o ≡ Ok t → IsSound t) [
+    elim (put_control s slot)
+    as (λ o. put_control s slot ≡ o → goes_on_inside image.header.untypeds (λ after. run_from image n after ops) o ≡ Ok t → IsSound t) [
       | None ↦ λ _ clash. absurd (no-fault (Outside image.header.untypeds) t clash)
       | Some u ↦ λ one rest. run-sound image ops n u t (control-whole s u slot sound one) (All-tail IsFine (PutsControl slot) ops fine) rest
     ] refl is
