@@ -36,9 +36,5 @@ not-open slots slot closed_is = elim (slots slot) as (λ o. slots slot ≡ o →
   | Some h ↦ λ is. absurd (let clash : true ≡ false = closed_is (ap is_some is) in cc)
 ] refl
 
-pub stays-closed : (slots now : Slots) (slot : ℕ) → now ≡ closed slots slot 1 → (y : ℕ) → slots y ≡ None → now y ≡ None
-stays-closed slots now slot is y none = ap (λ (n : Slots). n y) is
-    ∙ elim (is_within slot 1 y) as (λ b. (if b then None else slots y) ≡ None) [ true ↦ refl | false ↦ none ]
-
 pub is-zero : (n : ℕ) → (n == 0) ≡ true → n ≡ 0
 is-zero n is = elim (eqb_tells n 0) [ inl here ↦ here.1 | inr other ↦ absurd (let clash : false ≡ true = sym other.0 ∙ is in cc) ]

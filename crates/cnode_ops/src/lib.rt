@@ -7,7 +7,6 @@ mod bits;
 mod copies;
 mod deletions;
 mod emptying;
-mod endings;
 mod leaves;
 mod lines;
 mod marks;
@@ -24,7 +23,6 @@ mod windows;
 
 pub use copies::{copy, mint};
 pub use deletions::{delete, revoke};
-pub use endings::Ends;
 pub use moves::move_cap;
 pub use mutations::mutate;
 pub use named::NodeCall;

@@ -2,9 +2,10 @@
 //! seL4 Reference Manual, "Kernel Memory Allocation" and "Deletion, Revocation, and Recycling".
 
 mod beginning;
-mod kernel_objects;
+mod ending;
 mod kernels;
 mod making;
 
 pub(crate) use beginning::begin_objects;
+pub(crate) use ending::end_object;
 pub use kernels::Kernel;

@@ -1,16 +1,17 @@
 //! Emptying a whole set of slots.
 
-ghost use Rattle.std.specs.Prelude.{ℕ, ◌≡◌, ◌<◌, OnErr, true};
+ghost use Rattle.std.specs.Prelude.{ℕ, ◌≡◌, OnErr, true};
 ghost use Rattle.model.specs.Kernel.Outcomes.{GivesState};
+ghost use Rattle.kernel_invariant.specs.Wholeness.{Agreed};
 ghost use Rattle.cnode_ops.specs.Lines.{LinesGone, has_line};
 ghost use Rattle.cnode_ops.specs.Sets.{set_of};
 ghost use Rattle.cnode_ops.specs.Unsettled.{Notes, ObjectsLie};
 ghost use Rattle.model.specs.Capabilities.Slots.{IsOpen};
 ghost use Rattle.model.specs.Kernel.Removal.{SlotSet, delete, emptied, remove};
 ghost use Rattle.model.specs.Kernel.Soundness.{IsSound};
+ghost use Rattle.objects.specs.Tables.{state_of};
 ghost use Rattle.removal_laws.specs.Steps.{BindingEmptied, IsReady, SameShape, bindings_from, joined};
 
-use crate::Ends;
 use crate::emptying::empty_slot;
 use crate::leaves::{leaf_removed, parent_removed};
 use crate::lines::{LineSet, lines_lost};
@@ -18,30 +19,31 @@ use crate::refusals::wants_revoke_first;
 use crate::sets::{Removed, first_removed};
 use crate::settling::{Unsettled, settle};
 use model::{KError, Slot};
+use objects::{Line, Objects};
 use slots::{SlotStore, is_taken};
 
 /// Empties all slots of a set, one after another and each after all that is derived from it: what is left to empty, with
 /// others beside the set, is these others. What is left to settle is more by the objects that ended. The result is the
 /// lines of which a handler was taken.
-fn empty_all<S: SlotStore, E: Ends>(
+fn empty_all<S: SlotStore>(
     store: &mut S,
-    ends: &mut E,
+    objects: &mut Objects,
     left: &mut Unsettled,
     set: &Removed,
 ) -> LineSet
-    requires agree { E.Agree ends.old (S.slots store.old) (S.memory store.old) }
-    requires ready { IsReady (E.state ends.old (S.slots store.old) (S.memory store.old)) }
-    requires lie { ObjectsLie (E.state ends.old (S.slots store.old) (S.memory store.old)) }
+    requires agree { Agreed objects.old (S.slots store.old) (S.memory store.old) }
+    requires ready { IsReady (state_of objects.old (S.slots store.old) (S.memory store.old)) }
+    requires lie { ObjectsLie (state_of objects.old (S.slots store.old) (S.memory store.old)) }
     requires members { (slot : ℕ) → set_of (S.slots store.old) set.now slot ≡ true → IsOpen (S.slots store.old) slot }
     ensures taken { (more : SlotSet) → ((slot : ℕ) → more slot ≡ true → IsOpen (S.slots store.old) slot)
-        → emptied (E.state ends.old (S.slots store.old) (S.memory store.old)) (joined (set_of (S.slots store.old) set.now) more)
-        ≡ emptied (E.state ends.new (S.slots store.new) (S.memory store.new)) more }
-    ensures noted { Notes (E.state ends.old (S.slots store.old) (S.memory store.old)) left.old
-        (E.state ends.new (S.slots store.new) (S.memory store.new)) left.new }
-    ensures lines { LinesGone (E.state ends.old (S.slots store.old) (S.memory store.old)) (E.state ends.new (S.slots store.new) (S.memory store.new)) result }
-    ensures shape { SameShape (E.state ends.old (S.slots store.old) (S.memory store.old)) (E.state ends.new (S.slots store.new) (S.memory store.new)) }
-    ensures agree { E.Agree ends.new (S.slots store.new) (S.memory store.new) }
-    ensures ready { IsReady (E.state ends.new (S.slots store.new) (S.memory store.new)) }
+        → emptied (state_of objects.old (S.slots store.old) (S.memory store.old)) (joined (set_of (S.slots store.old) set.now) more)
+        ≡ emptied (state_of objects.new (S.slots store.new) (S.memory store.new)) more }
+    ensures noted { Notes (state_of objects.old (S.slots store.old) (S.memory store.old)) left.old
+        (state_of objects.new (S.slots store.new) (S.memory store.new)) left.new }
+    ensures lines { LinesGone (state_of objects.old (S.slots store.old) (S.memory store.old)) (state_of objects.new (S.slots store.new) (S.memory store.new)) result }
+    ensures shape { SameShape (state_of objects.old (S.slots store.old) (S.memory store.old)) (state_of objects.new (S.slots store.new) (S.memory store.new)) }
+    ensures agree { Agreed objects.new (S.slots store.new) (S.memory store.new) }
+    ensures ready { IsReady (state_of objects.new (S.slots store.new) (S.memory store.new)) }
 {
     let mut gone = LineSet::none();
     let Some(first) = first_removed(store, set) else {
@@ -50,89 +52,88 @@ fn empty_all<S: SlotStore, E: Ends>(
     let mut near = first;
     'slots: while let Some(slot) = leaf_removed(store, set, near) {
         near = parent_removed(store, set, slot);
-        let held = empty_slot(store, ends, left, slot);
+        let held = empty_slot(store, objects, left, slot);
         gone = gone.with_handled(held);
     }
     gone
 }
 
 /// Empties the binding of a line, if it is taken along and there is one.
-fn empty_binding<S: SlotStore, E: Ends>(
+fn empty_binding<S: SlotStore>(
     store: &mut S,
-    ends: &mut E,
+    objects: &mut Objects,
     left: &mut Unsettled,
-    line: u8,
+    line: Line,
     taken: bool,
 )
-    requires few { line < 64 }
-    requires agree { E.Agree ends.old (S.slots store.old) (S.memory store.old) }
-    requires ready { IsReady (E.state ends.old (S.slots store.old) (S.memory store.old)) }
-    requires lie { ObjectsLie (E.state ends.old (S.slots store.old) (S.memory store.old)) }
-    ensures state { BindingEmptied (E.state ends.old (S.slots store.old) (S.memory store.old)) line taken
-        (E.state ends.new (S.slots store.new) (S.memory store.new)) }
-    ensures noted { Notes (E.state ends.old (S.slots store.old) (S.memory store.old)) left.old
-        (E.state ends.new (S.slots store.new) (S.memory store.new)) left.new }
-    ensures agree { E.Agree ends.new (S.slots store.new) (S.memory store.new) }
+    requires agree { Agreed objects.old (S.slots store.old) (S.memory store.old) }
+    requires ready { IsReady (state_of objects.old (S.slots store.old) (S.memory store.old)) }
+    requires lie { ObjectsLie (state_of objects.old (S.slots store.old) (S.memory store.old)) }
+    ensures state { BindingEmptied (state_of objects.old (S.slots store.old) (S.memory store.old)) line taken
+        (state_of objects.new (S.slots store.new) (S.memory store.new)) }
+    ensures noted { Notes (state_of objects.old (S.slots store.old) (S.memory store.old)) left.old
+        (state_of objects.new (S.slots store.new) (S.memory store.new)) left.new }
+    ensures agree { Agreed objects.new (S.slots store.new) (S.memory store.new) }
 {
     if !taken {
         return;
     }
-    let slot = ends.binding(line);
+    let slot = objects.binding(line);
     if is_taken(store, slot) {
-        let _held = empty_slot(store, ends, left, slot);
+        let _held = empty_slot(store, objects, left, slot);
     }
 }
 
 /// Empties the bindings of some lines, one after another.
-fn empty_bindings<S: SlotStore, E: Ends>(
+fn empty_bindings<S: SlotStore>(
     store: &mut S,
-    ends: &mut E,
+    objects: &mut Objects,
     left: &mut Unsettled,
     lines: LineSet,
 )
-    requires agree { E.Agree ends.old (S.slots store.old) (S.memory store.old) }
-    requires ready { IsReady (E.state ends.old (S.slots store.old) (S.memory store.old)) }
-    requires lie { ObjectsLie (E.state ends.old (S.slots store.old) (S.memory store.old)) }
-    ensures state { emptied (E.state ends.old (S.slots store.old) (S.memory store.old))
-        (bindings_from (E.state ends.old (S.slots store.old) (S.memory store.old)) (λ line. has_line lines line) 0)
-        ≡ E.state ends.new (S.slots store.new) (S.memory store.new) }
-    ensures noted { Notes (E.state ends.old (S.slots store.old) (S.memory store.old)) left.old
-        (E.state ends.new (S.slots store.new) (S.memory store.new)) left.new }
-    ensures agree { E.Agree ends.new (S.slots store.new) (S.memory store.new) }
+    requires agree { Agreed objects.old (S.slots store.old) (S.memory store.old) }
+    requires ready { IsReady (state_of objects.old (S.slots store.old) (S.memory store.old)) }
+    requires lie { ObjectsLie (state_of objects.old (S.slots store.old) (S.memory store.old)) }
+    ensures state { emptied (state_of objects.old (S.slots store.old) (S.memory store.old))
+        (bindings_from (state_of objects.old (S.slots store.old) (S.memory store.old)) (λ line. has_line lines line) 0)
+        ≡ state_of objects.new (S.slots store.new) (S.memory store.new) }
+    ensures noted { Notes (state_of objects.old (S.slots store.old) (S.memory store.old)) left.old
+        (state_of objects.new (S.slots store.new) (S.memory store.new)) left.new }
+    ensures agree { Agreed objects.new (S.slots store.new) (S.memory store.new) }
 {
     if lines.is_none() {
         return;
     }
     'lines: for line in 0..64u8 {
-        empty_binding(store, ends, left, line, lines.contains(line));
+        empty_binding(store, objects, left, Line::new(line), lines.contains(line));
     }
 }
 
 /// Takes a set of slots away at once, with the bindings of the lines whose last handler goes. It is
 /// refused where an object would end that still holds a capability outside the set (`RevokeFirst`); then
 /// nothing changes.
-pub(crate) fn remove<S: SlotStore, E: Ends>(
+pub(crate) fn remove<S: SlotStore>(
     store: &mut S,
-    ends: &mut E,
+    objects: &mut Objects,
     set: Removed,
 ) -> Result<(), KError>
-    requires agree { E.Agree ends.old (S.slots store.old) (S.memory store.old) }
-    requires sound { IsSound (E.state ends.old (S.slots store.old) (S.memory store.old)) }
+    requires agree { Agreed objects.old (S.slots store.old) (S.memory store.old) }
+    requires sound { IsSound (state_of objects.old (S.slots store.old) (S.memory store.old)) }
     requires members { (slot : ℕ) → set_of (S.slots store.old) set slot ≡ true → IsOpen (S.slots store.old) slot }
-    ensures outcome { GivesState (remove (E.state ends.old (S.slots store.old) (S.memory store.old)) (set_of (S.slots store.old) set)) result
-        (E.state ends.new (S.slots store.new) (S.memory store.new)) }
+    ensures outcome { GivesState (remove (state_of objects.old (S.slots store.old) (S.memory store.old)) (set_of (S.slots store.old) set)) result
+        (state_of objects.new (S.slots store.new) (S.memory store.new)) }
     ensures unchanged { OnErr result (store.new ≡ store.old) }
-    ensures same { OnErr result (ends.new ≡ ends.old) }
-    ensures agree { E.Agree ends.new (S.slots store.new) (S.memory store.new) }
+    ensures same { OnErr result (objects.new ≡ objects.old) }
+    ensures agree { Agreed objects.new (S.slots store.new) (S.memory store.new) }
 {
     if wants_revoke_first(store, set) {
         return Err(KError::RevokeFirst);
     }
     let mut left = Unsettled::nothing(store.count());
-    let gone = empty_all(store, ends, &mut left, &set);
+    let gone = empty_all(store, objects, &mut left, &set);
     let lost = lines_lost(store, gone);
-    empty_bindings(store, ends, &mut left, lost);
-    settle(store, ends, &left);
+    empty_bindings(store, objects, &mut left, lost);
+    settle(store, objects, &left);
     Ok(())
 }
 
@@ -143,21 +144,21 @@ pub(crate) fn remove<S: SlotStore, E: Ends>(
 /// # Errors
 ///
 /// A CNode or a thread would end that still holds another capability (`RevokeFirst`). Nothing changes then.
-pub fn remove_slot<S: SlotStore, E: Ends>(
+pub fn remove_slot<S: SlotStore>(
     store: &mut S,
-    ends: &mut E,
+    objects: &mut Objects,
     slot: Slot,
 ) -> Result<(), KError>
-    requires agree { E.Agree ends.old (S.slots store.old) (S.memory store.old) }
-    requires sound { IsSound (E.state ends.old (S.slots store.old) (S.memory store.old)) }
-    ensures outcome { GivesState (delete (E.state ends.old (S.slots store.old) (S.memory store.old)) slot) result
-        (E.state ends.new (S.slots store.new) (S.memory store.new)) }
+    requires agree { Agreed objects.old (S.slots store.old) (S.memory store.old) }
+    requires sound { IsSound (state_of objects.old (S.slots store.old) (S.memory store.old)) }
+    ensures outcome { GivesState (delete (state_of objects.old (S.slots store.old) (S.memory store.old)) slot) result
+        (state_of objects.new (S.slots store.new) (S.memory store.new)) }
     ensures unchanged { OnErr result (store.new ≡ store.old) }
-    ensures same { OnErr result (ends.new ≡ ends.old) }
-    ensures agree { E.Agree ends.new (S.slots store.new) (S.memory store.new) }
+    ensures same { OnErr result (objects.new ≡ objects.old) }
+    ensures agree { Agreed objects.new (S.slots store.new) (S.memory store.new) }
 {
     if !is_taken(store, slot) {
         return Ok(());
     }
-    remove(store, ends, Removed::One(slot))
+    remove(store, objects, Removed::One(slot))
 }

@@ -1,12 +1,14 @@
 //! What is left to do once all slots of a removal are empty.
 
 ghost use Rattle.std.specs.Prelude.{ℕ, ◌≡◌, ◌≢◌, ◌+◌, ◌*◌, ◌^◌, ◌<◌, ◌≤◌, Some, length, min, replicate, slice_index, true};
+ghost use Rattle.kernel_invariant.specs.Wholeness.{Agreed};
 ghost use Rattle.cnode_ops.specs.Unsettled.{Covers, IsWithSlots, Lands, nothing, start_with, with_waiting};
 ghost use Rattle.model.specs.Capabilities.Slots.{IsOpen, empty_entry};
+ghost use Rattle.objects.specs.Tables.{Tables, state_of};
 ghost use Rattle.removal_laws.specs.Finishing.{MaySettle, StrayClosed, settled, without_strays};
 
-use crate::Ends;
 use model::Slot;
+use objects::Objects;
 use slots::SlotStore;
 
 /// How many slots a block has.
@@ -105,13 +107,12 @@ impl Unsettled {
 }
 
 /// Closes a slot that belongs to no object, if it is open.
-fn close_stray<S: SlotStore, E: Ends>(store: &mut S, ends: &E, slot: Slot, stray: bool)
-    requires agree { E.Agree ends.now (S.slots store.old) (S.memory store.old) }
+fn close_stray<S: SlotStore>(store: &mut S, slot: Slot, stray: bool)
     requires within { 16 * (slot + 1) ≤ length (S.memory store.old) }
     requires empty { stray ≡ true → IsOpen (S.slots store.old) slot → S.slots store.old slot ≡ Some empty_entry }
-    ensures state { StrayClosed (E.state ends.now (S.slots store.old) (S.memory store.old)) slot stray
-        (E.state ends.now (S.slots store.new) (S.memory store.new)) }
-    ensures agree { E.Agree ends.now (S.slots store.new) (S.memory store.new) }
+    ensures state { (o : Tables) → Agreed o (S.slots store.old) (S.memory store.old)
+        → StrayClosed (state_of o (S.slots store.old) (S.memory store.old)) slot stray (state_of o (S.slots store.new) (S.memory store.new)) }
+    ensures agree { (o : Tables) → Agreed o (S.slots store.old) (S.memory store.old) → Agreed o (S.slots store.new) (S.memory store.new) }
 {
     if !stray {
         return;
@@ -123,33 +124,33 @@ fn close_stray<S: SlotStore, E: Ends>(store: &mut S, ends: &E, slot: Slot, stray
 
 /// Closes the open slots that belong to no object any more: no others than those of objects that ended. Blocks that have none
 /// of theirs are passed by.
-fn close_strays<S: SlotStore, E: Ends>(store: &mut S, ends: &E, left: &Unsettled)
-    requires agree { E.Agree ends.now (S.slots store.old) (S.memory store.old) }
-    requires may { MaySettle (E.state ends.now (S.slots store.old) (S.memory store.old)) }
-    requires covered { Covers (S.slots store.old) (E.state ends.now (S.slots store.old) (S.memory store.old)) left.now }
-    ensures state { E.state ends.now (S.slots store.new) (S.memory store.new)
-        ≡ without_strays (E.state ends.now (S.slots store.old) (S.memory store.old)) }
-    ensures agree { E.Agree ends.now (S.slots store.new) (S.memory store.new) }
+fn close_strays<S: SlotStore>(store: &mut S, objects: &Objects, left: &Unsettled)
+    requires agree { Agreed objects.now (S.slots store.old) (S.memory store.old) }
+    requires may { MaySettle (state_of objects.now (S.slots store.old) (S.memory store.old)) }
+    requires covered { Covers (S.slots store.old) (state_of objects.now (S.slots store.old) (S.memory store.old)) left.now }
+    ensures state { state_of objects.now (S.slots store.new) (S.memory store.new)
+        ≡ without_strays (state_of objects.now (S.slots store.old) (S.memory store.old)) }
+    ensures agree { Agreed objects.now (S.slots store.new) (S.memory store.new) }
 {
     let mut at = left.first;
     'slots: while at < left.end {
-        let own = ends.slots_of(store, 16 * at);
-        close_stray(store, ends, Slot::new(at), own == 0);
+        let own = objects.slots_of(store, 16 * at);
+        close_stray(store, Slot::new(at), own == 0);
         at = next_noted(&left.starts, at + own.max(1));
     }
 }
 
 /// Closes the slots of objects that are gone, and lets the threads run again that waited at some.
-pub(crate) fn settle<S: SlotStore, E: Ends>(store: &mut S, ends: &mut E, left: &Unsettled)
-    requires agree { E.Agree ends.old (S.slots store.old) (S.memory store.old) }
-    requires may { MaySettle (E.state ends.old (S.slots store.old) (S.memory store.old)) }
-    requires covered { Covers (S.slots store.old) (E.state ends.old (S.slots store.old) (S.memory store.old)) left.now }
-    ensures state { E.state ends.new (S.slots store.new) (S.memory store.new)
-        ≡ settled (E.state ends.old (S.slots store.old) (S.memory store.old)) }
-    ensures agree { E.Agree ends.new (S.slots store.new) (S.memory store.new) }
+pub(crate) fn settle<S: SlotStore>(store: &mut S, objects: &mut Objects, left: &Unsettled)
+    requires agree { Agreed objects.old (S.slots store.old) (S.memory store.old) }
+    requires may { MaySettle (state_of objects.old (S.slots store.old) (S.memory store.old)) }
+    requires covered { Covers (S.slots store.old) (state_of objects.old (S.slots store.old) (S.memory store.old)) left.now }
+    ensures state { state_of objects.new (S.slots store.new) (S.memory store.new)
+        ≡ settled (state_of objects.old (S.slots store.old) (S.memory store.old)) }
+    ensures agree { Agreed objects.new (S.slots store.new) (S.memory store.new) }
 {
-    close_strays(store, ends, left);
+    close_strays(store, objects, left);
     if left.waited {
-        ends.wake(store);
+        objects.wake_stranded(store);
     }
 }

@@ -14,7 +14,7 @@ ghost use Rattle.model.specs.declared.capabilities.Cap.TheVariants.{InterruptCon
 ghost use Rattle.objects.specs.Lives.{state_in};
 ghost use Rattle.soundness.specs.Calls.{IsRoot};
 
-use cnode_ops::{Ends, Kernel, may_have_child, remove_slot};
+use cnode_ops::{Kernel, may_have_child, remove_slot};
 use cspace::{destination_slot, source_slot};
 use model::{Cap, KError, Slot, SlotName};
 use objects::Line;

@@ -4,9 +4,9 @@ use Rattle.std.proofs.Common.{List, length, Result, Ok, Err, refl, sym, ap, subs
 use Rattle.std.specs.Option.{option_map_or}
 use Rattle.std.specs.Prelude.{OnErr}
 use Rattle.std.proofs.lemmas.Bool.Decides.{eqb_tells}
-use Rattle.kernel_invariant.proofs.Laws.{put-closes, put-named, unmapped-stands, unmapped-state}
+use Rattle.kernel_invariant.proofs.Laws.{Lessened, less-unmapped, put-closes, put-named, unmapped-agrees, unmapped-stands, unmapped-state}
 use Rattle.kernel_invariant.specs.Agreement.{Agrees}
-use Rattle.kernel_invariant.specs.Wholeness.{Agreed, IsWhole}
+use Rattle.kernel_invariant.specs.Wholeness.{IsWhole}
 use Rattle.model.specs.Kernel.Outcomes.{Gives, GivesState}
 use Rattle.kernel_machine.proofs.perform_calls.Roots.{held-at}
 use Rattle.kernel_machine.proofs.perform_calls.Standing.{Whole}
@@ -188,16 +188,18 @@ frame-taken o slots now memory call offset held mapping at is removed =
     ∙ ap (λ (n : Slots). with_slots s n) (sym (removed ∙ ap (λ (c : Cap). slots_unmapped slots call.slot c) at))
 
 -- what the call that unmaps a frame leaves
-pub frame-unmapped : {S : Type 0} (slots_in : S → Slots) (memory_in : S → List ℕ) (o left : Tables) (store now : S) (call : Call) (offset : ℕ) (held : Rights)
+pub frame-unmapped : {S : Type 0} (slots_in : S → Slots) (memory_in : S → List ℕ) (o : Tables) (store now : S) (call : Call) (offset : ℕ) (held : Rights)
     (mapping : Option FrameMapping)
     → Whole slots_in memory_in o store → IsCall (state_of o (slots_in store) (memory_in store)) call → call.capability ≡ Frame offset held mapping
     → slots_in now ≡ unmapped_at (slots_in store) call.slot
-    → state_of left (slots_in now) (memory_in now) ≡ with_slots (state_of o (slots_in store) (memory_in store)) (slots_in now)
-    → Agreed left (slots_in now) (memory_in now)
-    → (unmap_frame (state_of o (slots_in store) (memory_in store)) call ≡ state_of left (slots_in now) (memory_in now)) × Whole slots_in memory_in left now
-frame-unmapped slots_in memory_in o left store now call offset held mapping whole is_call is removed state agreed =
+    → SameBesideTables (slots_in store) (memory_in store) (memory_in now) → TablesAgree (slots_in now) (memory_in now)
+    → (unmap_frame (state_of o (slots_in store) (memory_in store)) call ≡ state_of o (slots_in now) (memory_in now)) × Whole slots_in memory_in o now
+frame-unmapped slots_in memory_in o store now call offset held mapping whole is_call is removed same tables =
     let s : State = state_of o (slots_in store) (memory_in store) in
     let at = held-at o (slots_in store) (memory_in store) call (Frame offset held mapping) is_call is refl in
+    let state = unmapped-state o (slots_in store) (slots_in now) (memory_in store) (memory_in now) (whole.agrees, whole.stands) same in
+    let agreed = unmapped-agrees o (slots_in store) (slots_in now) (memory_in store) (memory_in now) (whole.agrees, whole.stands) same tables
+    (subst (λ (n : Slots). Lessened (slots_in store) n) (sym removed) (less-unmapped (slots_in store) call.slot)) in
     let done = frame-taken o (slots_in store) (slots_in now) (memory_in store) call offset held mapping at is removed in (
       done ∙ sym state,
       record {
@@ -316,16 +318,18 @@ table-taken o slots now memory call offset (Some m) at is removed =
     ∙ ap (λ (n : Slots). with_slots s n) (sym (removed ∙ ap (λ (c : Cap). slots_unmapped slots call.slot c) at))
 
 -- what the call that unmaps a page table leaves
-pub table-unmapped : {S : Type 0} (slots_in : S → Slots) (memory_in : S → List ℕ) (o left : Tables) (store now : S) (call : Call) (offset : ℕ)
+pub table-unmapped : {S : Type 0} (slots_in : S → Slots) (memory_in : S → List ℕ) (o : Tables) (store now : S) (call : Call) (offset : ℕ)
     (mapping : Option TableMapping)
     → Whole slots_in memory_in o store → IsCall (state_of o (slots_in store) (memory_in store)) call → call.capability ≡ PageTable offset mapping
     → slots_in now ≡ unmapped_at (slots_in store) call.slot
-    → state_of left (slots_in now) (memory_in now) ≡ with_slots (state_of o (slots_in store) (memory_in store)) (slots_in now)
-    → Agreed left (slots_in now) (memory_in now)
-    → (unmap_table (state_of o (slots_in store) (memory_in store)) call ≡ state_of left (slots_in now) (memory_in now)) × Whole slots_in memory_in left now
-table-unmapped slots_in memory_in o left store now call offset mapping whole is_call is removed state agreed =
+    → SameBesideTables (slots_in store) (memory_in store) (memory_in now) → TablesAgree (slots_in now) (memory_in now)
+    → (unmap_table (state_of o (slots_in store) (memory_in store)) call ≡ state_of o (slots_in now) (memory_in now)) × Whole slots_in memory_in o now
+table-unmapped slots_in memory_in o store now call offset mapping whole is_call is removed same tables =
     let s : State = state_of o (slots_in store) (memory_in store) in
     let at = held-at o (slots_in store) (memory_in store) call (PageTable offset mapping) is_call is refl in
+    let state = unmapped-state o (slots_in store) (slots_in now) (memory_in store) (memory_in now) (whole.agrees, whole.stands) same in
+    let agreed = unmapped-agrees o (slots_in store) (slots_in now) (memory_in store) (memory_in now) (whole.agrees, whole.stands) same tables
+    (subst (λ (n : Slots). Lessened (slots_in store) n) (sym removed) (less-unmapped (slots_in store) call.slot)) in
     let done = table-taken o (slots_in store) (slots_in now) (memory_in store) call offset mapping at is removed in (
       done ∙ sym state,
       record {

@@ -10,10 +10,10 @@ ghost use Rattle.objects.specs.Lives.{state_in};
 ghost use Rattle.soundness.specs.Calls.{IsCall};
 
 use crate::perform_calls::KernelCall;
-use cnode_ops::{Ends, Kernel};
+use cnode_ops::Kernel;
 use model::{Cap, FrameCall, KError, Rights};
 use slots::SlotStore;
-use vspace::{FrameCap, map_frame};
+use vspace::{FrameCap, map_frame, unmap_cap};
 
 /// The capability of the frame that a call is made on.
 fn frame_of(call: KernelCall, held: Rights) -> FrameCap
@@ -66,7 +66,7 @@ pub(crate) fn on_frame<S: SlotStore>(
         }
         FrameCall::UnmapFrame => {
             let live = &mut kernel.live;
-            live.objects.unmap(&mut live.store, call.slot);
+            unmap_cap(&mut live.store, call.slot);
             Ok(())
         }
     }

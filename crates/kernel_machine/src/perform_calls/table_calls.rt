@@ -10,10 +10,10 @@ ghost use Rattle.objects.specs.Lives.{state_in};
 ghost use Rattle.soundness.specs.Calls.{IsCall};
 
 use crate::perform_calls::KernelCall;
-use cnode_ops::{Ends, Kernel};
+use cnode_ops::Kernel;
 use model::{Cap, KError, TableCall};
 use slots::SlotStore;
-use vspace::{PageTableCap, map_table};
+use vspace::{PageTableCap, map_table, unmap_cap};
 
 /// The capability of the page table that a call is made on.
 fn table_of(call: KernelCall) -> PageTableCap
@@ -54,7 +54,7 @@ pub(crate) fn on_table<S: SlotStore>(
         }
         TableCall::UnmapTable => {
             let live = &mut kernel.live;
-            live.objects.unmap(&mut live.store, call.slot);
+            unmap_cap(&mut live.store, call.slot);
             Ok(())
         }
     }

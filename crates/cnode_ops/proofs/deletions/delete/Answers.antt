@@ -37,7 +37,7 @@ returns-clause-outcome g c = λ made same.
     let of_kernel = c.live.view_is ∙ c.kernel.view_is in
     let slots : Slots = g.S.SlotMap.slots c.live.inside.store in
     let s : State = state_of c.live.inside.objects slots (g.S.SlotStore.memory c.live.inside.store) in
-    let after : State = state_of c.remove_slot.new.ends (g.S.SlotMap.slots c.remove_slot.new.store) (g.S.SlotStore.memory c.remove_slot.new.store) in
+    let after : State = state_of c.remove_slot.new.objects (g.S.SlotMap.slots c.remove_slot.new.store) (g.S.SlotStore.memory c.remove_slot.new.store) in
     subst (λ k. GivesState (on_cnode (state_in g.S.SlotMap.slots g.S.SlotStore.memory k) made (Delete c.args.name)) c.remove_slot.result after) of_kernel
     (subst (λ (defined : Result State KError). GivesState defined c.remove_slot.result after)
     (sym (delete-on s slots made c.args.call.node c.args.name (Ok c.in_ok-slot.slot) (of_slots-law _ _ _) same (sym c.in_ok-slot.ensures)))
@@ -57,7 +57,7 @@ invariant_of-live g c =
     let whole = whole-of g.S.SlotMap.slots g.S.SlotStore.memory c.live.inside.objects c.live.inside.store c.kernel.invariant c.live.view_is c.live.invariant in
     let s : State = state_of c.live.inside.objects (g.S.SlotMap.slots c.live.inside.store) (g.S.SlotStore.memory c.live.inside.store) in
     (still-whole g.S.SlotMap.slots g.S.SlotStore.memory (delete s c.in_ok-slot.slot) c.remove_slot.result c.live.inside.store c.remove_slot.new.store
-    c.live.inside.objects c.remove_slot.new.ends whole c.remove_slot.ensures.outcome c.remove_slot.ensures.unchanged c.remove_slot.ensures.same
+    c.live.inside.objects c.remove_slot.new.objects whole c.remove_slot.ensures.outcome c.remove_slot.ensures.unchanged c.remove_slot.ensures.same
     (λ t is. deleted-sound s t c.in_ok-slot.slot whole.sound is) c.remove_slot.ensures.agree).stands
 
 pub invariant_of-kernel-2 : goal.invariant_of-kernel-2
@@ -65,6 +65,6 @@ invariant_of-kernel-2 g c =
     let whole = whole-of g.S.SlotMap.slots g.S.SlotStore.memory c.live.inside.objects c.live.inside.store c.kernel.invariant c.live.view_is c.live.invariant in
     let s : State = state_of c.live.inside.objects (g.S.SlotMap.slots c.live.inside.store) (g.S.SlotStore.memory c.live.inside.store) in
     consistent-of (still-whole g.S.SlotMap.slots g.S.SlotStore.memory (delete s c.in_ok-slot.slot) c.remove_slot.result c.live.inside.store
-    c.remove_slot.new.store c.live.inside.objects c.remove_slot.new.ends whole c.remove_slot.ensures.outcome c.remove_slot.ensures.unchanged
+    c.remove_slot.new.store c.live.inside.objects c.remove_slot.new.objects whole c.remove_slot.ensures.outcome c.remove_slot.ensures.unchanged
     c.remove_slot.ensures.same
     (λ t is. deleted-sound s t c.in_ok-slot.slot whole.sound is) c.remove_slot.ensures.agree)

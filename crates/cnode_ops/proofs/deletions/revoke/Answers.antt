@@ -44,7 +44,7 @@ returns-clause-outcome g c = λ made same.
     let of_kernel = c.live.view_is ∙ c.kernel.view_is in
     let slots : Slots = g.S.SlotMap.slots c.live.inside.store in
     let s : State = state_of c.live.inside.objects slots (g.S.SlotStore.memory c.live.inside.store) in
-    let after : State = state_of c.remove.new.ends (g.S.SlotMap.slots c.remove.new.store) (g.S.SlotStore.memory c.remove.new.store) in
+    let after : State = state_of c.remove.new.objects (g.S.SlotMap.slots c.remove.new.store) (g.S.SlotStore.memory c.remove.new.store) in
     subst (λ k. GivesState (on_cnode (state_in g.S.SlotMap.slots g.S.SlotStore.memory k) made (Revoke c.args.name)) c.remove.result after) of_kernel
     (subst (λ (defined : Result State KError). GivesState defined c.remove.result after)
     (sym (revoke-on s slots made c.args.call.node c.args.name (Ok c.in_ok-slot.slot) refl same (sym c.in_ok-slot.ensures))) c.remove.ensures.outcome)
@@ -64,7 +64,7 @@ invariant_of-live g c =
     let whole = whole-of g.S.SlotMap.slots g.S.SlotStore.memory c.live.inside.objects c.live.inside.store c.kernel.invariant c.live.view_is c.live.invariant in
     let s : State = state_of c.live.inside.objects (g.S.SlotMap.slots c.live.inside.store) (g.S.SlotStore.memory c.live.inside.store) in
     (still-whole g.S.SlotMap.slots g.S.SlotStore.memory (revoke s c.in_ok-slot.slot) c.remove.result c.live.inside.store c.remove.new.store
-    c.live.inside.objects c.remove.new.ends whole c.remove.ensures.outcome c.remove.ensures.unchanged c.remove.ensures.same
+    c.live.inside.objects c.remove.new.objects whole c.remove.ensures.outcome c.remove.ensures.unchanged c.remove.ensures.same
     (λ t is. revoked-sound s t c.in_ok-slot.slot whole.sound is) c.remove.ensures.agree).stands
 
 pub invariant_of-kernel-2 : goal.invariant_of-kernel-2
@@ -73,5 +73,5 @@ invariant_of-kernel-2 g c =
     let whole = whole-of g.S.SlotMap.slots g.S.SlotStore.memory c.live.inside.objects c.live.inside.store c.kernel.invariant c.live.view_is c.live.invariant in
     let s : State = state_of c.live.inside.objects (g.S.SlotMap.slots c.live.inside.store) (g.S.SlotStore.memory c.live.inside.store) in
     consistent-of (still-whole g.S.SlotMap.slots g.S.SlotStore.memory (revoke s c.in_ok-slot.slot) c.remove.result c.live.inside.store
-    c.remove.new.store c.live.inside.objects c.remove.new.ends whole c.remove.ensures.outcome c.remove.ensures.unchanged c.remove.ensures.same
+    c.remove.new.store c.live.inside.objects c.remove.new.objects whole c.remove.ensures.outcome c.remove.ensures.unchanged c.remove.ensures.same
     (λ t is. revoked-sound s t c.in_ok-slot.slot whole.sound is) c.remove.ensures.agree)

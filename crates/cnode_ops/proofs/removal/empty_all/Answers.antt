@@ -1,5 +1,7 @@
 -- Each slot that is emptied leaves one fewer.
 use Rattle.std.proofs.Common.{ℕ, ◌≡◌, ◌∙◌, ◌<◌, false, true, Option, IfSome, refl, sym, ap, subst}
+use Rattle.kernel_invariant.proofs.Laws.{of_slots-law}
+use Rattle.objects.specs.Tables.{state_of}
 use Rattle.cnode_ops.specs.Sets.{set_of}
 use Rattle.model.specs.Capabilities.Slots.{IsFull, IsOpen, Slots, capability_at}
 use Rattle.model.specs.Kernel.Removal.{emptied}
@@ -13,14 +15,14 @@ use Rattle.cnode_ops.proofs.removal.empty_all.Goals as goal
 pub slots-smaller : goal.slots-smaller
 slots-smaller g c =
     let slots : Slots = g.S.SlotMap.slots c.slots.store in
-    let before : State = g.E.Ends.state c.args.ends.now (g.S.SlotMap.slots c.args.store.now) (g.S.SlotStore.memory c.args.store.now) in
-    let now : State = g.E.Ends.state c.slots.ends slots (g.S.SlotStore.memory c.slots.store) in
+    let before : State = state_of c.args.objects.now (g.S.SlotMap.slots c.args.store.now) (g.S.SlotStore.memory c.args.store.now) in
+    let now : State = state_of c.slots.objects slots (g.S.SlotStore.memory c.slots.store) in
     let after : Slots = g.S.SlotMap.slots c.empty_slot-held.new.store in
-    let has : now.slots ≡ slots = g.met.E.Ends.of_slots c.slots.ends slots (g.S.SlotStore.memory c.slots.store) in
+    let has : now.slots ≡ slots = of_slots-law c.slots.objects slots (g.S.SlotStore.memory c.slots.store) in
     let full : IsFull now.slots c.in-Some-leaf_removed.slot =
     subst (λ (n : Slots). IsFull n c.in-Some-leaf_removed.slot) (sym has) c.in-Some-leaf_removed.ensures.full in
     let left : IsLeftOf before now c.args.set.now = c.slots.invariant.left in
-    let same : after ≡ (emptied now (alone c.in-Some-leaf_removed.slot)).slots = sym (g.met.E.Ends.of_slots _ _ _)
+    let same : after ≡ (emptied now (alone c.in-Some-leaf_removed.slot)).slots = sym (of_slots-law _ _ _)
     ∙ ap (λ (s : State). s.slots) c.empty_slot-held.ensures.state in
     let fewer : full_count now.memory_bits (emptied now (alone c.in-Some-leaf_removed.slot)).slots < full_count now.memory_bits now.slots =
     fewer-full now c.in-Some-leaf_removed.slot left.ready full in
@@ -34,8 +36,8 @@ slots-smaller g c =
 pub slots-init : goal.slots-init
 slots-init g c =
     let slots : Slots = g.S.SlotMap.slots c.args.store.now in
-    let before : State = g.E.Ends.state c.args.ends.now slots (g.S.SlotStore.memory c.args.store.now) in
-    let had : before.slots ≡ slots = g.met.E.Ends.of_slots c.args.ends.now slots (g.S.SlotStore.memory c.args.store.now) in
+    let before : State = state_of c.args.objects.now slots (g.S.SlotStore.memory c.args.store.now) in
+    let had : before.slots ≡ slots = of_slots-law c.args.objects.now slots (g.S.SlotStore.memory c.args.store.now) in
     record {
       left = left-first before c.args.set.now c.requires.ready
           (subst (λ (n : Slots). (slot : ℕ) → set_of n c.args.set.now slot ≡ true → IsOpen n slot) (sym had) c.requires.members);
@@ -47,17 +49,17 @@ slots-init g c =
 
 pub returns-in_default-clause-lines : goal.returns-in_default-clause-lines
 returns-in_default-clause-lines g c =
-    none-gone (g.E.Ends.state c.args.ends.now (g.S.SlotMap.slots c.args.store.now) (g.S.SlotStore.memory c.args.store.now)) c.none-gone.result
+    none-gone (state_of c.args.objects.now (g.S.SlotMap.slots c.args.store.now) (g.S.SlotStore.memory c.args.store.now)) c.none-gone.result
     c.none-gone.ensures
 
 pub slots-preserved : goal.slots-preserved
 slots-preserved g c =
     let slots : Slots = g.S.SlotMap.slots c.slots.store in
-    let before : State = g.E.Ends.state c.args.ends.now (g.S.SlotMap.slots c.args.store.now) (g.S.SlotStore.memory c.args.store.now) in
-    let now : State = g.E.Ends.state c.slots.ends slots (g.S.SlotStore.memory c.slots.store) in
-    let after : State = g.E.Ends.state c.empty_slot-held.new.ends (g.S.SlotMap.slots c.empty_slot-held.new.store)
+    let before : State = state_of c.args.objects.now (g.S.SlotMap.slots c.args.store.now) (g.S.SlotStore.memory c.args.store.now) in
+    let now : State = state_of c.slots.objects slots (g.S.SlotStore.memory c.slots.store) in
+    let after : State = state_of c.empty_slot-held.new.objects (g.S.SlotMap.slots c.empty_slot-held.new.store)
     (g.S.SlotStore.memory c.empty_slot-held.new.store) in
-    let has : now.slots ≡ slots = g.met.E.Ends.of_slots c.slots.ends slots (g.S.SlotStore.memory c.slots.store) in
+    let has : now.slots ≡ slots = of_slots-law c.slots.objects slots (g.S.SlotStore.memory c.slots.store) in
     let x = c.in-Some-leaf_removed.slot in
     record {
       left = left-next before now after c.args.set.now x c.slots.invariant.left
@@ -71,7 +73,7 @@ slots-preserved g c =
       noted = notes-then before now after c.args.left.now c.slots.left c.empty_slot-held.new.left c.slots.invariant.noted c.empty_slot-held.ensures.noted;
       agree = c.empty_slot-held.ensures.agree;
       near = λ full.
-          let same : g.S.SlotMap.slots c.empty_slot-held.new.store ≡ (emptied now (alone x)).slots = sym (g.met.E.Ends.of_slots _ _ _)
+          let same : g.S.SlotMap.slots c.empty_slot-held.new.store ≡ (emptied now (alone x)).slots = sym (of_slots-law _ _ _)
           ∙ ap (λ (s : State). s.slots) c.empty_slot-held.ensures.state in
           ap (λ (n : Slots). set_of n c.args.set.now c.parent_removed-near.result) same
           ∙ set-still now c.args.set.now x c.parent_removed-near.result c.slots.invariant.left.ready
@@ -85,8 +87,8 @@ slots-preserved g c =
 pub returns-in_default-clause-taken : goal.returns-in_default-clause-taken
 returns-in_default-clause-taken g c = λ more opens.
     let slots : Slots = g.S.SlotMap.slots c.args.store.now in
-    let before : State = g.E.Ends.state c.args.ends.now slots (g.S.SlotStore.memory c.args.store.now) in
-    let had : before.slots ≡ slots = g.met.E.Ends.of_slots c.args.ends.now slots (g.S.SlotStore.memory c.args.store.now) in
+    let before : State = state_of c.args.objects.now slots (g.S.SlotStore.memory c.args.store.now) in
+    let had : before.slots ≡ slots = of_slots-law c.args.objects.now slots (g.S.SlotStore.memory c.args.store.now) in
     let none : (slot : ℕ) → IsFull before.slots slot → set_of before.slots c.args.set.now slot ≡ false =
     subst (λ (n : Slots). (slot : ℕ) → IsFull n slot → set_of n c.args.set.now slot ≡ false) (sym had) (c.first_removed.ensures.none c.in_default.is)
     in
@@ -100,10 +102,10 @@ pub returns-clause-taken : goal.returns-clause-taken
 returns-clause-taken g c = λ more opens.
     let first : Slots = g.S.SlotMap.slots c.args.store.now in
     let slots : Slots = g.S.SlotMap.slots c.slots.store in
-    let before : State = g.E.Ends.state c.args.ends.now first (g.S.SlotStore.memory c.args.store.now) in
-    let now : State = g.E.Ends.state c.slots.ends slots (g.S.SlotStore.memory c.slots.store) in
-    let had : before.slots ≡ first = g.met.E.Ends.of_slots c.args.ends.now first (g.S.SlotStore.memory c.args.store.now) in
-    let has : now.slots ≡ slots = g.met.E.Ends.of_slots c.slots.ends slots (g.S.SlotStore.memory c.slots.store) in
+    let before : State = state_of c.args.objects.now first (g.S.SlotStore.memory c.args.store.now) in
+    let now : State = state_of c.slots.objects slots (g.S.SlotStore.memory c.slots.store) in
+    let had : before.slots ≡ first = of_slots-law c.args.objects.now first (g.S.SlotStore.memory c.args.store.now) in
+    let has : now.slots ≡ slots = of_slots-law c.slots.objects slots (g.S.SlotStore.memory c.slots.store) in
     let none : (slot : ℕ) → IsFull now.slots slot → set_of now.slots c.args.set.now slot ≡ false =
     subst (λ (n : Slots). (slot : ℕ) → IsFull n slot → set_of n c.args.set.now slot ≡ false) (sym has)
     (c.leaf_removed.ensures.none c.in_default-leaf_removed.is)

@@ -45,7 +45,7 @@ insert-requires-clause-empty g c =
     let line = c.requires.line (subst (λ k. IsSound (state_in g.S.SlotMap.slots g.S.SlotStore.memory k)) of_kernel whole.sound) in
     slot-empty c.live.inside.objects (g.S.SlotMap.slots c.live.inside.store) (g.S.SlotStore.memory c.live.inside.store) c.args.root c.args.line
     c.args.notification
-    c.remove_slot.new.ends (g.S.SlotMap.slots c.remove_slot.new.store) (g.S.SlotStore.memory c.remove_slot.new.store) c.in_ok-source.source
+    c.remove_slot.new.objects (g.S.SlotMap.slots c.remove_slot.new.store) (g.S.SlotStore.memory c.remove_slot.new.store) c.in_ok-source.source
     c.binding-binding.result
     whole root line c.in_ok-source.ensures (here _ _) c.in_ok-remove_slot.ensures.outcome
 
@@ -60,7 +60,7 @@ insert-requires-clause-full g c =
     of-some (IsFull (g.S.SlotMap.slots c.remove_slot.new.store)) c.in_ok-source.source x
     (source-full c.live.inside.objects (g.S.SlotMap.slots c.live.inside.store) (g.S.SlotStore.memory c.live.inside.store) c.args.root c.args.line
     c.args.notification
-    c.remove_slot.new.ends (g.S.SlotMap.slots c.remove_slot.new.store) (g.S.SlotStore.memory c.remove_slot.new.store) c.in_ok-source.source
+    c.remove_slot.new.objects (g.S.SlotMap.slots c.remove_slot.new.store) (g.S.SlotStore.memory c.remove_slot.new.store) c.in_ok-source.source
     c.binding-binding.result
     whole root line c.in_ok-source.ensures (here _ _) c.in_ok-remove_slot.ensures.outcome) is
 
@@ -73,7 +73,7 @@ insert-requires-clause-kin g c =
     let line = c.requires.line (subst (λ k. IsSound (state_in g.S.SlotMap.slots g.S.SlotStore.memory k)) of_kernel whole.sound) in
     inl (source-kin c.live.inside.objects (g.S.SlotMap.slots c.live.inside.store) (g.S.SlotStore.memory c.live.inside.store) c.args.root c.args.line
     c.args.notification
-    c.remove_slot.new.ends (g.S.SlotMap.slots c.remove_slot.new.store) (g.S.SlotStore.memory c.remove_slot.new.store) c.in_ok-source.source
+    c.remove_slot.new.objects (g.S.SlotMap.slots c.remove_slot.new.store) (g.S.SlotStore.memory c.remove_slot.new.store) c.in_ok-source.source
     c.binding-binding.result
     whole root line c.in_ok-source.ensures (here _ _) c.in_ok-remove_slot.ensures.outcome c.capability-capability.result
     c.capability-capability.ensures.value)
@@ -89,7 +89,7 @@ insert-requires-clause-room g c =
     of-some (λ y. depth_of (g.S.SlotMap.slots c.remove_slot.new.store) y < 255) c.in_ok-source.source x
     (source-room c.live.inside.objects (g.S.SlotMap.slots c.live.inside.store) (g.S.SlotStore.memory c.live.inside.store) c.args.root c.args.line
     c.args.notification
-    c.remove_slot.new.ends (g.S.SlotMap.slots c.remove_slot.new.store) (g.S.SlotStore.memory c.remove_slot.new.store) c.in_ok-source.source
+    c.remove_slot.new.objects (g.S.SlotMap.slots c.remove_slot.new.store) (g.S.SlotStore.memory c.remove_slot.new.store) c.in_ok-source.source
     c.binding-binding.result
     whole root line c.in_ok-source.ensures (here _ _) c.in_ok-remove_slot.ensures.outcome) is
 
@@ -101,14 +101,14 @@ returns-clause-outcome g c =
     λ call at.
     let root = subst (λ k. IsRoot (state_in g.S.SlotMap.slots g.S.SlotStore.memory k) c.args.root) (sym of_kernel) c.requires.root in
     let line = c.requires.line (subst (λ k. IsSound (state_in g.S.SlotMap.slots g.S.SlotStore.memory k)) of_kernel whole.sound) in
-    let t = state_of c.remove_slot.new.ends (g.S.SlotMap.slots c.insert.new.self) (g.S.SlotStore.memory c.insert.new.self) in
+    let t = state_of c.remove_slot.new.objects (g.S.SlotMap.slots c.insert.new.self) (g.S.SlotStore.memory c.insert.new.self) in
     let put = c.insert.ensures.slots
     ∙ ap (λ (k : Cap). inserted (g.S.SlotMap.slots c.remove_slot.new.store) c.binding-binding.result k (Some c.in_ok-source.source))
     c.capability-capability.ensures.value in
     subst (λ k. bind (state_in g.S.SlotMap.slots g.S.SlotStore.memory k) call c.args.line c.args.notification ≡ Ok t) of_kernel
     (bind-left c.live.inside.objects (g.S.SlotMap.slots c.live.inside.store) (g.S.SlotStore.memory c.live.inside.store) c.args.root c.args.line
     c.args.notification
-    c.remove_slot.new.ends (g.S.SlotMap.slots c.remove_slot.new.store) (g.S.SlotStore.memory c.remove_slot.new.store) c.in_ok-source.source
+    c.remove_slot.new.objects (g.S.SlotMap.slots c.remove_slot.new.store) (g.S.SlotStore.memory c.remove_slot.new.store) c.in_ok-source.source
     c.binding-binding.result
     whole root line c.in_ok-source.ensures (here _ _) c.in_ok-remove_slot.ensures.outcome
     (g.S.SlotMap.slots c.insert.new.self) (g.S.SlotStore.memory c.insert.new.self) c.remove_slot.ensures.agree c.insert.ensures.bytes put call at)
@@ -126,7 +126,7 @@ invariant_of-live-2 g c =
     c.capability-capability.ensures.value in
     bind-whole c.live.inside.objects (g.S.SlotMap.slots c.live.inside.store) (g.S.SlotStore.memory c.live.inside.store) c.args.root c.args.line
     c.args.notification
-    c.remove_slot.new.ends (g.S.SlotMap.slots c.remove_slot.new.store) (g.S.SlotStore.memory c.remove_slot.new.store) c.in_ok-source.source
+    c.remove_slot.new.objects (g.S.SlotMap.slots c.remove_slot.new.store) (g.S.SlotStore.memory c.remove_slot.new.store) c.in_ok-source.source
     c.binding-binding.result
     whole root line c.in_ok-source.ensures (here _ _) c.in_ok-remove_slot.ensures.outcome
     (g.S.SlotMap.slots c.insert.new.self) (g.S.SlotStore.memory c.insert.new.self) c.remove_slot.ensures.agree c.insert.ensures.bytes put).stands
@@ -144,7 +144,7 @@ invariant_of-kernel-2 g c =
     c.capability-capability.ensures.value in
     bind-whole c.live.inside.objects (g.S.SlotMap.slots c.live.inside.store) (g.S.SlotStore.memory c.live.inside.store) c.args.root c.args.line
     c.args.notification
-    c.remove_slot.new.ends (g.S.SlotMap.slots c.remove_slot.new.store) (g.S.SlotStore.memory c.remove_slot.new.store) c.in_ok-source.source
+    c.remove_slot.new.objects (g.S.SlotMap.slots c.remove_slot.new.store) (g.S.SlotStore.memory c.remove_slot.new.store) c.in_ok-source.source
     c.binding-binding.result
     whole root line c.in_ok-source.ensures (here _ _) c.in_ok-remove_slot.ensures.outcome
     (g.S.SlotMap.slots c.insert.new.self) (g.S.SlotStore.memory c.insert.new.self) c.remove_slot.ensures.agree c.insert.ensures.bytes put)

@@ -7,7 +7,7 @@ pub invariant_of-live : goal.invariant_of-live
 invariant_of-live g c =
     let whole = whole-of g.S.SlotMap.slots g.S.SlotStore.memory c.live.inside.objects c.live.inside.store c.kernel.invariant c.live.view_is c.live.invariant in
     (
-    removed-whole g.S.SlotMap.slots g.S.SlotStore.memory c.live.inside.store c.remove_slot.new.store c.live.inside.objects c.remove_slot.new.ends
+    removed-whole g.S.SlotMap.slots g.S.SlotStore.memory c.live.inside.store c.remove_slot.new.store c.live.inside.objects c.remove_slot.new.objects
     c.binding-binding.result
     c.remove_slot.result whole c.remove_slot.ensures.outcome c.remove_slot.ensures.unchanged c.remove_slot.ensures.same c.remove_slot.ensures.agree).stands
 
@@ -15,7 +15,7 @@ pub invariant_of-kernel : goal.invariant_of-kernel
 invariant_of-kernel g c =
     let whole = whole-of g.S.SlotMap.slots g.S.SlotStore.memory c.live.inside.objects c.live.inside.store c.kernel.invariant c.live.view_is c.live.invariant in
     consistent-of (
-    removed-whole g.S.SlotMap.slots g.S.SlotStore.memory c.live.inside.store c.remove_slot.new.store c.live.inside.objects c.remove_slot.new.ends
+    removed-whole g.S.SlotMap.slots g.S.SlotStore.memory c.live.inside.store c.remove_slot.new.store c.live.inside.objects c.remove_slot.new.objects
     c.binding-binding.result
     c.remove_slot.result whole c.remove_slot.ensures.outcome c.remove_slot.ensures.unchanged c.remove_slot.ensures.same c.remove_slot.ensures.agree)
 

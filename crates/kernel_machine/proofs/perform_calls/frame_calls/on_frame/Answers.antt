@@ -91,11 +91,11 @@ invariant_of-kernel g c =
     (asked g.S.SlotMap.slots g.S.SlotStore.memory (call_of c.args.call) of_kernel c.requires.call)
     e.capability c.map_frame.ensures.bytes c.map_frame.ensures.agree c.map_frame.ensures.unchanged c.map_frame.ensures.outcome).1)
 
-pub unmap-requires : goal.unmap-requires
-unmap-requires g c =
+pub unmap_cap-requires : goal.unmap_cap-requires
+unmap_cap-requires g c =
     let whole = whole-of g.S.SlotMap.slots g.S.SlotStore.memory c.live-in-UnmapFrame.inside.objects c.live-in-UnmapFrame.inside.store c.kernel.invariant
     c.live-in-UnmapFrame.view_is c.live-in-UnmapFrame.invariant in
-    record { agree = (whole.agrees, whole.stands) }
+    record { agree = own-tables _ _ _ (whole.agrees, whole.stands) }
 
 pub returns-in-UnmapFrame-clause-outcome : goal.returns-in-UnmapFrame-clause-outcome
 returns-in-UnmapFrame-clause-outcome g c =
@@ -107,12 +107,12 @@ returns-in-UnmapFrame-clause-outcome g c =
     let call : Call = call_of c.args.call in
     let s = state_of c.live-in-UnmapFrame.inside.objects (g.S.SlotMap.slots c.live-in-UnmapFrame.inside.store)
     (g.S.SlotStore.memory c.live-in-UnmapFrame.inside.store) in
-    let t = state_of c.unmap.new.self (g.S.SlotMap.slots c.unmap.new.store) (g.S.SlotStore.memory c.unmap.new.store) in
+    let t = state_of c.live-in-UnmapFrame.inside.objects (g.S.SlotMap.slots c.unmap_cap.new.store) (g.S.SlotStore.memory c.unmap_cap.new.store) in
     subst (λ p. on_frame (state_in g.S.SlotMap.slots g.S.SlotStore.memory p) call c.args.held c.args.asked ≡ Ok t) of_kernel
     (subst (λ (a : FrameCall). on_frame s call c.args.held a ≡ Ok t) (sym k.is) (ap (λ (x : State). Ok x)
-    (frame-unmapped g.S.SlotMap.slots g.S.SlotStore.memory c.live-in-UnmapFrame.inside.objects c.unmap.new.self c.live-in-UnmapFrame.inside.store
-    c.unmap.new.store call a.0 c.args.held a.1 whole (asked g.S.SlotMap.slots g.S.SlotStore.memory (call_of c.args.call) of_kernel c.requires.call) a.2
-    c.unmap.ensures.slots c.unmap.ensures.state c.unmap.ensures.agree).0))
+    (frame-unmapped g.S.SlotMap.slots g.S.SlotStore.memory c.live-in-UnmapFrame.inside.objects c.live-in-UnmapFrame.inside.store
+    c.unmap_cap.new.store call a.0 c.args.held a.1 whole (asked g.S.SlotMap.slots g.S.SlotStore.memory (call_of c.args.call) of_kernel c.requires.call) a.2
+    c.unmap_cap.ensures.removed c.unmap_cap.ensures.bytes c.unmap_cap.ensures.agree).0))
 
 pub invariant_of-live-in-UnmapFrame : goal.invariant_of-live-in-UnmapFrame
 invariant_of-live-in-UnmapFrame g c =
@@ -122,9 +122,9 @@ invariant_of-live-in-UnmapFrame g c =
     (
     let a = c.requires.applies in
     let call : Call = call_of c.args.call in
-    (frame-unmapped g.S.SlotMap.slots g.S.SlotStore.memory c.live-in-UnmapFrame.inside.objects c.unmap.new.self c.live-in-UnmapFrame.inside.store
-    c.unmap.new.store call a.0 c.args.held a.1 whole (asked g.S.SlotMap.slots g.S.SlotStore.memory (call_of c.args.call) of_kernel c.requires.call) a.2
-    c.unmap.ensures.slots c.unmap.ensures.state c.unmap.ensures.agree).1).stands
+    (frame-unmapped g.S.SlotMap.slots g.S.SlotStore.memory c.live-in-UnmapFrame.inside.objects c.live-in-UnmapFrame.inside.store
+    c.unmap_cap.new.store call a.0 c.args.held a.1 whole (asked g.S.SlotMap.slots g.S.SlotStore.memory (call_of c.args.call) of_kernel c.requires.call) a.2
+    c.unmap_cap.ensures.removed c.unmap_cap.ensures.bytes c.unmap_cap.ensures.agree).1).stands
 
 pub invariant_of-kernel-in-UnmapFrame : goal.invariant_of-kernel-in-UnmapFrame
 invariant_of-kernel-in-UnmapFrame g c =
@@ -134,6 +134,6 @@ invariant_of-kernel-in-UnmapFrame g c =
     consistent-of (
     let a = c.requires.applies in
     let call : Call = call_of c.args.call in
-    (frame-unmapped g.S.SlotMap.slots g.S.SlotStore.memory c.live-in-UnmapFrame.inside.objects c.unmap.new.self c.live-in-UnmapFrame.inside.store
-    c.unmap.new.store call a.0 c.args.held a.1 whole (asked g.S.SlotMap.slots g.S.SlotStore.memory (call_of c.args.call) of_kernel c.requires.call) a.2
-    c.unmap.ensures.slots c.unmap.ensures.state c.unmap.ensures.agree).1)
+    (frame-unmapped g.S.SlotMap.slots g.S.SlotStore.memory c.live-in-UnmapFrame.inside.objects c.live-in-UnmapFrame.inside.store
+    c.unmap_cap.new.store call a.0 c.args.held a.1 whole (asked g.S.SlotMap.slots g.S.SlotStore.memory (call_of c.args.call) of_kernel c.requires.call) a.2
+    c.unmap_cap.ensures.removed c.unmap_cap.ensures.bytes c.unmap_cap.ensures.agree).1)

@@ -80,11 +80,11 @@ invariant_of-kernel g c =
     (asked g.S.SlotMap.slots g.S.SlotStore.memory (call_of c.args.call) of_kernel c.requires.call)
     e.capability c.map_table.ensures.bytes c.map_table.ensures.agree c.map_table.ensures.unchanged c.map_table.ensures.outcome).1)
 
-pub unmap-requires : goal.unmap-requires
-unmap-requires g c =
+pub unmap_cap-requires : goal.unmap_cap-requires
+unmap_cap-requires g c =
     let whole = whole-of g.S.SlotMap.slots g.S.SlotStore.memory c.live-in-UnmapTable.inside.objects c.live-in-UnmapTable.inside.store c.kernel.invariant
     c.live-in-UnmapTable.view_is c.live-in-UnmapTable.invariant in
-    record { agree = (whole.agrees, whole.stands) }
+    record { agree = own-tables _ _ _ (whole.agrees, whole.stands) }
 
 pub returns-in-UnmapTable-clause-outcome : goal.returns-in-UnmapTable-clause-outcome
 returns-in-UnmapTable-clause-outcome g c =
@@ -96,12 +96,12 @@ returns-in-UnmapTable-clause-outcome g c =
     let call : Call = call_of c.args.call in
     let s = state_of c.live-in-UnmapTable.inside.objects (g.S.SlotMap.slots c.live-in-UnmapTable.inside.store)
     (g.S.SlotStore.memory c.live-in-UnmapTable.inside.store) in
-    let t = state_of c.unmap.new.self (g.S.SlotMap.slots c.unmap.new.store) (g.S.SlotStore.memory c.unmap.new.store) in
+    let t = state_of c.live-in-UnmapTable.inside.objects (g.S.SlotMap.slots c.unmap_cap.new.store) (g.S.SlotStore.memory c.unmap_cap.new.store) in
     subst (λ p. on_table (state_in g.S.SlotMap.slots g.S.SlotStore.memory p) call c.args.asked ≡ Ok t) of_kernel
     (subst (λ (a : TableCall). on_table s call a ≡ Ok t) (sym k.is) (ap (λ (x : State). Ok x)
-    (table-unmapped g.S.SlotMap.slots g.S.SlotStore.memory c.live-in-UnmapTable.inside.objects c.unmap.new.self c.live-in-UnmapTable.inside.store
-    c.unmap.new.store call a.0 a.1 whole (asked g.S.SlotMap.slots g.S.SlotStore.memory (call_of c.args.call) of_kernel c.requires.call) a.2
-    c.unmap.ensures.slots c.unmap.ensures.state c.unmap.ensures.agree).0))
+    (table-unmapped g.S.SlotMap.slots g.S.SlotStore.memory c.live-in-UnmapTable.inside.objects c.live-in-UnmapTable.inside.store
+    c.unmap_cap.new.store call a.0 a.1 whole (asked g.S.SlotMap.slots g.S.SlotStore.memory (call_of c.args.call) of_kernel c.requires.call) a.2
+    c.unmap_cap.ensures.removed c.unmap_cap.ensures.bytes c.unmap_cap.ensures.agree).0))
 
 pub invariant_of-live-in-UnmapTable : goal.invariant_of-live-in-UnmapTable
 invariant_of-live-in-UnmapTable g c =
@@ -111,9 +111,9 @@ invariant_of-live-in-UnmapTable g c =
     (
     let a = c.requires.applies in
     let call : Call = call_of c.args.call in
-    (table-unmapped g.S.SlotMap.slots g.S.SlotStore.memory c.live-in-UnmapTable.inside.objects c.unmap.new.self c.live-in-UnmapTable.inside.store
-    c.unmap.new.store call a.0 a.1 whole (asked g.S.SlotMap.slots g.S.SlotStore.memory (call_of c.args.call) of_kernel c.requires.call) a.2
-    c.unmap.ensures.slots c.unmap.ensures.state c.unmap.ensures.agree).1).stands
+    (table-unmapped g.S.SlotMap.slots g.S.SlotStore.memory c.live-in-UnmapTable.inside.objects c.live-in-UnmapTable.inside.store
+    c.unmap_cap.new.store call a.0 a.1 whole (asked g.S.SlotMap.slots g.S.SlotStore.memory (call_of c.args.call) of_kernel c.requires.call) a.2
+    c.unmap_cap.ensures.removed c.unmap_cap.ensures.bytes c.unmap_cap.ensures.agree).1).stands
 
 pub invariant_of-kernel-in-UnmapTable : goal.invariant_of-kernel-in-UnmapTable
 invariant_of-kernel-in-UnmapTable g c =
@@ -123,6 +123,6 @@ invariant_of-kernel-in-UnmapTable g c =
     consistent-of (
     let a = c.requires.applies in
     let call : Call = call_of c.args.call in
-    (table-unmapped g.S.SlotMap.slots g.S.SlotStore.memory c.live-in-UnmapTable.inside.objects c.unmap.new.self c.live-in-UnmapTable.inside.store
-    c.unmap.new.store call a.0 a.1 whole (asked g.S.SlotMap.slots g.S.SlotStore.memory (call_of c.args.call) of_kernel c.requires.call) a.2
-    c.unmap.ensures.slots c.unmap.ensures.state c.unmap.ensures.agree).1)
+    (table-unmapped g.S.SlotMap.slots g.S.SlotStore.memory c.live-in-UnmapTable.inside.objects c.live-in-UnmapTable.inside.store
+    c.unmap_cap.new.store call a.0 a.1 whole (asked g.S.SlotMap.slots g.S.SlotStore.memory (call_of c.args.call) of_kernel c.requires.call) a.2
+    c.unmap_cap.ensures.removed c.unmap_cap.ensures.bytes c.unmap_cap.ensures.agree).1)
