@@ -64,12 +64,15 @@ module _ (list : List ℕ) (member : ℕ → Bool) (lists : Lists list member) w
     | false ↦ λ fails. refl
   ] refl
 
+pub same-number : (n m : ℕ) → Some n ≡ Some m → n ≡ m
+same-number n m is = cc
+
 -- no slot is the last one before the first
 pub before-first : (P : ℕ → Type 0) (slot : ℕ) → None ≡ Some slot → P slot
 before-first P slot is = absurd (let clash : None ≡ Some slot = is in cc)
 
 pub last-found : (P : ℕ → Type 0) (found slot : ℕ) → P found → Some found ≡ Some slot → P slot
-last-found P found slot holds is = subst P (let same : found ≡ slot = cc in same) holds
+last-found P found slot holds is = subst P (same-number found slot is) holds
 
 -- what passes a test that no empty capability passes is full
 filled : (test : Cap → Bool) → test Empty ≡ false → (c : Cap) → test c ≡ true → not (is_empty c) ≡ true

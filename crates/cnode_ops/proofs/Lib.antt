@@ -1,4 +1,5 @@
 mod Answered
+mod AskedSlots
 mod CallRoots
 mod Childless
 mod Emptied

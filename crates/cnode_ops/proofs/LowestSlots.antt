@@ -1,9 +1,9 @@
 -- What descends from a descendant, and the slots between a root and its descendants.
-use Rattle.std.proofs.Common.{ℕ, ◌≡◌, ◌≢◌, ◌∙◌, true, Option, Some, sym, ap}
-use Rattle.std.specs.Option.{option_map_or}
+use Rattle.std.proofs.Common.{ℕ, ◌≡◌, ◌≢◌, ◌∙◌, true, Some, sym, ap}
 use Rattle.cnode_ops.specs.Sets.{set_of}
 use Rattle.cnode_ops.specs.declared.sets.Removed.{Removed}
 use Rattle.cnode_ops.specs.declared.sets.Removed.TheVariants.{Below}
+use Rattle.cnode_ops.proofs.FullSlots.{same-number}
 use Rattle.model.proofs.Ancestors.{descendant-from_test, test-from_descendant}
 use Rattle.model.specs.Capabilities.Slots.{Descendant, IsDerivation, Slots, child, deeper, depth_of, is_descendant, parent_at}
 
@@ -18,14 +18,11 @@ below-below slots root middle slot tree above below =
     (through slots root middle slot (descendant-from_test (depth_of slots middle) slots root middle above)
     (descendant-from_test (depth_of slots slot) slots middle slot below))
 
-same-slot : (o p : ℕ) → Some o ≡ Some p → o ≡ p
-same-slot o p is = ap (λ (n : Option ℕ). option_map_or (λ m. m) n 0) is
-
 above-descends : (slots : Slots) (root slot parent : ℕ) → IsDerivation slots → parent_at slots slot ≡ Some parent → parent ≢ root → Descendant slots root slot
     → is_descendant slots root parent ≡ true
-above-descends slots root slot parent tree is apart (child _ own) = absurd (apart (same-slot parent root (sym is ∙ own)))
+above-descends slots root slot parent tree is apart (child _ own) = absurd (apart (same-number parent root (sym is ∙ own)))
 above-descends slots root slot parent tree is apart (deeper _ p own above) =
-    ap (is_descendant slots root) (same-slot parent p (sym is ∙ own)) ∙ test-from_descendant slots root p tree above
+    ap (is_descendant slots root) (same-number parent p (sym is ∙ own)) ∙ test-from_descendant slots root p tree above
 
 -- the slot that one below a root is derived from is below it too, or the root
 pub parent-below : (slots : Slots) (set : Removed) (root slot parent : ℕ) → IsDerivation slots → set ≡ Below root → parent_at slots slot ≡ Some parent →

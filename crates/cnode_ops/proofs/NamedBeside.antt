@@ -1,13 +1,12 @@
 -- Whether an object is named by a slot that stays: another slot names it too, or one beside those that go.
-use Rattle.std.proofs.Common.{ℕ, ◌≡◌, ◌∙◌, ◌==◌, ◌+◌, ◌<◌, ◌&&◌, inl, inr, Bool, true, false, not, Option, Some, refl, sym, ap, subst, arith}
-use Rattle.std.specs.Option.{option_map_or}
+use Rattle.std.proofs.Common.{ℕ, ◌≡◌, ◌∙◌, ◌==◌, ◌+◌, ◌<◌, ◌&&◌, inl, inr, Bool, true, false, not, Some, refl, sym, ap, subst, arith}
 use Rattle.std.proofs.lemmas.Bool.{eq-eqb, ne_eqb}
 use Rattle.std.proofs.lemmas.Bool.Decides.{eqb_tells}
 use Rattle.cnode_ops.specs.Refusals.{goes, is_named_beside, stays}
 use Rattle.cnode_ops.specs.Sets.{set_of}
 use Rattle.cnode_ops.specs.declared.sets.Removed.{Removed}
 use Rattle.cnode_ops.specs.declared.sets.Removed.TheVariants.{Below, One}
-use Rattle.cnode_ops.proofs.FullSlots.{passes-full}
+use Rattle.cnode_ops.proofs.FullSlots.{passes-full, same-number}
 use Rattle.cnode_ops.proofs.SomeSlot.{some-at, some-where}
 use Rattle.cnode_ops.proofs.StillNamed.{named-so, so-named}
 use Rattle.model.proofs.Ancestors.{full-open}
@@ -15,9 +14,6 @@ use Rattle.model.specs.Capabilities.CapabilityKinds.{names_object}
 use Rattle.model.specs.Capabilities.Slots.{IsFull, IsOpen, Slots, capability_at, is_full}
 use Rattle.removal_laws.proofs.Laws.{both, join}
 use Rattle.slots.specs.Kin.{IsShared, IsSharedBeside, object_at}
-
-same-named : (o p : ℕ) → Some o ≡ Some p → o ≡ p
-same-named o p is = ap (λ (n : Option ℕ). option_map_or (λ m. m) n 0) is
 
 module _ (slots : Slots) (size : ℕ) (near : (slot : ℕ) → IsOpen slots slot → slot < size) where
   -- a slot that stays names the object
@@ -68,7 +64,7 @@ module _ (slots : Slots) (size : ℕ) (near : (slot : ℕ) → IsOpen slots slot
       decided result (is_named_beside slots size (One only) offset)
       (λ yes.
       let is : IsShared slots only = shared yes in
-      let own : is.offset ≡ offset = same-named is.offset offset (sym is.own ∙ named) in
+      let own : is.offset ≡ offset = same-number is.offset offset (sym is.own ∙ named) in
       found (One only) offset is.other (is.names ∙ ap Some own) (ne_eqb is.other only is.apart))
       (λ none value.
       let at = told (One only) offset value in
@@ -94,7 +90,7 @@ module _ (slots : Slots) (size : ℕ) (near : (slot : ℕ) → IsOpen slots slot
       (decided result (is_named_beside slots size (Below root) offset)
       (λ yes.
       let is : IsSharedBeside slots root slot = shared yes in
-      let own : is.offset ≡ offset = same-named is.offset offset (sym is.own ∙ names) in
+      let own : is.offset ≡ offset = same-number is.offset offset (sym is.own ∙ names) in
       found (Below root) offset is.other (is.names ∙ ap Some own) is.beside)
       (λ none value.
       let at = told (Below root) offset value in

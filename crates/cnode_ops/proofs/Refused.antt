@@ -1,6 +1,5 @@
 -- The slots of the object that a capability names lie in memory.
-use Rattle.std.proofs.Common.{ℕ, ◌≡◌, ◌+◌, ◌-◌, ◌/◌, ◌^◌, ◌<◌, ◌≤◌, Option, Some, None, sym, ap, pow_pos, arith}
-use Rattle.std.specs.Option.{option_map_or}
+use Rattle.std.proofs.Common.{ℕ, ◌≡◌, ◌+◌, ◌-◌, ◌/◌, ◌^◌, ◌<◌, ◌≤◌, Some, None, sym, pow_pos, arith}
 use Rattle.model.specs.Capabilities.CapabilityKinds.{object_of}
 use Rattle.model.specs.Capabilities.CapabilityWords.{IsCapability}
 use Rattle.model.specs.declared.capabilities.Cap.{Cap}
@@ -8,20 +7,18 @@ use Rattle.model.specs.declared.capabilities.Cap.TheVariants.{Empty, Untyped, En
 use Rattle.model.specs.declared.capabilities.Cap.TheVariants.{InterruptHandler}
 use Rattle.cspace.proofs.Laws.{slot_below}
 use Rattle.cnode_ops.specs.Refusals.{slots_named}
-
-named-offset : (o p : ℕ) → Some o ≡ Some p → o ≡ p
-named-offset o p is = ap (λ (n : Option ℕ). option_map_or (λ m. m) n 0) is
+use Rattle.cnode_ops.proofs.FullSlots.{same-number}
 
 below : (o p : ℕ) → Some o ≡ Some p → o < 2 ^ 24 → p / 16 + 0 ≤ 1048576
-below o p is less = let e = named-offset o p is in omega (arith, e, less)
+below o p is less = let e = same-number o p is in omega (arith, e, less)
 
 pub named-near : (c : Cap) (o : ℕ) → IsCapability c → Some o ≡ object_of c → o / 16 + slots_named c ≤ 1048576
 named-near (CNode f radix g) o valid is =
-    let e = named-offset o f is in
+    let e = same-number o f is in
     let some = pow_pos radix in
     let last = slot_below f radix (2 ^ radix - 1) valid.2 valid.0.0 valid.0.1 (omega (arith, some)) in
     omega (arith, e, some, last)
-named-near (Tcb f) o valid is = let e = named-offset o f is in omega (arith, e, valid.0, valid.1)
+named-near (Tcb f) o valid is = let e = same-number o f is in omega (arith, e, valid.0, valid.1)
 named-near (Endpoint f r b) o valid is = below f o (sym is) valid.0.1
 named-near (Notification f r b) o valid is = below f o (sym is) valid.0.1
 named-near (Frame f r m) o valid is = below f o (sym is) valid.0.1
@@ -33,7 +30,7 @@ named-near InterruptControl o valid is = absurd (let clash : Some o ≡ None = i
 named-near (InterruptHandler line) o valid is = absurd (let clash : Some o ≡ None = is in cc)
 
 first-below : (o p : ℕ) → Some o ≡ Some p → o < 2 ^ 24 → p / 16 < 1048576
-first-below o p is less = let e = named-offset o p is in omega (arith, e, less)
+first-below o p is less = let e = same-number o p is in omega (arith, e, less)
 
 -- and so does the first of them, if there are any or not
 pub named-first : (c : Cap) (o : ℕ) → IsCapability c → Some o ≡ object_of c → o / 16 < 1048576

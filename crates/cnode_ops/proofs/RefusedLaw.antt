@@ -25,7 +25,8 @@ use Rattle.removal_laws.proofs.Laws.{behind-boot, bool-iff, both, bounds-within,
 use Rattle.cnode_ops.specs.Refusals.{is_left_filled, is_named_beside, refuses, some_slot, stays}
 use Rattle.cnode_ops.specs.Sets.{set_of}
 use Rattle.cnode_ops.specs.declared.sets.Removed.{Removed}
-use Rattle.cnode_ops.proofs.SomeSlot.{some-at, some-none, some-where}
+use Rattle.cnode_ops.proofs.EndingSlots.{no-slot}
+use Rattle.cnode_ops.proofs.SomeSlot.{some-at, some-where}
 
 -- ---- what capabilities name
 
@@ -102,9 +103,6 @@ named-object (Tcb f) o is = same-place NewThread f o is
 named-object (RootTable f) o is = same-place NewRootTable f o is
 named-object InterruptControl o is = absurd (let clash : false ≡ true = is in cc)
 named-object (InterruptHandler line) o is = absurd (let clash : false ≡ true = is in cc)
-
-no-slots : (first : ℕ) (test : ℕ → Bool) → some_slot first 0 test ≡ false
-no-slots first test = some-none first 0 test (λ i less. absurd (omega (arith, less)))
 
 pub found-some : (bits : ℕ) (test : ℕ → Bool) → found bits test ≡ some_slot 0 (2 ^ bits / 16) test
 unfolding slot_numbers some_slot
@@ -228,7 +226,7 @@ module _ (s : State) (sound : IsSound s) (set : Removed) (near : (y : ℕ) → I
   without-slots : (y o : ℕ) (k : NewObject) → Names k o (capability_at s.slots y) → slots_of_kind k ≡ 0
       → (own y && (filled o 0 && not (is_named_beside s.slots size set o))) ≡ (all y && ends_filled s all o)
   without-slots y o k is none =
-      let empty : filled o 0 ≡ false = no-slots (o / 16) (stays s.slots set) in
+      let empty : filled o 0 ≡ false = no-slot (o / 16) (stays s.slots set) in
       ap (λ b. own y && (b && not (is_named_beside s.slots size set o))) empty
       ∙ and-false (own y)
       ∙ sym (ap (λ b. all y && (takes_last s all (names_object o) && b)) (sym (filled-there o 0 (count-named y o k is ∙ none)) ∙ empty)

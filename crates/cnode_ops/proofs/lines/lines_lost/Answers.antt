@@ -1,8 +1,8 @@
 -- Line by line.
-use Rattle.std.proofs.Common.{ℕ, ◌≡◌, ◌∙◌, ◌/◌, ◌<◌, ◌&&◌, Bool, false, length, not, sym, ap, subst, arith}
+use Rattle.std.proofs.Common.{ℕ, ◌∙◌, ◌/◌, ◌&&◌, Bool, length, not, sym, ap, arith}
 use Rattle.slots.specs.Listed.{is_handled}
 use Rattle.cnode_ops.specs.Lines.{has_line}
-use Rattle.cnode_ops.proofs.LineSets.{line-after, line-before, line-here}
+use Rattle.cnode_ops.proofs.LineSets.{line-after, line-before}
 use Rattle.cnode_ops.proofs.lines.lines_lost.Goals as goal
 
 pub returns-then-is_none : goal.returns-then-is_none

@@ -1,5 +1,5 @@
 -- No bit is set.
-use Rattle.std.proofs.Common.{◌≡◌, ◌∙◌, ◌==◌, inl, inr, true, false, sym}
+use Rattle.std.proofs.Common.{◌≡◌, ◌∙◌, inl, inr, true, false, sym}
 use Rattle.std.proofs.lemmas.Bool.Decides.{eqb_tells}
 use Rattle.cnode_ops.proofs.LineSets.{no-line}
 use Rattle.cnode_ops.proofs.lines.LineSet.is_none.Goals as goal

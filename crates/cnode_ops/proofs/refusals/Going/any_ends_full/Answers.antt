@@ -1,29 +1,19 @@
 -- Each slot that goes is asked for once.
-use Rattle.std.proofs.Common.{ℕ, ◌≡◌, ◌∙◌, ◌/◌, Bool, List, Some, false, length, true, sym, ap}
-use Rattle.cnode_ops.specs.Refusals.{goes, own_slots, some_own, some_slot}
-use Rattle.cnode_ops.specs.declared.sets.Removed.{Removed}
+use Rattle.std.proofs.Common.{ℕ, ◌∙◌, ◌/◌, length, sym}
+use Rattle.cnode_ops.specs.Refusals.{goes}
 use Rattle.cnode_ops.specs.Sets.{listed_in}
-use Rattle.cnode_ops.proofs.EndingSlots.{no-slot}
-use Rattle.cnode_ops.proofs.FullSlots.{before-first, behind-first, behind-next, fewer-behind, found-member, last-found, none-left}
+use Rattle.cnode_ops.proofs.AskedSlots.{asked-first, asked-next, none-asked}
+use Rattle.cnode_ops.proofs.FullSlots.{fewer-behind, found-member}
 use Rattle.cnode_ops.proofs.refusals.Going.any_ends_full.Goals as goal
-use Rattle.model.specs.Capabilities.Orders.{next_in}
-use Rattle.model.specs.Capabilities.Slots.{Slots, capability_at, is_full}
-
-abbrev filled : Slots → ℕ → Removed → (ℕ → Bool) → ℕ → Bool
-filled slots size set test slot = some_own (own_slots slots size set (capability_at slots slot)) test
+use Rattle.model.specs.Capabilities.Slots.{Slots, is_full}
 
 pub slots-init : goal.slots-init
 slots-init g c =
     let going = c.args.self.now in
     let slots : Slots = g.S.SlotMap.slots going.store.now in
     let size : ℕ = length (g.S.SlotStore.memory going.store.now) / 16 in
-    record {
-      known = λ slot is. before-first (λ s. goes slots going.set s ≡ true) slot is;
-      rest = behind-first (listed_in (g.S.SlotStore.order going.store.now) slots going.set) (goes slots going.set)
-          (filled slots size going.set (is_full slots));
-      passed = ap (λ (n : ℕ). some_slot c.none-passed.result.first n (is_full slots)) c.none-passed.ensures.count
-          ∙ no-slot c.none-passed.result.first (is_full slots);
-    }
+    asked-first slots size going.set (listed_in (g.S.SlotStore.order going.store.now) slots going.set) (is_full slots)
+    (c.none-passed.result.first, c.none-passed.result.count) c.none-passed.ensures.count
 
 pub own_slots-own-requires : goal.own_slots-own-requires
 own_slots-own-requires g c =
@@ -44,23 +34,15 @@ slots-preserved g c =
     let going = c.args.self.now in
     let slots : Slots = g.S.SlotMap.slots going.store.now in
     let size : ℕ = length (g.S.SlotStore.memory going.store.now) / 16 in
-    let list : List ℕ = listed_in (g.S.SlotStore.order going.store.now) slots going.set in
-    let next : Some c.in-Some.slot ≡ next_in list c.slots.at = sym c.in-Some.is ∙ c.next_removed.ensures.next in
-    let fails : some_own (c.own_slots-own.result.first, c.own_slots-own.result.count) (is_full slots) ≡ false = sym c.any_full.ensures ∙ c.if-any_full.false in
-    record {
-      known = λ slot is. last-found (λ s. goes slots going.set s ≡ true) c.in-Some.slot slot
-          (found-member list (goes slots going.set) c.next_removed.ensures.lists c.slots.at c.in-Some.slot next) is;
-      rest = behind-next list (goes slots going.set) c.next_removed.ensures.lists (filled slots size going.set (is_full slots)) c.slots.at
-          c.in-Some.slot c.slots.invariant.rest next
-          (ap (λ (own : ℕ × ℕ). some_own own (is_full slots)) (sym c.own_slots-own.ensures) ∙ fails);
-      passed = fails;
-    }
+    asked-next slots size going.set (listed_in (g.S.SlotStore.order going.store.now) slots going.set) (is_full slots)
+    (c.slots.passed.first, c.slots.passed.count) (c.own_slots-own.result.first, c.own_slots-own.result.count) c.slots.at c.in-Some.slot
+    c.next_removed.ensures.lists c.slots.invariant (sym c.in-Some.is ∙ c.next_removed.ensures.next) c.own_slots-own.ensures
+    (sym c.any_full.ensures ∙ c.if-any_full.false)
 
 pub returns-in_default : goal.returns-in_default
 returns-in_default g c =
     let going = c.args.self.now in
     let slots : Slots = g.S.SlotMap.slots going.store.now in
     let size : ℕ = length (g.S.SlotStore.memory going.store.now) / 16 in
-    λ _. none-left (listed_in (g.S.SlotStore.order going.store.now) slots going.set) (goes slots going.set) c.next_removed.ensures.lists
-    (filled slots size going.set (is_full slots)) c.slots.at
-    c.slots.invariant.rest (sym c.in_default.is ∙ c.next_removed.ensures.next)
+    λ _. none-asked slots size going.set (listed_in (g.S.SlotStore.order going.store.now) slots going.set) (is_full slots)
+    (c.slots.passed.first, c.slots.passed.count) c.slots.at c.next_removed.ensures.lists c.slots.invariant (sym c.in_default.is ∙ c.next_removed.ensures.next)
