@@ -1,7 +1,10 @@
 -- What a removal's loops leave, of a state and slots that are kept apart.
-use Rattle.std.proofs.Common.{ℕ, ◌≡◌, ◌∙◌, ◌*◌, ◌^◌, ◌<◌, Bool, false, true, is_some, Some, None, option_map, Ok, refl, sym, ap, subst, arith}
+use Rattle.std.proofs.Common.{ℕ, ◌≡◌, ◌∙◌, ◌*◌, ◌^◌, ◌/◌, ◌<◌, ◌&&◌, Bool, false, true, not, is_some, Some, None, option_map, Ok, refl, sym, ap, subst, arith}
+use Rattle.cnode_ops.proofs.LinesTaken.{lines-told}
 use Rattle.cnode_ops.proofs.Unsettling.{covers-first, covers-now}
+use Rattle.cnode_ops.specs.Lines.{LinesGone, has_line}
 use Rattle.cnode_ops.specs.Unsettled.{Covers, Notes, nothing}
+use Rattle.cnode_ops.specs.declared.lines.LineSet.{LineSet}
 use Rattle.cnode_ops.specs.declared.settling.Unsettled.{Unsettled}
 use Rattle.model.specs.Capabilities.CapabilityKinds.{is_handler_of}
 use Rattle.model.specs.Capabilities.Slots.{IsDerivation, IsOpen, Slots, is_descendant}
@@ -11,6 +14,7 @@ use Rattle.model.specs.Kernel.State.{State, binding_slot}
 use Rattle.model.proofs.Ancestors.{descendant-full, full-open}
 use Rattle.removal_laws.specs.Finishing.{MaySettle, settled}
 use Rattle.removal_laws.specs.Steps.{SameShape, bindings_from, joined}
+use Rattle.slots.specs.Listed.{is_handled}
 use Rattle.removal_laws.proofs.Laws.{both-loops, may-settle, members-all, removed, sound-ready, there-out}
 use Rattle.cnode_ops.specs.Sets.{set_of}
 use Rattle.cnode_ops.specs.declared.sets.Removed.{Removed}
@@ -25,6 +29,26 @@ pub record LoopsRan (w one two : State) (slots : Slots) (set : Removed) (lines :
   pub last : (line : ℕ) → line < 64 → lines line ≡ takes_last w (set_of w.slots set) (is_handler_of line)
   pub bound : emptied one (bindings_from one (λ line. lines line) 0) ≡ two
   pub kept_first : wants_revoke_first w (with_bindings w (set_of w.slots set)) ≡ false
+
+-- what the loops are given and what they leave, by what each of them reports
+pub loops-ran : (w one two : State) (slots bare : Slots) (bytes : ℕ) (set : Removed) (gone lost : LineSet)
+    → w.slots ≡ slots → IsSound w → ((slot : ℕ) → set_of slots set slot ≡ true → IsOpen slots slot)
+    → wants_revoke_first w (with_bindings w (set_of w.slots set)) ≡ false
+    → one.slots ≡ bare → 2 ^ one.memory_bits ≡ bytes → IsDerivation one.slots → SameShape w one
+    → ((more : SlotSet) → ((slot : ℕ) → more slot ≡ true → IsOpen slots slot) → emptied w (joined (set_of slots set) more) ≡ emptied one more)
+    → LinesGone w one gone
+    → ((line : ℕ) → line < 64 → has_line lost line ≡ (has_line gone line && not (is_handled bare (bytes / 16) line)))
+    → emptied one (bindings_from one (λ line. has_line lost line) 0) ≡ two → LoopsRan w one two slots set (λ line. has_line lost line)
+loops-ran w one two slots bare bytes set gone lost has sound members kept_first has_bare size tree shape taken lines last bound = record {
+  has = has;
+  sound = sound;
+  members = members;
+  shape = shape;
+  taken = taken;
+  last = λ line few. lines-told w one slots bare bytes set line gone (has_line lost line) has has_bare size shape.bits tree taken (lines line few) (last line few);
+  bound = bound;
+  kept_first = kept_first;
+}
 
 -- emptying opens no slot
 open-was : (s : State) (all : SlotSet) (y : ℕ) → ((slot : ℕ) → all slot ≡ true → IsOpen s.slots slot) → IsOpen (emptied s all).slots y → IsOpen s.slots y

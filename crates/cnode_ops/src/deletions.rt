@@ -32,9 +32,9 @@ pub fn delete<S: SlotStore>(
         → GivesState (on_cnode (state_in S.slots S.memory kernel.old) made (Delete name)) result (state_in S.slots S.memory kernel.new) }
     ensures unchanged { OnErr result (kernel.new ≡ kernel.old) }
 {
-    let live = &mut kernel.live;
+    let live = &kernel.live;
     let slot = argument_slot(&live.store, call.node, name)?;
-    remove_slot(&mut live.store, &mut live.objects, slot)
+    remove_slot(kernel, slot)
 }
 
 /// Takes all capabilities away that are derived from the one in the slot of a name under a CNode; that one stays.
@@ -53,7 +53,7 @@ pub fn revoke<S: SlotStore>(
         → GivesState (on_cnode (state_in S.slots S.memory kernel.old) made (Revoke name)) result (state_in S.slots S.memory kernel.new) }
     ensures unchanged { OnErr result (kernel.new ≡ kernel.old) }
 {
-    let live = &mut kernel.live;
+    let live = &kernel.live;
     let slot = argument_slot(&live.store, call.node, name)?;
-    remove(&mut live.store, &mut live.objects, Removed::Below(slot))
+    remove(kernel, Removed::Below(slot))
 }

@@ -8,10 +8,11 @@ ghost use Rattle.cnode_ops.specs.Sets.{set_of};
 ghost use Rattle.cnode_ops.specs.Unsettled.{Notes, ObjectsLie};
 ghost use Rattle.model.specs.Capabilities.Slots.{IsOpen};
 ghost use Rattle.model.specs.Kernel.Removal.{SlotSet, delete, emptied, remove};
-ghost use Rattle.model.specs.Kernel.Soundness.{IsSound};
+ghost use Rattle.objects.specs.Lives.{state_in};
 ghost use Rattle.objects.specs.Tables.{state_of};
 ghost use Rattle.removal_laws.specs.Steps.{BindingEmptied, IsReady, SameShape, bindings_from, joined};
 
+use crate::Kernel;
 use crate::emptying::empty_slot;
 use crate::leaves::{leaf_removed, parent_removed};
 use crate::lines::{LineSet, lines_lost};
@@ -21,6 +22,7 @@ use crate::settling::{Unsettled, settle};
 use model::{KError, Slot};
 use objects::{Line, Objects};
 use slots::{SlotStore, is_taken};
+use soundness::removals_keep_soundness;
 
 /// Empties all slots of a set, one after another and each after all that is derived from it: what is left to empty, with
 /// others beside the set, is these others. What is left to settle is more by the objects that ended. The result is the
@@ -112,28 +114,22 @@ fn empty_bindings<S: SlotStore>(
 /// Takes a set of slots away at once, with the bindings of the lines whose last handler goes. It is
 /// refused where an object would end that still holds a capability outside the set (`RevokeFirst`); then
 /// nothing changes.
-pub(crate) fn remove<S: SlotStore>(
-    store: &mut S,
-    objects: &mut Objects,
-    set: Removed,
-) -> Result<(), KError>
-    requires agree { Agreed objects.old (S.slots store.old) (S.memory store.old) }
-    requires sound { IsSound (state_of objects.old (S.slots store.old) (S.memory store.old)) }
-    requires members { (slot : ℕ) → set_of (S.slots store.old) set slot ≡ true → IsOpen (S.slots store.old) slot }
-    ensures outcome { GivesState (remove (state_of objects.old (S.slots store.old) (S.memory store.old)) (set_of (S.slots store.old) set)) result
-        (state_of objects.new (S.slots store.new) (S.memory store.new)) }
-    ensures unchanged { OnErr result (store.new ≡ store.old) }
-    ensures same { OnErr result (objects.new ≡ objects.old) }
-    ensures agree { Agreed objects.new (S.slots store.new) (S.memory store.new) }
+pub(crate) fn remove<S: SlotStore>(kernel: &mut Kernel<S>, set: Removed) -> Result<(), KError>
+    requires { (slot : ℕ) → set_of (S.slots kernel.old.store) set slot ≡ true → IsOpen (S.slots kernel.old.store) slot }
+    ensures outcome { GivesState (remove (state_in S.slots S.memory kernel.old) (set_of (S.slots kernel.old.store) set)) result
+        (state_in S.slots S.memory kernel.new) }
+    ensures unchanged { OnErr result (kernel.new ≡ kernel.old) }
 {
-    if wants_revoke_first(store, set) {
+    removals_keep_soundness();
+    let live = &mut kernel.live;
+    if wants_revoke_first(&live.store, set) {
         return Err(KError::RevokeFirst);
     }
-    let mut left = Unsettled::nothing(store.count());
-    let gone = empty_all(store, objects, &mut left, &set);
-    let lost = lines_lost(store, gone);
-    empty_bindings(store, objects, &mut left, lost);
-    settle(store, objects, &left);
+    let mut left = Unsettled::nothing(live.store.count());
+    let gone = empty_all(&mut live.store, &mut live.objects, &mut left, &set);
+    let lost = lines_lost(&live.store, gone);
+    empty_bindings(&mut live.store, &mut live.objects, &mut left, lost);
+    settle(&mut live.store, &mut live.objects, &left);
     Ok(())
 }
 
@@ -144,21 +140,13 @@ pub(crate) fn remove<S: SlotStore>(
 /// # Errors
 ///
 /// A CNode or a thread would end that still holds another capability (`RevokeFirst`). Nothing changes then.
-pub fn remove_slot<S: SlotStore>(
-    store: &mut S,
-    objects: &mut Objects,
-    slot: Slot,
-) -> Result<(), KError>
-    requires agree { Agreed objects.old (S.slots store.old) (S.memory store.old) }
-    requires sound { IsSound (state_of objects.old (S.slots store.old) (S.memory store.old)) }
-    ensures outcome { GivesState (delete (state_of objects.old (S.slots store.old) (S.memory store.old)) slot) result
-        (state_of objects.new (S.slots store.new) (S.memory store.new)) }
-    ensures unchanged { OnErr result (store.new ≡ store.old) }
-    ensures same { OnErr result (objects.new ≡ objects.old) }
-    ensures agree { Agreed objects.new (S.slots store.new) (S.memory store.new) }
+pub fn remove_slot<S: SlotStore>(kernel: &mut Kernel<S>, slot: Slot) -> Result<(), KError>
+    ensures outcome { GivesState (delete (state_in S.slots S.memory kernel.old) slot) result (state_in S.slots S.memory kernel.new) }
+    ensures unchanged { OnErr result (kernel.new ≡ kernel.old) }
 {
-    if !is_taken(store, slot) {
+    let live = &kernel.live;
+    if !is_taken(&live.store, slot) {
         return Ok(());
     }
-    remove(store, objects, Removed::One(slot))
+    remove(kernel, Removed::One(slot))
 }

@@ -1,36 +1,17 @@
 -- What a call on a line leaves is whole.
-use Rattle.std.proofs.Common.{ℕ, ◌≡◌, ◌∙◌, false, IsSome, List, Option, Some, None, Result, Ok, Err, OnErr, refl, sym, ap, subst}
+use Rattle.std.proofs.Common.{ℕ, ◌≡◌, ◌∙◌, false, IsSome, List, Option, Some, None, refl, sym, ap, subst}
 use Rattle.kernel_invariant.proofs.Laws.{copy-agrees, follows-law, put-closes}
 use Rattle.kernel_invariant.specs.Wholeness.{Agreed, IsWhole}
-use Rattle.model.specs.Kernel.Outcomes.{GivesState}
 use Rattle.model.specs.Capabilities.CapabilityKinds.{frame_mapping}
 use Rattle.model.specs.Capabilities.CapabilityWords.{IsCapability}
 use Rattle.model.specs.Capabilities.Slots.{SameOutside, Slots, capability_at, empty_entry, inserted}
 use Rattle.model.specs.Kernel.Kinds.{object_named}
-use Rattle.model.specs.Kernel.Removal.{delete}
 use Rattle.model.specs.Kernel.Soundness.{IsSound}
 use Rattle.model.specs.Kernel.State.{with_slots}
 use Rattle.model.specs.declared.capabilities.Cap.{Cap}
-use Rattle.model.specs.declared.errors.KError.{KError}
 use Rattle.model.specs.declared.slot_entries.Entry.{Entry}
 use Rattle.objects.specs.Tables.{Tables, state_of}
-use Rattle.soundness.proofs.Laws.{deleted-sound, is_single}
-
--- a removal, or nothing where it is refused
-pub removed-whole : {A : Type 0} {T : Type 0} (slots_of : T → Slots) (memory_of : T → List ℕ) (store now : T) (o then : Tables) (slot : ℕ)
-    (result : Result A KError)
-    → IsWhole o (slots_of store) (memory_of store)
-    → GivesState (delete (state_of o (slots_of store) (memory_of store)) slot) result (state_of then (slots_of now) (memory_of now))
-    → OnErr result (now ≡ store) → OnErr result (then ≡ o) → Agreed then (slots_of now) (memory_of now)
-    → IsWhole then (slots_of now) (memory_of now)
-removed-whole slots_of memory_of store now o then slot (Ok x) whole gives unchanged same agreed = record {
-  sound = deleted-sound (state_of o (slots_of store) (memory_of store)) (state_of then (slots_of now) (memory_of now)) slot whole.sound gives;
-  agrees = agreed.0;
-  stands = agreed.1;
-}
-removed-whole {A} {T} slots_of memory_of store now o then slot (Err e) whole gives unchanged same agreed =
-    subst (λ (x : T). IsWhole then (slots_of x) (memory_of x)) (sym unchanged)
-    (subst (λ (k : Tables). IsWhole k (slots_of store) (memory_of store)) (sym same) whole)
+use Rattle.soundness.proofs.Laws.{is_single}
 
 -- a child that names what its parent names
 pub record Child (slots : Slots) (slot source : ℕ) (made : Cap) : Type 0 where

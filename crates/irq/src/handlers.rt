@@ -121,12 +121,13 @@ pub fn bind<S: SlotStore>(
         (state_in S.slots S.memory kernel.new) }
     ensures unchanged { OnErr result (kernel.new ≡ kernel.old) }
 {
-    let live = &mut kernel.live;
+    let live = &kernel.live;
     let source = bound_source(&live.store, root, notification)?;
     let capability = live.store.capability(source);
     let binding = live.objects.binding(Line::new(line));
-    remove_slot(&mut live.store, &mut live.objects, binding)?;
-    live.store.insert(binding, capability, Some(source));
+    remove_slot(kernel, binding)?;
+    let bare = &mut kernel.live;
+    bare.store.insert(binding, capability, Some(source));
     Ok(())
 }
 
@@ -143,7 +144,7 @@ pub fn clear<S: SlotStore>(kernel: &mut Kernel<S>, line: u8) -> Result<(), KErro
         (state_in S.slots S.memory kernel.new) }
     ensures unchanged { OnErr result (kernel.new ≡ kernel.old) }
 {
-    let live = &mut kernel.live;
+    let live = &kernel.live;
     let binding = live.objects.binding(Line::new(line));
-    remove_slot(&mut live.store, &mut live.objects, binding)
+    remove_slot(kernel, binding)
 }

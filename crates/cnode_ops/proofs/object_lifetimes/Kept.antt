@@ -1,14 +1,12 @@
 -- A call on objects by its definition leaves what is consistent consistent.
-use Rattle.std.proofs.Common.{ℕ, ◌≡◌, ◌∙◌, List, Result, Ok, Err, OnErr, sym, ap, subst}
+use Rattle.std.proofs.Common.{ℕ, ◌≡◌, ◌∙◌, List, sym, ap, subst}
 use Rattle.cnode_ops.specs.object_lifetimes.Kernels.{IsConsistent}
 use Rattle.kernel_invariant.proofs.Laws.{agrees-kept}
 use Rattle.kernel_invariant.specs.Agreement.{Agrees}
-use Rattle.kernel_invariant.specs.Wholeness.{Agreed, IsWhole}
+use Rattle.kernel_invariant.specs.Wholeness.{IsWhole}
 use Rattle.model.specs.Capabilities.Slots.{Slots}
-use Rattle.model.specs.Kernel.Outcomes.{GivesState}
 use Rattle.model.specs.Kernel.Soundness.{IsSound}
 use Rattle.model.specs.Kernel.State.{State}
-use Rattle.model.specs.declared.errors.KError.{KError}
 use Rattle.objects.specs.Lives.{Parts, SameBeside, state_in}
 use Rattle.objects.specs.Standing.{Standing}
 use Rattle.objects.specs.Tables.{Tables, state_of}
@@ -36,16 +34,3 @@ whole-of {S} held memory {live} o store now is stands = record {
 
 pub consistent-of : {o : Tables} {slots : Slots} {memory : List ℕ} → IsWhole o slots memory → IsConsistent (state_of o slots memory) memory
 consistent-of whole = record { sound = whole.sound; agrees = whole.agrees }
-
--- what a removal leaves is whole: where it passes its definition keeps soundness, and where it is refused nothing changes
-pub still-whole : {A S : Type 0} (held : S → Slots) (memory : S → List ℕ) (defined : Result State KError) (result : Result A KError) (store now : S)
-    (o then : Tables) → IsWhole o (held store) (memory store)
-    → GivesState defined result (state_of then (held now) (memory now)) → OnErr result (now ≡ store) → OnErr result (then ≡ o)
-    → ((t : State) → defined ≡ Ok t → IsSound t) → Agreed then (held now) (memory now) → IsWhole then (held now) (memory now)
-still-whole held memory defined (Ok x) store now o then whole gives same others keeps agreed = record {
-  sound = keeps (state_of then (held now) (memory now)) gives;
-  agrees = agreed.0;
-  stands = agreed.1;
-}
-still-whole held memory defined (Err e) store now o then whole gives same others keeps agreed =
-    subst (λ x. IsWhole then (held x) (memory x)) (sym same) (subst (λ (p : Tables). IsWhole p (held store) (memory store)) (sym others) whole)

@@ -1,10 +1,10 @@
--- The slot is found first, and then emptied as the definition says. What is left is whole.
-use Rattle.std.proofs.Common.{◌≡◌, ◌∙◌, Result, Ok, Err, refl, sym, subst}
+-- The slot is found first, and then emptied as the definition says.
+use Rattle.std.proofs.Common.{ℕ, ◌≡◌, ◌∙◌, Result, Ok, Err, refl, true, sym, subst}
 use Rattle.std.proofs.lemmas.Result.{err_from_is_err_and}
 use Rattle.kernel_invariant.proofs.Laws.{of_slots-law}
 use Rattle.model.proofs.ConditionTests.{met-tested}
 use Rattle.model.specs.Capabilities.CapabilityFields.{is_capability}
-use Rattle.model.specs.Capabilities.Slots.{Slots}
+use Rattle.model.specs.Capabilities.Slots.{IsOpen, Slots, is_descendant}
 use Rattle.model.specs.Kernel.CNodeCalls.{on_cnode}
 use Rattle.model.specs.Kernel.Outcomes.{GivesState}
 use Rattle.model.specs.Kernel.Removal.{revoke}
@@ -13,30 +13,22 @@ use Rattle.model.specs.declared.errors.KError.{KError}
 use Rattle.model.specs.declared.invocations.CNodeCall.TheVariants.{Revoke}
 use Rattle.objects.specs.Lives.{state_in}
 use Rattle.objects.specs.Tables.{state_of}
-use Rattle.soundness.proofs.Laws.{revoked-sound}
 use Rattle.cnode_ops.proofs.RemovingCalls.{revoke-on}
 use Rattle.cnode_ops.proofs.RemovedSets.{below-open}
-use Rattle.cnode_ops.proofs.object_lifetimes.Laws.{consistent-of, still-whole, whole-of}
+use Rattle.cnode_ops.proofs.object_lifetimes.Laws.{whole-of}
 use Rattle.cnode_ops.proofs.deletions.revoke.Goals as goal
 
 pub argument_slot-requires : goal.argument_slot-requires
 unfolding is_capability
 argument_slot-requires g c = met-tested _ c.args.call.node_valid
 
-pub remove-requires-clause-agree : goal.remove-requires-clause-agree
-remove-requires-clause-agree g c =
+pub remove-requires : goal.remove-requires
+remove-requires g c =
     let whole = whole-of g.S.SlotMap.slots g.S.SlotStore.memory c.live.inside.objects c.live.inside.store c.kernel.invariant c.live.view_is c.live.invariant in
-    (whole.agrees, whole.stands)
-
-pub remove-requires-clause-sound : goal.remove-requires-clause-sound
-remove-requires-clause-sound g c =
-    let whole = whole-of g.S.SlotMap.slots g.S.SlotStore.memory c.live.inside.objects c.live.inside.store c.kernel.invariant c.live.view_is c.live.invariant in
-    whole.sound
-
-pub remove-requires-clause-members : goal.remove-requires-clause-members
-remove-requires-clause-members g c = λ slot is.
-    let whole = whole-of g.S.SlotMap.slots g.S.SlotStore.memory c.live.inside.objects c.live.inside.store c.kernel.invariant c.live.view_is c.live.invariant in
-    below-open _ (g.S.SlotMap.slots c.live.inside.store) c.in_ok-slot.slot slot (of_slots-law _ _ _) whole.sound is
+    let of_kernel = c.live.view_is ∙ c.kernel.view_is in
+    subst (λ k. (slot : ℕ) → is_descendant (g.S.SlotMap.slots k.store) c.in_ok-slot.slot slot ≡ true → IsOpen (g.S.SlotMap.slots k.store) slot)
+    of_kernel
+    (λ slot is. below-open _ (g.S.SlotMap.slots c.live.inside.store) c.in_ok-slot.slot slot (of_slots-law _ _ _) whole.sound is)
 
 pub returns-clause-outcome : goal.returns-clause-outcome
 unfolding state_of
@@ -44,10 +36,12 @@ returns-clause-outcome g c = λ made same.
     let of_kernel = c.live.view_is ∙ c.kernel.view_is in
     let slots : Slots = g.S.SlotMap.slots c.live.inside.store in
     let s : State = state_of c.live.inside.objects slots (g.S.SlotStore.memory c.live.inside.store) in
-    let after : State = state_of c.remove.new.objects (g.S.SlotMap.slots c.remove.new.store) (g.S.SlotStore.memory c.remove.new.store) in
+    let after : State = state_in g.S.SlotMap.slots g.S.SlotStore.memory c.remove.new.kernel in
     subst (λ k. GivesState (on_cnode (state_in g.S.SlotMap.slots g.S.SlotStore.memory k) made (Revoke c.args.name)) c.remove.result after) of_kernel
     (subst (λ (defined : Result State KError). GivesState defined c.remove.result after)
-    (sym (revoke-on s slots made c.args.call.node c.args.name (Ok c.in_ok-slot.slot) refl same (sym c.in_ok-slot.ensures))) c.remove.ensures.outcome)
+    (sym (revoke-on s slots made c.args.call.node c.args.name (Ok c.in_ok-slot.slot) refl same (sym c.in_ok-slot.ensures)))
+    (subst (λ k. GivesState (revoke (state_in g.S.SlotMap.slots g.S.SlotStore.memory k) c.in_ok-slot.slot) c.remove.result after) (sym of_kernel)
+    c.remove.ensures.outcome))
 
 pub returns-in_err-slot-clause-outcome : goal.returns-in_err-slot-clause-outcome
 returns-in_err-slot-clause-outcome g c = λ made same.
@@ -57,21 +51,3 @@ returns-in_err-slot-clause-outcome g c = λ made same.
     let p = err_from_is_err_and c.from_residual.result c.from_residual.ensures.1 in
     rw (p.1, p.2) (subst (λ k. on_cnode (state_in g.S.SlotMap.slots g.S.SlotStore.memory k) made (Revoke c.args.name) ≡ Err c.in_err-slot.field-0.0) of_kernel
     (revoke-on s slots made c.args.call.node c.args.name (Err c.in_err-slot.field-0.0) (of_slots-law _ _ _) same (sym c.in_err-slot.ensures)))
-
-pub invariant_of-live : goal.invariant_of-live
-unfolding state_of
-invariant_of-live g c =
-    let whole = whole-of g.S.SlotMap.slots g.S.SlotStore.memory c.live.inside.objects c.live.inside.store c.kernel.invariant c.live.view_is c.live.invariant in
-    let s : State = state_of c.live.inside.objects (g.S.SlotMap.slots c.live.inside.store) (g.S.SlotStore.memory c.live.inside.store) in
-    (still-whole g.S.SlotMap.slots g.S.SlotStore.memory (revoke s c.in_ok-slot.slot) c.remove.result c.live.inside.store c.remove.new.store
-    c.live.inside.objects c.remove.new.objects whole c.remove.ensures.outcome c.remove.ensures.unchanged c.remove.ensures.same
-    (λ t is. revoked-sound s t c.in_ok-slot.slot whole.sound is) c.remove.ensures.agree).stands
-
-pub invariant_of-kernel-2 : goal.invariant_of-kernel-2
-unfolding state_of
-invariant_of-kernel-2 g c =
-    let whole = whole-of g.S.SlotMap.slots g.S.SlotStore.memory c.live.inside.objects c.live.inside.store c.kernel.invariant c.live.view_is c.live.invariant in
-    let s : State = state_of c.live.inside.objects (g.S.SlotMap.slots c.live.inside.store) (g.S.SlotStore.memory c.live.inside.store) in
-    consistent-of (still-whole g.S.SlotMap.slots g.S.SlotStore.memory (revoke s c.in_ok-slot.slot) c.remove.result c.live.inside.store
-    c.remove.new.store c.live.inside.objects c.remove.new.objects whole c.remove.ensures.outcome c.remove.ensures.unchanged c.remove.ensures.same
-    (λ t is. revoked-sound s t c.in_ok-slot.slot whole.sound is) c.remove.ensures.agree)

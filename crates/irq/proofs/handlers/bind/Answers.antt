@@ -6,6 +6,7 @@ use Rattle.irq.proofs.handlers.bind.Goals as goal
 use Rattle.cnode_ops.proofs.Laws.{consistent-of, of-some, whole-of}
 use Rattle.model.specs.Capabilities.Slots.{IsFull, depth_of, inserted}
 use Rattle.model.specs.Kernel.InterruptCalls.{bind}
+use Rattle.model.specs.Kernel.Removal.{delete}
 use Rattle.model.specs.Kernel.Soundness.{IsSound}
 use Rattle.model.specs.declared.capabilities.Cap.{Cap}
 use Rattle.objects.specs.Lives.{state_in}
@@ -34,48 +35,67 @@ returns-in_err-remove_slot-clause-outcome g c =
     (bind-kept c.live.inside.objects (g.S.SlotMap.slots c.live.inside.store) (g.S.SlotStore.memory c.live.inside.store) c.args.root c.args.line
     c.args.notification
     c.in_ok-source.source c.binding-binding.result c.in_err-remove_slot.field-0.0 c.in_ok-source.ensures (here _ _)
-    c.in_err-remove_slot.ensures.outcome call at))
+    (subst (λ k. delete (state_in g.S.SlotMap.slots g.S.SlotStore.memory k) c.binding-binding.result ≡ Err c.in_err-remove_slot.field-0.0) (sym of_kernel)
+    c.in_err-remove_slot.ensures.outcome) call at))
 
 pub insert-requires-clause-empty : goal.insert-requires-clause-empty
 insert-requires-clause-empty g c =
     let here = rw c.new.ensures at c.binding-binding.ensures in
     let whole = whole-of g.S.SlotMap.slots g.S.SlotStore.memory c.live.inside.objects c.live.inside.store c.kernel.invariant c.live.view_is c.live.invariant in
     let of_kernel = c.live.view_is ∙ c.kernel.view_is in
+    let bare = whole-of g.S.SlotMap.slots g.S.SlotStore.memory c.bare.inside.objects c.bare.inside.store c.kernel-2.invariant c.bare.view_is c.bare.invariant in
+    let of_bare = c.bare.view_is ∙ c.kernel-2.view_is in
+    let gone = subst (λ k. delete (state_in g.S.SlotMap.slots g.S.SlotStore.memory k) c.binding-binding.result
+    ≡ Ok (state_of c.bare.inside.objects (g.S.SlotMap.slots c.bare.inside.store) (g.S.SlotStore.memory c.bare.inside.store))) (sym of_kernel)
+    (subst (λ k. delete (state_in g.S.SlotMap.slots g.S.SlotStore.memory c.args.kernel.now) c.binding-binding.result
+    ≡ Ok (state_in g.S.SlotMap.slots g.S.SlotStore.memory k)) (sym of_bare) c.in_ok-remove_slot.ensures.outcome) in
     let root = subst (λ k. IsRoot (state_in g.S.SlotMap.slots g.S.SlotStore.memory k) c.args.root) (sym of_kernel) c.requires.root in
     let line = c.requires.line (subst (λ k. IsSound (state_in g.S.SlotMap.slots g.S.SlotStore.memory k)) of_kernel whole.sound) in
     slot-empty c.live.inside.objects (g.S.SlotMap.slots c.live.inside.store) (g.S.SlotStore.memory c.live.inside.store) c.args.root c.args.line
     c.args.notification
-    c.remove_slot.new.objects (g.S.SlotMap.slots c.remove_slot.new.store) (g.S.SlotStore.memory c.remove_slot.new.store) c.in_ok-source.source
+    c.bare.inside.objects (g.S.SlotMap.slots c.bare.inside.store) (g.S.SlotStore.memory c.bare.inside.store) c.in_ok-source.source
     c.binding-binding.result
-    whole root line c.in_ok-source.ensures (here _ _) c.in_ok-remove_slot.ensures.outcome
+    whole root line c.in_ok-source.ensures (here _ _) gone
 
 pub insert-requires-clause-full : goal.insert-requires-clause-full
 insert-requires-clause-full g c =
     let here = rw c.new.ensures at c.binding-binding.ensures in
     let whole = whole-of g.S.SlotMap.slots g.S.SlotStore.memory c.live.inside.objects c.live.inside.store c.kernel.invariant c.live.view_is c.live.invariant in
     let of_kernel = c.live.view_is ∙ c.kernel.view_is in
+    let bare = whole-of g.S.SlotMap.slots g.S.SlotStore.memory c.bare.inside.objects c.bare.inside.store c.kernel-2.invariant c.bare.view_is c.bare.invariant in
+    let of_bare = c.bare.view_is ∙ c.kernel-2.view_is in
+    let gone = subst (λ k. delete (state_in g.S.SlotMap.slots g.S.SlotStore.memory k) c.binding-binding.result
+    ≡ Ok (state_of c.bare.inside.objects (g.S.SlotMap.slots c.bare.inside.store) (g.S.SlotStore.memory c.bare.inside.store))) (sym of_kernel)
+    (subst (λ k. delete (state_in g.S.SlotMap.slots g.S.SlotStore.memory c.args.kernel.now) c.binding-binding.result
+    ≡ Ok (state_in g.S.SlotMap.slots g.S.SlotStore.memory k)) (sym of_bare) c.in_ok-remove_slot.ensures.outcome) in
     λ x is.
     let root = subst (λ k. IsRoot (state_in g.S.SlotMap.slots g.S.SlotStore.memory k) c.args.root) (sym of_kernel) c.requires.root in
     let line = c.requires.line (subst (λ k. IsSound (state_in g.S.SlotMap.slots g.S.SlotStore.memory k)) of_kernel whole.sound) in
-    of-some (IsFull (g.S.SlotMap.slots c.remove_slot.new.store)) c.in_ok-source.source x
+    of-some (IsFull (g.S.SlotMap.slots c.bare.inside.store)) c.in_ok-source.source x
     (source-full c.live.inside.objects (g.S.SlotMap.slots c.live.inside.store) (g.S.SlotStore.memory c.live.inside.store) c.args.root c.args.line
     c.args.notification
-    c.remove_slot.new.objects (g.S.SlotMap.slots c.remove_slot.new.store) (g.S.SlotStore.memory c.remove_slot.new.store) c.in_ok-source.source
+    c.bare.inside.objects (g.S.SlotMap.slots c.bare.inside.store) (g.S.SlotStore.memory c.bare.inside.store) c.in_ok-source.source
     c.binding-binding.result
-    whole root line c.in_ok-source.ensures (here _ _) c.in_ok-remove_slot.ensures.outcome) is
+    whole root line c.in_ok-source.ensures (here _ _) gone) is
 
 pub insert-requires-clause-kin : goal.insert-requires-clause-kin
 insert-requires-clause-kin g c =
     let here = rw c.new.ensures at c.binding-binding.ensures in
     let whole = whole-of g.S.SlotMap.slots g.S.SlotStore.memory c.live.inside.objects c.live.inside.store c.kernel.invariant c.live.view_is c.live.invariant in
     let of_kernel = c.live.view_is ∙ c.kernel.view_is in
+    let bare = whole-of g.S.SlotMap.slots g.S.SlotStore.memory c.bare.inside.objects c.bare.inside.store c.kernel-2.invariant c.bare.view_is c.bare.invariant in
+    let of_bare = c.bare.view_is ∙ c.kernel-2.view_is in
+    let gone = subst (λ k. delete (state_in g.S.SlotMap.slots g.S.SlotStore.memory k) c.binding-binding.result
+    ≡ Ok (state_of c.bare.inside.objects (g.S.SlotMap.slots c.bare.inside.store) (g.S.SlotStore.memory c.bare.inside.store))) (sym of_kernel)
+    (subst (λ k. delete (state_in g.S.SlotMap.slots g.S.SlotStore.memory c.args.kernel.now) c.binding-binding.result
+    ≡ Ok (state_in g.S.SlotMap.slots g.S.SlotStore.memory k)) (sym of_bare) c.in_ok-remove_slot.ensures.outcome) in
     let root = subst (λ k. IsRoot (state_in g.S.SlotMap.slots g.S.SlotStore.memory k) c.args.root) (sym of_kernel) c.requires.root in
     let line = c.requires.line (subst (λ k. IsSound (state_in g.S.SlotMap.slots g.S.SlotStore.memory k)) of_kernel whole.sound) in
     inl (source-kin c.live.inside.objects (g.S.SlotMap.slots c.live.inside.store) (g.S.SlotStore.memory c.live.inside.store) c.args.root c.args.line
     c.args.notification
-    c.remove_slot.new.objects (g.S.SlotMap.slots c.remove_slot.new.store) (g.S.SlotStore.memory c.remove_slot.new.store) c.in_ok-source.source
+    c.bare.inside.objects (g.S.SlotMap.slots c.bare.inside.store) (g.S.SlotStore.memory c.bare.inside.store) c.in_ok-source.source
     c.binding-binding.result
-    whole root line c.in_ok-source.ensures (here _ _) c.in_ok-remove_slot.ensures.outcome c.capability-capability.result
+    whole root line c.in_ok-source.ensures (here _ _) gone c.capability-capability.result
     c.capability-capability.ensures.value)
 
 pub insert-requires-clause-room : goal.insert-requires-clause-room
@@ -83,78 +103,92 @@ insert-requires-clause-room g c =
     let here = rw c.new.ensures at c.binding-binding.ensures in
     let whole = whole-of g.S.SlotMap.slots g.S.SlotStore.memory c.live.inside.objects c.live.inside.store c.kernel.invariant c.live.view_is c.live.invariant in
     let of_kernel = c.live.view_is ∙ c.kernel.view_is in
+    let bare = whole-of g.S.SlotMap.slots g.S.SlotStore.memory c.bare.inside.objects c.bare.inside.store c.kernel-2.invariant c.bare.view_is c.bare.invariant in
+    let of_bare = c.bare.view_is ∙ c.kernel-2.view_is in
+    let gone = subst (λ k. delete (state_in g.S.SlotMap.slots g.S.SlotStore.memory k) c.binding-binding.result
+    ≡ Ok (state_of c.bare.inside.objects (g.S.SlotMap.slots c.bare.inside.store) (g.S.SlotStore.memory c.bare.inside.store))) (sym of_kernel)
+    (subst (λ k. delete (state_in g.S.SlotMap.slots g.S.SlotStore.memory c.args.kernel.now) c.binding-binding.result
+    ≡ Ok (state_in g.S.SlotMap.slots g.S.SlotStore.memory k)) (sym of_bare) c.in_ok-remove_slot.ensures.outcome) in
     λ x is.
     let root = subst (λ k. IsRoot (state_in g.S.SlotMap.slots g.S.SlotStore.memory k) c.args.root) (sym of_kernel) c.requires.root in
     let line = c.requires.line (subst (λ k. IsSound (state_in g.S.SlotMap.slots g.S.SlotStore.memory k)) of_kernel whole.sound) in
-    of-some (λ y. depth_of (g.S.SlotMap.slots c.remove_slot.new.store) y < 255) c.in_ok-source.source x
+    of-some (λ y. depth_of (g.S.SlotMap.slots c.bare.inside.store) y < 255) c.in_ok-source.source x
     (source-room c.live.inside.objects (g.S.SlotMap.slots c.live.inside.store) (g.S.SlotStore.memory c.live.inside.store) c.args.root c.args.line
     c.args.notification
-    c.remove_slot.new.objects (g.S.SlotMap.slots c.remove_slot.new.store) (g.S.SlotStore.memory c.remove_slot.new.store) c.in_ok-source.source
+    c.bare.inside.objects (g.S.SlotMap.slots c.bare.inside.store) (g.S.SlotStore.memory c.bare.inside.store) c.in_ok-source.source
     c.binding-binding.result
-    whole root line c.in_ok-source.ensures (here _ _) c.in_ok-remove_slot.ensures.outcome) is
+    whole root line c.in_ok-source.ensures (here _ _) gone) is
 
 pub returns-clause-outcome : goal.returns-clause-outcome
 returns-clause-outcome g c =
     let here = rw c.new.ensures at c.binding-binding.ensures in
     let whole = whole-of g.S.SlotMap.slots g.S.SlotStore.memory c.live.inside.objects c.live.inside.store c.kernel.invariant c.live.view_is c.live.invariant in
     let of_kernel = c.live.view_is ∙ c.kernel.view_is in
+    let bare = whole-of g.S.SlotMap.slots g.S.SlotStore.memory c.bare.inside.objects c.bare.inside.store c.kernel-2.invariant c.bare.view_is c.bare.invariant in
+    let of_bare = c.bare.view_is ∙ c.kernel-2.view_is in
+    let gone = subst (λ k. delete (state_in g.S.SlotMap.slots g.S.SlotStore.memory k) c.binding-binding.result
+    ≡ Ok (state_of c.bare.inside.objects (g.S.SlotMap.slots c.bare.inside.store) (g.S.SlotStore.memory c.bare.inside.store))) (sym of_kernel)
+    (subst (λ k. delete (state_in g.S.SlotMap.slots g.S.SlotStore.memory c.args.kernel.now) c.binding-binding.result
+    ≡ Ok (state_in g.S.SlotMap.slots g.S.SlotStore.memory k)) (sym of_bare) c.in_ok-remove_slot.ensures.outcome) in
     λ call at.
     let root = subst (λ k. IsRoot (state_in g.S.SlotMap.slots g.S.SlotStore.memory k) c.args.root) (sym of_kernel) c.requires.root in
     let line = c.requires.line (subst (λ k. IsSound (state_in g.S.SlotMap.slots g.S.SlotStore.memory k)) of_kernel whole.sound) in
-    let t = state_of c.remove_slot.new.objects (g.S.SlotMap.slots c.insert.new.self) (g.S.SlotStore.memory c.insert.new.self) in
+    let t = state_of c.bare.inside.objects (g.S.SlotMap.slots c.insert.new.self) (g.S.SlotStore.memory c.insert.new.self) in
     let put = c.insert.ensures.slots
-    ∙ ap (λ (k : Cap). inserted (g.S.SlotMap.slots c.remove_slot.new.store) c.binding-binding.result k (Some c.in_ok-source.source))
+    ∙ ap (λ (k : Cap). inserted (g.S.SlotMap.slots c.bare.inside.store) c.binding-binding.result k (Some c.in_ok-source.source))
     c.capability-capability.ensures.value in
     subst (λ k. bind (state_in g.S.SlotMap.slots g.S.SlotStore.memory k) call c.args.line c.args.notification ≡ Ok t) of_kernel
     (bind-left c.live.inside.objects (g.S.SlotMap.slots c.live.inside.store) (g.S.SlotStore.memory c.live.inside.store) c.args.root c.args.line
     c.args.notification
-    c.remove_slot.new.objects (g.S.SlotMap.slots c.remove_slot.new.store) (g.S.SlotStore.memory c.remove_slot.new.store) c.in_ok-source.source
+    c.bare.inside.objects (g.S.SlotMap.slots c.bare.inside.store) (g.S.SlotStore.memory c.bare.inside.store) c.in_ok-source.source
     c.binding-binding.result
-    whole root line c.in_ok-source.ensures (here _ _) c.in_ok-remove_slot.ensures.outcome
-    (g.S.SlotMap.slots c.insert.new.self) (g.S.SlotStore.memory c.insert.new.self) c.remove_slot.ensures.agree c.insert.ensures.bytes put call at)
+    whole root line c.in_ok-source.ensures (here _ _) gone
+    (g.S.SlotMap.slots c.insert.new.self) (g.S.SlotStore.memory c.insert.new.self) (bare.agrees, bare.stands) c.insert.ensures.bytes put call at)
 
-pub invariant_of-live-2 : goal.invariant_of-live-2
-invariant_of-live-2 g c =
+pub invariant_of-bare : goal.invariant_of-bare
+invariant_of-bare g c =
     let here = rw c.new.ensures at c.binding-binding.ensures in
     let whole = whole-of g.S.SlotMap.slots g.S.SlotStore.memory c.live.inside.objects c.live.inside.store c.kernel.invariant c.live.view_is c.live.invariant in
     let of_kernel = c.live.view_is ∙ c.kernel.view_is in
+    let bare = whole-of g.S.SlotMap.slots g.S.SlotStore.memory c.bare.inside.objects c.bare.inside.store c.kernel-2.invariant c.bare.view_is c.bare.invariant in
+    let of_bare = c.bare.view_is ∙ c.kernel-2.view_is in
+    let gone = subst (λ k. delete (state_in g.S.SlotMap.slots g.S.SlotStore.memory k) c.binding-binding.result
+    ≡ Ok (state_of c.bare.inside.objects (g.S.SlotMap.slots c.bare.inside.store) (g.S.SlotStore.memory c.bare.inside.store))) (sym of_kernel)
+    (subst (λ k. delete (state_in g.S.SlotMap.slots g.S.SlotStore.memory c.args.kernel.now) c.binding-binding.result
+    ≡ Ok (state_in g.S.SlotMap.slots g.S.SlotStore.memory k)) (sym of_bare) c.in_ok-remove_slot.ensures.outcome) in
     (
     let root = subst (λ k. IsRoot (state_in g.S.SlotMap.slots g.S.SlotStore.memory k) c.args.root) (sym of_kernel) c.requires.root in
     let line = c.requires.line (subst (λ k. IsSound (state_in g.S.SlotMap.slots g.S.SlotStore.memory k)) of_kernel whole.sound) in
     let put = c.insert.ensures.slots
-    ∙ ap (λ (k : Cap). inserted (g.S.SlotMap.slots c.remove_slot.new.store) c.binding-binding.result k (Some c.in_ok-source.source))
+    ∙ ap (λ (k : Cap). inserted (g.S.SlotMap.slots c.bare.inside.store) c.binding-binding.result k (Some c.in_ok-source.source))
     c.capability-capability.ensures.value in
     bind-whole c.live.inside.objects (g.S.SlotMap.slots c.live.inside.store) (g.S.SlotStore.memory c.live.inside.store) c.args.root c.args.line
     c.args.notification
-    c.remove_slot.new.objects (g.S.SlotMap.slots c.remove_slot.new.store) (g.S.SlotStore.memory c.remove_slot.new.store) c.in_ok-source.source
+    c.bare.inside.objects (g.S.SlotMap.slots c.bare.inside.store) (g.S.SlotStore.memory c.bare.inside.store) c.in_ok-source.source
     c.binding-binding.result
-    whole root line c.in_ok-source.ensures (here _ _) c.in_ok-remove_slot.ensures.outcome
-    (g.S.SlotMap.slots c.insert.new.self) (g.S.SlotStore.memory c.insert.new.self) c.remove_slot.ensures.agree c.insert.ensures.bytes put).stands
+    whole root line c.in_ok-source.ensures (here _ _) gone
+    (g.S.SlotMap.slots c.insert.new.self) (g.S.SlotStore.memory c.insert.new.self) (bare.agrees, bare.stands) c.insert.ensures.bytes put).stands
 
-pub invariant_of-kernel-2 : goal.invariant_of-kernel-2
-invariant_of-kernel-2 g c =
+pub invariant_of-kernel : goal.invariant_of-kernel
+invariant_of-kernel g c =
     let here = rw c.new.ensures at c.binding-binding.ensures in
     let whole = whole-of g.S.SlotMap.slots g.S.SlotStore.memory c.live.inside.objects c.live.inside.store c.kernel.invariant c.live.view_is c.live.invariant in
     let of_kernel = c.live.view_is ∙ c.kernel.view_is in
+    let bare = whole-of g.S.SlotMap.slots g.S.SlotStore.memory c.bare.inside.objects c.bare.inside.store c.kernel-2.invariant c.bare.view_is c.bare.invariant in
+    let of_bare = c.bare.view_is ∙ c.kernel-2.view_is in
+    let gone = subst (λ k. delete (state_in g.S.SlotMap.slots g.S.SlotStore.memory k) c.binding-binding.result
+    ≡ Ok (state_of c.bare.inside.objects (g.S.SlotMap.slots c.bare.inside.store) (g.S.SlotStore.memory c.bare.inside.store))) (sym of_kernel)
+    (subst (λ k. delete (state_in g.S.SlotMap.slots g.S.SlotStore.memory c.args.kernel.now) c.binding-binding.result
+    ≡ Ok (state_in g.S.SlotMap.slots g.S.SlotStore.memory k)) (sym of_bare) c.in_ok-remove_slot.ensures.outcome) in
     consistent-of (
     let root = subst (λ k. IsRoot (state_in g.S.SlotMap.slots g.S.SlotStore.memory k) c.args.root) (sym of_kernel) c.requires.root in
     let line = c.requires.line (subst (λ k. IsSound (state_in g.S.SlotMap.slots g.S.SlotStore.memory k)) of_kernel whole.sound) in
     let put = c.insert.ensures.slots
-    ∙ ap (λ (k : Cap). inserted (g.S.SlotMap.slots c.remove_slot.new.store) c.binding-binding.result k (Some c.in_ok-source.source))
+    ∙ ap (λ (k : Cap). inserted (g.S.SlotMap.slots c.bare.inside.store) c.binding-binding.result k (Some c.in_ok-source.source))
     c.capability-capability.ensures.value in
     bind-whole c.live.inside.objects (g.S.SlotMap.slots c.live.inside.store) (g.S.SlotStore.memory c.live.inside.store) c.args.root c.args.line
     c.args.notification
-    c.remove_slot.new.objects (g.S.SlotMap.slots c.remove_slot.new.store) (g.S.SlotStore.memory c.remove_slot.new.store) c.in_ok-source.source
+    c.bare.inside.objects (g.S.SlotMap.slots c.bare.inside.store) (g.S.SlotStore.memory c.bare.inside.store) c.in_ok-source.source
     c.binding-binding.result
-    whole root line c.in_ok-source.ensures (here _ _) c.in_ok-remove_slot.ensures.outcome
-    (g.S.SlotMap.slots c.insert.new.self) (g.S.SlotStore.memory c.insert.new.self) c.remove_slot.ensures.agree c.insert.ensures.bytes put)
-
-pub remove_slot-requires-clause-agree : goal.remove_slot-requires-clause-agree
-remove_slot-requires-clause-agree g c =
-    let whole = whole-of g.S.SlotMap.slots g.S.SlotStore.memory c.live.inside.objects c.live.inside.store c.kernel.invariant c.live.view_is c.live.invariant in
-    (whole.agrees, whole.stands)
-
-pub remove_slot-requires-clause-sound : goal.remove_slot-requires-clause-sound
-remove_slot-requires-clause-sound g c =
-    let whole = whole-of g.S.SlotMap.slots g.S.SlotStore.memory c.live.inside.objects c.live.inside.store c.kernel.invariant c.live.view_is c.live.invariant in
-    whole.sound
+    whole root line c.in_ok-source.ensures (here _ _) gone
+    (g.S.SlotMap.slots c.insert.new.self) (g.S.SlotStore.memory c.insert.new.self) (bare.agrees, bare.stands) c.insert.ensures.bytes put)

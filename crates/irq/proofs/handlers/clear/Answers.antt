@@ -1,30 +1,20 @@
--- A removal keeps soundness.
-use Rattle.irq.proofs.Left.{removed-whole}
+-- What the slot of the line holds is deleted.
+use Rattle.std.proofs.Common.{ℕ, ◌∙◌, subst, sym}
+use Rattle.model.specs.Kernel.Outcomes.{GivesState}
+use Rattle.model.specs.Kernel.Removal.{delete}
+use Rattle.model.specs.Kernel.State.{State, binding_slot}
+use Rattle.objects.specs.Lives.{state_in}
+use Rattle.objects.specs.Tables.{state_of}
 use Rattle.irq.proofs.handlers.clear.Goals as goal
-use Rattle.cnode_ops.proofs.Laws.{consistent-of, whole-of}
 
-pub invariant_of-live : goal.invariant_of-live
-invariant_of-live g c =
-    let whole = whole-of g.S.SlotMap.slots g.S.SlotStore.memory c.live.inside.objects c.live.inside.store c.kernel.invariant c.live.view_is c.live.invariant in
-    (
-    removed-whole g.S.SlotMap.slots g.S.SlotStore.memory c.live.inside.store c.remove_slot.new.store c.live.inside.objects c.remove_slot.new.objects
-    c.binding-binding.result
-    c.remove_slot.result whole c.remove_slot.ensures.outcome c.remove_slot.ensures.unchanged c.remove_slot.ensures.same c.remove_slot.ensures.agree).stands
-
-pub invariant_of-kernel : goal.invariant_of-kernel
-invariant_of-kernel g c =
-    let whole = whole-of g.S.SlotMap.slots g.S.SlotStore.memory c.live.inside.objects c.live.inside.store c.kernel.invariant c.live.view_is c.live.invariant in
-    consistent-of (
-    removed-whole g.S.SlotMap.slots g.S.SlotStore.memory c.live.inside.store c.remove_slot.new.store c.live.inside.objects c.remove_slot.new.objects
-    c.binding-binding.result
-    c.remove_slot.result whole c.remove_slot.ensures.outcome c.remove_slot.ensures.unchanged c.remove_slot.ensures.same c.remove_slot.ensures.agree)
-
-pub remove_slot-requires-clause-agree : goal.remove_slot-requires-clause-agree
-remove_slot-requires-clause-agree g c =
-    let whole = whole-of g.S.SlotMap.slots g.S.SlotStore.memory c.live.inside.objects c.live.inside.store c.kernel.invariant c.live.view_is c.live.invariant in
-    (whole.agrees, whole.stands)
-
-pub remove_slot-requires-clause-sound : goal.remove_slot-requires-clause-sound
-remove_slot-requires-clause-sound g c =
-    let whole = whole-of g.S.SlotMap.slots g.S.SlotStore.memory c.live.inside.objects c.live.inside.store c.kernel.invariant c.live.view_is c.live.invariant in
-    whole.sound
+pub returns-clause-outcome : goal.returns-clause-outcome
+returns-clause-outcome g c =
+    let here = rw c.new.ensures at c.binding-binding.ensures in
+    let of_kernel = c.live.view_is ∙ c.kernel.view_is in
+    let after : State = state_in g.S.SlotMap.slots g.S.SlotStore.memory c.remove_slot.new.kernel in
+    let s : State = state_of c.live.inside.objects (g.S.SlotMap.slots c.live.inside.store) (g.S.SlotStore.memory c.live.inside.store) in
+    subst (λ k. GivesState (delete (state_in g.S.SlotMap.slots g.S.SlotStore.memory k) (binding_slot (state_in g.S.SlotMap.slots g.S.SlotStore.memory k)
+    c.args.line)) c.remove_slot.result after) of_kernel
+    (subst (λ (slot : ℕ). GivesState (delete s slot) c.remove_slot.result after) (here _ _)
+    (subst (λ k. GivesState (delete (state_in g.S.SlotMap.slots g.S.SlotStore.memory k) c.binding-binding.result) c.remove_slot.result after) (sym of_kernel)
+    c.remove_slot.ensures.outcome))

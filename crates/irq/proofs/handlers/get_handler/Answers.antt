@@ -1,5 +1,5 @@
 -- The checks are those of the definition, in its order, and what is left is whole.
-use Rattle.std.proofs.Common.{◌∙◌, ℕ, ◌≡◌, inr, Err, Ok, Option, Some, None, ap, subst, sym}
+use Rattle.std.proofs.Common.{◌∙◌, ◌≡◌, inr, Err, Ok, Some, None, ap, subst, sym}
 use Rattle.std.proofs.lemmas.Result.{err_from_is_err_and}
 use Rattle.model.specs.Capabilities.CapabilityKinds.{object_of}
 use Rattle.model.specs.Capabilities.Slots.{capability_at}
