@@ -11,13 +11,14 @@ use cnode_ops::Kernel;
 use model::{Event, Label};
 use packed_slots::WalkStore;
 use sched::choose;
-use user_memory::{Labels, PlainRun, run_plain};
+use user_memory::{KnownWords, Labels, PlainRun, run_plain};
 
 /// Plain instructions of the current thread, if there is one.
 fn run_current<S: WalkStore, L: Labels>(
     kernel: &mut Kernel<S>,
     most: u32,
     labels: &mut L,
+    known: &mut KnownWords,
 ) -> PlainRun
     ensures few { result.done ≤ most }
     ensures state { state_in S.slots S.memory kernel.new
@@ -27,7 +28,7 @@ fn run_current<S: WalkStore, L: Labels>(
     ensures next { IfSome result.effect (IsNext (state_in S.slots S.memory kernel.new) result.thread result.pc) }
 {
     match choose(&kernel.live) {
-        Some(thread) => run_plain(kernel, thread, most, labels),
+        Some(thread) => run_plain(kernel, thread, most, labels, known),
         None => PlainRun {
             thread: 0,
             done: 0,
@@ -59,7 +60,12 @@ fn step_after<S: WalkStore>(kernel: &mut Kernel<S>, run: PlainRun) -> Label
 
 /// Makes steps, until there were `most` or `labels` wants no more: as many plain instructions as there are at once, and one
 /// step of another kind after them. The answer is how many there were.
-pub(crate) fn run<S: WalkStore, L: Labels>(kernel: &mut Kernel<S>, most: u32, labels: &mut L) -> u32
+pub(crate) fn run<S: WalkStore, L: Labels>(
+    kernel: &mut Kernel<S>,
+    most: u32,
+    labels: &mut L,
+    known: &mut KnownWords,
+) -> u32
     ensures few { result ≤ most }
     ensures state { state_in S.slots S.memory kernel.new
         ≡ state_after (state_in S.slots S.memory kernel.old) (replicate result Event.Step) }
@@ -69,7 +75,7 @@ pub(crate) fn run<S: WalkStore, L: Labels>(kernel: &mut Kernel<S>, most: u32, la
 {
     let mut done = 0;
     'runs: while done < most {
-        let run = run_current(kernel, most - done, labels);
+        let run = run_current(kernel, most - done, labels, known);
         done += run.done;
         if done == most {
             return done;

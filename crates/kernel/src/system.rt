@@ -9,12 +9,14 @@ use crate::{events, runs};
 use kernel_machine::Machine;
 use model::{Cap, Event, Label};
 use std::marker::Model;
-use user_memory::Labels;
+use user_memory::{KnownWords, Labels};
 
-/// The kernel with its threads, which goes on by events. None of them takes memory.
+/// The kernel with its threads, which goes on by events. None of them takes memory. What words of code spell is kept from one
+/// run of steps to the next.
 #[derive(Drop)]
 pub struct System {
     machine: Machine,
+    known: KnownWords,
 }
 
 impl Model for System {
@@ -30,7 +32,10 @@ impl System {
     pub fn of(machine: Machine) -> Self
         ensures { result ≡ machine }
     {
-        System { machine }
+        System {
+            machine,
+            known: KnownWords::new(),
+        }
     }
 
     /// What an event does: the current thread runs one instruction, a tick of the timer passes, or an interrupt is
@@ -52,7 +57,7 @@ impl System {
             ≡ L.seen labels.old ++ flat_map L.kept (trace (state_in self.old) (replicate result Event.Step)) }
         ensures all { L.wants labels.new ≡ true → result ≡ most }
     {
-        runs::run(&mut self.machine.kernel, most, labels)
+        runs::run(&mut self.machine.kernel, most, labels, &mut self.known)
     }
 
     /// A register of the thread at an offset: its program counter by index 0, and else that of this index, 1 to 31.

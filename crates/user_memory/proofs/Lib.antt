@@ -1,3 +1,4 @@
+pub mod Apart
 pub mod BytesMore
 pub mod Executed
 pub mod Filled

@@ -1,4 +1,6 @@
 pub mod CodePages
 pub mod Fills
+pub mod Propositions
+pub mod Reaching
 pub mod Runs
 pub mod Views

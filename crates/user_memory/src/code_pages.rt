@@ -9,6 +9,7 @@ ghost use Rattle.objects.specs.Lives.{state_in};
 ghost use Rattle.user_memory.specs.CodePages.{IsCode, IsPage};
 
 use crate::execution::fetch_at;
+use crate::known_words::KnownWords;
 use crate::roots::root_of;
 use cnode_ops::Kernel;
 use model::{Access, MemoryFault};
@@ -23,28 +24,41 @@ const MOST_MEMORY: u32 = 0x100_0000;
 /// No page has this number.
 const NO_PAGE: u32 = 0x10_0000;
 
-/// Where the code of a thread is: its root table, and one page by its number and the place of its first byte.
-#[derive(Clone, Copy)]
-pub(crate) struct Code {
+/// Where the code of a thread is: its root table, and one page by its number and the place of its first byte; and what its words
+/// spell, as far as that is known.
+#[derive(Drop)]
+pub(crate) struct Code<'k> {
     pub(crate) root: Option<u32>,
     pub(crate) number: u32,
     pub(crate) base: u32,
+    pub(crate) known: &'k mut KnownWords,
 }
 
 /// The root table of a thread, with no page yet.
-pub(crate) fn code_of<S: WalkStore>(kernel: &Kernel<S>, thread: u32) -> Code
+pub(crate) fn code_of<'k, S: WalkStore>(
+    kernel: &Kernel<S>,
+    thread: u32,
+    known: &'k mut KnownWords,
+) -> Code<'k>
     ensures { IsCode (state_in S.slots S.memory kernel.now) thread result.root result.number result.base }
 {
     Code {
         root: root_of(kernel, thread),
         number: NO_PAGE,
         base: 0,
+        known,
     }
 }
 
 /// The word at an address in the page that is kept.
-fn page_word<S: WalkStore>(kernel: &Kernel<S>, thread: u32, code: Code, address: u32) -> Option<u32>
-    requires { IsCode (state_in S.slots S.memory kernel.now) thread code.root code.number code.base }
+#[inline]
+fn page_word<S: WalkStore>(
+    kernel: &Kernel<S>,
+    thread: u32,
+    code: &Code<'_>,
+    address: u32,
+) -> Option<u32>
+    requires { IsCode (state_in S.slots S.memory kernel.now) thread code.now.root code.now.number code.now.base }
     ensures { (word : ℕ) → result ≡ Some word
         → Ok word ≡ loaded (content_of (state_in S.slots S.memory kernel.now) thread) Fetch Word address }
 {
@@ -84,11 +98,13 @@ fn base_of<S: WalkStore>(
     }
 }
 
-/// The word that a thread runs next, by the page that is kept. Where it is in another page, that one is kept, if its leaf is.
-pub(crate) fn fetch_paged<S: WalkStore>(
+/// The word that a thread runs next, in another page than the one that is kept. This page is kept then, if its leaf is.
+#[cold]
+#[inline(never)]
+fn fetch_elsewhere<S: WalkStore>(
     kernel: &mut Kernel<S>,
     thread: u32,
-    code: &mut Code,
+    code: &mut Code<'_>,
     address: u32,
 ) -> Result<u32, MemoryFault>
     requires { IsCode (state_in S.slots S.memory kernel.old) thread code.old.root code.old.number code.old.base }
@@ -96,20 +112,30 @@ pub(crate) fn fetch_paged<S: WalkStore>(
     ensures unchanged { kernel.new ≡ kernel.old }
     ensures code { IsCode (state_in S.slots S.memory kernel.new) thread code.new.root code.new.number code.new.base }
 {
-    if let Some(word) = page_word(kernel, thread, *code, address) {
-        return Ok(word);
-    }
     let root = code.root;
     let Some(base) = base_of(kernel, thread, root, address) else {
         return fetch_at(kernel, thread, root, address);
     };
-    *code = Code {
-        root,
-        number: address / PAGE_SIZE,
-        base,
-    };
-    match page_word(kernel, thread, *code, address) {
+    code.number = address / PAGE_SIZE;
+    code.base = base;
+    fetch_at(kernel, thread, root, address)
+}
+
+/// The word that a thread runs next, by the page that is kept.
+#[inline]
+pub(crate) fn fetch_paged<S: WalkStore>(
+    kernel: &mut Kernel<S>,
+    thread: u32,
+    code: &mut Code<'_>,
+    address: u32,
+) -> Result<u32, MemoryFault>
+    requires { IsCode (state_in S.slots S.memory kernel.old) thread code.old.root code.old.number code.old.base }
+    ensures value { result ≡ loaded (content_of (state_in S.slots S.memory kernel.old) thread) Fetch Word address }
+    ensures unchanged { kernel.new ≡ kernel.old }
+    ensures code { IsCode (state_in S.slots S.memory kernel.new) thread code.new.root code.new.number code.new.base }
+{
+    match page_word(kernel, thread, code, address) {
         Some(word) => Ok(word),
-        None => fetch_at(kernel, thread, root, address),
+        None => fetch_elsewhere(kernel, thread, code, address),
     }
 }

@@ -14,6 +14,8 @@ ghost use Rattle.model.specs.declared.instructions.AccessSize.TheVariants.{Word}
 ghost use Rattle.objects.specs.Lives.{state_in};
 
 use crate::keeping::{keep_page, keep_reached};
+use crate::known_words::ValidInstr;
+use crate::no_memory::{NoMemory, reaches};
 use crate::spaces::Space;
 use crate::view::UserMemory;
 use cnode_ops::Kernel;
@@ -104,25 +106,48 @@ fn walked_word<S: WalkStore>(
 }
 
 /// Runs an instruction over the memory of a thread.
+#[inline(never)]
+fn reach<S: WalkStore>(
+    kernel: &mut Kernel<S>,
+    thread: u32,
+    root: Option<u32>,
+    registers: &mut Regs,
+    known: ValidInstr,
+) -> Exec
+    requires root { root ≡ vspace_of (state_in S.slots S.memory kernel.old) thread }
+    ensures outcome { result ≡ (effect registers.old (content_of (state_in S.slots S.memory kernel.old) thread) known.instruction).exec }
+    ensures registers { registers.new ≡ (effect registers.old (content_of (state_in S.slots S.memory kernel.old) thread) known.instruction).registers }
+    ensures state { state_in S.slots S.memory kernel.new
+        ≡ with_content (state_in S.slots S.memory kernel.old)
+        (effect registers.old (content_of (state_in S.slots S.memory kernel.old) thread) known.instruction).content }
+{
+    let live = &mut kernel.live;
+    keep_reached(&mut live.store, root, registers, known);
+    let mut memory = UserMemory { kernel, root };
+    exec(registers, known.instruction, &mut memory)
+}
+
+/// The same, where most instructions reach no memory: these run over none.
+#[inline]
 pub(crate) fn run<S: WalkStore>(
     kernel: &mut Kernel<S>,
     thread: u32,
     root: Option<u32>,
     registers: &mut Regs,
-    instruction: Instr,
+    known: ValidInstr,
 ) -> Exec
-    requires instruction { IsInstr instruction }
     requires root { root ≡ vspace_of (state_in S.slots S.memory kernel.old) thread }
-    ensures outcome { result ≡ (effect registers.old (content_of (state_in S.slots S.memory kernel.old) thread) instruction).exec }
-    ensures registers { registers.new ≡ (effect registers.old (content_of (state_in S.slots S.memory kernel.old) thread) instruction).registers }
+    ensures outcome { result ≡ (effect registers.old (content_of (state_in S.slots S.memory kernel.old) thread) known.instruction).exec }
+    ensures registers { registers.new ≡ (effect registers.old (content_of (state_in S.slots S.memory kernel.old) thread) known.instruction).registers }
     ensures state { state_in S.slots S.memory kernel.new
         ≡ with_content (state_in S.slots S.memory kernel.old)
-        (effect registers.old (content_of (state_in S.slots S.memory kernel.old) thread) instruction).content }
+        (effect registers.old (content_of (state_in S.slots S.memory kernel.old) thread) known.instruction).content }
 {
-    let live = &mut kernel.live;
-    keep_reached(&mut live.store, root, registers, instruction);
-    let mut memory = UserMemory { kernel, root };
-    exec(registers, instruction, &mut memory)
+    if reaches(known.instruction) {
+        reach(kernel, thread, root, registers, known)
+    } else {
+        exec(registers, known.instruction, &mut NoMemory)
+    }
 }
 
 /// Runs an instruction of a thread: its registers change, and the bytes of its frames. Where the answer is
@@ -144,7 +169,8 @@ pub fn execute<S: WalkStore>(
     ensures unchanged { result ≢ Exec.Next → state_in S.slots S.memory kernel.new ≡ state_in S.slots S.memory kernel.old }
 {
     let mut registers = kernel.live.registers(thread);
-    let outcome = run(kernel, thread, root, &mut registers, instruction);
+    let known = ValidInstr { instruction };
+    let outcome = reach(kernel, thread, root, &mut registers, known);
     kernel.live.set_registers(thread, registers);
     outcome
 }

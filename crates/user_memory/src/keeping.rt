@@ -3,9 +3,9 @@
 ghost use Rattle.std.specs.Prelude.{◌≡◌};
 ghost use Rattle.std.specs.Option.{ForSome};
 ghost use Rattle.packed_slots.specs.cached_slots.Mappings.{LeavesAgree};
-ghost use Rattle.model.specs.Machine.Instructions.{IsInstr, IsRegister};
 
-use model::{Instr, Register};
+use crate::known_words::ValidInstr;
+use model::Instr;
 use packed_slots::WalkStore;
 use rv32_exec::Regs;
 
@@ -19,13 +19,17 @@ pub(crate) fn keep_page<S: WalkStore>(store: &mut S, root: Option<u32>, address:
     }
 }
 
-/// The address that a load or a store names by a register and an offset.
-fn address_of(registers: &Regs, register: Register, offset: i32) -> u32
-    requires { IsRegister register }
-{
-    registers
-        .read(register)
-        .wrapping_add(offset.cast_unsigned())
+/// The address that an instruction loads from or stores into.
+fn reached(registers: &Regs, known: ValidInstr) -> Option<u32> {
+    match known.instruction {
+        Instr::Load { rs1, offset, .. } => {
+            Some(registers.read(rs1).wrapping_add(offset.cast_unsigned()))
+        }
+        Instr::Store { rs1, offset, .. } => {
+            Some(registers.read(rs1).wrapping_add(offset.cast_unsigned()))
+        }
+        _ => None,
+    }
 }
 
 /// Keeps the leaf of the page that an instruction loads from or stores into.
@@ -33,19 +37,12 @@ pub(crate) fn keep_reached<S: WalkStore>(
     store: &mut S,
     root: Option<u32>,
     registers: &Regs,
-    instruction: Instr,
+    known: ValidInstr,
 )
-    requires instruction { IsInstr instruction }
-    requires agree { ForSome root (LeavesAgree (S.slots store.old) (S.memory store.old)) }
+    requires { ForSome root (LeavesAgree (S.slots store.old) (S.memory store.old)) }
     ensures { store.new ≡ store.old }
 {
-    match instruction {
-        Instr::Load { rs1, offset, .. } => {
-            keep_page(store, root, address_of(registers, rs1, offset));
-        }
-        Instr::Store { rs1, offset, .. } => {
-            keep_page(store, root, address_of(registers, rs1, offset));
-        }
-        _ => {}
+    if let Some(address) = reached(registers, known) {
+        keep_page(store, root, address);
     }
 }

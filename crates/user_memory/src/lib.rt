@@ -7,7 +7,9 @@ mod code_pages;
 mod execution;
 mod filling;
 mod keeping;
+mod known_words;
 mod labels;
+mod no_memory;
 mod plain_runs;
 mod roots;
 mod spaces;
@@ -15,6 +17,7 @@ mod view;
 
 pub use execution::{execute, fetch};
 pub use filling::fill;
+pub use known_words::KnownWords;
 pub use labels::Labels;
 pub use plain_runs::{PlainRun, run_plain};
 pub use roots::root_of;

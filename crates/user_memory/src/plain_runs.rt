@@ -12,12 +12,12 @@ ghost use Rattle.user_memory.specs.Runs.{IsNext, comes_of, plain_label, steps};
 
 use crate::code_pages::{Code, code_of, fetch_paged};
 use crate::execution::run;
+use crate::known_words::KnownWords;
 use crate::labels::Labels;
 use cnode_ops::Kernel;
 use model::{Cause, Event, Exec};
 use packed_slots::WalkStore;
 use rv32_exec::Regs;
-use rv32_isa::decode;
 use soundness::events_keep_soundness;
 
 /// Where physical memory begins.
@@ -38,10 +38,11 @@ pub struct PlainRun {
 
 /// The current thread, with these registers, goes on by its next instruction, if that is a plain one: no system call, and no
 /// fault. Else nothing has changed, and the answer says which of these it is.
+#[inline]
 fn step_plain<S: WalkStore>(
     kernel: &mut Kernel<S>,
     thread: u32,
-    code: &mut Code,
+    code: &mut Code<'_>,
     registers: &mut Regs,
 ) -> Exec
     requires { IsUnderWay (state_in S.slots S.memory kernel.old) thread code.old.root code.old.number code.old.base }
@@ -55,9 +56,10 @@ fn step_plain<S: WalkStore>(
     ensures effect { result ≢ Exec.Next → runs (with_registers (state_in S.slots S.memory kernel.old) thread registers.old) thread
         ≡ comes_of (with_registers (state_in S.slots S.memory kernel.old) thread registers.old) thread result }
 {
-    match fetch_paged(kernel, thread, code, registers.pc()) {
-        Ok(word) => match decode(word) {
-            Some(instruction) => run(kernel, thread, code.root, registers, instruction),
+    let pc = registers.pc();
+    match fetch_paged(kernel, thread, code, pc) {
+        Ok(word) => match code.known.decode(pc, word) {
+            Some(known) => run(kernel, thread, code.root, registers, known),
             None => Exec::Trap(Cause::Illegal),
         },
         Err(fault) => Exec::Memory(fault.address, fault.access),
@@ -69,7 +71,7 @@ fn step_plain<S: WalkStore>(
 fn run_on<S: WalkStore, L: Labels>(
     kernel: &mut Kernel<S>,
     thread: u32,
-    code: &mut Code,
+    code: &mut Code<'_>,
     registers: &mut Regs,
     most: u32,
     labels: &mut L,
@@ -100,12 +102,13 @@ fn run_on<S: WalkStore, L: Labels>(
 }
 
 /// Runs plain instructions of the current thread, up to one that is none (a system call or a fault), to `most` of them, or as
-/// long as `labels` wants more.
+/// long as `labels` wants more. Words that are known already are not decoded again.
 pub fn run_plain<S: WalkStore, L: Labels>(
     kernel: &mut Kernel<S>,
     thread: u32,
     most: u32,
     labels: &mut L,
+    known: &mut KnownWords,
 ) -> PlainRun
     requires { current (state_in S.slots S.memory kernel.old) ≡ Some thread }
     ensures few { result.done ≤ most }
@@ -115,7 +118,7 @@ pub fn run_plain<S: WalkStore, L: Labels>(
     ensures next { IfSome result.effect (IsNext (state_in S.slots S.memory kernel.new) result.thread result.pc) }
 {
     events_keep_soundness();
-    let mut code = code_of(kernel, thread);
+    let mut code = code_of(kernel, thread, known);
     let mut registers = kernel.live.registers(thread);
     let (done, effect) = run_on(kernel, thread, &mut code, &mut registers, most, labels);
     let pc = registers.pc();

@@ -17,16 +17,16 @@ invariant_of-kernel g c =
     let left : state_in g.S.SlotMap.slots g.S.SlotStore.memory c.set_registers.new.self ≡ goes-to s c.args.thread c.args.instruction = search rules in
     record {
       sound = subst (λ (t : State). IsSound t) (sym left) (goes-sound s c.args.thread c.args.instruction sound c.requires.there c.requires.instruction);
-      agrees = registers-agree _ _ c.args.thread c.run-outcome.new.registers _ _ c.kernel-2.invariant.agrees c.set_registers.ensures.state
+      agrees = registers-agree _ _ c.args.thread c.reach-outcome.new.registers _ _ c.kernel-2.invariant.agrees c.set_registers.ensures.state
           c.set_registers.ensures.beside.bytes;
     }
 
 pub returns-clause-unchanged : goal.returns-clause-unchanged
 returns-clause-unchanged g c = λ differs.
     let s : State = state_in g.S.SlotMap.slots g.S.SlotStore.memory c.args.kernel.now in
-    let ran : State = state_in g.S.SlotMap.slots g.S.SlotStore.memory c.run-outcome.new.kernel in
+    let ran : State = state_in g.S.SlotMap.slots g.S.SlotStore.memory c.reach-outcome.new.kernel in
     let own : c.registers-registers.result ≡ registers_of s c.args.thread = search rules in
-    let left : state_in g.S.SlotMap.slots g.S.SlotStore.memory c.set_registers.new.self ≡ with_registers ran c.args.thread c.run-outcome.new.registers =
+    let left : state_in g.S.SlotMap.slots g.S.SlotStore.memory c.set_registers.new.self ≡ with_registers ran c.args.thread c.reach-outcome.new.registers =
     search rules in
-    unchanged s ran _ c.args.thread c.registers-registers.result c.run-outcome.new.registers c.args.instruction c.requires.there own
-    c.run-outcome.ensures.state c.run-outcome.ensures.registers left (λ same. differs (c.run-outcome.ensures.outcome ∙ same))
+    unchanged s ran _ c.args.thread c.registers-registers.result c.reach-outcome.new.registers c.args.instruction c.requires.there own
+    c.reach-outcome.ensures.state c.reach-outcome.ensures.registers left (λ same. differs (c.reach-outcome.ensures.outcome ∙ same))
