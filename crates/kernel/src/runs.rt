@@ -13,7 +13,22 @@ use packed_slots::WalkStore;
 use sched::choose;
 use user_memory::{KnownWords, Labels, PlainRun, run_plain};
 
-/// Plain instructions of the current thread, if there is one.
+/// Puts the labels of steps in which no thread runs, `most` of them, or as long as `labels` wants more. The answer is how many
+/// there were.
+fn put_idle<L: Labels>(most: u32, labels: &mut L) -> u32
+    ensures few { result ≤ most }
+    ensures labels { L.seen labels.new ≡ L.seen labels.old ++ flat_map L.kept (replicate result Label.Idle) }
+{
+    'steps: for done in 0..most {
+        if !labels.wants_more() {
+            return done;
+        }
+        labels.put(Label::Idle);
+    }
+    most
+}
+
+/// Plain instructions of the current thread. If there is none, these are steps in which no thread runs.
 fn run_current<S: WalkStore, L: Labels>(
     kernel: &mut Kernel<S>,
     most: u32,
@@ -31,7 +46,7 @@ fn run_current<S: WalkStore, L: Labels>(
         Some(thread) => run_plain(kernel, thread, most, labels, known),
         None => PlainRun {
             thread: 0,
-            done: 0,
+            done: put_idle(most, labels),
             pc: 0,
             effect: None,
         },
