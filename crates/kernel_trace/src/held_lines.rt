@@ -1,10 +1,10 @@
 //! Lines that wait to be put.
 
-ghost use Rattle.std.specs.Prelude.{ℕ, ◌≡◌, ◌+◌, ◌≤◌, [], nat_le};
-ghost use Rattle.arrayvec.specs.ArrayVec.{array_vec_len};
+ghost use Rattle.std.specs.Prelude.{ℕ, ◌≡◌, ◌+◌, ◌≤◌, ◌++◌, [], length, nat_le};
 ghost use Rattle.kernel_trace.specs.Lines.{ended};
+ghost use Rattle.trace.specs.PlainLines.{plain_text};
 
-use arrayvec::ArrayVec;
+use crate::line_buffer::LineBuffer;
 use kernel::Labels;
 use model::{Label, Outcome};
 use trace::{PlainLine, line};
@@ -15,19 +15,29 @@ const LONGEST_LINE: usize = 33;
 /// Lines with their line feeds, up to 8192 bytes of them.
 #[derive(Drop)]
 pub(crate) struct HeldLines {
-    pub(crate) bytes: ArrayVec<u8, 8192>,
+    pub(crate) bytes: LineBuffer,
     plain_line: PlainLine,
 }
 
 impl HeldLines {
     /// No lines.
     pub(crate) fn new() -> Self
-        ensures { result.bytes.items ≡ [] }
+        ensures { result.bytes ≡ [] }
     {
         HeldLines {
-            bytes: ArrayVec::new(),
+            bytes: LineBuffer::new(),
             plain_line: PlainLine::new(0, 0),
         }
+    }
+
+    /// Takes the line of a plain instruction of another thread, or in another page, than the last one.
+    #[cold]
+    #[inline(never)]
+    fn turn_to(&mut self, thread: u32, pc: u32)
+        ensures { length self.old.bytes + 24 ≤ 8192 → self.new.bytes ≡ self.old.bytes ++ plain_text thread pc }
+    {
+        let text = self.plain_line.line(thread, pc);
+        let _fits = self.bytes.push_text(text);
     }
 }
 
@@ -36,12 +46,13 @@ impl Labels for HeldLines {
 
     ghost kept = { ended };
 
-    ghost seen = { λ lines. lines.bytes.items };
+    ghost seen = { λ lines. lines.bytes };
 
-    ghost wants = { λ lines. nat_le (array_vec_len lines.bytes + 33) 8192 };
+    ghost wants = { λ lines. nat_le (length lines.bytes + 33) 8192 };
 
+    #[inline]
     fn wants_more(&self) -> bool {
-        self.bytes.remaining_capacity() >= LONGEST_LINE
+        self.bytes.room() >= LONGEST_LINE
     }
 
     fn put(&mut self, label: Label) {
@@ -52,18 +63,22 @@ impl Labels for HeldLines {
                 outcome: Outcome::Plain,
             } => self.plain(thread, pc),
             Label::Idle => {
-                let _fits = self.bytes.try_extend_from_slice(b"idle\n");
+                let _fits = self.bytes.push_text(b"idle\n");
             }
             _ => {
                 let text = line(label);
-                let _fits = self.bytes.try_extend_from_slice(text.as_slice());
-                self.bytes.push(b'\n');
+                let _fits = self.bytes.push_text(text.as_slice());
+                let _fits = self.bytes.push_text(b"\n");
             }
         }
     }
 
+    #[inline]
     fn plain(&mut self, thread: u32, pc: u32) {
-        let text = self.plain_line.line(thread, pc);
-        let _fits = self.bytes.try_extend_from_slice(text);
+        if self.plain_line.go_on(thread, pc) {
+            let _fits = self.bytes.push_text(self.plain_line.text());
+        } else {
+            self.turn_to(thread, pc);
+        }
     }
 }

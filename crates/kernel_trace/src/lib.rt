@@ -2,6 +2,7 @@
 #![tactic(auto)]
 
 mod held_lines;
+mod line_buffer;
 mod traces;
 
 pub use traces::put_trace;

@@ -1,7 +1,6 @@
 //! The lines of a trace, put in pieces larger than a line.
 
 ghost use Rattle.std.specs.Prelude.{ℕ, ◌≡◌, ◌+◌, ◌<◌, ◌≤◌, ◌++◌, OnErr, OnOk, if◌then◌else◌, drop, is_ok, length, replicate};
-ghost use Rattle.arrayvec.specs.ArrayVec.{array_vec_len};
 ghost use Rattle.kernel_machine.specs.Setups.{state_in};
 ghost use Rattle.model.specs.Kernel.Steps.{trace};
 ghost use Rattle.kernel_trace.specs.Lines.{Failed, PutsFront, lines_of};
@@ -41,9 +40,9 @@ pub fn put_trace<S: Sink>(
 
 /// Puts the lines that are held, if there is no room for another one.
 fn make_room<S: Sink>(sink: &mut S, lines: &mut HeldLines) -> Result<(), SinkFault>
-    ensures ok { OnOk result (PutsFront (S.contents sink.old) (S.contents sink.new) lines.old.bytes.items lines.new.bytes.items) }
-    ensures room { OnOk result (array_vec_len lines.new.bytes + 33 ≤ 8192) }
-    ensures err { OnErr result (GrowsByBeginning (S.contents sink.old) (S.contents sink.new) lines.old.bytes.items) }
+    ensures ok { OnOk result (PutsFront (S.contents sink.old) (S.contents sink.new) lines.old.bytes lines.new.bytes) }
+    ensures room { OnOk result (length lines.new.bytes + 33 ≤ 8192) }
+    ensures err { OnErr result (GrowsByBeginning (S.contents sink.old) (S.contents sink.new) lines.old.bytes) }
     ensures counted { S.failures sink.new ≡ (if is_ok result then S.failures sink.old else one_more (S.failures sink.old)) }
 {
     if !lines.wants_more() {
@@ -56,11 +55,11 @@ fn make_room<S: Sink>(sink: &mut S, lines: &mut HeldLines) -> Result<(), SinkFau
 /// Goes on by the event that is next, or by some of the steps that are, and holds their lines. The answer is how many of the
 /// events that are left these were.
 fn go_on(system: &mut System, left: &[Event], lines: &mut HeldLines) -> usize
-    requires { array_vec_len lines.old.bytes + 33 ≤ 8192 }
+    requires { length lines.old.bytes + 33 ≤ 8192 }
     ensures some { 0 < length left.now → 0 < result }
     ensures within { result ≤ length left.now }
-    ensures lines { lines.old.bytes.items ++ lines_of (trace (state_in system.old) left.now)
-        ≡ lines.new.bytes.items ++ lines_of (trace (state_in system.new) (drop result left.now)) }
+    ensures lines { lines.old.bytes ++ lines_of (trace (state_in system.old) left.now)
+        ≡ lines.new.bytes ++ lines_of (trace (state_in system.new) (drop result left.now)) }
 {
     let steps = steps_next(left);
     if steps > 0 {

@@ -15,3 +15,14 @@ same_page thread pc old page =
     let second : old / 2 ^ 16 % 2 ^ 8 ≡ pc / 2 ^ 16 % 2 ^ 8 = omega (arith, page) in
     let third : old / 2 ^ 8 % 2 ^ 8 / 16 ≡ pc / 2 ^ 8 % 2 ^ 8 / 16 = omega (arith, page) in
     rw (first, second, third) refl
+
+-- and the last one that of another one of its row
+pub same_row : (thread pc old : ℕ) → pc / 0x10 ≡ old / 0x10
+    → slice_set (plain_text thread old) 16 (hex_digit (pc % 0x100 % 0x10)) ≡ plain_text thread pc
+unfolding hex_word
+same_row thread pc old row =
+    let first : old / 2 ^ 24 ≡ pc / 2 ^ 24 = omega (arith, row) in
+    let second : old / 2 ^ 16 % 2 ^ 8 ≡ pc / 2 ^ 16 % 2 ^ 8 = omega (arith, row) in
+    let third : old / 2 ^ 8 % 2 ^ 8 ≡ pc / 2 ^ 8 % 2 ^ 8 = omega (arith, row) in
+    let fourth : old % 2 ^ 8 / 16 ≡ pc % 2 ^ 8 / 16 = omega (arith, row) in
+    rw (first, second, third, fourth) refl

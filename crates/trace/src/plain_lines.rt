@@ -1,12 +1,15 @@
 //! The line of a plain instruction, which most lines are.
 
-ghost use Rattle.std.specs.Prelude.{◌≡◌};
+ghost use Rattle.std.specs.Prelude.{◌≡◌, true};
 ghost use Rattle.trace.specs.PlainLines.{plain_text};
 
 use crate::digits::{hex_digit, hex_word};
 
 /// Addresses that differ in their last three digits alone are of one page of so many bytes.
 const PAGE_SIZE: u32 = 0x1000;
+
+/// Addresses that differ in their last digit alone are of one row of so many bytes.
+const ROW_SIZE: u32 = 0x10;
 
 /// The line of a plain instruction, with its line feed. It is kept, since that of an instruction of the same thread in the same
 /// page differs in three digits alone.
@@ -42,22 +45,35 @@ impl PlainLine {
         }
     }
 
-    /// Goes on to an instruction of a thread at `pc`.
-    fn go_to(&mut self, thread: u32, pc: u32)
-        ensures { self.new.text ≡ plain_text thread pc }
+    /// Goes on to an instruction at `pc`, if it is of the same thread and in the same page. The answer says whether it is.
+    #[inline]
+    pub fn go_on(&mut self, thread: u32, pc: u32) -> bool
+        ensures { result ≡ true → self.new.text ≡ plain_text thread pc }
     {
         if thread != self.thread {
-            *self = PlainLine::new(thread, pc);
-            return;
+            return false;
+        }
+        if pc / ROW_SIZE == self.pc / ROW_SIZE {
+            self.text[16] = hex_digit(pc % 0x100 % 0x10);
+            self.pc = pc;
+            return true;
         }
         if pc / PAGE_SIZE != self.pc / PAGE_SIZE {
-            *self = PlainLine::new(thread, pc);
-            return;
+            return false;
         }
         self.text[14] = hex_digit(pc / 0x100 % 0x100 % 0x10);
         self.text[15] = hex_digit(pc % 0x100 / 0x10);
         self.text[16] = hex_digit(pc % 0x100 % 0x10);
         self.pc = pc;
+        true
+    }
+
+    /// The line that was made last, with its line feed.
+    #[inline]
+    pub fn text(&self) -> &[u8; 24]
+        ensures { result.now ≡ self.now.text }
+    {
+        &self.text
     }
 
     /// The line of an instruction at `pc` of which nothing else is reported, with its line feed: that of `Label::Ran` with the
@@ -65,7 +81,9 @@ impl PlainLine {
     pub fn line(&mut self, thread: u32, pc: u32) -> &[u8; 24]
         ensures { result.now ≡ plain_text thread pc }
     {
-        self.go_to(thread, pc);
+        if !self.go_on(thread, pc) {
+            *self = PlainLine::new(thread, pc);
+        }
         &self.text
     }
 }

@@ -18,7 +18,7 @@ returns-in_err-make_room-clause-err g c =
     let old = g.S.Sink.contents c.args.sink.now in
     let new = g.S.Sink.contents c.make_room.new.sink in
     on_err (GrowsByBeginning old new (lines_of labels)) c.from_residual.result
-    (stopped labels old left c.events.lines.bytes.items (g.S.Sink.contents c.events.sink) new c.events.invariant.put c.in_err-make_room.ensures.err)
+    (stopped labels old left c.events.lines.bytes (g.S.Sink.contents c.events.sink) new c.events.invariant.put c.in_err-make_room.ensures.err)
 
 pub events-preserved : goal.events-preserved
 events-preserved g c =
@@ -30,10 +30,10 @@ events-preserved g c =
     let labels = trace (state_in c.args.system.now) all in
     let old = g.S.Sink.contents c.args.sink.now in
     let new = g.S.Sink.contents c.make_room.new.sink in
-    let held = c.make_room.new.lines.bytes.items in
-    let more = c.go_on-done.new.lines.bytes.items in
+    let held = c.make_room.new.lines.bytes in
+    let more = c.go_on-done.new.lines.bytes in
     let left = trace now (drop done all) in
-    let room = front_put labels old left c.events.lines.bytes.items held (g.S.Sink.contents c.events.sink) new c.events.invariant.put
+    let room = front_put labels old left c.events.lines.bytes held (g.S.Sink.contents c.events.sink) new c.events.invariant.put
     c.in_ok-make_room.ensures.ok in
     let whole : take (length all - done) (drop done all) ≡ drop done all =
     take_all (length all - done) (drop done all) (omega (arith, length-drop done all)) in
@@ -55,8 +55,8 @@ returns-in_err-put_all-clause-err g c =
     let old = g.S.Sink.contents c.args.sink.now in
     let new = g.S.Sink.contents c.put_all.new.sink in
     on_err (GrowsByBeginning old new (lines_of labels)) c.from_residual-in_err-put_all.result
-    (stopped labels old left c.events.lines.bytes.items (g.S.Sink.contents c.events.sink) new c.events.invariant.put
-    (subst (λ (t : List ℕ). GrowsByBeginning (g.S.Sink.contents c.events.sink) new t) c.as_slice.ensures.value c.in_err-put_all.ensures.err))
+    (stopped labels old left c.events.lines.bytes (g.S.Sink.contents c.events.sink) new c.events.invariant.put
+    (subst (λ (t : List ℕ). GrowsByBeginning (g.S.Sink.contents c.events.sink) new t) c.as_slice.ensures c.in_err-put_all.ensures.err))
 
 pub returns-clause-ok : goal.returns-clause-ok
 returns-clause-ok g c =
@@ -65,6 +65,6 @@ returns-clause-ok g c =
     let now = state_in c.events.system in
     let mid = g.S.Sink.contents c.events.sink in
     let new = g.S.Sink.contents c.put_all.new.sink in
-    all_put (trace (state_in c.args.system.now) all) (g.S.Sink.contents c.args.sink.now) (trace now (drop done all)) c.events.lines.bytes.items mid new
+    all_put (trace (state_in c.args.system.now) all) (g.S.Sink.contents c.args.sink.now) (trace now (drop done all)) c.events.lines.bytes mid new
     c.events.invariant.put (no_label now all done (omega (arith, c.events-test.false)))
-    (subst (λ (t : List ℕ). Grows mid new t) c.as_slice.ensures.value c.in_ok-put_all.ensures.ok)
+    (subst (λ (t : List ℕ). Grows mid new t) c.as_slice.ensures c.in_ok-put_all.ensures.ok)

@@ -9,7 +9,7 @@ abbrev pub invariant-events : goal.invariant-events
 invariant-events g l = record {
   within : l.done ≤ length l.fn.events;
   put : ArePut (trace (state_in l.fn.system) l.fn.events) (g.S.Sink.contents l.fn.sink) (trace (state_in l.system) (drop l.done l.fn.events))
-      l.lines.bytes.items (g.S.Sink.contents l.sink);
+      l.lines.bytes (g.S.Sink.contents l.sink);
   counted : g.S.Sink.failures l.sink ≡ g.S.Sink.failures l.fn.sink;
 }
 
