@@ -41,6 +41,14 @@ impl HeldSlot<'_, '_, '_, '_> {
     }
 }
 
+/// A capability that a system call is made on, in which slot it is, and whether the call has an answer.
+#[derive(Clone, Copy)]
+struct CalledCap {
+    slot: u32,
+    capability: Cap,
+    answers: bool,
+}
+
 impl ThreadSlots<'_, '_, '_> {
     /// A call on the capability in a slot of the thread's, with the message in the registers. The slots that it changes are put
     /// into the list, which is empty. Memory may be refused.
@@ -48,27 +56,25 @@ impl ThreadSlots<'_, '_, '_> {
         &self,
         at: Point,
         bounds: &Bounds,
-        slot: u32,
-        capability: Cap,
-        answers: bool,
+        called: CalledCap,
         made: &mut Vec<LogEntry>,
     ) -> Result<Result<Behind, Refusal>, AllocError>
-        requires held { HoldsFull (own_slots self.now.space.windows.now (slots_of self.now.slots)) slot capability }
+        requires held { HoldsFull (own_slots self.now.space.windows.now (slots_of self.now.slots)) called.slot called.capability }
         requires none { made.old.items ≡ [] }
         ensures tidy { IfOk result (IsTidyBehind self.now.space.image.now self.now.space.thread.now (slots_of self.now.slots) made.new.items) }
-        ensures left { IfOk result (λ called. (measure : Measure) → invocation self.now.space.image.now self.now.space.thread.now at (known_with bounds.now (slots_of self.now.slots) measure) (call_on self.now.space.image.now self.now.space.thread.now slot capability) answers
-            ≡ left_with (slots_of self.now.slots) made.new.items called) }
+        ensures left { IfOk result (λ behind. (measure : Measure) → invocation self.now.space.image.now self.now.space.thread.now at (known_with bounds.now (slots_of self.now.slots) measure) (call_on self.now.space.image.now self.now.space.thread.now called.slot called.capability) called.answers
+            ≡ left_with (slots_of self.now.slots) made.new.items behind) }
     {
-        let call = match message_call(at, bounds, capability) {
+        let call = match message_call(at, bounds, called.capability) {
             Ok(call) => call,
             Err(refusal) => return Ok(Err(refusal)),
         };
-        let found = self.held(slot);
+        let found = self.held(called.slot);
         let held = HeldSlot {
             own: *self,
             held: &found,
         };
-        held.behind(at, bounds, call, answers, made)
+        held.behind(at, bounds, call, called.answers, made)
     }
 
     /// What the system call at a point leaves, or why it is refused. The slots that it changes are put into the list, which
@@ -96,7 +102,14 @@ impl ThreadSlots<'_, '_, '_> {
                     capability,
                     answers,
                 },
-            ) => self.called_on(at, bounds, slot, capability, answers, made),
+            ) => {
+                let called = CalledCap {
+                    slot,
+                    capability,
+                    answers,
+                };
+                self.called_on(at, bounds, called, made)
+            }
         }
     }
 }

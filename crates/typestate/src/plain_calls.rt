@@ -144,22 +144,28 @@ fn after_message(bounds: &Bounds, kind: SendCall) -> Behind
     }
 }
 
+/// A capability to the endpoint at an offset.
+#[derive(Clone, Copy)]
+pub(crate) struct EndpointCap {
+    pub(crate) offset: u32,
+    pub(crate) rights: Rights,
+    pub(crate) badge: u32,
+}
+
 /// What sending a message leaves, or that the rights do not allow it, or that it does not keep what is promised at the endpoint.
 pub(crate) fn sends_message(
     space: &Space<'_, '_>,
     at: Point,
     bounds: &Bounds,
     kind: SendCall,
-    rights: Rights,
-    endpoint: u32,
-    badge: u32,
+    endpoint: EndpointCap,
 ) -> Result<Behind, Refusal>
-    ensures { (slots : List NotedSlot) (measure : Measure) → told slots result ≡ sends_message at (known_with bounds.now slots measure) kind rights badge (promise_at space.now.image.now endpoint) }
+    ensures { (slots : List NotedSlot) (measure : Measure) → told slots result ≡ sends_message at (known_with bounds.now slots measure) kind endpoint.rights endpoint.badge (promise_at space.now.image.now endpoint.offset) }
 {
-    if !may_send(kind, rights) {
+    if !may_send(kind, endpoint.rights) {
         return Err(Refusal::CapNotThere(at));
     }
-    match promise_rule(space, at, bounds, endpoint, badge) {
+    match promise_rule(space, at, bounds, endpoint.offset, endpoint.badge) {
         Ok(()) => Ok(after_message(bounds, kind)),
         Err(refusal) => Err(refusal),
     }

@@ -16,7 +16,7 @@ ghost use Rattle.typestate.specs.Invocations.{CalledOf, HoldsFull};
 ghost use Rattle.typestate.specs.Spaces.{own_slots};
 
 use crate::behind::Behind;
-use crate::plain_calls::{receive_rule, sends_message, sends_signal};
+use crate::plain_calls::{EndpointCap, receive_rule, sends_message, sends_signal};
 use crate::{OwnSlots, Space, ThreadSlots};
 use cspace::called_slot;
 use model::{
@@ -102,7 +102,14 @@ fn sends(
             offset,
             rights,
             badge,
-        } => sends_message(space, at, bounds, kind, rights, offset, badge),
+        } => {
+            let endpoint = EndpointCap {
+                offset,
+                rights,
+                badge,
+            };
+            sends_message(space, at, bounds, kind, endpoint)
+        }
         Cap::Notification { rights, .. } => sends_signal(at, bounds, kind, rights),
         _ => {
             return Ok(SystemCall::Invokes {
