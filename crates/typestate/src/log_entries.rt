@@ -20,6 +20,7 @@ pub enum LogEntry {
 pub(crate) fn note_sets(changes: &[NotedSlot], made: &mut Vec<LogEntry>) -> Result<(), AllocError>
     ensures { IfOk result (λ _. made.new.items ≡ made.old.items ++ map (λ s. Sets s) changes.now) }
 {
+    made.reserve(changes.len())?;
     for change in changes {
         made.push(LogEntry::Sets(PackedSlot::of(*change)))?;
     }

@@ -93,6 +93,7 @@ impl NewObjects {
     fn note(&self, made: &mut Vec<NotedSlot>) -> Result<(), AllocError>
         ensures { IfOk result (λ _. made.new.items ≡ made.old.items ++ slots_made self.now.slots.first self.now.pool (new_type self.now.kind) self.now.offset self.now.slots.count) }
     {
+        made.reserve(self.slots.count as usize)?;
         for i in 0..self.slots.count {
             made.push(self.made_slot(i))?;
         }

@@ -6,7 +6,7 @@ use Rattle.typestate.proofs.Appended.{all-entries, no-entry, one-more-entry}
 use Rattle.typestate.proofs.log_entries.note_sets.Goals as goal
 
 pub loop-change-init : goal.loop-change-init
-loop-change-init c = no-entry (λ s. Sets s) c.args.changes.now c.args.made.now.items
+loop-change-init c = c.reserve.ensures.items ∙ no-entry (λ s. Sets s) c.args.changes.now c.args.made.now.items
 
 pub loop-change-preserved : goal.loop-change-preserved
 loop-change-preserved c =
