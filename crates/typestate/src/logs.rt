@@ -1,6 +1,6 @@
 //! A log of changes to slots. The slots at each point of a program are the image's with a part of it made.
 
-ghost use Rattle.std.specs.Prelude.{◌≡◌, [], ◌++◌, IfOk, List, length, map, true};
+ghost use Rattle.std.specs.Prelude.{◌≡◌, [], ◌++◌, IfErr, IfOk, List, length, map, true};
 ghost use Rattle.model.specs.Acceptance.NotedStates.{NotedSlot, entry_slot};
 ghost use Rattle.typestate.specs.Differences.{changed, slots_of};
 ghost use Rattle.typestate.specs.Logs.{Holds, IsNext, KeepsParts, Shows, ShowsSome, part_of};
@@ -98,11 +98,12 @@ impl SlotLog {
         }
     }
 
-    /// Appends entries as a part of their own. Memory may be refused.
+    /// Appends entries as a part of their own. Where memory is refused the log stays as it was.
     fn append(&mut self, made: &[LogEntry]) -> Result<Part, AllocError>
         ensures held { IfOk result (Holds self.new) }
         ensures part { IfOk result (λ part. part_of self.new part ≡ made.now) }
         ensures others { IfOk result (λ _. KeepsParts self.old self.new) }
+        ensures refused { IfErr result (λ _. self.new ≡ self.old) }
     {
         let first = self.entries.len();
         self.entries.extend_from_slice(made)?;
@@ -110,13 +111,14 @@ impl SlotLog {
         Ok(Part { first, end })
     }
 
-    /// Appends entries to the last part, which holds them then. Memory may be refused.
+    /// Appends entries to the last part, which holds them then. Where memory is refused the log stays as it was.
     fn grow(&mut self, part: Part, made: &[LogEntry]) -> Result<Part, AllocError>
         requires held { Holds self.old part }
         requires last { part.end ≡ length self.old }
         ensures held { IfOk result (Holds self.new) }
         ensures part { IfOk result (λ longer. part_of self.new longer ≡ part_of self.old part ++ made.now) }
         ensures others { IfOk result (λ _. KeepsParts self.old self.new) }
+        ensures refused { IfErr result (λ _. self.new ≡ self.old) }
     {
         self.entries.extend_from_slice(made)?;
         let end = self.entries.len();
@@ -126,12 +128,13 @@ impl SlotLog {
         })
     }
 
-    /// Appends the entries of a part with others after them, as a part of their own. Memory may be refused.
+    /// Appends the entries of a part with others after them, as a part of their own. Where memory is refused the log stays as it was.
     fn repeat(&mut self, part: Part, made: &[LogEntry]) -> Result<Part, AllocError>
         requires { Holds self.old part }
         ensures held { IfOk result (Holds self.new) }
         ensures part { IfOk result (λ longer. part_of self.new longer ≡ part_of self.old part ++ made.now) }
         ensures others { IfOk result (λ _. KeepsParts self.old self.new) }
+        ensures refused { IfErr result (λ _. self.new ≡ self.old) }
     {
         let mut both = Vec::new(self.alloc);
         both.extend_from_slice(&self.entries[part.first..part.end])?;
@@ -174,12 +177,13 @@ impl SlotLog {
     ///
     /// # Errors
     ///
-    /// Memory may be refused.
+    /// Memory may be refused: then the log stays as it was.
     pub fn follow(&mut self, part: Part, made: &[LogEntry]) -> Result<Part, AllocError>
         requires { Holds self.old part }
         ensures held { IfOk result (Holds self.new) }
         ensures same { IfOk result (λ both. (slots : List NotedSlot) → Rise slots → replayed slots (part_of self.new both) ≡ replayed (replayed slots (part_of self.old part)) made.now) }
         ensures others { IfOk result (λ _. KeepsParts self.old self.new) }
+        ensures refused { IfErr result (λ _. self.new ≡ self.old) }
     {
         if made.is_empty() {
             return Ok(part);
