@@ -18,10 +18,11 @@ uprooted-parent root None = refl
 uprooted-parent root (Some held) = refl
 
 ended-parent : (capability : Cap) (slots : Slots) (y : ℕ) → parent_at (slots_ended capability slots) y ≡ parent_at slots y
-ended-parent capability slots y = elim (root_of capability) as (λ r. parent_at (option_map_or (λ root. without_root root slots) r slots) y ≡ parent_at slots y) [
-  | None ↦ refl
-  | Some root ↦ uprooted-parent root (slots y)
-]
+ended-parent capability slots y = elim (root_of capability)
+    as (λ r. parent_at (option_map_or (λ root. without_root root slots) r slots) y ≡ parent_at slots y) [
+      | None ↦ refl
+      | Some root ↦ uprooted-parent root (slots y)
+    ]
 
 pub unnamed-parent : (t u : State) (removed : Cap) → IfUnnamed t removed u → (y : ℕ) → parent_at u.slots y ≡ parent_at t.slots y
 unnamed-parent t u removed (stays named same) y = ap (λ (s : State). parent_at s.slots y) same

@@ -18,7 +18,10 @@ node-count None radix is = absurd (let e : ◌≡◌ {A = Kinds} None (Some (New
 node-count (Some (ThreadObject t)) radix is = absurd (let e : ◌≡◌ {A = Kinds} (Some NewThread) (Some (NewCNode radix)) = is in cc)
 node-count (Some (EndpointObject e)) radix is = absurd (let e : ◌≡◌ {A = Kinds} (Some NewEndpoint) (Some (NewCNode radix)) = is in cc)
 node-count (Some (NotificationObject n)) radix is = absurd (let e : ◌≡◌ {A = Kinds} (Some NewNotification) (Some (NewCNode radix)) = is in cc)
-node-count (Some (CNodeObject r)) radix is = let e : ◌≡◌ {A = Kinds} (Some (NewCNode r)) (Some (NewCNode radix)) = is in let same : r ≡ radix = cc in ap (λ (n : ℕ). 2 ^ n) same
+node-count (Some (CNodeObject r)) radix is =
+    let e : ◌≡◌ {A = Kinds} (Some (NewCNode r)) (Some (NewCNode radix)) = is in
+    let same : r ≡ radix = cc in
+    ap (λ (n : ℕ). 2 ^ n) same
 node-count (Some FrameObject) radix is = absurd (let e : ◌≡◌ {A = Kinds} (Some NewFrame) (Some (NewCNode radix)) = is in cc)
 node-count (Some PageTableObject) radix is = absurd (let e : ◌≡◌ {A = Kinds} (Some NewPageTable) (Some (NewCNode radix)) = is in cc)
 node-count (Some RootTableObject) radix is = absurd (let e : ◌≡◌ {A = Kinds} (Some NewRootTable) (Some (NewCNode radix)) = is in cc)

@@ -45,7 +45,8 @@ loops-ran w one two slots bare bytes set gone lost has sound members kept_first 
   members = members;
   shape = shape;
   taken = taken;
-  last = λ line few. lines-told w one slots bare bytes set line gone (has_line lost line) has has_bare size shape.bits tree taken (lines line few) (last line few);
+  last = λ line few. lines-told w one slots bare bytes set line gone (has_line lost line) has has_bare size shape.bits tree taken (lines line few)
+      (last line few);
   bound = bound;
   kept_first = kept_first;
 }

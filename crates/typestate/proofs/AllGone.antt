@@ -17,7 +17,8 @@ use Rattle.typestate.specs.declared.slot_changes.Removed.TheVariants.{One, Below
 module _ (gone : SlotKey → Bool) (slots : List NotedSlot) where
   told-emptied : (c : NotedSlot) → gone c.key ≡ true → told_of (removal_change gone slots) c ≡ emptied_by c
   told-emptied c goes = elim (is_empty c.capability)
-      as (λ b. option_map_or (removal_change gone slots) (if b then None else Some c) [] ≡ option_map_or (λ s. emptied s.key ∷ []) (if b then None else Some c) []) [
+      as (λ b. option_map_or (removal_change gone slots) (if b then None else Some c) [] ≡ option_map_or (λ s. emptied s.key ∷ []) (if b then None else Some c)
+      []) [
         | true ↦ refl
         | false ↦ ap (λ b. if b then emptied c.key ∷ []
             else if option_map_or gone c.parent false || is_untyped c.capability then slot_left gone slots c ∷ [] else []) goes
@@ -56,7 +57,8 @@ none-kept : (slots : List NotedSlot) (which : Removed) (key : SlotKey) (cs : Lis
 none-kept slots which key [] = refl
 none-kept slots which key (c ∷ rest) =
     let going = filter (λ (s : NotedSlot). is_removed slots which s.key) rest in
-    elim (is_removed slots which c.key) as (λ b. is_removed slots which c.key ≡ b → list_any (kept_left slots which key) (if b then c ∷ going else going) ≡ false) [
+    elim (is_removed slots which c.key) as (λ b. is_removed slots which c.key ≡ b →
+    list_any (kept_left slots which key) (if b then c ∷ going else going) ≡ false) [
       | true ↦ λ goes. ap (λ b. b || list_any (kept_left slots which key) going) (gone-not-kept slots which key c goes) ∙ none-kept slots which key rest
       | false ↦ λ _. none-kept slots which key rest
     ] refl

@@ -45,7 +45,8 @@ only-passes test (v ∷ vs) n w at is only = elim (test v) as (λ b. test v ≡ 
 ] refl
   where
     behind : (k : ℕ) → ((j : ℕ) → slice_get vs j ≡ Some w → find test vs ≡ Some w) → slice_get (v ∷ vs) k ≡ Some w → test v ≡ false → find test vs ≡ Some w
-    behind zero rest at off = absurd (let same : v ≡ w = (let both : Some v ≡ Some w = at in cc) in let clash : false ≡ true = sym off ∙ ap test same ∙ is in cc)
+    behind zero rest at off = absurd (let same : v ≡ w = (let both : Some v ≡ Some w = at in cc) in
+        let clash : false ≡ true = sym off ∙ ap test same ∙ is in cc)
     behind (suc k) rest at off = rest k at
 
 -- ---- CNodes that stand apart

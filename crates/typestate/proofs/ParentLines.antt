@@ -21,7 +21,8 @@ unfolding leads_to_boot
 leads-with n slots gone None leads = refl
 leads-with zero slots gone (Some key) leads = leads
 leads-with (suc n) slots gone (Some key) leads =
-    elim (is_same_key gone key) as (λ b. (on n (without_key gone slots) (if b then None else slot_at slots key) ≡ true) → on n slots (slot_at slots key) ≡ true) [
+    elim (is_same_key gone key)
+    as (λ b. (on n (without_key gone slots) (if b then None else slot_at slots key) ≡ true) → on n slots (slot_at slots key) ≡ true) [
       | true ↦ λ clash. absurd (let no : false ≡ true = clash in cc)
       | false ↦ λ more. elim (slot_at slots key) as (λ found. on n (without_key gone slots) found ≡ true → on n slots found ≡ true) [
         | None ↦ λ clash. clash
@@ -64,10 +65,11 @@ around (suc n) slots gone (Some key) leads =
 
 fewer : (slots : List NotedSlot) (gone : SlotKey) → length (without_key gone slots) ≤ length slots
 fewer [] gone = omega arith
-fewer (s ∷ rest) gone = elim (is_same_key s.key gone) as (λ b. length (if not b then s ∷ without_key gone rest else without_key gone rest) ≤ length (s ∷ rest)) [
-  | true ↦ omega (arith, fewer rest gone)
-  | false ↦ omega (arith, fewer rest gone)
-]
+fewer (s ∷ rest) gone = elim (is_same_key s.key gone)
+    as (λ b. length (if not b then s ∷ without_key gone rest else without_key gone rest) ≤ length (s ∷ rest)) [
+      | true ↦ omega (arith, fewer rest gone)
+      | false ↦ omega (arith, fewer rest gone)
+    ]
 
 one-less : (slots : List NotedSlot) (gone : SlotKey) (s : NotedSlot) → slot_at slots gone ≡ Some s → length (without_key gone slots) < length slots
 one-less [] gone s is = absurd (let no : None ≡ Some s = is in cc)

@@ -44,7 +44,8 @@ none-of-others f root (x ∷ rest) none =
       | false ↦ ap (λ (l : List NotedSlot). l ++ flat_map f (flat_map (if_other root) rest)) both.0 ∙ none-of-others f root rest both.1
     ]
 
-module _ (n : NotedSlots) (root : SlotKey) (childless : flat_map (λ (s : NotedSlot). children_of n.changes.now s.key) (children_of n.changes.now root) ≡ []) where
+module _ (n : NotedSlots) (root : SlotKey) (childless : flat_map (λ (s : NotedSlot). children_of n.changes.now s.key) (children_of n.changes.now root)
+    ≡ []) where
   abbrev cs : List NotedSlot
   cs = n.changes.now
 

@@ -120,7 +120,8 @@ module _ (k : State) (thread : ℕ) (r : RegisterFile) where
         ∙ ap (λ (i : Option Instr). runs_decoded meant thread i) (sym decodes)
         ∙ ap (λ (f : RegisterFile). after_effect meant thread f.pc (effect f (content_of k thread) instruction).registers
         (effect f (content_of k thread) instruction).exec (
-          with_content (with_registers meant thread (effect f (content_of k thread) instruction).registers) (effect f (content_of k thread) instruction).content,
+          with_content (with_registers meant thread (effect f (content_of k thread) instruction).registers)
+              (effect f (content_of k thread) instruction).content,
           Plain,
         )) meant-registers
 

@@ -101,7 +101,8 @@ module _ (s : State) (kind : NewObject) (place slot parent : ℕ) where
   pub nameless-more : IsFull s.slots parent → s.slots slot ≡ Some empty_entry → object_at s.slots parent ≡ None →
       object_at (one_placed s kind place slot parent).slots parent ≡ None
   nameless-more full empty none =
-      elim (object_at (one_placed s kind place slot parent).slots parent) as (λ o. object_at (one_placed s kind place slot parent).slots parent ≡ o → o ≡ None) [
+      elim (object_at (one_placed s kind place slot parent).slots parent)
+      as (λ o. object_at (one_placed s kind place slot parent).slots parent ≡ o → o ≡ None) [
         | None ↦ λ is. refl
         | Some offset ↦ λ is. absurd (let clash : None ≡ Some offset = sym none
             ∙ beside-named parent offset (full-not-empty s.slots parent slot full empty) is in cc)

@@ -88,11 +88,13 @@ end_unnamed-requires-clause-lie g c = (notes-slots _ _ c.args.left.now _ (c.take
 
 pub returns-in-Some-clause-noted : goal.returns-in-Some-clause-noted
 returns-in-Some-clause-noted g c =
-    notes-then _ _ _ c.args.left.now c.args.left.now c.end_unnamed.new.left (notes-slots _ _ c.args.left.now _ (c.take_out-removed.ensures.state _ c.requires.agree))
+    notes-then _ _ _ c.args.left.now c.args.left.now c.end_unnamed.new.left
+    (notes-slots _ _ c.args.left.now _ (c.take_out-removed.ensures.state _ c.requires.agree))
     (notes-then _ _ _ c.args.left.now c.end_unnamed.new.left c.end_unnamed.new.left c.end_unnamed.ensures.noted
     (notes-slots _ _ c.end_unnamed.new.left _ (c.rewind.ensures.state _ c.end_unnamed.ensures.agree)))
 
 pub returns-in_default-clause-noted : goal.returns-in_default-clause-noted
 returns-in_default-clause-noted g c =
-    notes-then _ _ _ c.args.left.now c.args.left.now c.end_unnamed.new.left (notes-slots _ _ c.args.left.now _ (c.take_out-removed.ensures.state _ c.requires.agree))
+    notes-then _ _ _ c.args.left.now c.args.left.now c.end_unnamed.new.left
+    (notes-slots _ _ c.args.left.now _ (c.take_out-removed.ensures.state _ c.requires.agree))
     c.end_unnamed.ensures.noted

@@ -72,7 +72,8 @@ settle-requires-clause-may g c =
     let first = c.empty_all-gone.ensures in
     let kept_first = sym (c.wants_revoke_first.ensures w (of_slots-law _ _ _) whole.sound size) ∙ c.if-wants_revoke_first.false in
     let ran : LoopsRan w one two slots c.args.set lost =
-    loops-ran w one two slots bare (length bytes) c.args.set c.empty_all-gone.result c.lines_lost-lost.result (of_slots-law _ _ _) whole.sound members kept_first
+    loops-ran w one two slots bare (length bytes) c.args.set c.empty_all-gone.result c.lines_lost-lost.result (of_slots-law _ _ _) whole.sound members
+    kept_first
     (of_slots-law _ _ _) first.agree.0.size first.ready.derivation first.shape first.taken first.lines c.lines_lost-lost.ensures c.empty_bindings.ensures.state
     in
     loops-may-settle w one two slots c.args.set lost ran
@@ -95,7 +96,8 @@ settle-requires-clause-covered g c =
     let first = c.empty_all-gone.ensures in
     let kept_first = sym (c.wants_revoke_first.ensures w (of_slots-law _ _ _) whole.sound size) ∙ c.if-wants_revoke_first.false in
     let ran : LoopsRan w one two slots c.args.set lost =
-    loops-ran w one two slots bare (length bytes) c.args.set c.empty_all-gone.result c.lines_lost-lost.result (of_slots-law _ _ _) whole.sound members kept_first
+    loops-ran w one two slots bare (length bytes) c.args.set c.empty_all-gone.result c.lines_lost-lost.result (of_slots-law _ _ _) whole.sound members
+    kept_first
     (of_slots-law _ _ _) first.agree.0.size first.ready.derivation first.shape first.taken first.lines c.lines_lost-lost.ensures c.empty_bindings.ensures.state
     in
     loops-cover w one two slots c.args.set lost ran now c.count.result c.nothing-left.result c.empty_all-gone.new.left c.empty_bindings.new.left
@@ -119,7 +121,8 @@ returns-clause-outcome g c =
     let first = c.empty_all-gone.ensures in
     let kept_first = sym (c.wants_revoke_first.ensures w (of_slots-law _ _ _) whole.sound size) ∙ c.if-wants_revoke_first.false in
     let ran : LoopsRan w one two slots c.args.set lost =
-    loops-ran w one two slots bare (length bytes) c.args.set c.empty_all-gone.result c.lines_lost-lost.result (of_slots-law _ _ _) whole.sound members kept_first
+    loops-ran w one two slots bare (length bytes) c.args.set c.empty_all-gone.result c.lines_lost-lost.result (of_slots-law _ _ _) whole.sound members
+    kept_first
     (of_slots-law _ _ _) first.agree.0.size first.ready.derivation first.shape first.taken first.lines c.lines_lost-lost.ensures c.empty_bindings.ensures.state
     in
     let last : State = state_of c.settle.new.objects (g.S.SlotMap.slots c.settle.new.store) (g.S.SlotStore.memory c.settle.new.store) in
@@ -148,7 +151,8 @@ invariant_of-kernel-2 g c =
     let first = c.empty_all-gone.ensures in
     let kept_first = sym (c.wants_revoke_first.ensures w (of_slots-law _ _ _) whole.sound size) ∙ c.if-wants_revoke_first.false in
     let ran : LoopsRan w one two slots c.args.set lost =
-    loops-ran w one two slots bare (length bytes) c.args.set c.empty_all-gone.result c.lines_lost-lost.result (of_slots-law _ _ _) whole.sound members kept_first
+    loops-ran w one two slots bare (length bytes) c.args.set c.empty_all-gone.result c.lines_lost-lost.result (of_slots-law _ _ _) whole.sound members
+    kept_first
     (of_slots-law _ _ _) first.agree.0.size first.ready.derivation first.shape first.taken first.lines c.lines_lost-lost.ensures c.empty_bindings.ensures.state
     in
     let last : State = state_of c.settle.new.objects (g.S.SlotMap.slots c.settle.new.store) (g.S.SlotStore.memory c.settle.new.store) in

@@ -19,7 +19,8 @@ through s thread word i fetched decodes = ap (runs_decoded s thread) decodes ∙
 pub returns-in-Some-clause-state : goal.returns-in-Some-clause-state
 returns-in-Some-clause-state g c =
     let s = state_in g.S.SlotMap.slots g.S.SlotStore.memory c.args.kernel.now in
-    let does = through s c.args.thread c.in-Ok.word c.in-Some.instruction (sym c.in-Ok.is ∙ c.fetch.ensures.value) (sym c.in-Some.is ∙ c.decode.ensures.value) in
+    let does = through s c.args.thread c.in-Ok.word c.in-Some.instruction (sym c.in-Ok.is ∙ c.fetch.ensures.value)
+    (sym c.in-Some.is ∙ c.decode.ensures.value) in
     subst (λ k. state_in g.S.SlotMap.slots g.S.SlotStore.memory c.execute.new.kernel
     ≡ (runs_instruction (state_in g.S.SlotMap.slots g.S.SlotStore.memory k) c.args.thread c.in-Some.instruction).0) c.fetch.ensures.unchanged
     c.execute.ensures.state
@@ -28,7 +29,8 @@ returns-in-Some-clause-state g c =
 pub returns-in-Some-clause-outcome : goal.returns-in-Some-clause-outcome
 returns-in-Some-clause-outcome g c =
     let s = state_in g.S.SlotMap.slots g.S.SlotStore.memory c.args.kernel.now in
-    let does = through s c.args.thread c.in-Ok.word c.in-Some.instruction (sym c.in-Ok.is ∙ c.fetch.ensures.value) (sym c.in-Some.is ∙ c.decode.ensures.value) in
+    let does = through s c.args.thread c.in-Ok.word c.in-Some.instruction (sym c.in-Ok.is ∙ c.fetch.ensures.value)
+    (sym c.in-Some.is ∙ c.decode.ensures.value) in
     subst (λ k. c.execute.result ≡ (runs_instruction (state_in g.S.SlotMap.slots g.S.SlotStore.memory k) c.args.thread c.in-Some.instruction).1)
     c.fetch.ensures.unchanged c.execute.ensures.outcome
     ∙ ap (λ (d : Done). d.1) does

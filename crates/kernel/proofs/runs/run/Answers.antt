@@ -41,7 +41,8 @@ returns-then-done-most-clause-state g c =
 
 pub returns-then-done-most-clause-labels : goal.returns-then-done-most-clause-labels
 returns-then-done-most-clause-labels g c =
-    labels-more g.L.Labels.kept (state_in g.S.SlotMap.slots g.S.SlotStore.memory c.args.kernel.now) (state_in g.S.SlotMap.slots g.S.SlotStore.memory c.runs.kernel)
+    labels-more g.L.Labels.kept (state_in g.S.SlotMap.slots g.S.SlotStore.memory c.args.kernel.now)
+    (state_in g.S.SlotMap.slots g.S.SlotStore.memory c.runs.kernel)
     c.runs.done c.run_current-run.result.done (g.L.Labels.seen c.args.labels.now) (g.L.Labels.seen c.runs.labels) (g.L.Labels.seen c.run_current-run.new.labels)
     c.runs.invariant.state c.runs.invariant.labels c.run_current-run.ensures.labels
 
@@ -53,6 +54,7 @@ returns-then-not-wants_more-clause-state g c =
 
 pub returns-then-not-wants_more-clause-labels : goal.returns-then-not-wants_more-clause-labels
 returns-then-not-wants_more-clause-labels g c =
-    labels-more g.L.Labels.kept (state_in g.S.SlotMap.slots g.S.SlotStore.memory c.args.kernel.now) (state_in g.S.SlotMap.slots g.S.SlotStore.memory c.runs.kernel)
+    labels-more g.L.Labels.kept (state_in g.S.SlotMap.slots g.S.SlotStore.memory c.args.kernel.now)
+    (state_in g.S.SlotMap.slots g.S.SlotStore.memory c.runs.kernel)
     c.runs.done c.run_current-run.result.done (g.L.Labels.seen c.args.labels.now) (g.L.Labels.seen c.runs.labels) (g.L.Labels.seen c.run_current-run.new.labels)
     c.runs.invariant.state c.runs.invariant.labels c.run_current-run.ensures.labels

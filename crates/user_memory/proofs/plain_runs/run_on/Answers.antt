@@ -22,11 +22,13 @@ pub steps-preserved : goal.steps-preserved
 steps-preserved g c =
     let s = with_registers (state_in g.S.SlotMap.slots g.S.SlotStore.memory c.args.kernel.now) c.args.thread c.args.registers.now in
     let now = with_registers (state_in g.S.SlotMap.slots g.S.SlotStore.memory c.steps.kernel) c.args.thread c.steps.registers in
-    let after = with_registers (state_in g.S.SlotMap.slots g.S.SlotStore.memory c.step_plain-effect.new.kernel) c.args.thread c.step_plain-effect.new.registers in
+    let after = with_registers (state_in g.S.SlotMap.slots g.S.SlotStore.memory c.step_plain-effect.new.kernel) c.args.thread
+    c.step_plain-effect.new.registers in
     record {
       ready = c.step_plain-effect.ensures.ready;
       state = one-more s now after c.steps.done c.steps.invariant.state (c.step_plain-effect.ensures.state c.in-Next.is);
-      labels = label-more g.L.Labels.kept s now c.steps.done (plain_label c.args.thread c.pc-pc.result) (g.L.Labels.seen c.args.labels.now) (g.L.Labels.seen c.steps.labels)
+      labels = label-more g.L.Labels.kept s now c.steps.done (plain_label c.args.thread c.pc-pc.result) (g.L.Labels.seen c.args.labels.now)
+          (g.L.Labels.seen c.steps.labels)
           (g.L.Labels.seen c.plain.new.self)
           c.steps.invariant.state (c.step_plain-effect.ensures.label c.in-Next.is ∙ ap (plain_label c.args.thread) (sym c.pc-pc.ensures))
           c.steps.invariant.labels c.plain.ensures;

@@ -71,7 +71,8 @@ returns-clause-labels g c =
     let own : c.registers-registers.result ≡ registers_of s c.args.thread = search rules in
     let start : with_registers s c.args.thread c.registers-registers.result ≡ s = ap (with_registers s c.args.thread) own
     ∙ same-registers s c.args.thread there in
-    c.run_on-done.ensures.labels ∙ ap (λ (t : State). g.L.Labels.seen c.args.labels.now ++ flat_map g.L.Labels.kept (trace t (steps c.run_on-done.result.0))) start
+    c.run_on-done.ensures.labels ∙ ap (λ (t : State). g.L.Labels.seen c.args.labels.now ++ flat_map g.L.Labels.kept (trace t (steps c.run_on-done.result.0)))
+    start
 
 pub returns-clause-next : goal.returns-clause-next
 returns-clause-next g c =

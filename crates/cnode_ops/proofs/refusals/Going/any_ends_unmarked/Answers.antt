@@ -49,10 +49,11 @@ slots-preserved g c =
 none-passes-by : (slots : Slots) (size : ℕ) (set : Removed) (test : ℕ → Bool) →
     ((slot : ℕ) → goes slots set slot ≡ true → own_passes slots size set test slot ≡ false) → (slot : ℕ)
     → (goes slots set slot && own_passes slots size set test slot) ≡ false
-none-passes-by slots size set test none slot = elim (goes slots set slot) as (λ b. goes slots set slot ≡ b → (b && own_passes slots size set test slot) ≡ false) [
-  | true ↦ λ is. none slot is
-  | false ↦ λ is. refl
-] refl
+none-passes-by slots size set test none slot = elim (goes slots set slot)
+    as (λ b. goes slots set slot ≡ b → (b && own_passes slots size set test slot) ≡ false) [
+      | true ↦ λ is. none slot is
+      | false ↦ λ is. refl
+    ] refl
 
 pub returns-in_default : goal.returns-in_default
 returns-in_default g c =

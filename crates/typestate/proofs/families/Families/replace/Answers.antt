@@ -9,4 +9,5 @@ returns-clause-others c = λ name child off is. c.remove.ensures.updates.2 (name
 pub returns-clause-own : goal.returns-clause-own
 returns-clause-own c = λ name here is.
     c.remove.ensures.updates.2 (name, c.args.slot)
-    (other-parent _ _ name c.args.slot _ c.number.ensures (names-apart c.in-Some.before c.args.change.now.parent name (sym c.is_name.ensures ∙ c.if-is_name.false) here)) ∙ is
+    (other-parent _ _ name c.args.slot _ c.number.ensures
+    (names-apart c.in-Some.before c.args.change.now.parent name (sym c.is_name.ensures ∙ c.if-is_name.false) here)) ∙ is

@@ -10,6 +10,7 @@ pub returns-in-Some-clause-back : goal.returns-in-Some-clause-back
 returns-in-Some-clause-back c = λ inverse.
     let names = c.args.self.now in
     let key : SlotKey = c.in-Some.key in
-    let there = ap (renamed names.slots.entries) (c.of.ensures ∙ c.name.ensures ∙ ap (renamed names.names.entries) c.number.ensures) ∙ (inverse (number_of key)).0 in
+    let there = ap (renamed names.slots.entries) (c.of.ensures ∙ c.name.ensures ∙ ap (renamed names.names.entries) c.number.ensures)
+    ∙ (inverse (number_of key)).0 in
     ap (λ (k : SlotKey). Some k) (ap numbered_key there ∙ key-back key (ap (λ (k : SlotKey). nat_lt k.index (2 ^ 32)) (sym c.key.view_is) ∙ c.low.ensures))
     ∙ sym c.in-Some.is

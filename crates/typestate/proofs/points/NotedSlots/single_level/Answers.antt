@@ -25,7 +25,8 @@ returns-then-are_childless-clause-told c =
     let root = c.in-Below.root in
     let is : c.note_children_of.new.found.items ≡ children_of n.changes.now root = c.in_ok-note_children_of.ensures
     ∙ ap (λ (l : List NotedSlot). l ++ children_of n.changes.now root) c.new-children.ensures.items in
-    is ∙ single-touched n root (ap (λ (l : List NotedSlot). flat_map (λ (s : NotedSlot). children_of n.changes.now s.key) l) (sym is ∙ sym c.deref.ensures.value)
+    is ∙ single-touched n root (ap (λ (l : List NotedSlot). flat_map (λ (s : NotedSlot). children_of n.changes.now s.key) l)
+    (sym is ∙ sym c.deref.ensures.value)
     ∙ c.are_childless.ensures c.if-are_childless.true)
     ∙ ap (λ (w : Removed). touched_by n w) (sym c.in-Below.is)
 

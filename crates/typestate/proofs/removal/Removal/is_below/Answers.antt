@@ -10,5 +10,6 @@ pub returns : goal.returns
 returns c =
     let slots = c.args.self.now.below.now in
     let by_key = c.binary_search_by_key.ensures.position (λ (s : NotedSlot). number_of s.key) (answers_always _ _ _ (λ f a r g called. search rules)) in
-    c.is_ok.ensures.value ∙ is-found slots c.number-number.result c.binary_search_by_key.result c.args.self.now.ordered c.binary_search_by_key.ensures.bound by_key
+    c.is_ok.ensures.value ∙ is-found slots c.number-number.result c.binary_search_by_key.result c.args.self.now.ordered c.binary_search_by_key.ensures.bound
+    by_key
     ∙ ap (λ n. is_some (found slots n)) c.number-number.ensures

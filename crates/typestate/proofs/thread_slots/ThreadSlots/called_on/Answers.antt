@@ -19,7 +19,8 @@ returns-clause-left c = done-as c.behind.result _ _ (λ called left. λ measure.
     let answers = c.args.called.answers in
     c.in-Ok.ensures.value image t slots measure (call_on image t c.args.called.slot c.args.called.capability) answers refl
     ∙ decided-by image t c.args.at state (call_on image t c.args.called.slot c.args.called.capability) c.in-Ok.call answers
-    ∙ ap (λ n. leaves state answers (slots_after image t c.args.at slots (call_on image t n c.args.called.capability) c.in-Ok.call)) (sym c.held-found.ensures.place)
+    ∙ ap (λ n. leaves state answers (slots_after image t c.args.at slots (call_on image t n c.args.called.capability) c.in-Ok.call))
+    (sym c.held-found.ensures.place)
     ∙ ap (λ (k : Cap). leaves state answers (slots_after image t c.args.at slots (call_on image t (slot_of_key image held.key) k) c.in-Ok.call))
     (c.requires.held.held ∙ sym c.held-found.ensures.capability)
     ∙ left measure) c.behind.ensures.left
