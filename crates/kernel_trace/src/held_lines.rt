@@ -39,6 +39,16 @@ impl HeldLines {
         let text = self.plain_line.line(thread, pc);
         let _fits = self.bytes.push_text(text);
     }
+
+    /// Takes the line of a label, in a function of its own: few lines need it.
+    #[inline(never)]
+    fn put_line(&mut self, label: Label)
+        ensures { length self.old.bytes + 33 ≤ 8192 → self.new.bytes ≡ self.old.bytes ++ ended label }
+    {
+        let text = line(label);
+        let _fits = self.bytes.push_text(text.as_slice());
+        let _fits = self.bytes.push_text(b"\n");
+    }
 }
 
 impl Labels for HeldLines {
@@ -55,6 +65,7 @@ impl Labels for HeldLines {
         self.bytes.room() >= LONGEST_LINE
     }
 
+    #[inline]
     fn put(&mut self, label: Label) {
         match label {
             Label::Ran {
@@ -65,11 +76,7 @@ impl Labels for HeldLines {
             Label::Idle => {
                 let _fits = self.bytes.push_text(b"idle\n");
             }
-            _ => {
-                let text = line(label);
-                let _fits = self.bytes.push_text(text.as_slice());
-                let _fits = self.bytes.push_text(b"\n");
-            }
+            _ => self.put_line(label),
         }
     }
 
