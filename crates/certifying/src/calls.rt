@@ -1,42 +1,13 @@
 //! What system calls leave, by the rules of acceptance.
 
-ghost use Rattle.std.specs.Prelude.{◌≡◌, [], Some, slice_get};
-ghost use Rattle.std.specs.List.{list_any};
-ghost use Rattle.model.specs.Acceptance.Accepted.{IsWellFormed};
-ghost use Rattle.model.specs.Acceptance.NotedStates.{image_slots};
-ghost use Rattle.typestate.specs.Orders.{Rise};
-ghost use Rattle.typestate.specs.Strays.{is_stray_in};
-ghost use Rattle.typestate.specs.Unlinked.{AreUnlinked};
-
+use crate::Fault;
+use crate::bare_threads::BareThread;
 use crate::shared::{Called, Shared, Stretch};
 use crate::tables::are_same_changes;
 use crate::ways::State;
-use crate::{Effort, Fault};
 use model::Point;
 use std::alloc::Global;
-use typestate::{LogEntry, NotedSlot, NotedSlots, Part, SlotLog, Space};
-
-/// A thread of an image without certificates: the CNodes that the image gives it, and what it puts into them.
-#[derive(Clone, Copy)]
-pub(crate) struct Given<'a, 's> {
-    pub(crate) space: Space<'a, 's>,
-    /// Which of the image's threads it is, from 0 on.
-    pub(crate) number: u32,
-    pub(crate) slots: &'s [NotedSlot],
-    /// Whether a slot that the image lists is one that the thread may not have.
-    pub(crate) lists_stray: bool,
-    pub(crate) effort: Effort,
-    pub(crate) alloc: Global,
-    ghost formed: { IsWellFormed space.image.now },
-    ghost place: { slice_get space.image.now.threads number ≡ Some space.thread.now },
-    ghost listed: { slots.now ≡ image_slots space.image.now space.thread.now },
-    ghost rising: { Rise slots.now },
-    ghost unlinked: { AreUnlinked slots.now },
-    // Of the slots that the image lists, each by itself.
-    ghost told: { lists_stray ≡ list_any (is_stray_in space []) slots.now },
-    // Its certificate has no records.
-    ghost bare: { space.thread.now.records ≡ [] },
-}
+use typestate::{LogEntry, NotedSlot, NotedSlots, Part, SlotLog};
 
 /// The changes that make a difference to the image's slots.
 fn told(alloc: Global, slots: &NotedSlots<'_>) -> Result<Vec<NotedSlot>, Fault> {
@@ -60,7 +31,7 @@ fn makes_difference(listed: &[NotedSlot], change: &NotedSlot) -> bool {
     }
 }
 
-impl Given<'_, '_> {
+impl BareThread<'_, '_> {
     /// What the system call at a point leaves, where these changes are made to the slots of the image. In the state in which it was
     /// looked at last it is not asked again.
     pub(crate) fn called(
@@ -73,7 +44,7 @@ impl Given<'_, '_> {
             return Ok(called);
         }
         let at = Point {
-            thread: self.number,
+            thread: self.given.number,
             point,
         };
         let (behind, made) = shared.asked(at, state)?;
@@ -85,7 +56,7 @@ impl Given<'_, '_> {
         let mut log = SlotLog::new(self.alloc);
         let part = log.follow(Part { first: 0, end: 0 }, changes)?;
         let left = log.shown(part)?;
-        told(self.alloc, &left.slots(self.slots))
+        told(self.alloc, &left.slots(self.given.slots))
     }
 
     /// Whether two stretches of changes leave the same slots.

@@ -3,7 +3,7 @@
 ghost use Rattle.std.specs.Prelude.{◌≡◌, ◌<◌, [], false};
 ghost use Rattle.typestate.specs.Promises.{AreOfImage};
 
-use crate::calls::Given;
+use crate::bare_threads::BareThread;
 use crate::costs::{Costs, Counting, cost_at};
 use crate::flow::Flow;
 use crate::forms::Form;
@@ -17,9 +17,7 @@ use image_reading::{ImageRef, ThreadRef, read};
 use model::{Refusal, TermEntry};
 use ranges::Bounds;
 use std::alloc::Global;
-use thread_spaces::{
-    PlacedImage, given_space, offsets_of, promises_of, reached_of, slots_of, windows_of,
-};
+use thread_spaces::{PlacedImage, PlacedThread, ThreadParts, offsets_of, promises_of};
 use typestate::{NotedSlot, PlacedPromises};
 use wellformed::well_formed;
 
@@ -260,7 +258,7 @@ fn all_bounds(
     Ok(all)
 }
 
-impl Given<'_, '_> {
+impl BareThread<'_, '_> {
     /// The thread's certificate.
     fn certificate(&self) -> Result<Certificate, Fault> {
         let Flow { table, ways } = self.flow()?;
@@ -293,7 +291,7 @@ impl Given<'_, '_> {
     /// The graph of the program's ways.
     fn graph(&self, table: &Table<'_, '_>, ways: Vec<Way>) -> Result<Graph, Fault> {
         let bounds = all_bounds(self.alloc, self.count(), table)?;
-        let entry = self.space.thread.header().entry;
+        let entry = self.given.space.thread.header().entry;
         Graph::new(self.alloc, self.count(), entry, ways, bounds)
     }
 
@@ -371,7 +369,7 @@ impl Given<'_, '_> {
 
     /// The thread's least budget, if that is not too great.
     fn budget(&self, graph: &Graph, costs: &Costs) -> Result<u64, Fault> {
-        let budget = budget_of(graph, costs, &start_bounds(self.space.thread));
+        let budget = budget_of(graph, costs, &start_bounds(self.given.space.thread));
         if GREATEST < budget {
             return Err(Fault::At {
                 point: graph.entry,
@@ -400,30 +398,26 @@ fn certificate_of<'a>(
     requires promises { AreOfImage placed.now.image.now promises.now }
     requires number { number < placed.now.image.now.header.threads }
 {
-    let image = placed.image;
-    let thread = image.thread(number);
-    if has_records(&thread) {
+    let thread = placed.image.thread(number);
+    let owner = PlacedThread {
+        placed,
+        number,
+        thread: &thread,
+    };
+    let parts = ThreadParts::of(alloc, owner)?;
+    let given = parts.given(promises);
+    if has_records(given.space.thread) {
         return Err(Fault::At {
             point: 0,
             reason: Reason::NotBare,
         });
     }
-    let Ok(cnodes) = reached_of(alloc, image, &thread) else {
-        return Err(Fault::OutOfMemory);
-    };
-    let windows = windows_of(alloc, placed, &thread, &cnodes)?;
-    let slots = slots_of(alloc, placed, &thread, &cnodes)?;
-    let space = given_space(placed, &thread, &windows, promises);
-    let lists_stray = space.lists_stray(&slots);
-    let given = Given {
-        space,
-        number,
-        slots: &slots,
-        lists_stray,
+    let bare = BareThread {
+        given,
         effort,
         alloc,
     };
-    given.certificate()
+    bare.certificate()
 }
 
 /// The certificates of the threads of an image whose threads have no records, in their order. Nothing is promised of them: the

@@ -4,7 +4,7 @@
 ghost use Rattle.std.specs.Prelude.{◌≡◌, ◌<◌, [], false};
 ghost use Rattle.typestate.specs.Promises.{AreOfImage};
 
-use crate::calls::Given;
+use crate::bare_threads::BareThread;
 use crate::certifier::{Record, Unfit, has_records};
 use crate::costs::Counting;
 use crate::flow::{MOST_VISITS, add_ways};
@@ -14,9 +14,7 @@ use crate::{Effort, Fault, Reason};
 use image_reading::{ImageRef, read};
 use ranges::Bounds;
 use std::alloc::Global;
-use thread_spaces::{
-    PlacedImage, given_space, offsets_of, promises_of, reached_of, slots_of, windows_of,
-};
+use thread_spaces::{PlacedImage, PlacedThread, ThreadParts, offsets_of, promises_of};
 use typestate::PlacedPromises;
 use wellformed::well_formed;
 
@@ -126,7 +124,7 @@ impl Counting {
     }
 }
 
-impl Given<'_, '_> {
+impl BareThread<'_, '_> {
     /// Follows the ways on from a point if it has changed, and answers which point is looked at next.
     fn follow_one(
         &self,
@@ -298,30 +296,26 @@ fn findings_of<'a>(
     requires promises { AreOfImage placed.now.image.now promises.now }
     requires number { number < placed.now.image.now.header.threads }
 {
-    let image = placed.image;
-    let thread = image.thread(number);
-    if has_records(&thread) {
+    let thread = placed.image.thread(number);
+    let owner = PlacedThread {
+        placed,
+        number,
+        thread: &thread,
+    };
+    let parts = ThreadParts::of(alloc, owner)?;
+    let given = parts.given(promises);
+    if has_records(given.space.thread) {
         return Err(Fault::At {
             point: 0,
             reason: Reason::NotBare,
         });
     }
-    let Ok(cnodes) = reached_of(alloc, image, &thread) else {
-        return Err(Fault::OutOfMemory);
-    };
-    let windows = windows_of(alloc, placed, &thread, &cnodes)?;
-    let slots = slots_of(alloc, placed, &thread, &cnodes)?;
-    let space = given_space(placed, &thread, &windows, promises);
-    let lists_stray = space.lists_stray(&slots);
-    let given = Given {
-        space,
-        number,
-        slots: &slots,
-        lists_stray,
+    let bare = BareThread {
+        given,
         effort: Effort::Least,
         alloc,
     };
-    given.found()
+    bare.found()
 }
 
 /// What is found of the threads of an image whose threads have no records, in their order.

@@ -1,6 +1,6 @@
 //! What is known at each point of a program: ranges are joined and widened until nothing grows, and then narrowed.
 
-use crate::calls::Given;
+use crate::bare_threads::BareThread;
 use crate::marks::Marks;
 use crate::ranged::joined;
 use crate::shared::Stretch;
@@ -152,11 +152,11 @@ fn constant_of(instr: Option<Instr>) -> Option<u32> {
     }
 }
 
-impl<'a, 's> Given<'a, 's> {
+impl<'a, 's> BareThread<'a, 's> {
     /// The constant of the instruction at a point, if it has one.
     fn constant_at(&self, point: u32) -> Option<u32> {
-        if point < self.space.thread.word_count() {
-            constant_of(decode(self.space.thread.word(point)))
+        if point < self.given.space.thread.word_count() {
+            constant_of(decode(self.given.space.thread.word(point)))
         } else {
             None
         }
@@ -256,9 +256,9 @@ impl<'a, 's> Given<'a, 's> {
 
     /// Narrows the ranges at a point to those of the ways to it.
     fn narrow_at(&self, table: &mut Table<'_, '_>, point: u32, arrived: Option<Bounds>) -> bool {
-        let header = self.space.thread.header();
+        let header = self.given.space.thread.header();
         let start = if point == header.entry {
-            Some(start_bounds(self.space.thread))
+            Some(start_bounds(self.given.space.thread))
         } else {
             None
         };
@@ -310,7 +310,7 @@ impl<'a, 's> Given<'a, 's> {
         if round.has_fault {
             return Ok(false);
         }
-        let entry = self.space.thread.header().entry;
+        let entry = self.given.space.thread.header().entry;
         let reached = reached_from(self.alloc, self.count(), entry, &round.leads)?;
         let mut some = false;
         'points: for point in 0..self.count() {
@@ -337,8 +337,8 @@ impl<'a, 's> Given<'a, 's> {
     pub(crate) fn begun(&self) -> Result<Table<'a, 's>, Fault> {
         let mut table = Table::new(*self, self.count())?;
         self.add_constants(&mut table)?;
-        let entry = self.space.thread.header().entry;
-        table.begin(entry, start_bounds(self.space.thread))?;
+        let entry = self.given.space.thread.header().entry;
+        table.begin(entry, start_bounds(self.given.space.thread))?;
         Ok(table)
     }
 

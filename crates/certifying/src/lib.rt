@@ -1,6 +1,7 @@
 //! Certificates of programs that have none: what is known of registers and slots at each point, and measures.
 #![tactic(auto)]
 
+mod bare_threads;
 mod calls;
 mod certifier;
 mod costs;

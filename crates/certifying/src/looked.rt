@@ -9,13 +9,12 @@ ghost use Rattle.typestate.specs.Replays.{replayed};
 ghost use Rattle.typestate.specs.Unlinked.{AreUnlinked};
 
 use crate::Fault;
-use crate::calls::Given;
+use crate::bare_threads::BareThread;
 use crate::shared::Stretch;
 use model::{Point, Refusal};
 use ranges::Bounds;
 use std::alloc::AllocError;
 use std::marker::Model;
-use thread_spaces::slots_are_own;
 use typestate::{
     Behind, LogEntry, Part, ShownPart, SlotLog, ThreadSlots, ToldSlots,
     no_stray_slot_leads_outside, points_without_stray_slots_have_none,
@@ -25,7 +24,7 @@ use typestate::{
 /// through once, and each slot is judged once. A clause sees whether what is shown is known.
 #[derive(Drop)]
 pub(crate) struct Looked<'a, 's> {
-    given: Given<'a, 's>,
+    thread: BareThread<'a, 's>,
     stretch: Stretch,
     log: SlotLog,
     part: Part,
@@ -44,7 +43,7 @@ impl<'a, 's> Model for Looked<'a, 's> {
 
     ghost view = { λ looked. looked.is_known };
 
-    ghost invariant = { λ looked. IsLookedAt looked.given looked.log looked.part looked.shown looked.is_known looked.is_clean };
+    ghost invariant = { λ looked. IsLookedAt looked.thread looked.log looked.part looked.shown looked.is_known looked.is_clean };
 }
 
 /// Goes on from a part that is shown to one with changes that follow it. Fails if out of memory.
@@ -66,14 +65,14 @@ fn followed(
 
 impl<'a, 's> Looked<'a, 's> {
     /// No changes, where a stretch begins.
-    pub(crate) fn before(given: Given<'a, 's>, stretch: Stretch) -> Result<Self, Fault>
+    pub(crate) fn before(thread: BareThread<'a, 's>, stretch: Stretch) -> Result<Self, Fault>
         ensures { IfOk result (λ looked. looked ≡ true) }
     {
-        let log = SlotLog::new(given.alloc);
+        let log = SlotLog::new(thread.alloc);
         let part = Part { first: 0, end: 0 };
         let shown = log.shown(part)?;
         Ok(Looked {
-            given,
+            thread,
             stretch: stretch.none_of(),
             log,
             part,
@@ -100,7 +99,7 @@ impl<'a, 's> Looked<'a, 's> {
         ensures { IfOk result (λ _. self.new ≡ true) }
     {
         if !self.is_known || !self.stretch.begins(stretch) {
-            *self = Looked::before(self.given, stretch)?;
+            *self = Looked::before(self.thread, stretch)?;
         }
         Ok(())
     }
@@ -132,23 +131,23 @@ impl<'a, 's> Looked<'a, 's> {
         requires { self.old ≡ true }
     {
         points_without_stray_slots_have_none();
-        let slots = self.shown.slots(self.given.slots);
+        let slots = self.shown.slots(self.thread.given.slots);
         let told = ToldSlots {
-            space: self.given.space,
+            space: self.thread.given.space,
             slots,
-            lists_stray: self.given.lists_stray,
+            lists_stray: self.thread.given.lists_stray,
             is_clean: self.is_clean,
         };
         if told.has_stray_slots(None) {
             return Err(Fault::refused(at.point, Refusal::CapNotThere(at)));
         }
         no_stray_slot_leads_outside();
-        slots_are_own(self.given.space.image, self.given.space.thread, &slots);
+        self.thread.given.slots_are_own(&slots);
         let own = ThreadSlots {
-            space: self.given.space,
+            space: self.thread.given.space,
             slots,
         };
-        let mut made = Vec::new(self.given.alloc);
+        let mut made = Vec::new(self.thread.alloc);
         let behind = match own.after_call(at, bounds, &mut made)? {
             Ok(behind) => behind,
             Err(refusal) => return Err(Fault::refused(at.point, refusal)),

@@ -1,7 +1,7 @@
 //! Of which registers the ranges are needed at each point: those that an address, a system call, a branch or a measure rests on.
 
 use crate::Fault;
-use crate::calls::Given;
+use crate::bare_threads::BareThread;
 use crate::costs::cost_at;
 use crate::forms::Form;
 use crate::graph::{Graph, changes};
@@ -233,12 +233,12 @@ impl Needs<'_> {
     }
 }
 
-impl Given<'_, '_> {
+impl BareThread<'_, '_> {
     /// Goes through all points once, from the last to the first, and answers whether more is needed than before.
     fn look_at_all(&self, needs: &mut Needs<'_>) -> bool {
         let mut more = false;
-        'points: for point in (0..self.space.thread.word_count()).rev() {
-            if let Some(instr) = decode(self.space.thread.word(point)) {
+        'points: for point in (0..self.given.space.thread.word_count()).rev() {
+            if let Some(instr) = decode(self.given.space.thread.word(point)) {
                 more |= needs.look_at(point, instr);
             }
         }
@@ -259,7 +259,7 @@ impl Given<'_, '_> {
             graph,
             costs,
             needs: none,
-            promises: self.space.image.header().promises > 0,
+            promises: self.given.space.image.header().promises > 0,
         };
         'rounds: for _ in 0..MOST_ROUNDS {
             if !self.look_at_all(&mut needs) {

@@ -3,7 +3,7 @@
 ghost use Rattle.std.specs.Prelude.{◌≡◌, []};
 
 use crate::Fault;
-use crate::calls::Given;
+use crate::bare_threads::BareThread;
 use crate::looked::Looked;
 use crate::tables::are_same_entries;
 use crate::ways::State;
@@ -113,15 +113,15 @@ fn part_of(changes: &[LogEntry], stretch: Stretch) -> &[LogEntry] {
 
 impl<'a, 's> Shared<'a, 's> {
     /// No changes at any of so many points.
-    pub(crate) fn new(given: Given<'a, 's>, count: u32) -> Result<Self, Fault> {
-        let alloc = given.alloc;
+    pub(crate) fn new(thread: BareThread<'a, 's>, count: u32) -> Result<Self, Fault> {
+        let alloc = thread.alloc;
         let mut at = Vec::new(alloc);
         'points: for _ in 0..count {
             at.push(None)?;
         }
         Ok(Shared {
             changes: Vec::new(alloc),
-            looked: Looked::before(given, Stretch::NONE)?,
+            looked: Looked::before(thread, Stretch::NONE)?,
             calls: Vec::new(alloc),
             at,
             same: None,

@@ -1,7 +1,7 @@
 //! What is known of all points so far.
 
 use crate::Fault;
-use crate::calls::Given;
+use crate::bare_threads::BareThread;
 use crate::ranged::{joined, widened};
 use crate::shared::{Shared, Stretch};
 use crate::ways::{State, Way};
@@ -95,8 +95,8 @@ pub(crate) fn are_same_entries(first: &[LogEntry], second: &[LogEntry]) -> bool 
 
 impl<'a, 's> Table<'a, 's> {
     /// Nothing is known of any of so many points.
-    pub(crate) fn new(given: Given<'a, 's>, count: u32) -> Result<Self, Fault> {
-        let alloc = given.alloc;
+    pub(crate) fn new(thread: BareThread<'a, 's>, count: u32) -> Result<Self, Fault> {
+        let alloc = thread.alloc;
         let mut places = Vec::new(alloc);
         'points: for _ in 0..count {
             places.push(Place {
@@ -107,7 +107,7 @@ impl<'a, 's> Table<'a, 's> {
         }
         Ok(Table {
             places,
-            shared: Shared::new(given, count)?,
+            shared: Shared::new(thread, count)?,
             thresholds: Vec::new(alloc),
         })
     }

@@ -3,7 +3,7 @@
 ghost use Rattle.std.specs.Prelude.{IfOk};
 ghost use Rattle.model.specs.Machine.Instructions.{IsInstr};
 
-use crate::calls::Given;
+use crate::bare_threads::BareThread;
 use crate::shared::{Shared, Stretch};
 use crate::{Fault, Reason};
 use measure::{AfterCall, AfterInstruction, Step, Value};
@@ -70,21 +70,21 @@ fn is_branch(instr: Instr) -> bool {
     matches!(instr, Instr::Branch { .. })
 }
 
-impl Given<'_, '_> {
+impl BareThread<'_, '_> {
     /// How many points the program has.
     pub(crate) fn count(&self) -> u32 {
-        self.space.thread.word_count()
+        self.given.space.thread.word_count()
     }
 
     /// The address of a point.
     fn address(&self, point: u32) -> u32 {
-        let base = self.space.thread.header().base;
+        let base = self.given.space.thread.header().base;
         base.wrapping_add(point.wrapping_mul(4))
     }
 
     /// The point at an address that a point leads to.
     fn point_at(&self, from: u32, address: u32) -> Result<u32, Fault> {
-        let distance = address.wrapping_sub(self.space.thread.header().base);
+        let distance = address.wrapping_sub(self.given.space.thread.header().base);
         let point = distance / 4;
         if distance % 4 == 0 && point < self.count() {
             Ok(point)
@@ -101,13 +101,13 @@ impl Given<'_, '_> {
         ensures { IfOk result IsInstr }
     {
         let at = Point {
-            thread: self.number,
+            thread: self.given.number,
             point,
         };
-        if point >= self.space.thread.word_count() {
+        if point >= self.given.space.thread.word_count() {
             return Err(Fault::refused(point, Refusal::BadTarget(at)));
         }
-        match decode(self.space.thread.word(point)) {
+        match decode(self.given.space.thread.word(point)) {
             None | Some(Instr::Ebreak) => {
                 Err(Fault::refused(point, Refusal::IllegalInstruction(at)))
             }

@@ -173,8 +173,8 @@ fn distance(offset: i32) -> u32 {
 impl Scene<'_, '_, '_, '_, '_, '_, '_> {
     /// The instruction at a point, if there is one.
     pub(crate) fn instruction_at(&self, point: u32) -> Option<Instr> {
-        if point < self.space.thread.word_count() {
-            decode(self.space.thread.word(point))
+        if point < self.given.space.thread.word_count() {
+            decode(self.given.space.thread.word(point))
         } else {
             None
         }
@@ -206,7 +206,7 @@ impl Scene<'_, '_, '_, '_, '_, '_, '_> {
 
     /// From which points each point is led to.
     fn sources(&self) -> Result<Vec<Vec<u32>>, AllocError> {
-        let count = self.space.thread.word_count();
+        let count = self.given.space.thread.word_count();
         let mut into = lists(self.alloc, count)?;
         for point in 0..count {
             self.note_leads(&mut into, point)?;

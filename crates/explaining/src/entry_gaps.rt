@@ -30,7 +30,7 @@ impl Scene<'_, '_, '_, '_, '_, '_, '_> {
     /// The values that the thread starts with.
     fn start_values(&self) -> [u32; 32] {
         let mut words = [0; 32];
-        for entry in self.space.thread.registers() {
+        for entry in self.given.space.thread.registers() {
             if entry.register < 32 {
                 words[entry.register as usize] = entry.value;
             }
@@ -83,7 +83,7 @@ impl Scene<'_, '_, '_, '_, '_, '_, '_> {
     /// Reports that the measure at the entry is above the budget, and returns whether it is.
     fn report_budget(&self, to: &mut String, state: &State) -> Result<bool, AllocError> {
         let value = value_at(&state.measure, &self.start_values());
-        let budget = self.space.thread.header().budget;
+        let budget = self.given.space.thread.header().budget;
         let above = value.saturating_sub(i128::from(budget));
         if above <= 0 {
             return Ok(false);
@@ -150,7 +150,7 @@ impl Scene<'_, '_, '_, '_, '_, '_, '_> {
 
     /// Reports what is missed at the entry, and returns whether something is.
     pub(crate) fn report_entry(&self, to: &mut String, point: u32) -> Result<bool, AllocError> {
-        if point != self.space.thread.header().entry {
+        if point != self.given.space.thread.header().entry {
             return Ok(false);
         }
         match self.state_at(point)? {

@@ -15,7 +15,7 @@ impl Scene<'_, '_, '_, '_, '_, '_, '_> {
     /// A point of the thread as refusals name it.
     fn place(&self, point: u32) -> Point {
         Point {
-            thread: self.number,
+            thread: self.given.number,
             point,
         }
     }

@@ -67,7 +67,7 @@ impl Scene<'_, '_, '_, '_, '_, '_, '_> {
         target: u32,
         there: &State,
     ) -> Result<(), AllocError> {
-        let budget = self.space.thread.header().budget;
+        let budget = self.given.space.thread.header().budget;
         let miss = way.miss(budget, &state.measure, &there.measure);
         if let Miss::Nothing = miss {
             return Ok(());

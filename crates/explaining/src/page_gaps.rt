@@ -111,8 +111,8 @@ fn push_whole(to: &mut String, number: i64) -> Result<(), AllocError> {
 impl Scene<'_, '_, '_, '_, '_, '_, '_> {
     /// The rights with which the image maps a page.
     fn listed_rights(&self, page: u32) -> u32 {
-        let root = self.space.thread.header().root;
-        for entry in self.space.image.frames() {
+        let root = self.given.space.thread.header().root;
+        for entry in self.given.space.image.frames() {
             if entry.root == root && entry.address / 4096 == page {
                 return entry.rights;
             }
@@ -126,7 +126,7 @@ impl Scene<'_, '_, '_, '_, '_, '_, '_> {
             Cap::Frame {
                 mapping: Some(mapping),
                 ..
-            } if mapping.page == page && mapping.root == self.space.table => u32::from(
+            } if mapping.page == page && mapping.root == self.given.space.table => u32::from(
                 mapping.rights.0,
             ),
             _ => 0,
@@ -170,9 +170,9 @@ impl Scene<'_, '_, '_, '_, '_, '_, '_> {
 
     /// Puts the first pages that the image maps, and returns how many it maps.
     fn push_listed(&self, to: &mut String) -> Result<u32, AllocError> {
-        let root = self.space.thread.header().root;
+        let root = self.given.space.thread.header().root;
         let mut count = 0u32;
-        for entry in self.space.image.frames() {
+        for entry in self.given.space.image.frames() {
             if entry.root == root {
                 if count < MOST_NAMED {
                     push_separator(to, count)?;
@@ -230,7 +230,7 @@ impl Scene<'_, '_, '_, '_, '_, '_, '_> {
         point: u32,
         state: &State,
     ) -> Result<(), AllocError> {
-        if point >= self.space.thread.word_count() {
+        if point >= self.given.space.thread.word_count() {
             return Ok(());
         }
         let Some(access) = self.access_at(point) else {
@@ -306,9 +306,9 @@ impl Scene<'_, '_, '_, '_, '_, '_, '_> {
 
     /// The load or store at a point.
     fn access_at(&self, point: u32) -> Option<Access> {
-        if point >= self.space.thread.word_count() {
+        if point >= self.given.space.thread.word_count() {
             return None;
         }
-        access_of(decode(self.space.thread.word(point))?)
+        access_of(decode(self.given.space.thread.word(point))?)
     }
 }

@@ -114,7 +114,7 @@ impl Scene<'_, '_, '_, '_, '_, '_, '_> {
         }
         to.push_str("; measure ")?;
         push_measure(to, &state.measure)?;
-        let budget = self.space.thread.header().budget;
+        let budget = self.given.space.thread.header().budget;
         write!(to, "; budget {budget}\n")
     }
 }

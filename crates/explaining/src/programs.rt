@@ -1,18 +1,14 @@
 //! Refusals at points of programs.
 
+use crate::explained_images::ExplainedImage;
 use crate::faults::ExplainFault;
-use crate::formed::FormedImage;
 use crate::scenes::Scene;
 use crate::states::{Found, State};
 use certifying::{Record, ThreadFindings};
 use model::{Instr, Point, Refusal};
 use rv32_isa::decode;
-use source_gaps::Text;
-use source_texts::SourceText;
-use std::alloc::{AllocError, Global};
-use thread_spaces::{
-    PlacedImage, given_space, offsets_of, promises_of, reached_of, slots_of, windows_of,
-};
+use std::alloc::AllocError;
+use thread_spaces::{PlacedImage, PlacedThread, ThreadParts, offsets_of, promises_of};
 
 /// The point that a refusal names, if it is one of programs.
 pub fn point_of(refusal: Refusal) -> Option<Point> {
@@ -98,8 +94,11 @@ fn may_be_of_entry(refusal: Refusal) -> bool {
 impl Scene<'_, '_, '_, '_, '_, '_, '_> {
     /// Whether the instruction at a point is a system call.
     fn is_call(&self, point: u32) -> bool {
-        point < self.space.thread.word_count()
-            && matches!(decode(self.space.thread.word(point)), Some(Instr::Ecall))
+        point < self.given.space.thread.word_count()
+            && matches!(
+                decode(self.given.space.thread.word(point)),
+                Some(Instr::Ecall)
+            )
     }
 
     /// Reports what is refused at a point in a state.
@@ -223,51 +222,47 @@ impl Scene<'_, '_, '_, '_, '_, '_, '_> {
     }
 }
 
-/// Reports what is wrong with a thread of a well-formed image, by its number.
-///
-/// # Errors
-///
-/// The image or the text has no such thread, or memory was refused.
-pub(crate) fn report_thread(
-    alloc: Global,
-    to: &mut String,
-    text: &Text<'_, '_>,
-    source: &SourceText<'_>,
-    formed: FormedImage<'_, '_>,
-    number: u32,
-    subject: Subject<'_>,
-) -> Result<(), ExplainFault> {
-    let image = formed.image;
-    let Some(thread_text) = source.threads.get(number as usize) else {
-        return Err(ExplainFault::Disagreement);
-    };
-    if number >= image.header().threads {
-        return Err(ExplainFault::Disagreement);
+impl ExplainedImage<'_, '_, '_, '_, '_, '_> {
+    /// Reports what is wrong with a thread of the image, by its number.
+    ///
+    /// # Errors
+    ///
+    /// The image or the text has no such thread, or out of memory.
+    pub(crate) fn report_thread(
+        &self,
+        to: &mut String,
+        number: u32,
+        subject: Subject<'_>,
+    ) -> Result<(), ExplainFault> {
+        let image = self.image;
+        let Some(thread_text) = self.source.threads.get(number as usize) else {
+            return Err(ExplainFault::Disagreement);
+        };
+        if number >= image.header().threads {
+            return Err(ExplainFault::Disagreement);
+        }
+        let offsets = offsets_of(self.alloc, image)?;
+        let thread = image.thread(number);
+        let placed = PlacedImage {
+            image,
+            offsets: &offsets,
+        };
+        let promises = promises_of(self.alloc, &placed)?;
+        let owner = PlacedThread {
+            placed: &placed,
+            number,
+            thread: &thread,
+        };
+        let parts = ThreadParts::of(self.alloc, owner)?;
+        let scene = Scene {
+            given: parts.given(&promises),
+            offsets: &offsets,
+            alloc: self.alloc,
+            text: self.text,
+            source: self.source,
+            thread: thread_text,
+            known: subject.known(),
+        };
+        Ok(scene.report_subject(to, subject)?)
     }
-    let offsets = offsets_of(alloc, image)?;
-    let thread = image.thread(number);
-    let Ok(cnodes) = reached_of(alloc, image, &thread) else {
-        return Err(ExplainFault::OutOfMemory);
-    };
-    let placed = PlacedImage {
-        image,
-        offsets: &offsets,
-    };
-    let windows = windows_of(alloc, &placed, &thread, &cnodes)?;
-    let promises = promises_of(alloc, &placed)?;
-    let slots = slots_of(alloc, &placed, &thread, &cnodes)?;
-    let space = given_space(&placed, &thread, &windows, &promises);
-    let scene = Scene {
-        space,
-        number,
-        slots: &slots,
-        lists_stray: space.lists_stray(&slots),
-        offsets: &offsets,
-        alloc,
-        text: *text,
-        source,
-        thread: thread_text,
-        known: subject.known(),
-    };
-    Ok(scene.report_subject(to, subject)?)
 }

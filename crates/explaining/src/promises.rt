@@ -106,7 +106,7 @@ impl Scene<'_, '_, '_, '_, '_, '_, '_> {
         self.push_call(to, number, address, &found)?;
         to.push_str(": the message does not keep what is promised there\n")?;
         if let Some((_, Cap::Endpoint { offset, badge, .. })) = &found {
-            if let Some(promise) = self.space.promise_at(*offset) {
+            if let Some(promise) = self.given.space.promise_at(*offset) {
                 self.push_missed(to, state, promise, *badge, info)?;
             }
         }

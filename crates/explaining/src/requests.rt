@@ -1,10 +1,10 @@
 //! What is wrong with a text: with its lines, its declarations, and each of its threads.
 
 use crate::builds::{Build, build_text};
+use crate::explained_images::ExplainedImage;
 use crate::faults::ExplainFault;
 use crate::faulty_lines::{are_in_threads, faults_of, has_fault};
-use crate::formed::FormedImage;
-use crate::programs::{Subject, point_of, report_thread};
+use crate::programs::{Subject, point_of};
 use crate::texts::{Block, blocks_of, thread_alone};
 use asm::SourceFault;
 use certified_texts::bare_text;
@@ -79,45 +79,35 @@ pub(crate) struct Request<'f, 't> {
     pub(crate) certificates: Certificates,
 }
 
-impl Request<'_, '_> {
-    /// Reports what is found of the threads of an image.
+impl ExplainedImage<'_, '_, '_, '_, '_, '_> {
+    /// Reports what is found of the image's threads.
     fn report_threads(
         &self,
         to: &mut String,
-        source: &SourceText<'_>,
-        image: FormedImage<'_, '_>,
         found: &[ThreadFindings],
     ) -> Result<(), ExplainFault> {
         let mut number = 0u32;
         for findings in found {
-            let subject = Subject::Found(findings);
-            report_thread(self.alloc, to, &self.text, source, image, number, subject)?;
+            self.report_thread(to, number, Subject::Found(findings))?;
             number = number.saturating_add(1);
         }
         Ok(())
     }
 
-    /// Reports why a well-formed image is refused.
-    fn report_programs(
-        &self,
-        to: &mut String,
-        source: &SourceText<'_>,
-        image: FormedImage<'_, '_>,
-        cause: Cause<'_>,
-    ) -> Result<(), ExplainFault> {
+    /// Reports why the image is refused.
+    fn report_programs(&self, to: &mut String, cause: Cause<'_>) -> Result<(), ExplainFault> {
         match cause {
             Cause::Item(_) => Err(ExplainFault::Disagreement),
             Cause::Point { at, refusal } => {
                 let point = at.point;
-                let subject = Subject::Refused { point, refusal };
-                report_thread(
-                    self.alloc, to, &self.text, source, image, at.thread, subject,
-                )
+                self.report_thread(to, at.thread, Subject::Refused { point, refusal })
             }
-            Cause::Findings(found) => self.report_threads(to, source, image, found),
+            Cause::Findings(found) => self.report_threads(to, found),
         }
     }
+}
 
+impl Request<'_, '_> {
     /// Reports why an image is refused for its programs.
     fn report_formed(
         &self,
@@ -127,7 +117,15 @@ impl Request<'_, '_> {
         cause: Cause<'_>,
     ) -> Result<(), ExplainFault> {
         match well_formed(self.alloc, image) {
-            Ok(()) => self.report_programs(to, source, FormedImage { image }, cause),
+            Ok(()) => {
+                let explained = ExplainedImage {
+                    image,
+                    source,
+                    text: self.text,
+                    alloc: self.alloc,
+                };
+                explained.report_programs(to, cause)
+            }
             Err(Refusal::OutOfMemory) => Err(ExplainFault::OutOfMemory),
             Err(_) => Err(ExplainFault::Disagreement),
         }

@@ -1,12 +1,7 @@
 //! A thread whose program is looked at.
 
-ghost use Rattle.std.specs.Prelude.{◌≡◌, [], Some, slice_get};
-ghost use Rattle.std.specs.List.{list_any};
-ghost use Rattle.model.specs.Acceptance.Accepted.{IsWellFormed};
-ghost use Rattle.model.specs.Acceptance.NotedStates.{image_slots, record_of};
-ghost use Rattle.typestate.specs.Orders.{Rise};
-ghost use Rattle.typestate.specs.Strays.{is_stray_in};
-ghost use Rattle.typestate.specs.Unlinked.{AreUnlinked};
+ghost use Rattle.std.specs.Prelude.{◌≡◌};
+ghost use Rattle.model.specs.Acceptance.NotedStates.{record_of};
 
 use certifying::Record;
 use image::{RecordRef, ThreadRef};
@@ -14,18 +9,13 @@ use model::Cap;
 use source_gaps::Text;
 use source_texts::{SourceText, SourceThread};
 use std::alloc::{AllocError, Global};
-use typestate::{NotedSlot, NotedSlots, SlotKey, Space};
+use thread_spaces::GivenThread;
+use typestate::{NotedSlot, NotedSlots, SlotKey};
 
 /// A thread of a well-formed image whose program is looked at, with what the text says of it.
 #[derive(Clone, Copy)]
 pub(crate) struct Scene<'a, 's, 'm, 'f, 't, 'x, 'k> {
-    pub(crate) space: Space<'a, 's>,
-    /// Which of the image's threads it is, from 0 on.
-    pub(crate) number: u32,
-    /// The slots that the image lists in the thread's CNodes.
-    pub(crate) slots: &'s [NotedSlot],
-    /// Whether one of these is one that the thread may not have.
-    pub(crate) lists_stray: bool,
+    pub(crate) given: GivenThread<'a, 's>,
     /// The offsets of the image's objects.
     pub(crate) offsets: &'s [u32],
     pub(crate) alloc: Global,
@@ -34,12 +24,6 @@ pub(crate) struct Scene<'a, 's, 'm, 'f, 't, 'x, 'k> {
     pub(crate) thread: &'m SourceThread<'x>,
     /// What was found at the points of a thread without a certificate, in their order.
     pub(crate) known: Option<&'k [Record]>,
-    ghost formed: { IsWellFormed space.image.now },
-    ghost place: { slice_get space.image.now.threads number ≡ Some space.thread.now },
-    ghost listed: { slots.now ≡ image_slots space.image.now space.thread.now },
-    ghost rising: { Rise slots.now },
-    ghost unlinked: { AreUnlinked slots.now },
-    ghost told: { lists_stray ≡ list_any (is_stray_in space []) slots.now },
 }
 
 /// The record of a point, if it has one.
@@ -101,7 +85,7 @@ impl Scene<'_, '_, '_, '_, '_, '_, '_> {
                 return *change;
             }
         }
-        for slot in self.slots {
+        for slot in self.given.slots {
             if slot.key.is_same(key) {
                 return *slot;
             }
@@ -115,15 +99,15 @@ impl Scene<'_, '_, '_, '_, '_, '_, '_> {
 
     /// The address of a point.
     pub(crate) fn address(&self, point: u32) -> u32 {
-        let base = self.space.thread.header().base;
+        let base = self.given.space.thread.header().base;
         base.wrapping_add(point.wrapping_mul(4))
     }
 
     /// The point at an address, if the program has one there.
     pub(crate) fn point_at(&self, address: u32) -> Option<u32> {
-        let distance = address.wrapping_sub(self.space.thread.header().base);
+        let distance = address.wrapping_sub(self.given.space.thread.header().base);
         let point = distance / 4;
-        if distance % 4 == 0 && point < self.space.thread.word_count() {
+        if distance % 4 == 0 && point < self.given.space.thread.word_count() {
             Some(point)
         } else {
             None

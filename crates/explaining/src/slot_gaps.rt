@@ -133,7 +133,7 @@ impl Scene<'_, '_, '_, '_, '_, '_, '_> {
 
     /// Puts why a slot is one that the thread may not have.
     fn push_stray(&self, to: &mut String, slot: &NotedSlot) -> Result<(), AllocError> {
-        let is_own = self.space.is_own(slot.key);
+        let is_own = self.given.space.is_own(slot.key);
         let reason = match slot.capability {
             _ if !is_own => "no such slot is in the thread's CNodes",
             Cap::Tcb { .. } => "a thread may not hold threads",
@@ -161,7 +161,7 @@ impl Scene<'_, '_, '_, '_, '_, '_, '_> {
         to.push_str("a slot is noted here that the thread may not have\n")?;
         let changes = &state.changes;
         for change in changes {
-            let is_own = self.space.is_own(change.key);
+            let is_own = self.given.space.is_own(change.key);
             let is_plain = matches!(
                 change.capability,
                 Cap::Untyped { .. }

@@ -15,7 +15,6 @@ use program_rules::{Left, follows, follows_call};
 use ranges::Bounds;
 use rv32_isa::decode;
 use std::alloc::AllocError;
-use thread_spaces::slots_are_own;
 use typestate::{
     Behind, LogEntry, NotedSlot, NotedSlots, Part, SlotLog, ThreadSlots, ToldSlots,
     no_stray_slot_leads_outside,
@@ -114,7 +113,7 @@ impl<'a> Scene<'a, '_, '_, '_, '_, '_, '_> {
     /// The last record up to a point.
     fn last_record(&self, point: u32) -> Option<RecordRef<'a>> {
         let mut last = None;
-        for record in self.space.thread.records() {
+        for record in self.given.space.thread.records() {
             if record.point() <= point {
                 last = Some(record);
             }
@@ -127,7 +126,7 @@ impl<'a> Scene<'a, '_, '_, '_, '_, '_, '_> {
         requires held { Holds log.now part }
     {
         let shown = log.shown(part)?;
-        differing(self.alloc, &shown.slots(self.slots))
+        differing(self.alloc, &shown.slots(self.given.slots))
     }
 
     /// The changes that a record notes.
@@ -177,7 +176,7 @@ impl<'a> Scene<'a, '_, '_, '_, '_, '_, '_> {
 
     /// What follows from a point in a state for the next one.
     fn following(&self, point: u32, state: &State) -> Result<Found, AllocError> {
-        let thread = self.space.thread;
+        let thread = self.given.space.thread;
         if point >= thread.word_count() || state.measure.constant() < -(1 << 62) - 65536 {
             return Ok(Found::Missing);
         }
@@ -197,7 +196,7 @@ impl<'a> Scene<'a, '_, '_, '_, '_, '_, '_> {
     {
         match self.called(point, state)? {
             Ok(called) => {
-                let budget = self.space.thread.header().budget.min(MOST);
+                let budget = self.given.space.thread.header().budget.min(MOST);
                 let left = follows_call(budget, &state.measure, &called.behind);
                 Ok(kept_of(left, called.changes))
             }
@@ -233,11 +232,11 @@ impl<'a> Scene<'a, '_, '_, '_, '_, '_, '_> {
         requires held { Holds log.now part }
     {
         let at = Point {
-            thread: self.number,
+            thread: self.given.number,
             point,
         };
         let before = log.shown(part)?;
-        self.answered(at, bounds, &before.slots(self.slots))
+        self.answered(at, bounds, &before.slots(self.given.slots))
     }
 
     /// What a part of a log changes of the image's slots, and changes that follow it.
@@ -255,14 +254,14 @@ impl<'a> Scene<'a, '_, '_, '_, '_, '_, '_> {
 
     /// Whether one of some slots at a point is one that the thread may not have, or its record notes one outside of its CNodes.
     fn have_stray_slot(&self, point: u32, slots: &NotedSlots<'_>) -> bool
-        requires image { slots.now.image.now ≡ self.now.slots.now }
-        ensures { (state : PointState) → state.slots ≡ slots_of slots.now → result ≡ has_stray_slots self.now.space.image.now self.now.space.thread.now point state }
+        requires image { slots.now.image.now ≡ self.now.given.slots.now }
+        ensures { (state : PointState) → state.slots ≡ slots_of slots.now → result ≡ has_stray_slots self.now.given.space.image.now self.now.given.space.thread.now point state }
     {
-        let noted = record_at(self.space.thread, point);
+        let noted = record_at(self.given.space.thread, point);
         let told = ToldSlots {
-            space: self.space,
+            space: self.given.space,
             slots: *slots,
-            lists_stray: self.lists_stray,
+            lists_stray: self.given.lists_stray,
             is_clean: false,
         };
         told.has_stray_slots(noted.as_ref())
@@ -273,7 +272,7 @@ impl<'a> Scene<'a, '_, '_, '_, '_, '_, '_> {
         let mut log = SlotLog::new(self.alloc);
         let part = log.note_changes(&state.changes)?;
         let here = log.shown(part)?;
-        Ok(self.have_stray_slot(point, &here.slots(self.slots)))
+        Ok(self.have_stray_slot(point, &here.slots(self.given.slots)))
     }
 
     /// What the system call at a point leaves of the registers, and the slots that it changes.
@@ -283,15 +282,15 @@ impl<'a> Scene<'a, '_, '_, '_, '_, '_, '_> {
         bounds: &Bounds,
         slots: &NotedSlots<'_>,
     ) -> Result<Result<(Behind, Vec<LogEntry>), Refusal>, AllocError>
-        requires image { slots.now.image.now ≡ self.now.slots.now }
+        requires image { slots.now.image.now ≡ self.now.given.slots.now }
     {
         if self.have_stray_slot(at.point, slots) {
             return Ok(Err(Refusal::CapNotThere(at)));
         }
         no_stray_slot_leads_outside();
-        slots_are_own(self.space.image, self.space.thread, slots);
+        self.given.slots_are_own(slots);
         let own = ThreadSlots {
-            space: self.space,
+            space: self.given.space,
             slots: *slots,
         };
         let mut made = Vec::new(self.alloc);

@@ -88,13 +88,13 @@ impl Scene<'_, '_, '_, '_, '_, '_, '_> {
         let part = log.note_changes(&state.changes)?;
         let here = log.shown(part)?;
         let own = OwnSlots {
-            windows: self.space.windows,
-            slots: here.slots(self.slots),
+            windows: self.given.space.windows,
+            slots: here.slots(self.given.slots),
         };
-        let Ok(slot) = called_slot(&own, self.space.root, address) else {
+        let Ok(slot) = called_slot(&own, self.given.space.root, address) else {
             return Ok(None);
         };
-        let Some(key) = self.space.windows.key(slot.number()) else {
+        let Some(key) = self.given.space.windows.key(slot.number()) else {
             return Ok(None);
         };
         Ok(Some((key, own.capability(slot))))
@@ -237,7 +237,7 @@ impl Scene<'_, '_, '_, '_, '_, '_, '_> {
 
     /// Puts what is in the slots of the thread's own CNode.
     fn push_slots(&self, to: &mut String, state: &State) -> Result<(), AllocError> {
-        let root = self.space.thread.header().cnode;
+        let root = self.given.space.thread.header().cnode;
         let mut is_first = true;
         for index in 0..64u32 {
             let key = SlotKey { cnode: root, index };

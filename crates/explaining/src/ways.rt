@@ -148,10 +148,10 @@ impl Scene<'_, '_, '_, '_, '_, '_, '_> {
     /// The ways on from a point in a state: the taken one first. A system call that is refused has none.
     pub(crate) fn ways(&self, point: u32, state: &State) -> Result<Vec<Way>, AllocError> {
         let mut ways = Vec::new(self.alloc);
-        if point >= self.space.thread.word_count() {
+        if point >= self.given.space.thread.word_count() {
             return Ok(ways);
         }
-        match decode(self.space.thread.word(point)) {
+        match decode(self.given.space.thread.word(point)) {
             None => {}
             Some(Instr::Ecall) => {
                 if let Ok(Called { behind, changes }) = self.called(point, state)? {

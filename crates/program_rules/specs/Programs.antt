@@ -4,4 +4,4 @@ use Rattle.program_rules.specs.declared.programs.Program.{Program}
 
 -- with its number
 abbrev pub thread_of : Program → Numbered
-thread_of p = record { number = p.number; thread = p.space.thread.now }
+thread_of p = record { number = p.given.number; thread = p.given.space.thread.now }

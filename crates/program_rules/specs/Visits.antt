@@ -11,9 +11,9 @@ use Rattle.program_rules.specs.declared.visits.PlainPoint.{PlainPoint}
 
 -- its state
 abbrev pub state_at : PlainPoint → PointState
-state_at p = state_by p.visit.program.now.slots.now p.points.now.log p.known.now
+state_at p = state_by p.visit.program.now.given.slots.now p.points.now.log p.known.now
 
 -- the first rule that is broken on a way on from there
 abbrev pub broken_by : PlainPoint → Option Edge → Option Refusal
 broken_by p edge =
-    first_broken (way_rules p.visit.program.now.space.image.now (thread_of p.visit.program.now) p.visit.point (state_at p) p.instr edge)
+    first_broken (way_rules p.visit.program.now.given.space.image.now (thread_of p.visit.program.now) p.visit.point (state_at p) p.instr edge)

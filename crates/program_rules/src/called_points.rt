@@ -126,10 +126,10 @@ impl CalledPoint {
     /// The measure after the call, if it is in range.
     fn measure(&self, program: &Program<'_, '_>, measure: &Measure) -> Option<Measure>
         ensures some { negsuc (2 ^ 63 - 2) ≤ℤ (measure_of measure.now).constant → is_some result ≡ true }
-        ensures measure { IfSome result (λ next. measure_of next ≡ measure_behind program.now.space.thread.now.header.budget self.now.is_wait (measure_of measure.now)) }
+        ensures measure { IfSome result (λ next. measure_of next ≡ measure_behind program.now.given.space.thread.now.header.budget self.now.is_wait (measure_of measure.now)) }
     {
         if self.is_wait {
-            return Some(Measure::new(program.space.thread.header().budget as i64));
+            return Some(Measure::new(program.given.space.thread.header().budget as i64));
         }
         if measure.constant() == i64::MIN {
             return None;
@@ -140,7 +140,7 @@ impl CalledPoint {
     /// The state after the call, if its measure is in range.
     pub(crate) fn behind(&self, program: &Program<'_, '_>, known: &Known) -> Option<Known>
         ensures some { negsuc (2 ^ 63 - 2) ≤ℤ (measure_of known.now.measure).constant → is_some result ≡ true }
-        ensures called { IfSome result (IsCalled program.now.space.thread.now.header.budget self.now known.now) }
+        ensures called { IfSome result (IsCalled program.now.given.space.thread.now.header.budget self.now known.now) }
     {
         let measure = self.measure(program, &known.measure)?;
         Some(Known {
@@ -159,9 +159,9 @@ impl CalledPoint {
         before: &Known,
         after: &Known,
     ) -> Option<Self>
-        ensures { IfSome result (λ called. Leads program.now.space.thread.now.header.budget called before.now after.now) }
+        ensures { IfSome result (λ called. Leads program.now.given.space.thread.now.header.budget called before.now after.now) }
     {
-        let anew = Measure::new(program.space.thread.header().budget as i64);
+        let anew = Measure::new(program.given.space.thread.header().budget as i64);
         let called = CalledPoint {
             part,
             badge: after.bounds.get(Register::A0),
@@ -179,7 +179,7 @@ impl CalledPoint {
 
     /// The call that leads from one state to another one, if there is one.
     pub(crate) fn between(program: &Program<'_, '_>, before: &Known, after: &Known) -> Option<Self>
-        ensures { IfSome result (λ called. Leads program.now.space.thread.now.header.budget called before.now after.now) }
+        ensures { IfSome result (λ called. Leads program.now.given.space.thread.now.header.budget called before.now after.now) }
     {
         let part = ShortPart::of(after.part)?;
         'forms: for written in &FORMS {

@@ -1,6 +1,5 @@
 //! The programs of all threads, in their order.
 
-ghost use Rattle.std.specs.Prelude.{◌≡◌, IfOk, Some, slice_get};
 ghost use Rattle.model.specs.Acceptance.Accepted.{IsWellFormed};
 ghost use Rattle.model.specs.Acceptance.PointRules.{program_rules, rules_of_program};
 ghost use Rattle.model.specs.Acceptance.Rules.{first_broken};
@@ -10,47 +9,46 @@ ghost use Rattle.wellformed.specs.Answering.{Answers};
 use crate::point_rules::runs_of;
 use crate::programs::Program;
 use format_laws::{certificates_that_fit_keep_their_limits, images_that_fit_keep_their_limits};
-use image_reading::{ImageRef, ThreadRef};
+use image_reading::ImageRef;
 use model::{Access, Refusal};
 use std::alloc::Global;
 use thread_spaces::{
-    PlacedImage, given_space, offsets_of, programs_have_their_places, promises_of, reached_of,
-    slots_of, windows_of,
+    GivenThread, PlacedImage, PlacedThread, ThreadParts, offsets_of, programs_have_their_places,
+    promises_of,
 };
 use typestate::PlacedPromises;
 
-/// The rules on a thread's program.
-fn check_program<'a>(
-    alloc: Global,
-    placed: &PlacedImage<'_, 'a>,
-    promises: &PlacedPromises<'a>,
-    number: u32,
-    thread: &ThreadRef<'a>,
-) -> Result<(), Refusal>
-    requires listed { slice_get placed.now.image.now.threads number ≡ Some thread.now }
-    requires promises { AreOfImage placed.now.image.now promises.now }
-    ensures { Answers (first_broken (rules_of_program placed.now.image.now (record { number = number; thread = thread.now }))) result }
+/// The rules on the program of a thread, by what the image gives the thread.
+fn check_given(alloc: Global, given: GivenThread<'_, '_>) -> Result<(), Refusal>
+    ensures { Answers (first_broken (rules_of_program given.entry.space.image.now (record { number = given.entry.number; thread = given.entry.space.thread.now }))) result }
 {
-    let image = placed.image;
+    let image = given.space.image;
+    let thread = given.space.thread;
     let _ = image.header();
     certificates_that_fit_keep_their_limits();
     programs_have_their_places();
-    let cnodes = reached_of(alloc, image, thread)?;
-    let windows = windows_of(alloc, placed, thread, &cnodes)?;
-    let slots = slots_of(alloc, placed, thread, &cnodes)?;
-    let space = given_space(placed, thread, &windows, promises);
     let loads = runs_of(alloc, image, thread, Access::Load)?;
     let stores = runs_of(alloc, image, thread, Access::Store)?;
     let program = Program {
-        space,
-        number,
-        slots: &slots,
-        lists_stray: space.lists_stray(&slots),
+        given,
         loads: &loads,
         stores: &stores,
         alloc,
     };
     program.check()
+}
+
+/// The rules on a thread's program.
+fn check_program<'a>(
+    alloc: Global,
+    promises: &PlacedPromises<'a>,
+    owner: PlacedThread<'_, '_, '_, 'a>,
+) -> Result<(), Refusal>
+    requires { AreOfImage owner.placed.now.image.now promises.now }
+    ensures { Answers (first_broken (rules_of_program owner.entry.placed.now.image.now (record { number = owner.entry.number; thread = owner.entry.thread.now }))) result }
+{
+    let parts = ThreadParts::of(alloc, owner)?;
+    check_given(alloc, parts.given(promises))
 }
 
 /// Whether a well-formed image keeps the rules on programs.
@@ -73,7 +71,12 @@ pub fn check_programs(alloc: Global, image: &ImageRef<'_>) -> Result<(), Refusal
     let promises = promises_of(alloc, &placed)?;
     let mut number = 0;
     'threads: for thread in image.threads() {
-        check_program(alloc, &placed, &promises, number, &thread)?;
+        let owner = PlacedThread {
+            placed: &placed,
+            number,
+            thread: &thread,
+        };
+        check_program(alloc, &promises, owner)?;
         number += 1;
     }
     Ok(())

@@ -80,26 +80,26 @@ impl Kept {
 impl Program<'_, '_> {
     /// The address of a point.
     pub(crate) fn address(&self, point: u32) -> u32
-        requires within { point < self.now.space.thread.now.header.words }
-        ensures { result ≡ address_of self.now.space.thread.now point }
+        requires within { point < self.now.given.space.thread.now.header.words }
+        ensures { result ≡ address_of self.now.given.space.thread.now point }
     {
-        self.space.thread.header().base + 4 * point
+        self.given.space.thread.header().base + 4 * point
     }
 
     /// Makes of what is kept of a point that has no system call what is kept of the one after it, where no record notes that.
     pub(crate) fn pass_plain(&self, point: u32, kept: &mut Kept, log: &SlotLog)
-        requires within { point < self.now.space.thread.now.header.words }
-        requires plain { instruction_at self.now.space.thread.now point ≢ Some Ecall }
-        requires kept { IsKeptAt self.now.space.image.now (thread_of self.now) self.now.slots.now log.now point kept.old }
-        ensures same { noted_by self.now.slots.now log.now kept.new ≡ follows self.now.space.image.now (thread_of self.now) point (noted_by self.now.slots.now log.now kept.old) }
+        requires within { point < self.now.given.space.thread.now.header.words }
+        requires plain { instruction_at self.now.given.space.thread.now point ≢ Some Ecall }
+        requires kept { IsKeptAt self.now.given.space.image.now (thread_of self.now) self.now.given.slots.now log.now point kept.old }
+        ensures same { noted_by self.now.given.slots.now log.now kept.new ≡ follows self.now.given.space.image.now (thread_of self.now) point (noted_by self.now.given.slots.now log.now kept.old) }
         ensures sound { IsSound log.now (point + 1) kept.new }
-        ensures clean { IsCleanIn self.now.space.image.now self.now.space.thread.now self.now.slots.now log.now kept.new }
+        ensures clean { IsCleanIn self.now.given.space.image.now self.now.given.space.thread.now self.now.given.slots.now log.now kept.new }
     {
         let Kept::Known(known) = kept else {
             *kept = Kept::Missing;
             return;
         };
-        match decode(self.space.thread.word(point)) {
+        match decode(self.given.space.thread.word(point)) {
             None | Some(Instr::Ecall) => *kept = Kept::Missing,
             Some(instr) => {
                 let passed = known.pass(self.address(point), instr);
@@ -112,11 +112,11 @@ impl Program<'_, '_> {
 impl Visit<'_, '_, '_, '_> {
     /// Adds to what is kept of the point what a look at its slots shows, where nothing is known of them.
     pub(crate) fn look(&self, kept: &mut Kept, log: &SlotLog, shown: &ShownPart)
-        requires { IsLookedAt self.now.program.now.space.image.now self.now.program.now.space.thread.now self.now.program.now.slots.now log.now self.now.point shown.now kept.old }
-        ensures same { noted_by self.now.program.now.slots.now log.now kept.new ≡ noted_by self.now.program.now.slots.now log.now kept.old }
+        requires { IsLookedAt self.now.program.now.given.space.image.now self.now.program.now.given.space.thread.now self.now.program.now.given.slots.now log.now self.now.point shown.now kept.old }
+        ensures same { noted_by self.now.program.now.given.slots.now log.now kept.new ≡ noted_by self.now.program.now.given.slots.now log.now kept.old }
         ensures sound { IsSound log.now self.now.point kept.new }
         ensures shown { ShowsKept log.now shown.now kept.new }
-        ensures clean { IsCleanIn self.now.program.now.space.image.now self.now.program.now.space.thread.now self.now.program.now.slots.now log.now kept.new }
+        ensures clean { IsCleanIn self.now.program.now.given.space.image.now self.now.program.now.given.space.thread.now self.now.program.now.given.slots.now log.now kept.new }
     {
         points_without_stray_slots_have_none();
         if let Kept::Known(known) = kept {
@@ -124,7 +124,7 @@ impl Visit<'_, '_, '_, '_> {
                 return;
             }
             let program = self.program;
-            let slots = shown.slots(program.slots);
+            let slots = shown.slots(program.given.slots);
             let here = VisitedSlots {
                 visit: *self,
                 slots,
@@ -141,15 +141,15 @@ impl Visit<'_, '_, '_, '_> {
         log: &mut SlotLog,
         shown: &ShownPart,
     ) -> Result<Kept, AllocError>
-        requires { IsLookedAt self.now.program.now.space.image.now self.now.program.now.space.thread.now self.now.program.now.slots.now log.old self.now.point shown.now (kept.Known known.now) }
-        ensures same { IfOk result (λ k. noted_by self.now.program.now.slots.now log.new k
-            ≡ follows_call self.now.program.now.space.thread.now (measure_of known.now.measure) (call_at self.now.program.now.space.image.now (thread_of self.now.program.now) self.now.point (state_by self.now.program.now.slots.now log.old known.now))) }
+        requires { IsLookedAt self.now.program.now.given.space.image.now self.now.program.now.given.space.thread.now self.now.program.now.given.slots.now log.old self.now.point shown.now (kept.Known known.now) }
+        ensures same { IfOk result (λ k. noted_by self.now.program.now.given.slots.now log.new k
+            ≡ follows_call self.now.program.now.given.space.thread.now (measure_of known.now.measure) (call_at self.now.program.now.given.space.image.now (thread_of self.now.program.now) self.now.point (state_by self.now.program.now.given.slots.now log.old known.now))) }
         ensures sound { IfOk result (IsSound log.new (self.now.point + 1)) }
-        ensures clean { IfOk result (IsCleanIn self.now.program.now.space.image.now self.now.program.now.space.thread.now self.now.program.now.slots.now log.new) }
+        ensures clean { IfOk result (IsCleanIn self.now.program.now.given.space.image.now self.now.program.now.given.space.thread.now self.now.program.now.given.slots.now log.new) }
         ensures others { IfOk result (λ _. KeepsParts log.old log.new) }
     {
         let program = self.program;
-        let slots = shown.slots(program.slots);
+        let slots = shown.slots(program.given.slots);
         let here = VisitedSlots {
             visit: *self,
             slots,
@@ -160,7 +160,7 @@ impl Visit<'_, '_, '_, '_> {
             Called::Refused(_) => Ok(Kept::Missing),
             Called::Leaves(behind, made) => {
                 let part = log.follow(known.part, &made)?;
-                let budget = program.space.thread.header().budget;
+                let budget = program.given.space.thread.header().budget;
                 let left = follows_call(budget, &known.measure, &behind);
                 Ok(keep(left, part, behind.is_tidy))
             }
@@ -175,10 +175,10 @@ impl Visit<'_, '_, '_, '_> {
         log: &mut SlotLog,
         shown: &ShownPart,
     ) -> Result<(), AllocError>
-        requires { IsLookedAt self.now.program.now.space.image.now self.now.program.now.space.thread.now self.now.program.now.slots.now log.old self.now.point shown.now kept.old }
-        ensures same { IfOk result (λ _. self.now.is_next_noted ≡ false → noted_by self.now.program.now.slots.now log.new kept.new ≡ follows self.now.program.now.space.image.now (thread_of self.now.program.now) self.now.point (noted_by self.now.program.now.slots.now log.old kept.old)) }
+        requires { IsLookedAt self.now.program.now.given.space.image.now self.now.program.now.given.space.thread.now self.now.program.now.given.slots.now log.old self.now.point shown.now kept.old }
+        ensures same { IfOk result (λ _. self.now.is_next_noted ≡ false → noted_by self.now.program.now.given.slots.now log.new kept.new ≡ follows self.now.program.now.given.space.image.now (thread_of self.now.program.now) self.now.point (noted_by self.now.program.now.given.slots.now log.old kept.old)) }
         ensures sound { IfOk result (λ _. IsSound log.new (self.now.point + 1) kept.new) }
-        ensures clean { IfOk result (λ _. IsCleanIn self.now.program.now.space.image.now self.now.program.now.space.thread.now self.now.program.now.slots.now log.new kept.new) }
+        ensures clean { IfOk result (λ _. IsCleanIn self.now.program.now.given.space.image.now self.now.program.now.given.space.thread.now self.now.program.now.given.slots.now log.new kept.new) }
         ensures others { IfOk result (λ _. KeepsParts log.old log.new) }
     {
         if self.is_next_noted {

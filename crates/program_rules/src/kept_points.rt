@@ -137,7 +137,7 @@ impl<'a> KeptPoints<'a> {
     ) -> Result<Place, AllocError>
         ensures same { IfOk result (λ _. self.new.places ≡ self.old.places) }
         ensures others { IfOk result (λ _. KeepsAll self.old self.new) }
-        ensures at { IfOk result (λ place. (point : ℕ) → 1 ≤ point → IsNextAt program.now.space.thread.now self.new before.now point (kept.Known known.now) place) }
+        ensures at { IfOk result (λ place. (point : ℕ) → 1 ≤ point → IsNextAt program.now.given.space.thread.now self.new before.now point (kept.Known known.now) place) }
     {
         let Kept::Known(before) = before else {
             return self.keep_whole(known);
@@ -159,7 +159,7 @@ impl<'a> KeptPoints<'a> {
     ) -> Result<Place, AllocError>
         ensures same { IfOk result (λ _. self.new.places ≡ self.old.places) }
         ensures others { IfOk result (λ _. KeepsAll self.old self.new) }
-        ensures at { IfOk result (λ place. record_of visit.now.program.now.space.thread.now visit.now.point ≡ None → IsNextAt visit.now.program.now.space.thread.now self.new before.now visit.now.point (kept.Known known.now) place) }
+        ensures at { IfOk result (λ place. record_of visit.now.program.now.given.space.thread.now visit.now.point ≡ None → IsNextAt visit.now.program.now.given.space.thread.now self.new before.now visit.now.point (kept.Known known.now) place) }
     {
         let program = visit.program;
         let point = visit.point;
@@ -169,7 +169,7 @@ impl<'a> KeptPoints<'a> {
         if MOST_STEPS <= self.steps {
             return self.keep_whole(known);
         }
-        if is_call(program.space.thread.word(point - 1)) {
+        if is_call(program.given.space.thread.word(point - 1)) {
             return self.keep_call(program, before, known);
         }
         Ok(Place::Plain)
@@ -184,7 +184,7 @@ impl<'a> KeptPoints<'a> {
     ) -> Result<Place, AllocError>
         ensures same { IfOk result (λ _. self.new.places ≡ self.old.places) }
         ensures others { IfOk result (λ _. KeepsAll self.old self.new) }
-        ensures at { IfOk result (IsNextAt visit.now.program.now.space.thread.now self.new before.now visit.now.point kept.now) }
+        ensures at { IfOk result (IsNextAt visit.now.program.now.given.space.thread.now self.new before.now visit.now.point kept.now) }
     {
         match kept {
             Kept::Missing => Ok(Place::Missing),
@@ -204,7 +204,7 @@ impl<'a> KeptPoints<'a> {
         kept: &Kept,
     ) -> Result<(), AllocError>
         ensures count { IfOk result (λ _. length self.new.places.items ≡ length self.old.places.items + 1) }
-        ensures kept { IfOk result (λ _. (image : Image) (t : Numbered) (slots : List NotedSlot) (log : List LogEntry) → t.thread ≡ visit.now.program.now.space.thread.now → length self.old.places.items ≡ visit.now.point
+        ensures kept { IfOk result (λ _. (image : Image) (t : Numbered) (slots : List NotedSlot) (log : List LogEntry) → t.thread ≡ visit.now.program.now.given.space.thread.now → length self.old.places.items ≡ visit.now.point
             → ((last : ℕ) → last + 1 ≡ visit.now.point → IsKeptAt image t slots log last before.now) → IsKeptAt image t slots log visit.now.point kept.now → AreKept image t slots log self.old → AreKept image t slots log self.new) }
     {
         let place = self.keep(visit, before, kept)?;
@@ -290,7 +290,7 @@ impl<'a> KeptPoints<'a> {
 
     /// What is kept of the point after one of which this is kept, by what is kept of the system call there.
     pub(crate) fn after_call(&self, program: &Program<'_, '_>, at: u32, kept: &Kept) -> Kept
-        ensures { (image : Image) (t : Numbered) (slots : List NotedSlot) (log : List LogEntry) (point : ℕ) → t.thread ≡ program.now.space.thread.now → point ≤ 2 ^ 32
+        ensures { (image : Image) (t : Numbered) (slots : List NotedSlot) (log : List LogEntry) (point : ℕ) → t.thread ≡ program.now.given.space.thread.now → point ≤ 2 ^ 32
             → IsKeptAt image t slots log point kept.now → IsAt image t slots log self.now (point + 1) (place.Called at) → IsKeptAt image t slots log (point + 1) result }
     {
         if self.called.len() <= at as usize {

@@ -66,10 +66,10 @@ impl<'a> Model for NotedRecords<'a> {
 impl<'a> NotedRecords<'a> {
     /// All records of a program's certificate.
     fn of(program: &Program<'a, '_>) -> Self
-        ensures { result ≡ program.now.space.thread.now.records }
+        ensures { result ≡ program.now.given.space.thread.now.records }
     {
         NotedRecords {
-            records: program.space.thread.records(),
+            records: program.given.space.thread.records(),
         }
     }
 
@@ -115,7 +115,7 @@ impl<'a> Model for RecordsLeft<'a> {
 impl<'a> RecordsLeft<'a> {
     /// All records of a program's certificate.
     pub(crate) fn of(program: &Program<'a, '_>) -> Self
-        ensures { result ≡ program.now.space.thread.now.records }
+        ensures { result ≡ program.now.given.space.thread.now.records }
     {
         let mut records = NotedRecords::of(program);
         let next = records.next();

@@ -76,9 +76,9 @@ impl<'a> Points<'a> {
         derived: &mut Kept,
         shown: &mut ShownPart,
     ) -> Result<(), AllocError>
-        requires read { IsReadTo visit.now.program.now.space.image.now (thread_of visit.now.program.now) visit.now.program.now.slots.now visit.now.point self.old.log self.old.kept last.old derived.old }
+        requires read { IsReadTo visit.now.program.now.given.space.image.now (thread_of visit.now.program.now) visit.now.program.now.given.slots.now visit.now.point self.old.log self.old.kept last.old derived.old }
         requires shown { ShowsSome self.old.log shown.old }
-        ensures read { IfOk result (λ _. IsReadTo visit.now.program.now.space.image.now (thread_of visit.now.program.now) visit.now.program.now.slots.now (visit.now.point + 1) self.new.log self.new.kept last.new derived.new) }
+        ensures read { IfOk result (λ _. IsReadTo visit.now.program.now.given.space.image.now (thread_of visit.now.program.now) visit.now.program.now.given.slots.now (visit.now.point + 1) self.new.log self.new.kept last.new derived.new) }
         ensures shown { IfOk result (λ _. ShowsSome self.new.log shown.new) }
     {
         note_own(&mut self.log, visit.noted, derived)?;
@@ -92,7 +92,7 @@ impl<'a> Points<'a> {
 
     /// The points of a program: each has the state of its record, or what the point before leaves. Memory may be refused.
     pub(crate) fn of(program: &Program<'a, '_>) -> Result<Self, AllocError>
-        ensures { IfOk result (λ all. IsRead program.now.space.image.now (thread_of program.now) program.now.slots.now all.log all.kept) }
+        ensures { IfOk result (λ all. IsRead program.now.given.space.image.now (thread_of program.now) program.now.given.slots.now all.log all.kept) }
     {
         let mut records = RecordsLeft::of(program);
         let mut points = Points {
@@ -102,13 +102,13 @@ impl<'a> Points<'a> {
         let mut last = Kept::Missing;
         let mut derived = Kept::Missing;
         let mut shown = ShownPart::new(program.alloc);
-        'notes: for point in 0..program.space.thread.word_count() {
+        'notes: for point in 0..program.given.space.thread.word_count() {
             let noted = records.take(point);
             let is_next_noted = records.is_next(point + 1);
             let visit = Visit {
                 program,
                 point,
-                instr: decode(program.space.thread.word(point)),
+                instr: decode(program.given.space.thread.word(point)),
                 noted: noted.as_ref(),
                 is_next_noted,
             };

@@ -41,21 +41,21 @@ impl<'a> Visit<'_, '_, 'a, '_> {
         same: &mut SameParts,
         found: &mut FoundPages,
     ) -> Result<(), Refusal>
-        requires read { IsRead self.now.program.now.space.image.now (thread_of self.now.program.now) self.now.program.now.slots.now points.old.log points.old.kept }
-        requires kept { IsKeptAt self.now.program.now.space.image.now (thread_of self.now.program.now) self.now.program.now.slots.now points.old.log self.now.point (kept.Known known.now) }
+        requires read { IsRead self.now.program.now.given.space.image.now (thread_of self.now.program.now) self.now.program.now.given.slots.now points.old.log points.old.kept }
+        requires kept { IsKeptAt self.now.program.now.given.space.image.now (thread_of self.now.program.now) self.now.program.now.given.slots.now points.old.log self.now.point (kept.Known known.now) }
         requires part { Shows points.old.log known.now.part shown.old }
-        requires same { AreSame self.now.program.now.slots.now points.old.log same.old }
-        requires found { AreFound self.now.program.now.space.image.now self.now.program.now.space.thread.now self.now.program.now.slots.now points.old.log found.old }
-        ensures same { IfOk result (λ _. AreSame self.now.program.now.slots.now points.new.log same.new) }
-        ensures found { IfOk result (λ _. AreFound self.now.program.now.space.image.now self.now.program.now.space.thread.now self.now.program.now.slots.now points.new.log found.new) }
-        ensures broken { Answers (first_broken (state_rules self.now.program.now.space.image.now (thread_of self.now.program.now) self.now.point (state_by self.now.program.now.slots.now points.old.log known.now))) result }
-        ensures read { IfOk result (λ _. IsRead self.now.program.now.space.image.now (thread_of self.now.program.now) self.now.program.now.slots.now points.new.log points.new.kept) }
+        requires same { AreSame self.now.program.now.given.slots.now points.old.log same.old }
+        requires found { AreFound self.now.program.now.given.space.image.now self.now.program.now.given.space.thread.now self.now.program.now.given.slots.now points.old.log found.old }
+        ensures same { IfOk result (λ _. AreSame self.now.program.now.given.slots.now points.new.log same.new) }
+        ensures found { IfOk result (λ _. AreFound self.now.program.now.given.space.image.now self.now.program.now.given.space.thread.now self.now.program.now.given.slots.now points.new.log found.new) }
+        ensures broken { Answers (first_broken (state_rules self.now.program.now.given.space.image.now (thread_of self.now.program.now) self.now.point (state_by self.now.program.now.given.slots.now points.old.log known.now))) result }
+        ensures read { IfOk result (λ _. IsRead self.now.program.now.given.space.image.now (thread_of self.now.program.now) self.now.program.now.given.slots.now points.new.log points.new.kept) }
         ensures shown { IfOk result (λ _. ShowsSome points.new.log shown.new) }
         ensures others { IfOk result (λ _. KeepsParts points.old.log points.new.log) }
     {
         found.go_on(known.part);
         let program = self.program;
-        let slots = shown.slots(program.slots);
+        let slots = shown.slots(program.given.slots);
         let here = VisitedSlots {
             visit: *self,
             slots,
@@ -89,15 +89,15 @@ impl<'a> Visit<'_, '_, 'a, '_> {
         same: &mut SameParts,
         found: &mut FoundPages,
     ) -> Result<(), Refusal>
-        requires read { IsRead self.now.program.now.space.image.now (thread_of self.now.program.now) self.now.program.now.slots.now points.old.log points.old.kept }
-        requires kept { IsKeptAt self.now.program.now.space.image.now (thread_of self.now.program.now) self.now.program.now.slots.now points.old.log self.now.point kept.now }
+        requires read { IsRead self.now.program.now.given.space.image.now (thread_of self.now.program.now) self.now.program.now.given.slots.now points.old.log points.old.kept }
+        requires kept { IsKeptAt self.now.program.now.given.space.image.now (thread_of self.now.program.now) self.now.program.now.given.slots.now points.old.log self.now.point kept.now }
         requires some { ShowsSome points.old.log shown.old }
-        requires same { AreSame self.now.program.now.slots.now points.old.log same.old }
-        requires found { AreFound self.now.program.now.space.image.now self.now.program.now.space.thread.now self.now.program.now.slots.now points.old.log found.old }
-        ensures same { IfOk result (λ _. AreSame self.now.program.now.slots.now points.new.log same.new) }
-        ensures found { IfOk result (λ _. AreFound self.now.program.now.space.image.now self.now.program.now.space.thread.now self.now.program.now.slots.now points.new.log found.new) }
-        ensures broken { Answers (first_broken (point_rules self.now.program.now.space.image.now (thread_of self.now.program.now) self.now.point)) result }
-        ensures read { IfOk result (λ _. IsRead self.now.program.now.space.image.now (thread_of self.now.program.now) self.now.program.now.slots.now points.new.log points.new.kept) }
+        requires same { AreSame self.now.program.now.given.slots.now points.old.log same.old }
+        requires found { AreFound self.now.program.now.given.space.image.now self.now.program.now.given.space.thread.now self.now.program.now.given.slots.now points.old.log found.old }
+        ensures same { IfOk result (λ _. AreSame self.now.program.now.given.slots.now points.new.log same.new) }
+        ensures found { IfOk result (λ _. AreFound self.now.program.now.given.space.image.now self.now.program.now.given.space.thread.now self.now.program.now.given.slots.now points.new.log found.new) }
+        ensures broken { Answers (first_broken (point_rules self.now.program.now.given.space.image.now (thread_of self.now.program.now) self.now.point)) result }
+        ensures read { IfOk result (λ _. IsRead self.now.program.now.given.space.image.now (thread_of self.now.program.now) self.now.program.now.given.slots.now points.new.log points.new.kept) }
         ensures shown { IfOk result (λ _. ShowsSome points.new.log shown.new) }
         ensures others { IfOk result (λ _. KeepsParts points.old.log points.new.log) }
     {
@@ -119,17 +119,17 @@ impl<'a> Visit<'_, '_, 'a, '_> {
 impl ReadPoints<'_, '_, '_, '_> {
     /// The rules on the state of the thread's entry.
     fn entry_rules(&self) -> Result<(), Refusal>
-        ensures { Answers (first_broken (entry_rules self.now.program.now.space.image.now (thread_of self.now.program.now)
-            (noted self.now.program.now.space.image.now (thread_of self.now.program.now) self.now.program.now.space.thread.now.header.entry))) result }
+        ensures { Answers (first_broken (entry_rules self.now.program.now.given.space.image.now (thread_of self.now.program.now)
+            (noted self.now.program.now.given.space.image.now (thread_of self.now.program.now) self.now.program.now.given.space.thread.now.header.entry))) result }
     {
         let program = self.program;
         let points = self.points;
-        let entry = program.space.thread.header().entry;
+        let entry = program.given.space.thread.header().entry;
         let at = program.at(entry);
         match self.at(entry) {
             Kept::Known(known) => {
                 let has_slots = program.has_listed_slots(&points.log, known.part)?;
-                entered(program.space.thread, at, &known, has_slots)
+                entered(program.given.space.thread, at, &known, has_slots)
             }
             Kept::Missing | Kept::Unmeasured => Err(Refusal::RangeNotKept(at)),
         }
@@ -150,8 +150,8 @@ impl<'a> Program<'a, '_> {
     /// The rules on all points, in their order. What is shown of the slots is set aside where a point has an empty part, and is gone
     /// on from after it.
     fn points_rules(&self, points: &mut Points<'a>) -> Result<(), Refusal>
-        requires { IsRead self.now.space.image.now (thread_of self.now) self.now.slots.now points.old.log points.old.kept }
-        ensures { Answers (first_broken (flat_map (point_rules self.now.space.image.now (thread_of self.now)) (range_with_len 0 self.now.space.thread.now.header.words))) result }
+        requires { IsRead self.now.given.space.image.now (thread_of self.now) self.now.given.slots.now points.old.log points.old.kept }
+        ensures { Answers (first_broken (flat_map (point_rules self.now.given.space.image.now (thread_of self.now)) (range_with_len 0 self.now.given.space.thread.now.header.words))) result }
     {
         let mut records = RecordsLeft::of(self);
         let mut shown = ShownPart::new(self.alloc);
@@ -164,13 +164,13 @@ impl<'a> Program<'a, '_> {
             points: &*points,
         };
         let mut kept = read.at(0);
-        'rules: for point in 0..self.space.thread.word_count() {
+        'rules: for point in 0..self.given.space.thread.word_count() {
             let noted = records.take(point);
             let is_next_noted = records.is_next(point + 1);
             let visit = Visit {
                 program: self,
                 point,
-                instr: decode(self.space.thread.word(point)),
+                instr: decode(self.given.space.thread.word(point)),
                 noted: noted.as_ref(),
                 is_next_noted,
             };
@@ -190,18 +190,18 @@ impl<'a> Program<'a, '_> {
     /// Whether the slots of a part of the log are those that the image lists.
     fn has_listed_slots(&self, log: &SlotLog, part: Part) -> Result<bool, AllocError>
         requires { Holds log.now part }
-        ensures { IfOk result (λ is. is ≡ are_same_slots (replayed self.now.slots.now (part_of log.now part)) (image_slots self.now.space.image.now self.now.space.thread.now)) }
+        ensures { IfOk result (λ is. is ≡ are_same_slots (replayed self.now.given.slots.now (part_of log.now part)) (image_slots self.now.given.space.image.now self.now.given.space.thread.now)) }
     {
         let shown = log.shown(part)?;
         let nothing = ShownPart::new(self.alloc);
-        let slots = shown.slots(self.slots);
-        Ok(slots.is_same(&nothing.slots(self.slots)))
+        let slots = shown.slots(self.given.slots);
+        Ok(slots.is_same(&nothing.slots(self.given.slots)))
     }
 
     /// The rules on the program: at its entry, and then at its points in their order.
     #[tactic(auto, unfolding(model::specs::Acceptance::PointRules::rules_of_program))]
     pub(crate) fn check(&self) -> Result<(), Refusal>
-        ensures { Answers (first_broken (rules_of_program self.now.space.image.now (thread_of self.now))) result }
+        ensures { Answers (first_broken (rules_of_program self.now.given.space.image.now (thread_of self.now))) result }
     {
         let mut points = Points::of(self)?;
         let read = ReadPoints {

@@ -16,14 +16,14 @@ use crate::programs::Program;
 pub(crate) struct ReadPoints<'p, 'k, 'a, 's> {
     pub(crate) program: &'p Program<'a, 's>,
     pub(crate) points: &'k Points<'a>,
-    ghost read: { IsRead program.now.space.image.now (thread_of program.now) program.now.slots.now points.now.log points.now.kept } by { Prim.hlevel (props, IsAt-prop) },
+    ghost read: { IsRead program.now.given.space.image.now (thread_of program.now) program.now.given.slots.now points.now.log points.now.kept } by { Prim.hlevel (props, IsAt-prop) },
 }
 
 impl ReadPoints<'_, '_, '_, '_> {
     /// Makes of what is kept of a point what is kept of the one after it, if the program has one.
     pub(crate) fn pass(&self, point: u32, kept: &mut Kept)
-        requires { IsKeptAt self.now.program.now.space.image.now (thread_of self.now.program.now) self.now.program.now.slots.now self.now.points.now.log point kept.old }
-        ensures { point + 1 < self.now.program.now.space.thread.now.header.words → IsKeptAt self.now.program.now.space.image.now (thread_of self.now.program.now) self.now.program.now.slots.now self.now.points.now.log (point + 1) kept.new }
+        requires { IsKeptAt self.now.program.now.given.space.image.now (thread_of self.now.program.now) self.now.program.now.given.slots.now self.now.points.now.log point kept.old }
+        ensures { point + 1 < self.now.program.now.given.space.thread.now.header.words → IsKeptAt self.now.program.now.given.space.image.now (thread_of self.now.program.now) self.now.program.now.given.slots.now self.now.points.now.log (point + 1) kept.new }
     {
         let points = self.points;
         let program = self.program;
@@ -40,8 +40,8 @@ impl ReadPoints<'_, '_, '_, '_> {
 
     /// What is kept of a point.
     pub(crate) fn at(&self, point: u32) -> Kept
-        requires { point < self.now.program.now.space.thread.now.header.words }
-        ensures { IsKeptAt self.now.program.now.space.image.now (thread_of self.now.program.now) self.now.program.now.slots.now self.now.points.now.log point result }
+        requires { point < self.now.program.now.given.space.thread.now.header.words }
+        ensures { IsKeptAt self.now.program.now.given.space.image.now (thread_of self.now.program.now) self.now.program.now.given.slots.now self.now.points.now.log point result }
     {
         let points = self.points;
         let first = points.kept.first_of(point);

@@ -33,11 +33,11 @@ pub(crate) struct Visit<'p, 'n, 'a, 's> {
     pub(crate) noted: Option<&'n PlacedRecord<'a>>,
     /// Whether the next point has a record.
     pub(crate) is_next_noted: bool,
-    ghost within: { point < program.now.space.thread.now.header.words },
-    ghost is: { instruction_at program.now.space.thread.now point ≡ instr },
+    ghost within: { point < program.now.given.space.thread.now.header.words },
+    ghost is: { instruction_at program.now.given.space.thread.now point ≡ instr },
     ghost valid: { (i : RuleInstr) → instr ≡ Some i → IsInstr i } by { Prim.hlevel (props, IsInstr-prop) },
-    ghost listed: { option_map (λ r. r.now) noted ≡ record_of program.now.space.thread.now point },
-    ghost next: { is_next_noted ≡ is_some (record_of program.now.space.thread.now (point + 1)) },
+    ghost listed: { option_map (λ r. r.now) noted ≡ record_of program.now.given.space.thread.now point },
+    ghost next: { is_next_noted ≡ is_some (record_of program.now.given.space.thread.now (point + 1)) },
 }
 
 /// The slots at a point.
@@ -47,8 +47,8 @@ pub(crate) struct VisitedSlots<'p, 'n, 'h, 'a, 's> {
     pub(crate) slots: NotedSlots<'h>,
     /// Whether it is known that none is one that the thread may not have.
     pub(crate) is_clean: bool,
-    ghost image: { slots.image.now ≡ visit.program.now.slots.now },
-    ghost clean: { is_clean ≡ true → NoneStray visit.program.now.space.image.now visit.program.now.space.thread.now (slots_of slots) },
+    ghost image: { slots.image.now ≡ visit.program.now.given.slots.now },
+    ghost clean: { is_clean ≡ true → NoneStray visit.program.now.given.space.image.now visit.program.now.given.space.thread.now (slots_of slots) },
 }
 
 /// The slots of a part of the log, shown, in a program of which each point is read.
@@ -58,7 +58,7 @@ pub(crate) struct Seen<'p, 'k, 'h, 'a, 's> {
     pub(crate) points: &'k Points<'a>,
     pub(crate) part: Part,
     pub(crate) shown: &'h ShownPart,
-    ghost read: { IsRead program.now.space.image.now (thread_of program.now) program.now.slots.now points.now.log points.now.kept } by { Prim.hlevel (props, IsAt-prop) },
+    ghost read: { IsRead program.now.given.space.image.now (thread_of program.now) program.now.given.slots.now points.now.log points.now.kept } by { Prim.hlevel (props, IsAt-prop) },
     ghost shows: { Shows points.now.log part shown.now },
 }
 
@@ -70,10 +70,10 @@ pub(crate) struct PlainPoint<'p, 'n, 'k, 'h, 'c, 'a, 's> {
     pub(crate) shown: &'h ShownPart,
     pub(crate) known: &'c Known,
     pub(crate) instr: Instr,
-    ghost read: { IsRead visit.program.now.space.image.now (thread_of visit.program.now) visit.program.now.slots.now points.now.log points.now.kept } by { Prim.hlevel (props, IsAt-prop) },
+    ghost read: { IsRead visit.program.now.given.space.image.now (thread_of visit.program.now) visit.program.now.given.slots.now points.now.log points.now.kept } by { Prim.hlevel (props, IsAt-prop) },
     ghost shows: { Shows points.now.log known.now.part shown.now },
-    ghost kept: { states.Known (state_by visit.program.now.slots.now points.now.log known.now) ≡ noted visit.program.now.space.image.now (thread_of visit.program.now) visit.point },
+    ghost kept: { states.Known (state_by visit.program.now.given.slots.now points.now.log known.now) ≡ noted visit.program.now.given.space.image.now (thread_of visit.program.now) visit.point },
     ghost valid: { IsInstr instr } by { Prim.hlevel (props, IsInstr-prop) },
-    ghost is: { instruction_at visit.program.now.space.thread.now visit.point ≡ Some instr },
+    ghost is: { instruction_at visit.program.now.given.space.thread.now visit.point ≡ Some instr },
     ghost plain: { instr ≢ Ecall },
 }

@@ -55,10 +55,10 @@ fn takes_no_way(instr: Instr) -> bool
 impl Program<'_, '_> {
     /// The point at an address, if the program has one there.
     fn point_at(&self, address: u32) -> Option<u32>
-        ensures value { result ≡ point_at self.now.space.thread.now address }
-        ensures within { IfSome result (λ point. point < self.now.space.thread.now.header.words) }
+        ensures value { result ≡ point_at self.now.given.space.thread.now address }
+        ensures within { IfSome result (λ point. point < self.now.given.space.thread.now.header.words) }
     {
-        let header = self.space.thread.header();
+        let header = self.given.space.thread.header();
         if address < header.base || address % 4 != 0 {
             return None;
         }
@@ -74,7 +74,7 @@ impl Program<'_, '_> {
 impl Seen<'_, '_, '_, '_, '_> {
     /// What is kept of the point at an address: nothing, where the program has none there.
     fn kept_at(&self, address: u32) -> Kept
-        ensures noted { noted_by self.now.program.now.slots.now self.now.points.now.log result ≡ noted_at self.now.program.now.space.image.now (thread_of self.now.program.now) address }
+        ensures noted { noted_by self.now.program.now.given.slots.now self.now.points.now.log result ≡ noted_at self.now.program.now.given.space.image.now (thread_of self.now.program.now) address }
         ensures held { HasPart self.now.points.now.log result }
     {
         let read = ReadPoints {
@@ -90,9 +90,9 @@ impl Seen<'_, '_, '_, '_, '_> {
     /// Whether the slots are those of another part. Those that were found to be are not compared again. Memory may be refused.
     fn has_same_slots(&self, other: Part, same: &mut SameParts) -> Result<bool, AllocError>
         requires held { Holds self.now.points.now.log other }
-        requires same { AreSame self.now.program.now.slots.now self.now.points.now.log same.old }
-        ensures is { IfOk result (λ is. is ≡ are_same_slots (replayed self.now.program.now.slots.now (part_of self.now.points.now.log self.now.part)) (replayed self.now.program.now.slots.now (part_of self.now.points.now.log other))) }
-        ensures same { IfOk result (λ _. AreSame self.now.program.now.slots.now self.now.points.now.log same.new) }
+        requires same { AreSame self.now.program.now.given.slots.now self.now.points.now.log same.old }
+        ensures is { IfOk result (λ is. is ≡ are_same_slots (replayed self.now.program.now.given.slots.now (part_of self.now.points.now.log self.now.part)) (replayed self.now.program.now.given.slots.now (part_of self.now.points.now.log other))) }
+        ensures same { IfOk result (λ _. AreSame self.now.program.now.given.slots.now self.now.points.now.log same.new) }
     {
         if self.part.is_same(other) {
             return Ok(true);
@@ -103,8 +103,8 @@ impl Seen<'_, '_, '_, '_, '_> {
         let points = self.points;
         let program = self.program;
         let there = points.log.shown(other)?;
-        let mine = self.shown.slots(program.slots);
-        let theirs = there.slots(program.slots);
+        let mine = self.shown.slots(program.given.slots);
+        let theirs = there.slots(program.given.slots);
         if !mine.is_same(&theirs) {
             return Ok(false);
         }
@@ -121,18 +121,18 @@ impl Seen<'_, '_, '_, '_, '_> {
         address: u32,
         same: &mut SameParts,
     ) -> Result<(), Refusal>
-        requires same { AreSame self.now.program.now.slots.now self.now.points.now.log same.old }
-        ensures same { IfOk result (λ _. AreSame self.now.program.now.slots.now self.now.points.now.log same.new) }
-        ensures answers { Answers (first_broken (edge_rules self.now.program.now.space.thread.now way.now.at (measure_of way.now.measure.now)
-            (edge_of address (S.value_of step.now) (replayed self.now.program.now.slots.now (part_of self.now.points.now.log self.now.part)) way.now)
-            (noted_at self.now.program.now.space.image.now (thread_of self.now.program.now) address))) result }
+        requires same { AreSame self.now.program.now.given.slots.now self.now.points.now.log same.old }
+        ensures same { IfOk result (λ _. AreSame self.now.program.now.given.slots.now self.now.points.now.log same.new) }
+        ensures answers { Answers (first_broken (edge_rules self.now.program.now.given.space.thread.now way.now.at (measure_of way.now.measure.now)
+            (edge_of address (S.value_of step.now) (replayed self.now.program.now.given.slots.now (part_of self.now.points.now.log self.now.part)) way.now)
+            (noted_at self.now.program.now.given.space.image.now (thread_of self.now.program.now) address))) result }
     {
         let there = self.kept_at(address);
         match &there {
             Kept::Known(known) => {
                 let has_slots = self.has_same_slots(known.part, same)?;
                 let program = self.program;
-                let budget = program.space.thread.header().budget;
+                let budget = program.given.space.thread.header().budget;
                 kept_at(budget, way, step, known, has_slots)
             }
             Kept::Missing => Err(Refusal::BadTarget(way.at)),
@@ -145,13 +145,13 @@ impl Visit<'_, '_, '_, '_> {
     /// Whether the next point has the very state that this one leaves: no record notes it, and it has a state. The way to it keeps its
     /// rules then, and a system call before it is not refused.
     pub(crate) fn leaves_next(&self, points: &Points<'_>) -> bool
-        requires { IsRead self.now.program.now.space.image.now (thread_of self.now.program.now) self.now.program.now.slots.now points.now.log points.now.kept }
-        ensures plain { (s : State) (instr : Instr) → result ≡ true → states.Known s ≡ noted self.now.program.now.space.image.now (thread_of self.now.program.now) self.now.point
-            → instruction_at self.now.program.now.space.thread.now self.now.point ≡ Some instr → instr ≢ Ecall
-            → first_broken (way_rules self.now.program.now.space.image.now (thread_of self.now.program.now) self.now.point s instr (after (address_of self.now.program.now.space.thread.now self.now.point) instr s.ranges).fall_through) ≡ None }
-        ensures call { (s : State) → result ≡ true → states.Known s ≡ noted self.now.program.now.space.image.now (thread_of self.now.program.now) self.now.point
-            → instruction_at self.now.program.now.space.thread.now self.now.point ≡ Some Ecall
-            → first_broken (later_rules self.now.program.now.space.image.now (thread_of self.now.program.now) self.now.point s (Some Ecall)) ≡ None }
+        requires { IsRead self.now.program.now.given.space.image.now (thread_of self.now.program.now) self.now.program.now.given.slots.now points.now.log points.now.kept }
+        ensures plain { (s : State) (instr : Instr) → result ≡ true → states.Known s ≡ noted self.now.program.now.given.space.image.now (thread_of self.now.program.now) self.now.point
+            → instruction_at self.now.program.now.given.space.thread.now self.now.point ≡ Some instr → instr ≢ Ecall
+            → first_broken (way_rules self.now.program.now.given.space.image.now (thread_of self.now.program.now) self.now.point s instr (after (address_of self.now.program.now.given.space.thread.now self.now.point) instr s.ranges).fall_through) ≡ None }
+        ensures call { (s : State) → result ≡ true → states.Known s ≡ noted self.now.program.now.given.space.image.now (thread_of self.now.program.now) self.now.point
+            → instruction_at self.now.program.now.given.space.thread.now self.now.point ≡ Some Ecall
+            → first_broken (later_rules self.now.program.now.given.space.image.now (thread_of self.now.program.now) self.now.point s (Some Ecall)) ≡ None }
     {
         left_states_are_kept();
         left_calls_are_kept();
@@ -168,8 +168,8 @@ impl Visit<'_, '_, '_, '_> {
 impl PlainPoint<'_, '_, '_, '_, '_, '_, '_> {
     /// The rules on a way on from the instruction.
     fn way_rules(&self, way: &Edge, same: &mut SameParts) -> Result<(), Refusal>
-        requires { AreSame self.now.visit.program.now.slots.now self.now.points.now.log same.old }
-        ensures same { IfOk result (λ _. AreSame self.now.visit.program.now.slots.now self.now.points.now.log same.new) }
+        requires { AreSame self.now.visit.program.now.given.slots.now self.now.points.now.log same.old }
+        ensures same { IfOk result (λ _. AreSame self.now.visit.program.now.given.slots.now self.now.points.now.log same.new) }
         ensures answers { (edge : RuleEdge) → way_of edge ≡ way.now → edge.before ≡ (if is_branch self.now.instr then edge.ranges else self.now.known.now.bounds)
             → Answers (broken_by self.now (Some edge)) result }
     {
@@ -193,8 +193,8 @@ impl PlainPoint<'_, '_, '_, '_, '_, '_, '_> {
 
     /// The same, where there may be no such way.
     fn option_rules(&self, way: &Option<Edge>, same: &mut SameParts) -> Result<(), Refusal>
-        requires { AreSame self.now.visit.program.now.slots.now self.now.points.now.log same.old }
-        ensures same { IfOk result (λ _. AreSame self.now.visit.program.now.slots.now self.now.points.now.log same.new) }
+        requires { AreSame self.now.visit.program.now.given.slots.now self.now.points.now.log same.old }
+        ensures same { IfOk result (λ _. AreSame self.now.visit.program.now.given.slots.now self.now.points.now.log same.new) }
         ensures answers { (edge : Option RuleEdge) → option_map way_of edge ≡ way.now → IsBefore self.now.instr self.now.known.now.bounds edge
             → Answers (broken_by self.now edge) result }
     {
@@ -206,9 +206,9 @@ impl PlainPoint<'_, '_, '_, '_, '_, '_, '_> {
 
     /// The rules on the taken way on.
     fn taken_rules(&self, same: &mut SameParts) -> Result<(), Refusal>
-        requires { AreSame self.now.visit.program.now.slots.now self.now.points.now.log same.old }
-        ensures same { IfOk result (λ _. AreSame self.now.visit.program.now.slots.now self.now.points.now.log same.new) }
-        ensures answers { Answers (broken_by self.now (after (address_of self.now.visit.program.now.space.thread.now self.now.visit.point) self.now.instr self.now.known.now.bounds).taken) result }
+        requires { AreSame self.now.visit.program.now.given.slots.now self.now.points.now.log same.old }
+        ensures same { IfOk result (λ _. AreSame self.now.visit.program.now.given.slots.now self.now.points.now.log same.new) }
+        ensures answers { Answers (broken_by self.now (after (address_of self.now.visit.program.now.given.space.thread.now self.now.visit.point) self.now.instr self.now.known.now.bounds).taken) result }
     {
         if takes_no_way(self.instr) {
             return Ok(());
@@ -220,9 +220,9 @@ impl PlainPoint<'_, '_, '_, '_, '_, '_, '_> {
 
     /// The rules on the ways on, the taken one first.
     pub(crate) fn ways_rules(&self, same: &mut SameParts) -> Result<(), Refusal>
-        requires { AreSame self.now.visit.program.now.slots.now self.now.points.now.log same.old }
-        ensures same { IfOk result (λ _. AreSame self.now.visit.program.now.slots.now self.now.points.now.log same.new) }
-        ensures answers { Answers (first_broken (rules_on_edges self.now.visit.program.now.space.image.now (thread_of self.now.visit.program.now) self.now.visit.point (state_at self.now))) result }
+        requires { AreSame self.now.visit.program.now.given.slots.now self.now.points.now.log same.old }
+        ensures same { IfOk result (λ _. AreSame self.now.visit.program.now.given.slots.now self.now.points.now.log same.new) }
+        ensures answers { Answers (first_broken (rules_on_edges self.now.visit.program.now.given.space.image.now (thread_of self.now.visit.program.now) self.now.visit.point (state_at self.now))) result }
     {
         if self.visit.leaves_next(self.points) {
             return self.taken_rules(same);

@@ -17,6 +17,7 @@ mod ListedMappings
 mod RootRadix
 mod GivenRoots
 mod StandingApart
+mod PlacedThreads
 mod NoStraySlots
 mod RootPlaces
 pub mod Laws

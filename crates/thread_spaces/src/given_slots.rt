@@ -8,7 +8,8 @@ ghost use Rattle.typestate.specs.Orders.{Rise};
 
 use crate::capabilities::listed_slot;
 use crate::offsets::PlacedImage;
-use image_reading::{ThreadRef, capability_of, header_of};
+use crate::placed_threads::PlacedThread;
+use image_reading::{capability_of, header_of};
 use model::CapabilityEntry;
 use std::alloc::{AllocError, Global};
 use typestate::NotedSlot;
@@ -31,25 +32,23 @@ fn note_listed(
     Ok(())
 }
 
-/// The full slots of the CNodes that a well-formed image gives a thread, their keys rising.
-///
-/// # Errors
-///
-/// Memory may be refused.
-pub fn slots_of(
-    alloc: Global,
-    placed: &PlacedImage<'_, '_>,
-    thread: &ThreadRef<'_>,
-    cnodes: &NumberSet,
-) -> Result<Vec<NotedSlot>, AllocError>
-    requires cnodes { cnodes.now ≡ reached placed.now.image.now thread.now }
-    ensures slots { IfOk result (λ slots. slots.items ≡ image_slots placed.now.image.now thread.now) }
-    ensures rise { IfOk result (λ slots. Rise slots.items) }
-{
-    let image = placed.image;
-    let mut slots = Vec::new(alloc);
-    for number in 0..header_of(image).capabilities {
-        note_listed(&mut slots, placed, cnodes, capability_of(image, number))?;
+impl PlacedThread<'_, '_, '_, '_> {
+    /// The full slots of the CNodes that the image gives the thread, their keys rising. Fails if out of memory.
+    pub(crate) fn slots(
+        &self,
+        alloc: Global,
+        cnodes: &NumberSet,
+    ) -> Result<Vec<NotedSlot>, AllocError>
+        requires cnodes { cnodes.now ≡ reached self.now.placed.now.image.now self.now.thread.now }
+        ensures slots { IfOk result (λ slots. slots.items ≡ image_slots self.now.placed.now.image.now self.now.thread.now) }
+        ensures rise { IfOk result (λ slots. Rise slots.items) }
+    {
+        let placed = self.placed;
+        let image = placed.image;
+        let mut slots = Vec::new(alloc);
+        for number in 0..header_of(image).capabilities {
+            note_listed(&mut slots, placed, cnodes, capability_of(image, number))?;
+        }
+        Ok(slots)
     }
-    Ok(slots)
 }

@@ -2,12 +2,12 @@
 
 ghost use Rattle.std.specs.Prelude.{◌≡◌, IfOk};
 ghost use Rattle.model.specs.Acceptance.ThreadRules.{reached};
-ghost use Rattle.thread_spaces.specs.Given.{IsCNode, IsListed};
+ghost use Rattle.thread_spaces.specs.Given.{IsCNode};
 ghost use Rattle.typestate.specs.Spaces.{AreWindows, IsWindow};
 
 use crate::offsets::PlacedImage;
+use crate::placed_threads::PlacedThread;
 use crate::space_laws::threads_stand_apart;
-use image_reading::ThreadRef;
 use std::alloc::{AllocError, Global};
 use typestate::{Window, Windows};
 use wellformed::{NumberSet, radix_of, type_at};
@@ -28,27 +28,20 @@ fn window_of(placed: &PlacedImage<'_, '_>, cnode: u32) -> Window
     }
 }
 
-/// Where the CNodes lie that a thread of a well-formed image reaches, in the order in which they are found.
-///
-/// # Errors
-///
-/// Memory may be refused.
-pub fn windows_of(
-    alloc: Global,
-    placed: &PlacedImage<'_, '_>,
-    thread: &ThreadRef<'_>,
-    cnodes: &NumberSet,
-) -> Result<Windows, AllocError>
-    requires listed { IsListed placed.now.image.now thread.now }
-    requires cnodes { cnodes.now ≡ reached placed.now.image.now thread.now }
-    ensures { IfOk result (λ windows. AreWindows placed.now.image.now (reached placed.now.image.now thread.now) windows) }
-{
-    let image = placed.image;
-    let _ = image.header();
-    threads_stand_apart();
-    let mut windows = Vec::new(alloc);
-    'cnodes: for place in 0..cnodes.len() {
-        windows.push(window_of(placed, cnodes.at(place)))?;
+impl PlacedThread<'_, '_, '_, '_> {
+    /// Where the CNodes lie that the thread reaches, in the order in which they are found. Fails if out of memory.
+    pub(crate) fn windows(&self, alloc: Global, cnodes: &NumberSet) -> Result<Windows, AllocError>
+        requires cnodes { cnodes.now ≡ reached self.now.placed.now.image.now self.now.thread.now }
+        ensures { IfOk result (λ windows. AreWindows self.now.placed.now.image.now (reached self.now.placed.now.image.now self.now.thread.now) windows) }
+    {
+        let placed = self.placed;
+        let image = placed.image;
+        let _ = image.header();
+        threads_stand_apart();
+        let mut windows = Vec::new(alloc);
+        'cnodes: for place in 0..cnodes.len() {
+            windows.push(window_of(placed, cnodes.at(place)))?;
+        }
+        Windows::new(alloc, windows)
     }
-    Windows::new(alloc, windows)
 }

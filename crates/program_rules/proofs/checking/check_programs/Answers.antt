@@ -18,9 +18,10 @@ threads-init c =
       left = ap (λ (ts : List Thread). first_broken (rules_from c.args.image.now 0 ts)) same;
     }
 
-pub check_program-requires-clause-listed : goal.check_program-requires-clause-listed
-check_program-requires-clause-listed c =
-    (head-of c.threads.number c.args.image.now.threads c.next.new.self c.in-Some.thread (c.threads.invariant.rest ∙ c.in-Some.ensures.steps)).0
+pub invariant_of-owner : goal.invariant_of-owner
+invariant_of-owner c = record {
+  listed = (head-of c.threads.number c.args.image.now.threads c.next.new.self c.in-Some.thread (c.threads.invariant.rest ∙ c.in-Some.ensures.steps)).0;
+}
 
 pub returns-in_err-check_program : goal.returns-in_err-check_program
 returns-in_err-check_program c =

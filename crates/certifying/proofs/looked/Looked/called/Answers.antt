@@ -22,9 +22,10 @@ bare-point t point bare = ap (λ (rs : List StateRecord). find (λ (r : StateRec
 
 pub invariant_of-own : goal.invariant_of-own
 invariant_of-own c =
-    let given = c.self.inside.given in
+    let thread = c.self.inside.thread in
+    let given = thread.given in
     let state = known_with c.args.bounds.now (slots_of c.slots-slots.result) nothing in
-    let none = sym (c.has_stray_slots.ensures c.args.at.point state refl (bare-point given.space.thread.now c.args.at.point given.bare))
+    let none = sym (c.has_stray_slots.ensures c.args.at.point state refl (bare-point given.space.thread.now c.args.at.point thread.bare))
     ∙ c.if-has_stray_slots.false in
     record {
       inside = c.no_stray_slot_leads_outside.ensures given.space.image.now given.space.thread.now c.args.at.point state none;
@@ -33,17 +34,18 @@ invariant_of-own c =
 
 pub invariant_of-self-2 : goal.invariant_of-self-2
 invariant_of-self-2 c =
-    let given = c.self.inside.given in
+    let thread = c.self.inside.thread in
+    let given = thread.given in
     let image = given.space.image.now in
     let own = given.space.thread.now in
     let here = slots_of c.slots-slots.result in
     let state = known_with c.args.bounds.now here nothing in
-    let none = sym (c.has_stray_slots.ensures c.args.at.point state refl (bare-point own c.args.at.point given.bare)) ∙ c.if-has_stray_slots.false in
+    let none = sym (c.has_stray_slots.ensures c.args.at.point state refl (bare-point own c.args.at.point thread.bare)) ∙ c.if-has_stray_slots.false in
     let made = c.after_call.new.made.items in
     let tidy : IsTidyBehind image own here made (Ok c.in-Ok.behind) =
     subst (λ (r : Result Behind Refusal). IsTidyBehind image own here made r) c.in-Ok.is c.in_ok-behind.ensures.tidy in
     let same : changed given.slots.now c.followed.new.shown.changes ≡ replayed here made =
-    c.in_ok-self-inside.ensures.same given.slots.now given.rising given.unlinked
+    c.in_ok-self-inside.ensures.same given.slots.now given.sorted given.unlinked
     ∙ ap (λ (l : List LogEntry). replayed (changed given.slots.now c.self.inside.shown.changes) l) c.deref.ensures.value
     ∙ ap (λ (l : List NotedSlot). replayed l made) (sym c.slots-slots.ensures.slots) in
     record {
@@ -51,6 +53,3 @@ invariant_of-self-2 c =
       none_stray = λ is. subst (λ (all : List NotedSlot). NoneStray image own all) (sym same)
           (tidy is (c.points_without_stray_slots_have_none.ensures image own c.args.at.point state none));
     }
-
-pub slots_are_own-requires-clause-listed : goal.slots_are_own-requires-clause-listed
-slots_are_own-requires-clause-listed c = record { number = c.self.inside.given.number; listed = c.self.inside.given.place }

@@ -7,5 +7,5 @@ use Rattle.explaining.proofs.scenes.Scene.called_key.Goals as goal
 
 pub called_slot-requires : goal.called_slot-requires
 called_slot-requires c =
-    let space = c.args.self.now.space in
+    let space = c.args.self.now.given.space in
     test-decides space.root (∥∥₁_elim space.given (Coded-set coded_bool _ _) (λ g. decides-test space.root g.valid))

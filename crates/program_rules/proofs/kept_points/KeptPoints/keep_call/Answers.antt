@@ -18,7 +18,7 @@ pub returns-clause-at : goal.returns-clause-at
 returns-clause-at c = λ point some.
     let old = c.args.self.now in
     let new = record old { called = c.push.new.self } in
-    let own = c.args.program.now.space.thread.now in
+    let own = c.args.program.now.given.space.thread.now in
     let count : vec_len old.called ≡ length old.called.items = search rules in
     subst (λ (last : Kept). IsNextAt own new last point (kept.Known c.args.known.now) (place.Called c.in_ok-at.at)) (sym c.in-Known.is)
     (next-called own new c.in-Known.before c.args.known.now old.called.items c.in-Some.called point c.in_ok-at.at some c.in_ok-push.ensures.items

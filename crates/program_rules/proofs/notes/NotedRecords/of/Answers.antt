@@ -7,4 +7,4 @@ use Rattle.program_rules.specs.Left.{AreLimited}
 
 pub invariant_of-result : goal.invariant_of-result
 invariant_of-result c =
-    subst (λ (rs : List StateRecord). AreLimited rs) (sym c.records.ensures) (all-limited c.args.program.now.space.thread.now c.args.program.now.fits)
+    subst (λ (rs : List StateRecord). AreLimited rs) (sym c.records.ensures) (all-limited c.args.program.now.given.space.thread.now c.args.program.now.fits)

@@ -14,8 +14,8 @@ pub look-requires : goal.look-requires
 look-requires c = record {
   sound = c.in_ok-note_own.ensures.sound c.args.visit.now.point c.requires.read.sound;
   shows = c.in_ok-show.ensures.own;
-  clean = c.in_ok-note_own.ensures.clean c.args.visit.now.program.now.space.image.now c.args.visit.now.program.now.space.thread.now
-      c.args.visit.now.program.now.slots.now c.requires.read.clean;
+  clean = c.in_ok-note_own.ensures.clean c.args.visit.now.program.now.given.space.image.now c.args.visit.now.program.now.given.space.thread.now
+      c.args.visit.now.program.now.given.slots.now c.requires.read.clean;
 }
 
 pub pass-requires : goal.pass-requires
@@ -30,10 +30,10 @@ show-requires-clause-old c = some-grown c.args.self.now.log c.note_own.new.log c
 
 pub returns-clause-read : goal.returns-clause-read
 returns-clause-read c =
-    let image = c.args.visit.now.program.now.space.image.now in
+    let image = c.args.visit.now.program.now.given.space.image.now in
     let t = thread_of c.args.visit.now.program.now in
-    let own = c.args.visit.now.program.now.space.thread.now in
-    let slots = c.args.visit.now.program.now.slots.now in
+    let own = c.args.visit.now.program.now.given.space.thread.now in
+    let slots = c.args.visit.now.program.now.given.slots.now in
     let point = c.args.visit.now.point in
     let before = c.requires.read in
     let old = c.args.self.now.log in
@@ -43,11 +43,12 @@ returns-clause-read c =
     let state = c.look.new.kept in
     let same : noted_by slots log state ≡ noted image t point =
     c.look.ensures.same
-    ∙ ap (λ (all : List NotedSlot). noted_by all log found) c.args.visit.now.program.now.listed
-    ∙ c.in_ok-note_own.ensures.same image own (subst Rise c.args.visit.now.program.now.listed c.args.visit.now.program.now.rising)
+    ∙ ap (λ (all : List NotedSlot). noted_by all log found) c.args.visit.now.program.now.given.listed
+    ∙ c.in_ok-note_own.ensures.same image own (subst Rise c.args.visit.now.program.now.given.listed c.args.visit.now.program.now.given.sorted)
     ∙ ap (λ (r : Option StateRecord). noted_or image own r (noted_by (image_slots image own) old c.args.derived.now))
     c.args.visit.now.listed
-    ∙ ap (λ (all : List NotedSlot). noted_or image own (record_of own point) (noted_by all old c.args.derived.now)) (sym c.args.visit.now.program.now.listed)
+    ∙ ap (λ (all : List NotedSlot). noted_or image own (record_of own point) (noted_by all old c.args.derived.now)) (sym
+    c.args.visit.now.program.now.given.listed)
     ∙ noted-or-same image own (record_of own point) (noted_by slots old c.args.derived.now) (states_before image t point) before.same
     ∙ sym (noted-is image t point) in
     let is : IsKeptAt image t slots log point state =

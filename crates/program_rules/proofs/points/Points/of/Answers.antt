@@ -9,13 +9,13 @@ use Rattle.program_rules.specs.Programs.{thread_of}
 
 pub notes-init : goal.notes-init
 notes-init c =
-    let image = c.args.program.now.space.image.now in
+    let image = c.args.program.now.given.space.image.now in
     let t = thread_of c.args.program.now in
-    let own = c.args.program.now.space.thread.now in
+    let own = c.args.program.now.given.space.thread.now in
     let log = c.new-2.result in (
       record {
         count = c.new.ensures.count;
-        noted = c.new.ensures.kept image t c.args.program.now.slots.now log;
+        noted = c.new.ensures.kept image t c.args.program.now.given.slots.now log;
         last = λ last follows. absurd (omega (arith, follows));
         same = λ none. refl;
         sound = tt;
@@ -27,7 +27,7 @@ notes-init c =
 
 pub invariant_of-visit : goal.invariant_of-visit
 invariant_of-visit c =
-    let own = c.args.program.now.space.thread.now in
+    let own = c.args.program.now.given.space.thread.now in
     let least = c.notes-test.true in
     let count = c.word_count-point-end.ensures.value in
     record {
@@ -42,7 +42,7 @@ invariant_of-visit c =
 
 pub notes-preserved : goal.notes-preserved
 notes-preserved c =
-    let own = c.args.program.now.space.thread.now in (
+    let own = c.args.program.now.given.space.thread.now in (
       c.in_ok-note.ensures.read,
       subst (λ (rs : List StateRecord). AreLeft own (c.notes.point + 1) rs) (sym c.take-noted.ensures.left)
           (next-record own c.notes.point c.notes.records c.notes.invariant.1).1,

@@ -7,5 +7,5 @@ use Rattle.typestate.specs.Logs.{ShowsSome}
 
 abbrev pub invariant-notes : goal.invariant-notes
 invariant-notes l =
-    IsReadTo l.fn.program.space.image.now (thread_of l.fn.program) l.fn.program.slots.now l.point l.points.log l.points.kept l.last l.derived
-    × AreLeft l.fn.program.space.thread.now l.point l.records × ShowsSome l.points.log l.shown
+    IsReadTo l.fn.program.given.space.image.now (thread_of l.fn.program) l.fn.program.given.slots.now l.point l.points.log l.points.kept l.last l.derived
+    × AreLeft l.fn.program.given.space.thread.now l.point l.records × ShowsSome l.points.log l.shown

@@ -15,7 +15,7 @@ use Rattle.wellformed.specs.Answering.{Answers}
 
 pub returns-in_err-entry_rules : goal.returns-in_err-entry_rules
 returns-in_err-entry_rules c =
-    let image = c.args.self.now.space.image.now in
+    let image = c.args.self.now.given.space.image.now in
     let t = thread_of c.args.self.now in
     let entry = first_broken (entry_rules image t (noted image t t.thread.header.entry)) in
     let points = first_broken (flat_map (point_rules image t) (range_with_len 0 t.thread.header.words)) in
@@ -25,7 +25,7 @@ returns-in_err-entry_rules c =
 
 pub returns : goal.returns
 returns c =
-    let image = c.args.self.now.space.image.now in
+    let image = c.args.self.now.given.space.image.now in
     let t = thread_of c.args.self.now in
     let entry = first_broken (entry_rules image t (noted image t t.thread.header.entry)) in
     let points = first_broken (flat_map (point_rules image t) (range_with_len 0 t.thread.header.words)) in

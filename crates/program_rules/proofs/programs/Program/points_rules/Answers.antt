@@ -14,14 +14,14 @@ use Rattle.program_rules.specs.Programs.{thread_of}
 
 pub rules-init : goal.rules-init
 rules-init c =
-    let own = c.args.self.now.space.thread.now in (
+    let own = c.args.self.now.given.space.thread.now in (
       c.requires,
       subst (λ (rs : List StateRecord). AreLeft own 0 rs) (sym c.of-records.ensures) (all-left own c.args.self.now.fits),
       refl,
       c.new-shown.ensures.shown c.args.points.now.log,
       c.new-aside.ensures.shown c.args.points.now.log,
-      c.new-same.ensures c.args.self.now.slots.now c.args.points.now.log,
-      c.new-found.ensures c.args.self.now.space.image.now own c.args.self.now.slots.now c.args.points.now.log,
+      c.new-same.ensures c.args.self.now.given.slots.now c.args.points.now.log,
+      c.new-found.ensures c.args.self.now.given.space.image.now own c.args.self.now.given.slots.now c.args.points.now.log,
       λ less. c.at-kept.ensures,
     )
 
@@ -41,13 +41,14 @@ pub pass-requires : goal.pass-requires
 pass-requires c =
     let least = c.rules-test.true in
     let count = c.word_count-point-end.ensures.value in
-    grown-at c.args.self.now.space.image.now (thread_of c.args.self.now) c.args.self.now.slots.now c.rules.points.log c.point_rules.new.points.log c.rules.point
+    grown-at c.args.self.now.given.space.image.now (thread_of c.args.self.now) c.args.self.now.given.slots.now c.rules.points.log
+    c.point_rules.new.points.log c.rules.point
     c.rules.kept
     c.in_ok-point_rules.ensures.others (c.rules.invariant.7 (omega (arith, least, count)))
 
 pub invariant_of-visit : goal.invariant_of-visit
 invariant_of-visit c =
-    let own = c.args.self.now.space.thread.now in
+    let own = c.args.self.now.given.space.thread.now in
     let least = c.rules-test.true in
     let count = c.word_count-point-end.ensures.value in
     record {
@@ -63,15 +64,16 @@ invariant_of-visit c =
 pub returns-in_err-point_rules : goal.returns-in_err-point_rules
 returns-in_err-point_rules c =
     passed-on _ c.from_residual.result c.in_err-point_rules.field-0.0 c.from_residual.ensures.1
-    (refused-here (point_rules c.args.self.now.space.image.now (thread_of c.args.self.now)) c.rules.point c.args.self.now.space.thread.now.header.words
+    (refused-here (point_rules c.args.self.now.given.space.image.now (thread_of c.args.self.now)) c.rules.point
+    c.args.self.now.given.space.thread.now.header.words
     c.in_err-point_rules.field-0.0 c.rules.invariant.2 (omega (arith, c.rules-test.true, c.word_count-point-end.ensures.value))
     c.in_err-point_rules.ensures.broken)
 
 pub rules-preserved : goal.rules-preserved
 rules-preserved c =
-    let image = c.args.self.now.space.image.now in
+    let image = c.args.self.now.given.space.image.now in
     let t = thread_of c.args.self.now in
-    let own = c.args.self.now.space.thread.now in (
+    let own = c.args.self.now.given.space.thread.now in (
       c.in_ok-point_rules.ensures.read,
       subst (λ (rs : List StateRecord). AreLeft own (c.rules.point + 1) rs) (sym c.take-noted.ensures.left)
           (next-record own c.rules.point c.rules.records c.rules.invariant.1).1,

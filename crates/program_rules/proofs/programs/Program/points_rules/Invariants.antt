@@ -14,11 +14,11 @@ use Rattle.typestate.specs.Logs.{ShowsSome}
 
 abbrev pub invariant-rules : goal.invariant-rules
 invariant-rules l =
-    let image = l.fn.self.space.image.now in
+    let image = l.fn.self.given.space.image.now in
     let t = thread_of l.fn.self in
-    IsRead image t l.fn.self.slots.now l.points.log l.points.kept × AreLeft l.fn.self.space.thread.now l.point l.records
+    IsRead image t l.fn.self.given.slots.now l.points.log l.points.kept × AreLeft l.fn.self.given.space.thread.now l.point l.records
     × (first_broken (flat_map (point_rules image t) (range_with_len 0 l.point)) ≡ None) × ShowsSome l.points.log l.shown
     × ShowsSome l.points.log l.aside
-    × AreSame l.fn.self.slots.now l.points.log l.same
-    × AreFound image t.thread l.fn.self.slots.now l.points.log l.found
-    × (l.point < t.thread.header.words → IsKeptAt image t l.fn.self.slots.now l.points.log l.point l.kept)
+    × AreSame l.fn.self.given.slots.now l.points.log l.same
+    × AreFound image t.thread l.fn.self.given.slots.now l.points.log l.found
+    × (l.point < t.thread.header.words → IsKeptAt image t l.fn.self.given.slots.now l.points.log l.point l.kept)

@@ -10,7 +10,8 @@ steps-init c =
     let count = c.args.self.now.read.count in
     let near = c.first_of-first.ensures.near in
     let less : c.first_of-first.result < length c.args.self.now.points.now.kept.places.items = omega (arith, within, count, near) in (
-      c.first-kept.ensures c.args.self.now.program.now.space.image.now (thread_of c.args.self.now.program.now) c.args.self.now.program.now.slots.now c.args.self.now.points.now.log c.args.self.now.read.noted less
+      c.first-kept.ensures c.args.self.now.program.now.given.space.image.now (thread_of c.args.self.now.program.now)
+          c.args.self.now.program.now.given.slots.now c.args.self.now.points.now.log c.args.self.now.read.noted less
           c.first_of-first.ensures.first,
       near,
     )
@@ -31,5 +32,6 @@ returns c =
     let near = c.steps.invariant.1 in
     let done = c.steps-test.false in
     let same : c.steps.before ≡ c.args.point = omega (arith, near, done) in
-    subst (λ (n : ℕ). IsKeptAt c.args.self.now.program.now.space.image.now (thread_of c.args.self.now.program.now) c.args.self.now.program.now.slots.now c.args.self.now.points.now.log n c.steps.kept)
+    subst (λ (n : ℕ). IsKeptAt c.args.self.now.program.now.given.space.image.now (thread_of c.args.self.now.program.now)
+    c.args.self.now.program.now.given.slots.now c.args.self.now.points.now.log n c.steps.kept)
     same c.steps.invariant.0

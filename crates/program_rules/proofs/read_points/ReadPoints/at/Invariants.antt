@@ -5,4 +5,5 @@ use Rattle.program_rules.specs.Kept.{IsKeptAt}
 use Rattle.program_rules.specs.Programs.{thread_of}
 
 abbrev pub invariant-steps : goal.invariant-steps
-invariant-steps l = IsKeptAt l.self.program.now.space.image.now (thread_of l.self.program.now) l.self.program.now.slots.now l.self.points.now.log l.before l.kept × (l.before ≤ l.point)
+invariant-steps l = IsKeptAt l.self.program.now.given.space.image.now (thread_of l.self.program.now) l.self.program.now.given.slots.now l.self.points.now.log
+    l.before l.kept × (l.before ≤ l.point)

@@ -22,9 +22,9 @@ has_listed_slots-requires c =
 
 pub returns-in_ok-has_slots-in-Known : goal.returns-in_ok-has_slots-in-Known
 returns-in_ok-has_slots-in-Known c =
-    let image = c.args.self.now.program.now.space.image.now in
+    let image = c.args.self.now.program.now.given.space.image.now in
     let t = thread_of c.args.self.now.program.now in
-    let slots = c.args.self.now.program.now.slots.now in
+    let slots = c.args.self.now.program.now.given.slots.now in
     let log = c.args.self.now.points.now.log in
     let entry = ap (λ h. h.entry) c.header-entry.ensures in
     told _ c.entered.result
@@ -35,9 +35,9 @@ returns-in_ok-has_slots-in-Known c =
 
 pub returns-in-Missing : goal.returns-in-Missing
 returns-in-Missing c =
-    let image = c.args.self.now.program.now.space.image.now in
+    let image = c.args.self.now.program.now.given.space.image.now in
     let t = thread_of c.args.self.now.program.now in
-    let slots = c.args.self.now.program.now.slots.now in
+    let slots = c.args.self.now.program.now.given.slots.now in
     let log = c.args.self.now.points.now.log in
     let entry = ap (λ h. h.entry) c.header-entry.ensures in
     let at = at-entry t c.header-entry.result.entry c.at-at.result entry c.at-at.ensures in

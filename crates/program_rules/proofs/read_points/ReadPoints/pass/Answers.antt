@@ -16,37 +16,39 @@ returns-then-len-point c = λ less.
 
 pub pass_plain-requires-clause-plain : goal.pass_plain-requires-clause-plain
 pass_plain-requires-clause-plain c =
-    let image = c.args.self.now.program.now.space.image.now in
+    let image = c.args.self.now.program.now.given.space.image.now in
     let t = thread_of c.args.self.now.program.now in
-    let slots = c.args.self.now.program.now.slots.now in
+    let slots = c.args.self.now.program.now.given.slots.now in
     let next = c.args.point + 1 in
     let long = c.if-len-point.false in
     let count = c.len.ensures in
     let inside : next < length c.args.self.now.points.now.kept.places.items = omega (arith, long, count) in
     let p = c.index-place.result.now in
     let got = some-place c.args.self.now.points.now.kept.places.items next p inside ∙ ap (λ (q : Place). Some q) (sym c.index-place.ensures) in
-    let step : IsBehindPlain image t next = subst (IsAt image t slots c.args.self.now.points.now.log c.args.self.now.points.now.kept next) c.in-Plain.is (c.args.self.now.read.noted.each next p got) in
+    let step : IsBehindPlain image t next = subst (IsAt image t slots c.args.self.now.points.now.log c.args.self.now.points.now.kept next) c.in-Plain.is
+    (c.args.self.now.read.noted.each next p got) in
     (step.plain c.args.point refl).plain
 
 pub returns-in-Plain : goal.returns-in-Plain
 returns-in-Plain c = λ less.
-    let image = c.args.self.now.program.now.space.image.now in
+    let image = c.args.self.now.program.now.given.space.image.now in
     let t = thread_of c.args.self.now.program.now in
-    let slots = c.args.self.now.program.now.slots.now in
+    let slots = c.args.self.now.program.now.given.slots.now in
     let next = c.args.point + 1 in
     let count = c.args.self.now.read.count in
     let inside : next < length c.args.self.now.points.now.kept.places.items = omega (arith, less, count) in
     let p = c.index-place.result.now in
     let got = some-place c.args.self.now.points.now.kept.places.items next p inside ∙ ap (λ (q : Place). Some q) (sym c.index-place.ensures) in
-    let step : IsBehindPlain image t next = subst (IsAt image t slots c.args.self.now.points.now.log c.args.self.now.points.now.kept next) c.in-Plain.is (c.args.self.now.read.noted.each next p got) in
+    let step : IsBehindPlain image t next = subst (IsAt image t slots c.args.self.now.points.now.log c.args.self.now.points.now.kept next) c.in-Plain.is
+    (c.args.self.now.read.noted.each next p got) in
     next-point image t slots c.args.self.now.points.now.log c.args.point c.args.kept.now c.pass_plain.new.kept (step.plain c.args.point refl)
     c.requires c.pass_plain.ensures.same c.pass_plain.ensures.sound c.pass_plain.ensures.clean
 
 pub returns-in-Called : goal.returns-in-Called
 returns-in-Called c = λ less.
-    let image = c.args.self.now.program.now.space.image.now in
+    let image = c.args.self.now.program.now.given.space.image.now in
     let t = thread_of c.args.self.now.program.now in
-    let slots = c.args.self.now.program.now.slots.now in
+    let slots = c.args.self.now.program.now.given.slots.now in
     let next = c.args.point + 1 in
     let count = c.args.self.now.read.count in
     let inside : next < length c.args.self.now.points.now.kept.places.items = omega (arith, less, count) in
@@ -58,9 +60,9 @@ returns-in-Called c = λ less.
 
 pub returns-in_default : goal.returns-in_default
 returns-in_default c = λ less.
-    let image = c.args.self.now.program.now.space.image.now in
+    let image = c.args.self.now.program.now.given.space.image.now in
     let t = thread_of c.args.self.now.program.now in
-    let slots = c.args.self.now.program.now.slots.now in
+    let slots = c.args.self.now.program.now.given.slots.now in
     let next = c.args.point + 1 in
     let count = c.args.self.now.read.count in
     let inside : next < length c.args.self.now.points.now.kept.places.items = omega (arith, less, count) in

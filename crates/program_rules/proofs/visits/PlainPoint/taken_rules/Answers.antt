@@ -11,7 +11,7 @@ use Rattle.wellformed.specs.Answering.{Answers}
 pub returns-then-takes_no_way-clause-answers : goal.returns-then-takes_no_way-clause-answers
 returns-then-takes_no_way-clause-answers c =
     let p = c.args.self.now in
-    ap (broken_by p) (c.takes_no_way.ensures (address_of p.visit.program.now.space.thread.now p.visit.point) p.known.now.bounds c.if-takes_no_way.true)
+    ap (broken_by p) (c.takes_no_way.ensures (address_of p.visit.program.now.given.space.thread.now p.visit.point) p.known.now.bounds c.if-takes_no_way.true)
 
 pub returns-clause-answers : goal.returns-clause-answers
 returns-clause-answers c =

@@ -18,7 +18,7 @@ use Rattle.wellformed.specs.Answering.{Answers}
 pub returns-clause-answers : goal.returns-clause-answers
 returns-clause-answers c = λ edge is before.
     let p = c.args.self.now in
-    let image = p.visit.program.now.space.image.now in
+    let image = p.visit.program.now.given.space.image.now in
     let t = thread_of p.visit.program.now in
     let bounds = p.known.now.bounds in
     let m = measure_of p.known.now.measure in

@@ -15,7 +15,7 @@ use Rattle.wellformed.specs.Answering.{Answers}
 pub returns-in_err-option_rules-clause-answers : goal.returns-in_err-option_rules-clause-answers
 returns-in_err-option_rules-clause-answers c =
     let p = c.args.self.now in
-    let image = p.visit.program.now.space.image.now in
+    let image = p.visit.program.now.given.space.image.now in
     let t = thread_of p.visit.program.now in
     let bounds = p.known.now.bounds in
     let here = after c.address-address.result p.instr bounds in
@@ -32,7 +32,7 @@ returns-in_err-option_rules-clause-answers c =
 pub returns-clause-answers : goal.returns-clause-answers
 returns-clause-answers c =
     let p = c.args.self.now in
-    let image = p.visit.program.now.space.image.now in
+    let image = p.visit.program.now.given.space.image.now in
     let t = thread_of p.visit.program.now in
     let bounds = p.known.now.bounds in
     let here = after c.address-address.result p.instr bounds in
@@ -50,7 +50,7 @@ returns-clause-answers c =
 pub returns-then-leaves_next-clause-answers : goal.returns-then-leaves_next-clause-answers
 returns-then-leaves_next-clause-answers c =
     let p = c.args.self.now in
-    let image = p.visit.program.now.space.image.now in
+    let image = p.visit.program.now.given.space.image.now in
     let t = thread_of p.visit.program.now in
     let here = after (address_of t.thread p.visit.point) p.instr p.known.now.bounds in
     let kept : broken_by p here.fall_through ≡ None =

@@ -12,5 +12,5 @@ returns-in-Some-clause-held c = has-part c.args.self.now.points.now.log c.in-Som
 pub returns-in-Some-clause-noted : goal.returns-in-Some-clause-noted
 returns-in-Some-clause-noted c =
     c.at.ensures.same
-    ∙ sym (ap (λ (p : Option ℕ). option_map_or (noted c.args.self.now.program.now.space.image.now (thread_of c.args.self.now.program.now)) p Missing)
+    ∙ sym (ap (λ (p : Option ℕ). option_map_or (noted c.args.self.now.program.now.given.space.image.now (thread_of c.args.self.now.program.now)) p Missing)
     (sym c.point_at.ensures.value ∙ c.in-Some.is))

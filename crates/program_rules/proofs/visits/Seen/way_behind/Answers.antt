@@ -17,10 +17,10 @@ use Rattle.wellformed.specs.Answering.{Answers}
 pub returns : goal.returns
 returns c =
     let program = c.args.self.now.program.now in
-    let image = program.space.image.now in
+    let image = program.given.space.image.now in
     let t = thread_of program in
     let b = c.args.behind.now in
-    let all = replayed program.slots.now (part_of c.args.self.now.points.now.log c.args.self.now.part) in
+    let all = replayed program.given.slots.now (part_of c.args.self.now.points.now.log c.args.self.now.part) in
     let edge : ℕ → List Register → ProgramEdge = λ next written.
     record { target = next; before = c.args.known.now.bounds; ranges = b.bounds; slots = all; value_of = call_form written; is_wait = b.is_wait } in
     let broken : Point → List Register → ℕ → Option Refusal = λ at written next.

@@ -20,7 +20,7 @@ pub invariant_of-seen : goal.invariant_of-seen
 invariant_of-seen c =
     let program = c.args.self.now.program.now in
     record {
-      read = grown-read program.space.image.now (thread_of program) program.slots.now c.args.points.now.log c.follow.new.self
+      read = grown-read program.given.space.image.now (thread_of program) program.given.slots.now c.args.points.now.log c.follow.new.self
           c.args.points.now.kept c.in_ok-part.ensures.others c.requires.read;
       shows = c.in_ok-show.ensures;
     }
@@ -37,9 +37,9 @@ returns-clause-shown c =
 
 pub returns-clause-read : goal.returns-clause-read
 returns-clause-read c =
-    let image = c.args.self.now.program.now.space.image.now in
+    let image = c.args.self.now.program.now.given.space.image.now in
     let t = thread_of c.args.self.now.program.now in
-    let slots = c.args.self.now.program.now.slots.now in
+    let slots = c.args.self.now.program.now.given.slots.now in
     let kept = c.args.points.now.kept in
     always (IsRead image t slots c.follow.new.self kept) c.way_behind.result
     (grown-read image t slots c.args.points.now.log c.follow.new.self kept c.in_ok-part.ensures.others c.requires.read)
@@ -49,12 +49,12 @@ returns-clause-others c = always (KeepsParts c.args.points.now.log c.follow.new.
 
 pub returns-clause-broken : goal.returns-clause-broken
 returns-clause-broken c =
-    let image = c.args.self.now.program.now.space.image.now in
+    let image = c.args.self.now.program.now.given.space.image.now in
     let t = thread_of c.args.self.now.program.now in
-    let address = address_of c.args.self.now.program.now.space.thread.now c.args.self.now.point in
-    let slots = c.args.self.now.program.now.slots.now in
+    let address = address_of c.args.self.now.program.now.given.space.thread.now c.args.self.now.point in
+    let slots = c.args.self.now.program.now.given.slots.now in
     subst (λ (x : Option Refusal). Answers x c.way_behind.result)
     (ap (λ (all : List NotedSlot). first_broken (edge_rules t.thread (point_of t c.args.self.now.point) (measure_of c.args.known.now.measure)
     (call_edge address c.args.known.now.bounds (behind_with all c.args.behind.now)) (noted_at image t (address + 4))))
-    (c.in_ok-part.ensures.same slots c.args.self.now.program.now.rising))
+    (c.in_ok-part.ensures.same slots c.args.self.now.program.now.given.sorted))
     c.way_behind.ensures

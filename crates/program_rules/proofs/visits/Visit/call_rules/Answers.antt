@@ -24,15 +24,15 @@ pub invariant_of-here : goal.invariant_of-here
 invariant_of-here c = record {
   image = c.slots-slots.ensures.image;
   clean = λ is.
-      subst (λ (all : List NotedSlot). NoneStray c.args.self.now.program.now.space.image.now c.args.self.now.program.now.space.thread.now all)
-      (sym (c.slots-slots.ensures.slots ∙ c.requires.shown.same c.args.self.now.program.now.slots.now c.args.self.now.program.now.rising
-      c.args.self.now.program.now.unlinked))
+      subst (λ (all : List NotedSlot). NoneStray c.args.self.now.program.now.given.space.image.now c.args.self.now.program.now.given.space.thread.now all)
+      (sym (c.slots-slots.ensures.slots ∙ c.requires.shown.same c.args.self.now.program.now.given.slots.now c.args.self.now.program.now.given.sorted
+      c.args.self.now.program.now.given.unlinked))
       (c.requires.kept.clean is);
 }
 
 pub returns-then-leaves_next-clause-broken : goal.returns-then-leaves_next-clause-broken
 returns-then-leaves_next-clause-broken c =
-    c.leaves_next.ensures.call (state_by c.args.self.now.program.now.slots.now c.args.points.now.log c.args.known.now) c.if-leaves_next.true
+    c.leaves_next.ensures.call (state_by c.args.self.now.program.now.given.slots.now c.args.points.now.log c.args.known.now) c.if-leaves_next.true
     c.requires.kept.same
     c.requires.is
 
@@ -44,32 +44,32 @@ returns-in-Stray-clause-shown c = some-shown c.args.points.now.log c.args.known.
 
 pub returns-in-Stray-clause-broken : goal.returns-in-Stray-clause-broken
 returns-in-Stray-clause-broken c =
-    let image = c.args.self.now.program.now.space.image.now in
+    let image = c.args.self.now.program.now.given.space.image.now in
     let t = thread_of c.args.self.now.program.now in
     let m = measure_of c.args.known.now.measure in
-    let all = replayed c.args.self.now.program.now.slots.now (part_of c.args.points.now.log c.args.known.now.part) in
-    let told = call-told image t c.args.self.now.point (state_by c.args.self.now.program.now.slots.now c.args.points.now.log c.args.known.now)
+    let all = replayed c.args.self.now.program.now.given.slots.now (part_of c.args.points.now.log c.args.known.now.part) in
+    let told = call-told image t c.args.self.now.point (state_by c.args.self.now.program.now.given.slots.now c.args.points.now.log c.args.known.now)
     None
     c.requires.is
     (call-any image t c.args.self.now.point c.args.known.now.bounds m (slots_of c.slots-slots.result) all c.in_ok-called.field-0
-    (c.slots-slots.ensures.slots ∙ c.requires.shown.same c.args.self.now.program.now.slots.now c.args.self.now.program.now.rising
-    c.args.self.now.program.now.unlinked)
+    (c.slots-slots.ensures.slots ∙ c.requires.shown.same c.args.self.now.program.now.given.slots.now c.args.self.now.program.now.given.sorted
+    c.args.self.now.program.now.given.unlinked)
     (c.in_ok-called.ensures.left m)
     ∙ ap (call_of all) c.in-Stray.is) in
     told
 
 pub returns-in-Refused-clause-broken : goal.returns-in-Refused-clause-broken
 returns-in-Refused-clause-broken c =
-    let image = c.args.self.now.program.now.space.image.now in
+    let image = c.args.self.now.program.now.given.space.image.now in
     let t = thread_of c.args.self.now.program.now in
     let m = measure_of c.args.known.now.measure in
-    let all = replayed c.args.self.now.program.now.slots.now (part_of c.args.points.now.log c.args.known.now.part) in
-    let told = call-told image t c.args.self.now.point (state_by c.args.self.now.program.now.slots.now c.args.points.now.log c.args.known.now)
+    let all = replayed c.args.self.now.program.now.given.slots.now (part_of c.args.points.now.log c.args.known.now.part) in
+    let told = call-told image t c.args.self.now.point (state_by c.args.self.now.program.now.given.slots.now c.args.points.now.log c.args.known.now)
     (Some (Err c.in-Refused.refusal))
     c.requires.is
     (call-any image t c.args.self.now.point c.args.known.now.bounds m (slots_of c.slots-slots.result) all c.in_ok-called.field-0
-    (c.slots-slots.ensures.slots ∙ c.requires.shown.same c.args.self.now.program.now.slots.now c.args.self.now.program.now.rising
-    c.args.self.now.program.now.unlinked)
+    (c.slots-slots.ensures.slots ∙ c.requires.shown.same c.args.self.now.program.now.given.slots.now c.args.self.now.program.now.given.sorted
+    c.args.self.now.program.now.given.unlinked)
     (c.in_ok-called.ensures.left m)
     ∙ ap (call_of all) c.in-Refused.is) in
     inr told
@@ -78,16 +78,16 @@ pub returns-in-Leaves-clause-broken : goal.returns-in-Leaves-clause-broken
 returns-in-Leaves-clause-broken c =
     let b = c.in-Leaves.behind in
     let made = c.in-Leaves.made.items in
-    let image = c.args.self.now.program.now.space.image.now in
+    let image = c.args.self.now.program.now.given.space.image.now in
     let t = thread_of c.args.self.now.program.now in
     let m = measure_of c.args.known.now.measure in
-    let all = replayed c.args.self.now.program.now.slots.now (part_of c.args.points.now.log c.args.known.now.part) in
-    let told = call-told image t c.args.self.now.point (state_by c.args.self.now.program.now.slots.now c.args.points.now.log c.args.known.now)
+    let all = replayed c.args.self.now.program.now.given.slots.now (part_of c.args.points.now.log c.args.known.now.part) in
+    let told = call-told image t c.args.self.now.point (state_by c.args.self.now.program.now.given.slots.now c.args.points.now.log c.args.known.now)
     (Some (Ok (behind_with (replayed all made) b)))
     c.requires.is
     (call-any image t c.args.self.now.point c.args.known.now.bounds m (slots_of c.slots-slots.result) all c.in_ok-called.field-0
-    (c.slots-slots.ensures.slots ∙ c.requires.shown.same c.args.self.now.program.now.slots.now c.args.self.now.program.now.rising
-    c.args.self.now.program.now.unlinked)
+    (c.slots-slots.ensures.slots ∙ c.requires.shown.same c.args.self.now.program.now.given.slots.now c.args.self.now.program.now.given.sorted
+    c.args.self.now.program.now.given.unlinked)
     (c.in_ok-called.ensures.left m)
     ∙ ap (call_of all) c.in-Leaves.is) in
     let by : List LogEntry → Option Refusal = λ changes.

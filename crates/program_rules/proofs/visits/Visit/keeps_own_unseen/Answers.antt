@@ -12,7 +12,7 @@ use Rattle.typestate.specs.Calls.{known_with}
 pub returns-clause-own : goal.returns-clause-own
 returns-clause-own c = λ slots is clean.
     let v = c.args.self.now in
-    let image = v.program.now.space.image.now in
+    let image = v.program.now.given.space.image.now in
     let t = thread_of v.program.now in
     let known = c.args.known.now in
     let s = known_with known.bounds slots (measure_of known.measure) in

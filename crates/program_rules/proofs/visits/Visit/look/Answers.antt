@@ -20,12 +20,13 @@ invariant_of-here c = record {
 
 pub returns-else-known-clause-clean : goal.returns-else-known-clause-clean
 returns-else-known-clause-clean c = λ is.
-    let image = c.args.self.now.program.now.space.image.now in
+    let image = c.args.self.now.program.now.given.space.image.now in
     let t = thread_of c.args.self.now.program.now in
     let bounds = c.in-Known.known.bounds in
     let nothing : Measure = record { constant = pos 0; terms = [] } in
     let shows = subst (ShowsKept c.args.log.now c.args.shown.now) c.in-Known.is c.requires.shows in
     subst (NoneStray image t.thread)
-    (c.slots-slots.ensures.slots ∙ shows.same c.args.self.now.program.now.slots.now c.args.self.now.program.now.rising c.args.self.now.program.now.unlinked)
+    (c.slots-slots.ensures.slots ∙ shows.same c.args.self.now.program.now.given.slots.now c.args.self.now.program.now.given.sorted
+    c.args.self.now.program.now.given.unlinked)
     (c.points_without_stray_slots_have_none.ensures image t.thread c.args.self.now.point (known_with bounds (slots_of c.slots-slots.result) nothing)
     (sym (c.has_stray_slots.ensures bounds nothing) ∙ is-false c.has_stray_slots.result is))

@@ -14,32 +14,32 @@ use Rattle.wellformed.specs.Answering.{Answers}
 
 pub state_rules-requires-clause-kept : goal.state_rules-requires-clause-kept
 state_rules-requires-clause-kept c =
-    let image = c.args.self.now.program.now.space.image.now in
+    let image = c.args.self.now.program.now.given.space.image.now in
     let t = thread_of c.args.self.now.program.now in
-    subst (IsKeptAt image t c.args.self.now.program.now.slots.now c.args.points.now.log c.args.self.now.point) c.in-Known.is c.requires.kept
+    subst (IsKeptAt image t c.args.self.now.program.now.given.slots.now c.args.points.now.log c.args.self.now.point) c.in-Known.is c.requires.kept
 
 pub returns-in_ok-show-in-Known-clause-broken : goal.returns-in_ok-show-in-Known-clause-broken
 returns-in_ok-show-in-Known-clause-broken c =
-    let image = c.args.self.now.program.now.space.image.now in
+    let image = c.args.self.now.program.now.given.space.image.now in
     let t = thread_of c.args.self.now.program.now in
     let is = c.requires.kept in
-    let known : Known (state_by c.args.self.now.program.now.slots.now c.args.points.now.log c.in-Known.known) ≡ noted image t c.args.self.now.point =
-    ap (noted_by c.args.self.now.program.now.slots.now c.args.points.now.log) (sym c.in-Known.is) ∙ is.same in
+    let known : Known (state_by c.args.self.now.program.now.given.slots.now c.args.points.now.log c.in-Known.known) ≡ noted image t c.args.self.now.point =
+    ap (noted_by c.args.self.now.program.now.given.slots.now c.args.points.now.log) (sym c.in-Known.is) ∙ is.same in
     subst (λ (x : Option Refusal). Answers x c.state_rules.result)
-    (noted-rules image t c.args.self.now.point (Known (state_by c.args.self.now.program.now.slots.now c.args.points.now.log c.in-Known.known)) known)
+    (noted-rules image t c.args.self.now.point (Known (state_by c.args.self.now.program.now.given.slots.now c.args.points.now.log c.in-Known.known)) known)
     c.state_rules.ensures.broken
 
 pub returns-in-Missing : goal.returns-in-Missing
 returns-in-Missing c =
-    let image = c.args.self.now.program.now.space.image.now in
+    let image = c.args.self.now.program.now.given.space.image.now in
     let t = thread_of c.args.self.now.program.now in
     let is = c.requires.kept in
     record {
       broken = elim c.in-Missing.is [
-        | inl missing ↦ sym (noted-rules image t c.args.self.now.point Missing (ap (noted_by c.args.self.now.program.now.slots.now c.args.points.now.log)
+        | inl missing ↦ sym (noted-rules image t c.args.self.now.point Missing (ap (noted_by c.args.self.now.program.now.given.slots.now c.args.points.now.log)
             (sym missing) ∙ is.same))
         | inr unmeasured ↦ sym (noted-rules image t c.args.self.now.point Unmeasured
-            (ap (noted_by c.args.self.now.program.now.slots.now c.args.points.now.log) (sym unmeasured) ∙ is.same))
+            (ap (noted_by c.args.self.now.program.now.given.slots.now c.args.points.now.log) (sym unmeasured) ∙ is.same))
       ];
       same = c.requires.same;
       found = c.requires.found;
@@ -56,9 +56,9 @@ show-requires-clause-held c =
 pub returns-then-leaves_next-clause-broken : goal.returns-then-leaves_next-clause-broken
 returns-then-leaves_next-clause-broken c =
     let v = c.args.self.now in
-    let image = v.program.now.space.image.now in
+    let image = v.program.now.given.space.image.now in
     let t = thread_of v.program.now in
-    let slots = v.program.now.slots.now in
+    let slots = v.program.now.given.slots.now in
     let is = c.requires.kept in
     let log = c.args.points.now.log in
     let known = c.in-Known.known in

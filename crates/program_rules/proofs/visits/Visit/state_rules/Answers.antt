@@ -26,25 +26,25 @@ pub invariant_of-here : goal.invariant_of-here
 invariant_of-here c = record {
   image = c.slots-slots.ensures.image;
   clean = λ is.
-      subst (λ (all : List NotedSlot). NoneStray c.args.self.now.program.now.space.image.now c.args.self.now.program.now.space.thread.now all)
-      (sym (c.slots-slots.ensures.slots ∙ c.requires.part.same c.args.self.now.program.now.slots.now c.args.self.now.program.now.rising
-      c.args.self.now.program.now.unlinked))
+      subst (λ (all : List NotedSlot). NoneStray c.args.self.now.program.now.given.space.image.now c.args.self.now.program.now.given.space.thread.now all)
+      (sym (c.slots-slots.ensures.slots ∙ c.requires.part.same c.args.self.now.program.now.given.slots.now c.args.self.now.program.now.given.sorted
+      c.args.self.now.program.now.given.unlinked))
       (c.requires.kept.clean is);
 }
 
 pub returns-in_err-own_rules-clause-broken : goal.returns-in_err-own_rules-clause-broken
 returns-in_err-own_rules-clause-broken c =
-    let image = c.args.self.now.program.now.space.image.now in
+    let image = c.args.self.now.program.now.given.space.image.now in
     let t = thread_of c.args.self.now.program.now in
-    let s = state_by c.args.self.now.program.now.slots.now c.args.points.now.log c.args.known.now in
+    let s = state_by c.args.self.now.program.now.given.slots.now c.args.points.now.log c.args.known.now in
     let instr = c.args.self.now.instr in
     let refusal = c.in_err-own_rules.field-0.0 in
     let own : Some refusal ≡ first_broken (own_rules image t c.args.self.now.point s instr) =
     c.in_err-own_rules.ensures.broken
     ∙ ap (λ (all : List NotedSlot).
     first_broken (own_rules image t c.args.self.now.point (known_with c.args.known.now.bounds all (measure_of c.args.known.now.measure)) instr))
-    (c.slots-slots.ensures.slots ∙ c.requires.part.same c.args.self.now.program.now.slots.now c.args.self.now.program.now.rising
-    c.args.self.now.program.now.unlinked) in
+    (c.slots-slots.ensures.slots ∙ c.requires.part.same c.args.self.now.program.now.given.slots.now c.args.self.now.program.now.given.sorted
+    c.args.self.now.program.now.given.unlinked) in
     passed-on _ c.from_residual.result refusal c.from_residual.ensures.1
     (inr (state-first image t c.args.self.now.point s instr c.args.self.now.is
     ∙ ap (λ (o : Option Refusal). option_or o (first_broken (later_rules image t c.args.self.now.point s instr))) (sym own)))
@@ -54,25 +54,25 @@ returns-in-Some-Ecall-clause-broken c =
     let bounds = c.args.known.now.bounds in
     let m = measure_of c.args.known.now.measure in
     let call : c.args.self.now.instr ≡ Some Ecall = search rules in
-    later-answers c.args.self.now.program.now.space.image.now (thread_of c.args.self.now.program.now) c.args.self.now.point (known_with bounds (slots_of
+    later-answers c.args.self.now.program.now.given.space.image.now (thread_of c.args.self.now.program.now) c.args.self.now.point (known_with bounds (slots_of
     c.slots-slots.result) m)
-    (state_by c.args.self.now.program.now.slots.now c.args.points.now.log c.args.known.now) c.args.self.now.instr (Some Ecall) c.call_rules.result
+    (state_by c.args.self.now.program.now.given.slots.now c.args.points.now.log c.args.known.now) c.args.self.now.instr (Some Ecall) c.call_rules.result
     c.args.self.now.is call
     (ap (λ (all : List NotedSlot). known_with bounds all m) (c.slots-slots.ensures.slots
-    ∙ c.requires.part.same c.args.self.now.program.now.slots.now c.args.self.now.program.now.rising c.args.self.now.program.now.unlinked))
+    ∙ c.requires.part.same c.args.self.now.program.now.given.slots.now c.args.self.now.program.now.given.sorted c.args.self.now.program.now.given.unlinked))
     c.in_ok-own_rules.ensures.broken c.call_rules.ensures.broken
 
 pub returns-in-None-clause-broken : goal.returns-in-None-clause-broken
 returns-in-None-clause-broken c =
-    absurd (illegal-breaks c.args.self.now.program.now.space.image.now (thread_of c.args.self.now.program.now) c.args.self.now.point
+    absurd (illegal-breaks c.args.self.now.program.now.given.space.image.now (thread_of c.args.self.now.program.now) c.args.self.now.point
     (known_with c.args.known.now.bounds (slots_of c.slots-slots.result) (measure_of c.args.known.now.measure)) c.args.self.now.instr c.in-None.is
     c.in_ok-own_rules.ensures.broken)
 
 pub returns-in-Some-clause-broken : goal.returns-in-Some-clause-broken
 returns-in-Some-clause-broken c =
-    let image = c.args.self.now.program.now.space.image.now in
+    let image = c.args.self.now.program.now.given.space.image.now in
     let t = thread_of c.args.self.now.program.now in
-    let s = state_by c.args.self.now.program.now.slots.now c.args.points.now.log c.args.known.now in
+    let s = state_by c.args.self.now.program.now.given.slots.now c.args.points.now.log c.args.known.now in
     let bounds = c.args.known.now.bounds in
     let m = measure_of c.args.known.now.measure in
     let is-plain : c.in-Some.instr ≢ Ecall = search rules in
@@ -80,7 +80,7 @@ returns-in-Some-clause-broken c =
     c.ways_rules.result
     c.args.self.now.is c.in-Some.is
     (ap (λ (all : List NotedSlot). known_with bounds all m) (c.slots-slots.ensures.slots
-    ∙ c.requires.part.same c.args.self.now.program.now.slots.now c.args.self.now.program.now.rising c.args.self.now.program.now.unlinked))
+    ∙ c.requires.part.same c.args.self.now.program.now.given.slots.now c.args.self.now.program.now.given.sorted c.args.self.now.program.now.given.unlinked))
     c.in_ok-own_rules.ensures.broken
     (subst (λ (broken : Option Refusal). Answers broken c.ways_rules.result) (sym (plain-later image t c.args.self.now.point s c.in-Some.instr is-plain))
     c.ways_rules.ensures.answers)
@@ -96,7 +96,7 @@ returns-in-None-clause-shown c = some-shown c.args.points.now.log c.args.known.n
 
 pub returns-in-Some-Ecall-clause-same : goal.returns-in-Some-Ecall-clause-same
 returns-in-Some-Ecall-clause-same c =
-    let slots = c.args.self.now.program.now.slots.now in
+    let slots = c.args.self.now.program.now.given.slots.now in
     let old = c.args.points.now.log in
     let new = c.call_rules.new.points.log in
     follows-from (λ _. KeepsParts old new) (λ _. AreSame slots new c.args.same.now) c.call_rules.result
@@ -104,46 +104,46 @@ returns-in-Some-Ecall-clause-same c =
 
 pub own_rules-requires : goal.own_rules-requires
 own_rules-requires c =
-    let image = c.args.self.now.program.now.space.image.now in
-    let own = c.args.self.now.program.now.space.thread.now in
-    let slots = c.args.self.now.program.now.slots.now in
+    let image = c.args.self.now.program.now.given.space.image.now in
+    let own = c.args.self.now.program.now.given.space.thread.now in
+    let slots = c.args.self.now.program.now.given.slots.now in
     let log = c.args.points.now.log in
     let found = c.go_on.new.self in
     subst (λ (all : List NotedSlot). AreMapped image own all found)
-    (sym (c.slots-slots.ensures.slots ∙ c.requires.part.same slots c.args.self.now.program.now.rising c.args.self.now.program.now.unlinked))
+    (sym (c.slots-slots.ensures.slots ∙ c.requires.part.same slots c.args.self.now.program.now.given.sorted c.args.self.now.program.now.given.unlinked))
     (at-part image own slots log c.args.known.now.part found c.go_on.ensures.part
     (c.go_on.ensures.found image own slots log c.requires.part.held c.requires.found))
 
 pub returns-in-Some-clause-found : goal.returns-in-Some-clause-found
 returns-in-Some-clause-found c =
-    let image = c.args.self.now.program.now.space.image.now in
-    let own = c.args.self.now.program.now.space.thread.now in
-    let slots = c.args.self.now.program.now.slots.now in
+    let image = c.args.self.now.program.now.given.space.image.now in
+    let own = c.args.self.now.program.now.given.space.thread.now in
+    let slots = c.args.self.now.program.now.given.slots.now in
     let log = c.args.points.now.log in
     let found = c.own_rules.new.found in
     always (AreFound image own slots log found) c.ways_rules.result
     (still-found image own slots log c.args.known.now.part found c.requires.part.held (c.in_ok-own_rules.ensures.part ∙ c.go_on.ensures.part)
     (subst (λ (all : List NotedSlot). AreMapped image own all found)
-    (c.slots-slots.ensures.slots ∙ c.requires.part.same slots c.args.self.now.program.now.rising c.args.self.now.program.now.unlinked)
+    (c.slots-slots.ensures.slots ∙ c.requires.part.same slots c.args.self.now.program.now.given.sorted c.args.self.now.program.now.given.unlinked)
     c.in_ok-own_rules.ensures.found))
 
 pub returns-in-None-clause-found : goal.returns-in-None-clause-found
 returns-in-None-clause-found c =
-    let image = c.args.self.now.program.now.space.image.now in
-    let own = c.args.self.now.program.now.space.thread.now in
-    let slots = c.args.self.now.program.now.slots.now in
+    let image = c.args.self.now.program.now.given.space.image.now in
+    let own = c.args.self.now.program.now.given.space.thread.now in
+    let slots = c.args.self.now.program.now.given.slots.now in
     let log = c.args.points.now.log in
     let found = c.own_rules.new.found in
     still-found image own slots log c.args.known.now.part found c.requires.part.held (c.in_ok-own_rules.ensures.part ∙ c.go_on.ensures.part)
     (subst (λ (all : List NotedSlot). AreMapped image own all found)
-    (c.slots-slots.ensures.slots ∙ c.requires.part.same slots c.args.self.now.program.now.rising c.args.self.now.program.now.unlinked)
+    (c.slots-slots.ensures.slots ∙ c.requires.part.same slots c.args.self.now.program.now.given.sorted c.args.self.now.program.now.given.unlinked)
     c.in_ok-own_rules.ensures.found)
 
 pub returns-in-Some-Ecall-clause-found : goal.returns-in-Some-Ecall-clause-found
 returns-in-Some-Ecall-clause-found c =
-    let image = c.args.self.now.program.now.space.image.now in
-    let own = c.args.self.now.program.now.space.thread.now in
-    let slots = c.args.self.now.program.now.slots.now in
+    let image = c.args.self.now.program.now.given.space.image.now in
+    let own = c.args.self.now.program.now.given.space.thread.now in
+    let slots = c.args.self.now.program.now.given.slots.now in
     let old = c.args.points.now.log in
     let new = c.call_rules.new.points.log in
     let found = c.own_rules.new.found in
@@ -151,7 +151,7 @@ returns-in-Some-Ecall-clause-found c =
     (λ _ keeps. found-grown image own slots old new found keeps
     (still-found image own slots old c.args.known.now.part found c.requires.part.held (c.in_ok-own_rules.ensures.part ∙ c.go_on.ensures.part)
     (subst (λ (all : List NotedSlot). AreMapped image own all found)
-    (c.slots-slots.ensures.slots ∙ c.requires.part.same slots c.args.self.now.program.now.rising c.args.self.now.program.now.unlinked)
+    (c.slots-slots.ensures.slots ∙ c.requires.part.same slots c.args.self.now.program.now.given.sorted c.args.self.now.program.now.given.unlinked)
     c.in_ok-own_rules.ensures.found)))
     c.call_rules.ensures.others
 

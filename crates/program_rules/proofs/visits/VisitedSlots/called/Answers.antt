@@ -1,15 +1,12 @@
 -- A slot that the thread may not have, or what the rule on calls says.
 use Rattle.std.proofs.Common.{ℕ, ◌≡◌, ◌∙◌, false, Some, [], pos, refl, sym, ap, subst}
-use Rattle.std.specs.Prelude.{slice_get}
 use Rattle.model.specs.Acceptance.CallRules.{after_call}
 use Rattle.model.specs.Acceptance.Measures.{Measure}
 use Rattle.model.specs.Acceptance.NotedStates.{has_stray_slots}
-use Rattle.model.specs.Images.Image.{Image, Thread}
 use Rattle.model.specs.declared.refusals.Point.{Point}
 use Rattle.program_rules.proofs.Called.{looked-at, not-looked-at}
 use Rattle.program_rules.proofs.visits.VisitedSlots.called.Goals as goal
 use Rattle.program_rules.specs.Programs.{thread_of}
-use Rattle.thread_spaces.specs.Given.{IsListed}
 use Rattle.typestate.specs.Calls.{known_with, left_with}
 use Rattle.typestate.specs.Differences.{slots_of}
 use Rattle.typestate.specs.Strays.{IsTidyBehind}
@@ -18,26 +15,16 @@ use Rattle.typestate.specs.Strays.{IsTidyBehind}
 abbrev nothing : Measure
 nothing = record { constant = pos 0; terms = [] }
 
-listed-at : (image : Image) (t : Thread) (number : ℕ) → slice_get image.threads number ≡ Some t → IsListed image t
-listed-at image t number at = record { number = number; listed = at }
-
-pub slots_are_own-requires-clause-listed : goal.slots_are_own-requires-clause-listed
-slots_are_own-requires-clause-listed c =
-    let program = c.args.self.now.visit.program.now in listed-at program.space.image.now program.space.thread.now program.number program.place
-
-pub slots_are_own-requires-clause-given : goal.slots_are_own-requires-clause-given
-slots_are_own-requires-clause-given c = c.args.self.now.image ∙ c.args.self.now.visit.program.now.listed
-
 pub invariant_of-own : goal.invariant_of-own
 invariant_of-own c =
     let v = c.args.self.now.visit in
     let program = v.program.now in
     let bounds = c.args.bounds.now in
     let state = known_with bounds (slots_of c.args.self.now.slots) nothing in
-    let none : has_stray_slots program.space.image.now program.space.thread.now v.point state ≡ false =
+    let none : has_stray_slots program.given.space.image.now program.given.space.thread.now v.point state ≡ false =
     sym (c.has_stray_slots.ensures bounds nothing) ∙ c.if-has_stray_slots.false in
     record {
-      inside = c.no_stray_slot_leads_outside.ensures program.space.image.now program.space.thread.now v.point state none;
+      inside = c.no_stray_slot_leads_outside.ensures program.given.space.image.now program.given.space.thread.now v.point state none;
       own = c.slots_are_own.ensures v.point state refl none;
     }
 
@@ -45,13 +32,13 @@ pub returns-then-has_stray_slots-clause-left : goal.returns-then-has_stray_slots
 returns-then-has_stray_slots-clause-left c = λ measure.
     let v = c.args.self.now.visit in
     let bounds = c.args.bounds.now in
-    not-looked-at v.program.now.space.image.now (thread_of v.program.now) v.point (known_with bounds (slots_of c.args.self.now.slots) measure)
+    not-looked-at v.program.now.given.space.image.now (thread_of v.program.now) v.point (known_with bounds (slots_of c.args.self.now.slots) measure)
     c.has_stray_slots.result (c.has_stray_slots.ensures bounds measure) c.if-has_stray_slots.true
 
 pub returns-in-Ok-clause-left : goal.returns-in-Ok-clause-left
 returns-in-Ok-clause-left c = λ measure.
     let v = c.args.self.now.visit in
-    let image = v.program.now.space.image.now in
+    let image = v.program.now.given.space.image.now in
     let t = thread_of v.program.now in
     let bounds = c.args.bounds.now in
     let slots = slots_of c.args.self.now.slots in
@@ -62,7 +49,7 @@ returns-in-Ok-clause-left c = λ measure.
 pub returns-in-Err-clause-left : goal.returns-in-Err-clause-left
 returns-in-Err-clause-left c = λ measure.
     let v = c.args.self.now.visit in
-    let image = v.program.now.space.image.now in
+    let image = v.program.now.given.space.image.now in
     let t = thread_of v.program.now in
     let bounds = c.args.bounds.now in
     let slots = slots_of c.args.self.now.slots in
@@ -73,7 +60,7 @@ returns-in-Err-clause-left c = λ measure.
 pub returns-in-Ok-clause-clean : goal.returns-in-Ok-clause-clean
 returns-in-Ok-clause-clean c = λ tidy.
     let v = c.args.self.now.visit in
-    let image = v.program.now.space.image.now in
+    let image = v.program.now.given.space.image.now in
     let t = thread_of v.program.now in
     let bounds = c.args.bounds.now in
     let slots = slots_of c.args.self.now.slots in

@@ -9,6 +9,6 @@ pub invariant_of-told : goal.invariant_of-told
 invariant_of-told c =
     let program = c.args.self.now.visit.program.now in
     record {
-      listed = program.told ∙ ap (λ (slots : List NotedSlot). list_any (is_stray_in program.space []) slots) (sym c.args.self.now.image);
+      listed = program.given.decides_stray ∙ ap (λ (slots : List NotedSlot). list_any (is_stray_in program.given.space []) slots) (sym c.args.self.now.image);
       clean = c.args.self.now.clean;
     }
