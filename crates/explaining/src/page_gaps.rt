@@ -75,13 +75,28 @@ fn access_of(instr: Instr) -> Option<Access> {
     }
 }
 
-/// The first and the last of the bytes that an access can reach with these values of its register.
-fn reached(access: &Access, range: Range) -> (i64, i64) {
-    let least = i64::from(range.low).saturating_add(access.offset);
-    let greatest = i64::from(range.high)
-        .saturating_add(access.offset)
-        .saturating_add(access.width.saturating_sub(1));
-    (least, greatest)
+/// The first and the last of the bytes that an access can reach.
+#[derive(Clone, Copy, Drop)]
+struct ReachedBytes {
+    first: i64,
+    last: i64,
+}
+
+impl ReachedBytes {
+    /// Those that an access can reach with these values of its register.
+    fn of(access: &Access, range: Range) -> Self {
+        ReachedBytes {
+            first: i64::from(range.low).saturating_add(access.offset),
+            last: i64::from(range.high)
+                .saturating_add(access.offset)
+                .saturating_add(access.width.saturating_sub(1)),
+        }
+    }
+
+    /// Whether each of them has an address.
+    fn have_addresses(self) -> bool {
+        0 <= self.first && self.last <= 0xffff_ffff
+    }
 }
 
 /// Puts what parts a page from so many before it.
@@ -95,10 +110,10 @@ fn page_at(address: i64) -> u32 {
 }
 
 /// Puts the first and the last of some bytes.
-fn push_bytes(to: &mut String, first: i64, last: i64) -> Result<(), AllocError> {
-    push_whole(to, first)?;
+fn push_bytes(to: &mut String, bytes: ReachedBytes) -> Result<(), AllocError> {
+    push_whole(to, bytes.first)?;
     to.push_str(" to ")?;
-    push_whole(to, last)
+    push_whole(to, bytes.last)
 }
 
 /// Puts a whole number in hexadecimal digits.
@@ -147,9 +162,10 @@ impl Scene<'_, '_, '_, '_, '_, '_, '_> {
         false
     }
 
-    /// The first page from one to another that is not mapped with a right.
-    fn unmapped_page(&self, state: &State, first: u32, last: u32, right: u32) -> Option<u32> {
-        for page in first..last.saturating_add(1) {
+    /// The first page of some bytes that is not mapped with a right.
+    fn unmapped_page(&self, state: &State, bytes: ReachedBytes, right: u32) -> Option<u32> {
+        let last = page_at(bytes.last);
+        for page in page_at(bytes.first)..last.saturating_add(1) {
             if !self.is_mapped(state, page, right) {
                 return Some(page);
             }
@@ -236,45 +252,39 @@ impl Scene<'_, '_, '_, '_, '_, '_, '_> {
         let Some(access) = self.access_at(point) else {
             return Ok(());
         };
-        let Access {
-            name,
-            wanted,
-            right,
-            base,
-            ..
-        } = access;
+        let base = access.base;
         if base.0 >= 32 {
             return Ok(());
         }
         let range = state.bounds.get(base);
-        let (least, greatest) = reached(&access, range);
+        let bytes = ReachedBytes::of(&access, range);
         self.push_head(to, point)?;
+        let name = access.name;
         write!(to, "{name} ")?;
-        push_bytes(to, least, greatest)?;
+        push_bytes(to, bytes)?;
         let number = base.0;
         write!(to, ", where x{number} is ")?;
         push_range(to, range)?;
-        if least < 0 || greatest > 0xffff_ffff {
+        if !bytes.have_addresses() {
             return to.push_str(
                 "\n  no such bytes are there: narrow the register by a branch before it\n",
             );
         }
         to.push_str("\n")?;
-        self.report_unmapped(to, state, page_at(least), page_at(greatest), right, wanted)
+        self.report_unmapped(to, state, &access, bytes)
     }
 
-    /// Reports which of some pages is the first that is not mapped with a right, and which are.
+    /// Reports which of the pages that an access can reach is the first that is not mapped for it, and which are.
     fn report_unmapped(
         &self,
         to: &mut String,
         state: &State,
-        first: u32,
-        last: u32,
-        right: u32,
-        wanted: &str,
+        access: &Access,
+        bytes: ReachedBytes,
     ) -> Result<(), AllocError> {
-        if let Some(page) = self.unmapped_page(state, first, last, right) {
+        if let Some(page) = self.unmapped_page(state, bytes, access.right) {
             let address = page.wrapping_mul(4096);
+            let wanted = access.wanted;
             write!(to, "  page {address:#x} is not mapped to {wanted}")?;
             self.push_mapped(to, state)?;
         }
@@ -295,13 +305,8 @@ impl Scene<'_, '_, '_, '_, '_, '_, '_> {
         if access.base.0 >= 32 {
             return false;
         }
-        let range = state.bounds.get(access.base);
-        let (least, greatest) = reached(&access, range);
-        if least < 0 || greatest > 0xffff_ffff {
-            return true;
-        }
-        self.unmapped_page(state, page_at(least), page_at(greatest), access.right)
-            .is_some()
+        let bytes = ReachedBytes::of(&access, state.bounds.get(access.base));
+        !bytes.have_addresses() || self.unmapped_page(state, bytes, access.right).is_some()
     }
 
     /// The load or store at a point.
