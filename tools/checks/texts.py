@@ -2,11 +2,11 @@
 """What the gate asks of the texts of all crates before it proves anything: layout, names, links and edits. At the top of the repository.
 
 Also that no crate imports another's proofs but through its one public module of them, `Laws` (those of `model` are on the definitions,
-and for all), that none but `objects` sees which form its tables have, and that no crate has more `requires` than premises.txt beside
-this file allows: what a premise says belongs into a type.
+and for all), that none but `objects` sees which form its tables have, that no crate has more `requires` than premises.txt beside
+this file allows (what a premise says belongs into a type), and that lines are as wide as may be at most.
 
   tools/checks/texts.py               checks all of this
-  tools/checks/texts.py --premises    checks the number of `requires` alone, and needs no toolchain
+  tools/checks/texts.py --premises    checks the number of `requires` and the width of lines alone, and needs no toolchain
   tools/checks/texts.py --write       writes the numbers of `requires` as they are into premises.txt
 """
 import os
@@ -24,6 +24,8 @@ FORM = re.compile(r"\bTables::told_by\b|use Rattle\.objects\.specs\.(?:Rights\.|
 
 REQUIRES = re.compile(r"^\s*requires\b", re.M)
 PREMISES = Path(HERE, "premises.txt")
+# How many columns lines may have at most: of definitions and proofs, and of documents, but for their tables and examples.
+PROOF_COLUMNS, TEXT_COLUMNS = 160, 120
 
 
 def premises():
@@ -48,6 +50,19 @@ def premises_grown():
 def write_premises():
     """Writes the numbers of `requires` as they are."""
     PREMISES.write_text("".join(f"{name} {count}\n" for name, count in premises().items()), encoding="utf-8")
+
+
+def too_wide():
+    """The files with lines that are wider than lines may be; each line is printed."""
+    proofs = [(it, PROOF_COLUMNS, ()) for folder in ("specs", "proofs") for it in Path("crates").glob(f"*/{folder}/**/*.antt")]
+    texts = [(it, TEXT_COLUMNS, ("|", "    ")) for top in (".", "docs", "samples", "tools") for it in Path(top).glob("*.md" if top == "." else "**/*.md")]
+    found = []
+    for file, columns, free in sorted(proofs + texts):
+        for number, line in enumerate(file.read_text(encoding="utf-8").splitlines(), 1):
+            if len(line) > columns and not line.startswith(free or "\0"):
+                print(f"{file}:{number}: {len(line)} columns, and no more than {columns} are allowed")
+                found.append(str(file))
+    return found
 
 
 def proofs_seen(crates, RT):
@@ -99,7 +114,7 @@ def refusals(crate, crates, RT):
 def main(words):
     if words == ["--write"]:
         return write_premises()
-    refused = premises_grown()
+    refused = premises_grown() + too_wide()
     if words != ["--premises"]:
         from libraries import RT  # finds the toolchain
 

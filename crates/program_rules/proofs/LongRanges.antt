@@ -25,8 +25,10 @@ use Rattle.model.specs.declared.system_calls.SendCall.{SendCall}
 use Rattle.model.specs.declared.system_calls.SendCall.TheVariants.{Calling, Sending, Trying}
 use Rattle.model.specs.declared.system_calls.SystemCall.{SystemCall}
 use Rattle.model.specs.declared.system_calls.SystemCall.TheVariants.{Sends, Receives, RepliesAndReceives, Replies, Yields, PutsCharacter}
-use Rattle.model.specs.Acceptance.CallRules.{AfterCall, after_call, after_message, all_known, answers, badges, by_call, by_capability, by_number, demand, found_slot}
-use Rattle.model.specs.Acceptance.CallRules.{invocation, invoked, kernel_allows, known, loses_pool, may_call, may_send, message_registers, promise_received, promise_rule}
+use Rattle.model.specs.Acceptance.CallRules.{AfterCall, after_call, after_message, all_known, answers, badges, by_call, by_capability, by_number, demand}
+use Rattle.model.specs.Acceptance.CallRules.{found_slot}
+use Rattle.model.specs.Acceptance.CallRules.{invocation, invoked, kernel_allows, known, loses_pool, may_call, may_send, message_registers, promise_received}
+use Rattle.model.specs.Acceptance.CallRules.{promise_rule}
 use Rattle.model.specs.Acceptance.CallRules.{receive_rule, send_rule, sends_message, sends_signal, with_answer, with_message, with_received}
 use Rattle.model.specs.Acceptance.Edges.{Edge, after}
 use Rattle.model.specs.Acceptance.Measures.{has_term, lowered, register_numbered}

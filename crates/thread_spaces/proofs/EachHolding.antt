@@ -1,5 +1,6 @@
 -- What is true of each full slot that an image describes, section by section.
-use Rattle.std.proofs.Common.{ℕ, zero, suc, ◌==◌, ◌≡◌, ◌∙◌, ◌⊎◌, ◌+◌, ◌<◌, inl, inr, Bool, true, false, not, if◌then◌else◌, cond, Some, None, List, [], ◌∷◌, ◌++◌}
+use Rattle.std.proofs.Common.{ℕ, zero, suc, ◌==◌, ◌≡◌, ◌∙◌, ◌⊎◌, ◌+◌, ◌<◌, inl, inr, Bool, true, false, not, if◌then◌else◌, cond, Some, None, List, [], ◌∷◌}
+use Rattle.std.proofs.Common.{◌++◌}
 use Rattle.std.proofs.Common.{map, filter, refl, sym, subst, arith}
 use Rattle.std.specs.Prelude.{flat_map, slice_get}
 use Rattle.std.specs.Option.{option_map_or, option_or}
@@ -14,7 +15,8 @@ use Rattle.model.specs.declared.entries.InterruptEntry.{InterruptEntry}
 use Rattle.model.specs.declared.entries.UntypedEntry.{UntypedEntry}
 use Rattle.model.specs.declared.slot_entries.Entry.{Entry}
 use Rattle.model.specs.Capabilities.Slots.{empty_entry}
-use Rattle.model.specs.Images.Described.{Holding, binding_holding, boot_holdings, buffer_holdings, described, frame_holding, handler_holding, held_in, holding, holdings}
+use Rattle.model.specs.Images.Described.{Holding, binding_holding, boot_holdings, buffer_holdings, described, frame_holding, handler_holding, held_in, holding}
+use Rattle.model.specs.Images.Described.{holdings}
 use Rattle.model.specs.Images.Described.{is_listed_pool, is_open_slot, listed_holding, notification_holding, numbered, original, original_holding, originals}
 use Rattle.model.specs.Images.Described.{thread_holdings, untyped_holding}
 use Rattle.model.specs.Images.Image.{Image, Thread, no_buffer}

@@ -24,10 +24,11 @@ use Rattle.soundness.proofs.Laws.{cnode-type, first_of_type}
 module _ (image : Image) (number : ℕ) where
   stays-behind : (found : List ℕ) (more : ℕ) → is_member number found ≡ true → is_member number (found ++ more ∷ []) ≡ true
   stays-behind [] more there = absurd (let clash : false ≡ true = there in cc)
-  stays-behind (x ∷ rest) more there = elim (nat_eq number x) as (λ b. (b || is_member number rest) ≡ true → (b || is_member number (rest ++ more ∷ [])) ≡ true) [
-    | true ↦ λ _. refl
-    | false ↦ λ later. stays-behind rest more later
-  ] there
+  stays-behind (x ∷ rest) more there = elim (nat_eq number x)
+      as (λ b. (b || is_member number rest) ≡ true → (b || is_member number (rest ++ more ∷ [])) ≡ true) [
+        | true ↦ λ _. refl
+        | false ↦ λ later. stays-behind rest more later
+      ] there
 
   stays-one : (found : List ℕ) (c : CapabilityEntry) → is_member number found ≡ true → is_member number (with_named image found c) ≡ true
   stays-one found c there = elim (is_member c.cnode found && is_cnode_source image c.source && not (is_member c.source found))

@@ -9,7 +9,8 @@ use Rattle.std.proofs.lemmas.Option.{none-some, same_Some, slice_get_within}
 use Rattle.format_laws.specs.Fitting.{FrameFits, IsFitting, TableFits, ThreadFits}
 use Rattle.format_laws.proofs.Laws.{is-fitting}
 use Rattle.soundness.specs.boot_laws.Loading.{all_loaded, is_moved, original_so_far}
-use Rattle.soundness.proofs.Laws.{AreFormed, BufferKept, CapabilityKept, CountsAreLengths, ReadsBoot, TableKept, ThreadKept, are-formed, boot-slots-suffice, counts-are}
+use Rattle.soundness.proofs.Laws.{AreFormed, BufferKept, CapabilityKept, CountsAreLengths, ReadsBoot, TableKept, ThreadKept, are-formed, boot-slots-suffice}
+use Rattle.soundness.proofs.Laws.{counts-are}
 use Rattle.soundness.proofs.Laws.{buffer-kept, first_of_type, limited-frame, limited-table, mapped_by, offsets-apart, original-untyped, range-from}
 use Rattle.model.specs.declared.capabilities.Cap.{Cap}
 use Rattle.model.specs.declared.capabilities.Cap.TheVariants.{Empty, Untyped, Endpoint, Notification, CNode, Frame, PageTable, Tcb, RootTable, InterruptControl}

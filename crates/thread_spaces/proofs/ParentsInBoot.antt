@@ -54,7 +54,8 @@ module _ (image : Image) (fitting : IsFitting image) (formed : AreFormed image) 
             ]
       ] in
       elim (is_untyped (listed_capability image c))
-      as (λ b. (if b then (object_at image c.source).untyped else source_boot_slot image c.source) < 2 ^ image.header.boot_radix) [ true ↦ home | false ↦ other ]
+      as (λ b. (if b then (object_at image c.source).untyped else source_boot_slot image c.source) < 2 ^ image.header.boot_radix)
+      [ true ↦ home | false ↦ other ]
 
   hang-in-boot : OfSections (HangsInBoot image) image
   hang-in-boot = record {

@@ -57,10 +57,11 @@ all-true test first count each =
     subst (λ (n : ℕ). test n ≡ true) here (each (k - first) (omega (arith, from, below))))
 
 pub one-false : (test : ℕ → Bool) (first count i : ℕ) → i < count → test (first + i) ≡ false → list_all test (range_with_len first count) ≡ false
-one-false test first count i less isnt = elim (list_all test (range_with_len first count)) as (λ b. list_all test (range_with_len first count) ≡ b → b ≡ false) [
-  | true ↦ λ all. absurd (let clash : false ≡ true = sym isnt ∙ each_of test first count all (first + i) (omega arith) (omega (arith, less)) in cc)
-  | false ↦ λ _. refl
-] refl
+one-false test first count i less isnt = elim (list_all test (range_with_len first count))
+    as (λ b. list_all test (range_with_len first count) ≡ b → b ≡ false) [
+      | true ↦ λ all. absurd (let clash : false ≡ true = sym isnt ∙ each_of test first count all (first + i) (omega arith) (omega (arith, less)) in cc)
+      | false ↦ λ _. refl
+    ] refl
 
 -- ---- tests of all numbers below one
 

@@ -34,4 +34,5 @@ returns-clause-valid c =
     ∙ ap (λ (held : Cap). limited held c.args.entry.rights c.args.entry.payload) c.first_capability-capability.ensures
     ∙ listed-object c.args.placed.now.image.now c.args.entry c.header.ensures.fits c.args.placed.now.formed c.requires.listed c.object_of-object.result _ less
     c.object_of-object.ensures.there (c.args.placed.now.placed.place c.args.entry.source less) in
-    subst (λ (held : Cap). IsCapability held) (sym value) (listed-valid c.args.placed.now.image.now c.header.ensures.fits c.args.placed.now.formed c.args.entry c.requires.listed)
+    subst (λ (held : Cap). IsCapability held) (sym value)
+    (listed-valid c.args.placed.now.image.now c.header.ensures.fits c.args.placed.now.formed c.args.entry c.requires.listed)

@@ -16,7 +16,8 @@ loop-promise-init c =
     let same : c.into_iter-promise-iterator.result ≡ image.promises =
     c.into_iter-promise-iterator.ensures.into_iter_gives ∙ c.promises-promise-items.ensures in
     record {
-      left = λ offset. ap (λ (placed : List (ℕ × ImagePromise)). option_or (placed_at placed offset) (promise_in image c.into_iter-promise-iterator.result offset)) c.new-promises.ensures
+      left = λ offset. ap (λ (placed : List (ℕ × ImagePromise)).
+          option_or (placed_at placed offset) (promise_in image c.into_iter-promise-iterator.result offset)) c.new-promises.ensures
           ∙ ap (λ (left : List ImagePromise). promise_in image left offset) same;
       fit = subst (AllFit image) (sym same) (all-fit image (c.images_that_fit_keep_their_limits.ensures image c.header.ensures.fits));
     }
