@@ -131,20 +131,21 @@ impl<'a, 's> Looked<'a, 's> {
         requires { self.old ≡ true }
     {
         points_without_stray_slots_have_none();
-        let slots = self.shown.slots(self.thread.given.slots);
+        let given = self.thread.given;
+        let slots = self.shown.slots(given.slots);
         let told = ToldSlots {
-            space: self.thread.given.space,
+            space: given.space,
             slots,
-            lists_stray: self.thread.given.lists_stray,
+            lists_stray: given.lists_stray,
             is_clean: self.is_clean,
         };
         if told.has_stray_slots(None) {
             return Err(Fault::refused(at.point, Refusal::CapNotThere(at)));
         }
         no_stray_slot_leads_outside();
-        self.thread.given.slots_are_own(&slots);
+        given.slots_are_own(&slots);
         let own = ThreadSlots {
-            space: self.thread.given.space,
+            space: given.space,
             slots,
         };
         let mut made = Vec::new(self.thread.alloc);
