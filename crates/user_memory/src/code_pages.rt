@@ -9,6 +9,7 @@ ghost use Rattle.objects.specs.Lives.{state_in};
 ghost use Rattle.user_memory.specs.CodePages.{IsCode, IsPage};
 
 use crate::execution::fetch_at;
+use crate::keeping::{KeptPages, NO_PAGE};
 use crate::known_words::KnownWords;
 use crate::roots::root_of;
 use cnode_ops::Kernel;
@@ -21,9 +22,6 @@ const PAGE_SIZE: u32 = 0x1000;
 /// No memory has more bytes.
 const MOST_MEMORY: u32 = 0x100_0000;
 
-/// No page has this number.
-const NO_PAGE: u32 = 0x10_0000;
-
 /// Where the code of a thread is: its root table, and one page by its number and the place of its first byte; and what its words
 /// spell, as far as that is known.
 #[derive(Drop)]
@@ -32,6 +30,7 @@ pub(crate) struct Code<'k> {
     pub(crate) number: u32,
     pub(crate) base: u32,
     pub(crate) known: &'k mut KnownWords,
+    pub(crate) kept: KeptPages,
 }
 
 /// The root table of a thread, with no page yet.
@@ -47,6 +46,7 @@ pub(crate) fn code_of<'k, S: WalkStore>(
         number: NO_PAGE,
         base: 0,
         known,
+        kept: [NO_PAGE; 4],
     }
 }
 

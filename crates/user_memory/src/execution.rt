@@ -13,7 +13,7 @@ ghost use Rattle.model.specs.declared.instructions.Access.TheVariants.{Fetch};
 ghost use Rattle.model.specs.declared.instructions.AccessSize.TheVariants.{Word};
 ghost use Rattle.objects.specs.Lives.{state_in};
 
-use crate::keeping::{keep_page, keep_reached};
+use crate::keeping::{KeptPages, NO_PAGE, keep_page, keep_reached};
 use crate::known_words::ValidInstr;
 use crate::no_memory::{NoMemory, reaches};
 use crate::spaces::Space;
@@ -113,6 +113,7 @@ fn reach<S: WalkStore>(
     root: Option<u32>,
     registers: &mut Regs,
     known: ValidInstr,
+    kept: &mut KeptPages,
 ) -> Exec
     requires root { root ≡ vspace_of (state_in S.slots S.memory kernel.old) thread }
     ensures outcome { result ≡ (effect registers.old (content_of (state_in S.slots S.memory kernel.old) thread) known.instruction).exec }
@@ -122,7 +123,7 @@ fn reach<S: WalkStore>(
         (effect registers.old (content_of (state_in S.slots S.memory kernel.old) thread) known.instruction).content }
 {
     let live = &mut kernel.live;
-    keep_reached(&mut live.store, root, registers, known);
+    keep_reached(&mut live.store, root, registers, known, kept);
     let mut memory = UserMemory { kernel, root };
     exec(registers, known.instruction, &mut memory)
 }
@@ -135,6 +136,7 @@ pub(crate) fn run<S: WalkStore>(
     root: Option<u32>,
     registers: &mut Regs,
     known: ValidInstr,
+    kept: &mut KeptPages,
 ) -> Exec
     requires root { root ≡ vspace_of (state_in S.slots S.memory kernel.old) thread }
     ensures outcome { result ≡ (effect registers.old (content_of (state_in S.slots S.memory kernel.old) thread) known.instruction).exec }
@@ -144,7 +146,7 @@ pub(crate) fn run<S: WalkStore>(
         (effect registers.old (content_of (state_in S.slots S.memory kernel.old) thread) known.instruction).content }
 {
     if reaches(known.instruction) {
-        reach(kernel, thread, root, registers, known)
+        reach(kernel, thread, root, registers, known, kept)
     } else {
         exec(registers, known.instruction, &mut NoMemory)
     }
@@ -170,7 +172,8 @@ pub fn execute<S: WalkStore>(
 {
     let mut registers = kernel.live.registers(thread);
     let known = ValidInstr { instruction };
-    let outcome = reach(kernel, thread, root, &mut registers, known);
+    let mut kept = [NO_PAGE; 4];
+    let outcome = reach(kernel, thread, root, &mut registers, known, &mut kept);
     kernel.live.set_registers(thread, registers);
     outcome
 }

@@ -9,7 +9,15 @@ use model::Instr;
 use packed_slots::WalkStore;
 use rv32_exec::Regs;
 
+/// Bytes of a page.
+const PAGE_SIZE: u32 = 0x1000;
+
+/// No page has this number.
+pub(crate) const NO_PAGE: u32 = 0x10_0000;
+
 /// Keeps the leaf of the page of an address under a root table, if there is one.
+#[cold]
+#[inline(never)]
 pub(crate) fn keep_page<S: WalkStore>(store: &mut S, root: Option<u32>, address: u32)
     requires { ForSome root (LeavesAgree (S.slots store.old) (S.memory store.old)) }
     ensures { store.new ≡ store.old }
@@ -32,17 +40,30 @@ fn reached(registers: &Regs, known: ValidInstr) -> Option<u32> {
     }
 }
 
-/// Keeps the leaf of the page that an instruction loads from or stores into.
+/// Pages whose leaves were kept lately, by the low two bits of their numbers. A leaf is not asked for again meanwhile: if it is
+/// gone, walks are longer.
+pub(crate) type KeptPages = [u32; 4];
+
+/// Keeps the leaf of the page that an instruction loads from or stores into, unless that was done lately.
+#[inline]
 pub(crate) fn keep_reached<S: WalkStore>(
     store: &mut S,
     root: Option<u32>,
     registers: &Regs,
     known: ValidInstr,
+    kept: &mut KeptPages,
 )
     requires { ForSome root (LeavesAgree (S.slots store.old) (S.memory store.old)) }
     ensures { store.new ≡ store.old }
 {
-    if let Some(address) = reached(registers, known) {
-        keep_page(store, root, address);
+    let Some(address) = reached(registers, known) else {
+        return;
+    };
+    let number = address / PAGE_SIZE;
+    let place = (number % 4) as usize;
+    if kept[place] == number {
+        return;
     }
+    kept[place] = number;
+    keep_page(store, root, address);
 }

@@ -59,7 +59,7 @@ fn step_plain<S: WalkStore>(
     let pc = registers.pc();
     match fetch_paged(kernel, thread, code, pc) {
         Ok(word) => match code.known.decode(pc, word) {
-            Some(known) => run(kernel, thread, code.root, registers, known),
+            Some(known) => run(kernel, thread, code.root, registers, known, &mut code.kept),
             None => Exec::Trap(Cause::Illegal),
         },
         Err(fault) => Exec::Memory(fault.address, fault.access),
