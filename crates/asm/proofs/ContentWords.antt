@@ -10,27 +10,30 @@ use Rattle.model.specs.Images.Listing.{Text}
 use Rattle.asm_line.specs.Words.{◌>>=◌, number_of}
 use Rattle.asm_line.specs.Lines.{word, word_first, all_words}
 use Rattle.asm.specs.Sections.{value_of, number_or_zero}
+use Rattle.asm_line.specs.declared.faults.LineFault.{LineFault}
 
 -- a word is a number of 32 bits, or at fault
 pub data WordSays (w : Text) : Type 0 where
   number : (n : ℕ) → ((ws : List Text) → word_first (w ∷ ws) ≡ Ok (n, ws)) → ((ws : List Text) → all_words (w ∷ ws) ≡ all_words ws) → value_of w ≡ n →
       WordSays w
-  fault : (e : ℕ) → ((ws : List Text) → word_first (w ∷ ws) ≡ Err e) → ((ws : List Text) → all_words (w ∷ ws) ≡ Err e) → WordSays w
+  fault : (e : LineFault) → ((ws : List Text) → word_first (w ∷ ws) ≡ Err e) → ((ws : List Text) → all_words (w ∷ ws) ≡ Err e) → WordSays w
 
-ranged : (w : Text) (z : ℤ) → number_of w ≡ Ok z → (r : Result ℕ ℕ) → word z ≡ r → WordSays w
+ranged : (w : Text) (z : ℤ) → number_of w ≡ Ok z → (r : Result ℕ LineFault) → word z ≡ r → WordSays w
 ranged w z q (Ok n) e = number n
-    (λ ws. ap (λ (r : Result ℤ ℕ). r >>= λ number. word number >>= λ value. Ok (value, ws)) q ∙ ap (λ (r : Result ℕ ℕ). r >>= λ value. Ok (value, ws)) e)
-    (λ ws. ap (λ (r : Result ℤ ℕ). r >>= λ number. word number >>= λ _. all_words ws) q ∙ ap (λ (r : Result ℕ ℕ). r >>= λ _. all_words ws) e)
-    (ap (λ (r : Result ℤ ℕ). number_or_zero (r >>= λ number. word number)) q ∙ ap number_or_zero e)
+    (λ ws. ap (λ (r : Result ℤ LineFault). r >>= λ number. word number >>= λ value. Ok (value, ws)) q
+    ∙ ap (λ (r : Result ℕ LineFault). r >>= λ value. Ok (value, ws)) e)
+    (λ ws. ap (λ (r : Result ℤ LineFault). r >>= λ number. word number >>= λ _. all_words ws) q ∙ ap (λ (r : Result ℕ LineFault). r >>= λ _. all_words ws) e)
+    (ap (λ (r : Result ℤ LineFault). number_or_zero (r >>= λ number. word number)) q ∙ ap number_or_zero e)
 ranged w z q (Err f) e = fault f
-    (λ ws. ap (λ (r : Result ℤ ℕ). r >>= λ number. word number >>= λ value. Ok (value, ws)) q ∙ ap (λ (r : Result ℕ ℕ). r >>= λ value. Ok (value, ws)) e)
-    (λ ws. ap (λ (r : Result ℤ ℕ). r >>= λ number. word number >>= λ _. all_words ws) q ∙ ap (λ (r : Result ℕ ℕ). r >>= λ _. all_words ws) e)
+    (λ ws. ap (λ (r : Result ℤ LineFault). r >>= λ number. word number >>= λ value. Ok (value, ws)) q
+    ∙ ap (λ (r : Result ℕ LineFault). r >>= λ value. Ok (value, ws)) e)
+    (λ ws. ap (λ (r : Result ℤ LineFault). r >>= λ number. word number >>= λ _. all_words ws) q ∙ ap (λ (r : Result ℕ LineFault). r >>= λ _. all_words ws) e)
 
-spelled : (w : Text) (r : Result ℤ ℕ) → number_of w ≡ r → WordSays w
+spelled : (w : Text) (r : Result ℤ LineFault) → number_of w ≡ r → WordSays w
 spelled w (Ok z) q = ranged w z q (word z) refl
 spelled w (Err f) q = fault f
-    (λ ws. ap (λ (r : Result ℤ ℕ). r >>= λ number. word number >>= λ value. Ok (value, ws)) q)
-    (λ ws. ap (λ (r : Result ℤ ℕ). r >>= λ number. word number >>= λ _. all_words ws) q)
+    (λ ws. ap (λ (r : Result ℤ LineFault). r >>= λ number. word number >>= λ value. Ok (value, ws)) q)
+    (λ ws. ap (λ (r : Result ℤ LineFault). r >>= λ number. word number >>= λ _. all_words ws) q)
 
 pub word-says : (w : Text) → WordSays w
 word-says w = spelled w (number_of w) refl

@@ -35,6 +35,8 @@ use Rattle.asm.specs.Sections.{number_or_zero, promised_values, value_of}
 use Rattle.asm.specs.Threads.{AreBehind, HasParent, MayAddBuffer, MayAddCode, MayAddMeasure, MayAddRange, MayAddRegister}
 use Rattle.asm.specs.Threads.{MayAddSlot, MayBegin, MayEnd, OpenDraft, parent_numbers, plain_word, slot_entry, term_key, term_or_zero, terms_of, thread_begun}
 use Rattle.asm.specs.Threads.{with_buffer, with_measure, with_range, with_register, with_slot, with_word}
+use Rattle.asm_line.specs.declared.faults.LineFault.{LineFault}
+use Rattle.asm_line.specs.declared.faults.LineFault.TheVariants as fault
 
 -- ---- a step of a chain
 
@@ -106,12 +108,12 @@ pointed labels name h = point-by (place_named labels name) h
 
 -- ---- words of a `data` line
 
-value-by : (r : Result ℕ ℕ) (ws : List Text) → (r >>= λ _. all_words ws) ≡ Ok tt → (all_words ws ≡ Ok tt → values_of ws ≡ map value_of ws)
+value-by : (r : Result ℕ LineFault) (ws : List Text) → (r >>= λ _. all_words ws) ≡ Ok tt → (all_words ws ≡ Ok tt → values_of ws ≡ map value_of ws)
     → elim r [ Ok value ↦ value ∷ values_of ws | Err e ↦ [] ] ≡ number_or_zero r ∷ map value_of ws
 value-by (Ok value) ws h rest = ap (λ xs. value ∷ xs) (rest h)
 value-by (Err e) ws h rest = absurd (let no : Err e ≡ Ok tt = h in cc)
 
-number-by : (r : Result ℤ ℕ) (ws : List Text) → (r >>= λ number. word number >>= λ _. all_words ws) ≡ Ok tt →
+number-by : (r : Result ℤ LineFault) (ws : List Text) → (r >>= λ number. word number >>= λ _. all_words ws) ≡ Ok tt →
     (all_words ws ≡ Ok tt → values_of ws ≡ map value_of ws)
     → elim (r >>= λ number. word number) [ Ok value ↦ value ∷ values_of ws | Err e ↦ [] ] ≡ number_or_zero (r >>= λ number. word number) ∷ map value_of ws
 number-by (Ok z) ws h rest = value-by (word z) ws h rest
@@ -159,7 +161,7 @@ registered o entry may =
     goes (sorted_with (λ (e : RegisterEntry). e.register) 31 entry o.thread.registers) _ _ _
     (sorted-behind (λ (e : RegisterEntry). e.register) 31 entry o.thread.registers may.behind may.room) refl
 
-term-by : (read : List TermEntry) (ws : List Text) (r : Result TermEntry ℕ) → (r >>= λ _. all_terms ws) ≡ Ok tt →
+term-by : (read : List TermEntry) (ws : List Text) (r : Result TermEntry LineFault) → (r >>= λ _. all_terms ws) ≡ Ok tt →
     AreBehind term_key read (term_or_zero r ∷ terms_of ws)
     → length read + length (term_or_zero r ∷ terms_of ws) ≤ 4
     → ((grown : List TermEntry) → all_terms ws ≡ Ok tt → AreBehind term_key grown (terms_of ws) → length grown + length (terms_of ws) ≤ 4
@@ -176,7 +178,7 @@ terms-sorted : (words : List Text) (read : List TermEntry) → all_terms words �
     length read + length (terms_of words) ≤ 4
     → sorted_terms read (terms_said words) ≡ Ok (read ++ terms_of words)
 terms-sorted [] read said behind few = ap (λ (ts : List TermEntry). Ok ts) (sym (append-nil read))
-terms-sorted (name ∷ []) read said behind few = absurd (let no : Err 1 ≡ Ok tt = said in cc)
+terms-sorted (name ∷ []) read said behind few = absurd (let no : Err fault.Syntax ≡ Ok tt = said in cc)
 terms-sorted (name ∷ factor ∷ ws) read said behind few =
     term-by read ws (term_of name factor) said behind few (λ grown said behind few. terms-sorted ws grown said behind few)
 

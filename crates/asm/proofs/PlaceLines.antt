@@ -37,6 +37,7 @@ use Rattle.asm.proofs.NumberedNames.{interrupt-absent, interrupt-found, interrup
 use Rattle.asm.proofs.Orders.{is-behind, least_behind}
 use Rattle.asm.proofs.SectionFits.{SectionsFit, fits-at}
 use Rattle.asm.proofs.Stages.{declaring, front-shorter, with_capabilities, with_contents, with_frames, with_promises, with_tables}
+use Rattle.asm_line.specs.declared.faults.LineFault.{LineFault}
 
 -- ---- what a capability is made from
 
@@ -113,7 +114,7 @@ all-words (n ∷ ns) h = rw (number-decimal n (let small : n < 2 ^ 32 = h.0 in o
 promised-back : (ws : List PromisedWord) → AllByRecursion IsPromisedWord ws → promised_values (flat_map promised_words ws) ≡ ws
 promised-back [] h = refl
 promised-back (w ∷ ws) h =
-    ap (λ (r : Result PromisedWord ℕ). elim r [ Ok v ↦ v ∷ promised_values (flat_map promised_words ws) | Err e ↦ [] ]) (promised-says w h.0)
+    ap (λ (r : Result PromisedWord LineFault). elim r [ Ok v ↦ v ∷ promised_values (flat_map promised_words ws) | Err e ↦ [] ]) (promised-says w h.0)
     ∙ ap (λ vs. w ∷ vs) (promised-back ws h.1)
 
 -- ---- the last of a list that was made of another

@@ -31,6 +31,7 @@ use Rattle.asm.proofs.PlaceLines.{object-named, object-number}
 use Rattle.asm.proofs.SectionFits.{fits-at}
 use Rattle.asm.proofs.Stages.{front-shorter}
 use Rattle.asm.proofs.ThreadParts.{RecordFits, least-some, range-parts, register-parts, slot-parts, term-parts}
+use Rattle.asm_line.specs.declared.faults.LineFault.{LineFault}
 
 -- ---- what is known in a thread
 
@@ -56,11 +57,11 @@ inside i ts o = record {
 
 -- ---- terms
 
-term-known : (r : Result TermEntry ℕ) (t : TermEntry) (ws : List Text) → ◌>>=◌ {B = TermEntry × List Text} r (λ term. Ok (term, ws)) ≡ Ok (t, ws) →
+term-known : (r : Result TermEntry LineFault) (t : TermEntry) (ws : List Text) → ◌>>=◌ {B = TermEntry × List Text} r (λ term. Ok (term, ws)) ≡ Ok (t, ws) →
     term_or_zero r ≡ t
 term-known (Ok x) t ws e = ap first e
   where
-    first : Result (TermEntry × List Text) ℕ → TermEntry
+    first : Result (TermEntry × List Text) LineFault → TermEntry
     first (Ok y) = y.0
     first (Err k) = x
 term-known (Err k) t ws e = absurd (let clash : Err k ≡ Ok (t, ws) = e in cc)

@@ -8,6 +8,7 @@ use Rattle.model.specs.Images.Listing.{Text}
 use Rattle.asm_line.specs.Words.{◌>>=◌}
 use Rattle.asm_line.specs.Lines.{all_terms, term_first, term_of}
 use Rattle.asm.specs.Threads.{AreBehind, term_key, term_or_zero, terms_of}
+use Rattle.asm_line.specs.declared.faults.LineFault.{LineFault}
 
 pub record TermsLeft (read : List TermEntry) (rest all : List Text) : Type 0 where
   pub said : all_terms rest ≡ Ok tt
@@ -19,17 +20,17 @@ pub record FirstTerm (words : List Text) (t : TermEntry) (rest : List Text) : Ty
   pub term : terms_of words ≡ t ∷ terms_of rest
   pub others : all_terms words ≡ all_terms rest
 
-split-term : (name factor : Text) (ws : List Text) (t : TermEntry) (rest : List Text) (r : Result TermEntry ℕ) → term_of name factor ≡ r
+split-term : (name factor : Text) (ws : List Text) (t : TermEntry) (rest : List Text) (r : Result TermEntry LineFault) → term_of name factor ≡ r
     → Some (t, rest) ≡ result_ok (term_first (name ∷ factor ∷ ws)) → FirstTerm (name ∷ factor ∷ ws) t rest
 split-term name factor ws t rest (Ok u) q e =
-    let same : Some (t, rest) ≡ Some (u, ws) = e ∙ ap (λ (r : Result TermEntry ℕ). result_ok (r >>= λ term. Ok (term, ws))) q in
+    let same : Some (t, rest) ≡ Some (u, ws) = e ∙ ap (λ (r : Result TermEntry LineFault). result_ok (r >>= λ term. Ok (term, ws))) q in
     let pair = same_Some (t, rest) (u, ws) same in
     record {
-      term = ap (λ (r : Result TermEntry ℕ). term_or_zero r ∷ terms_of ws) q ∙ ap (λ (p : TermEntry × List Text). p.0 ∷ terms_of p.1) (sym pair);
-      others = ap (λ (r : Result TermEntry ℕ). r >>= λ _. all_terms ws) q ∙ ap (λ (p : TermEntry × List Text). all_terms p.1) (sym pair);
+      term = ap (λ (r : Result TermEntry LineFault). term_or_zero r ∷ terms_of ws) q ∙ ap (λ (p : TermEntry × List Text). p.0 ∷ terms_of p.1) (sym pair);
+      others = ap (λ (r : Result TermEntry LineFault). r >>= λ _. all_terms ws) q ∙ ap (λ (p : TermEntry × List Text). all_terms p.1) (sym pair);
     }
 split-term name factor ws t rest (Err f) q e =
-    absurd (let no : Some (t, rest) ≡ None = e ∙ ap (λ (r : Result TermEntry ℕ). result_ok (r >>= λ term. Ok (term, ws))) q in cc)
+    absurd (let no : Some (t, rest) ≡ None = e ∙ ap (λ (r : Result TermEntry LineFault). result_ok (r >>= λ term. Ok (term, ws))) q in cc)
 
 pub first-term : (words : List Text) (t : TermEntry) (rest : List Text) → Some (t, rest) ≡ result_ok (term_first words) → FirstTerm words t rest
 first-term [] t rest e = absurd (let no : Some (t, rest) ≡ None = e in cc)

@@ -13,6 +13,7 @@ use Rattle.asm_line.specs.Lines.{promised_first, promised_of, term_first, term_o
 use Rattle.asm.specs.Keys.{has_room, must, sorted_with}
 use Rattle.asm.specs.Meaning.{promised_said, sorted_terms, terms_said, values_of, words_said}
 use Rattle.asm.specs.Sections.{promised_values}
+use Rattle.asm_line.specs.declared.faults.LineFault.{LineFault}
 
 -- ---- room
 
@@ -40,11 +41,12 @@ abbrev shown : Option (ℕ × List Text) → List ℕ
 shown (Some first) = first.0 ∷ values_of first.1
 shown None = []
 
-shown-word : (r : Result ℕ ℕ) (ws : List Text) → elim r [ Ok value ↦ value ∷ values_of ws | Err e ↦ [] ] ≡ shown (result_ok (r >>= λ value. Ok (value, ws)))
+shown-word : (r : Result ℕ LineFault) (ws : List Text) → elim r [ Ok value ↦ value ∷ values_of ws | Err e ↦ [] ] ≡ shown
+    (result_ok (r >>= λ value. Ok (value, ws)))
 shown-word (Ok value) ws = refl
 shown-word (Err e) ws = refl
 
-shown-number : (r : Result ℤ ℕ) (ws : List Text)
+shown-number : (r : Result ℤ LineFault) (ws : List Text)
     → elim (r >>= λ number. word number) [ Ok value ↦ value ∷ values_of ws | Err e ↦ [] ] ≡ shown
     (result_ok (r >>= λ number. word number >>= λ value. Ok (value, ws)))
 shown-number (Ok z) ws = shown-word (word z) ws
@@ -98,7 +100,7 @@ abbrev shown_promised : Option (PromisedWord × List Text) → List PromisedWord
 shown_promised (Some first) = first.0 ∷ promised_values first.1
 shown_promised None = []
 
-shown-pair : (r : Result PromisedWord ℕ) (ws : List Text) → elim r [ Ok word ↦ word ∷ promised_values ws | Err e ↦ [] ] ≡ shown_promised
+shown-pair : (r : Result PromisedWord LineFault) (ws : List Text) → elim r [ Ok word ↦ word ∷ promised_values ws | Err e ↦ [] ] ≡ shown_promised
     (result_ok (r >>= λ promised. Ok (promised, ws)))
 shown-pair (Ok word) ws = refl
 shown-pair (Err e) ws = refl
@@ -154,7 +156,7 @@ abbrev shown_terms : Option (TermEntry × List Text) → List TermEntry
 shown_terms (Some first) = first.0 ∷ terms_said first.1
 shown_terms None = []
 
-shown-term : (r : Result TermEntry ℕ) (ws : List Text) → elim r [ Ok term ↦ term ∷ terms_said ws | Err e ↦ [] ] ≡ shown_terms
+shown-term : (r : Result TermEntry LineFault) (ws : List Text) → elim r [ Ok term ↦ term ∷ terms_said ws | Err e ↦ [] ] ≡ shown_terms
     (result_ok (r >>= λ term. Ok (term, ws)))
 shown-term (Ok term) ws = refl
 shown-term (Err e) ws = refl

@@ -19,6 +19,7 @@ use Rattle.asm.specs.declared.names.Source.{Source}
 use Rattle.asm.specs.declared.names.Source.TheVariants.{Object, Handler}
 use Rattle.asm.specs.Keys.{is_behind}
 use Rattle.asm.specs.Names.{KnownNames, no_names, number_of, IsNamed, is_taken, source_of, HasSource, with_untyped_name, with_object_name, with_interrupt_name}
+use Rattle.asm_line.specs.declared.faults.LineFault.{LineFault}
 
 pub record Declared : Type 0 where
   pub names : KnownNames
@@ -116,7 +117,7 @@ with_frame d entry = record d { frames = d.frames ++ entry ∷ [] }
 
 -- ---- contents
 
-abbrev pub number_or_zero : Result ℕ ℕ → ℕ
+abbrev pub number_or_zero : Result ℕ LineFault → ℕ
 number_or_zero (Ok number) = number
 number_or_zero (Err e) = 0
 

@@ -16,6 +16,7 @@ use Rattle.asm_line.specs.Lines.{term_of, all_terms}
 use Rattle.asm.specs.Keys.{is_behind}
 use Rattle.asm.specs.Labels.{FoundLabels, place_named, point_of}
 use Rattle.asm.specs.Names.{KnownNames, number_of, IsNamed}
+use Rattle.asm_line.specs.declared.faults.LineFault.{LineFault}
 
 -- the thread, and what its certificate says of the next instruction
 pub record OpenDraft : Type 0 where
@@ -80,7 +81,7 @@ pub record MayAddRegister (o : OpenDraft) (entry : RegisterEntry) : Type 0 where
 
 -- ---- records
 
-abbrev pub term_or_zero : Result TermEntry ℕ → TermEntry
+abbrev pub term_or_zero : Result TermEntry LineFault → TermEntry
 term_or_zero (Ok term) = term
 term_or_zero (Err e) = record { register = 0; coefficient = ℤ.pos 0 }
 

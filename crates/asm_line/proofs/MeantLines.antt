@@ -18,8 +18,10 @@ use Rattle.asm_line.specs.Words.{◌>>=◌, name_of, words_of}
 use Rattle.asm_line.specs.Lines.{keyword_of, slot_of}
 use Rattle.asm_line.specs.Parsing.{IsKnown, before_comment, label_line, label_of, line_for, line_of}
 use Rattle.asm_line.specs.Instructions.{instruction_of}
-use Rattle.asm_line.specs.Meaning.{known, known_slot_of, labelled_line, line_read, line_said, line_with, other_line_of, said_by, told}
+use Rattle.asm_line.specs.Meaning.{known, known_slot_of, labelled_line, line_read, line_said, line_with, other_line_of, said_by, numbered}
 use Rattle.asm_line.proofs.ListedTexts.{reads, reads-ascii, reads-code, reads-says}
+use Rattle.asm_line.specs.declared.faults.LineFault.{LineFault}
+use Rattle.asm_line.specs.declared.faults.LineFault.TheVariants as fault
 
 known-words : (word0 word1 : ℕ) (c : Cap) → IsCapability c → word0 ∷ word1 ∷ [] ≡ words_of_capability c → is_some (unpacked word0 word1) ≡ true
 known-words word0 word1 c valid own =
@@ -51,7 +53,7 @@ known-line line.End h = refl
 
 with-keyword : (k : Keyword) (words : List Text) (l : Line) → IsKnown l → line_for k words ≡ Ok l → line_with k words ≡ Ok l
 unfolding line_for line_with known_slot_of
-with-keyword keyword.Slot words l h e = ap (λ (r : Result Line ℕ). r >>= known) e ∙ known-line l h
+with-keyword keyword.Slot words l h e = ap (λ (r : Result Line LineFault). r >>= known) e ∙ known-line l h
 with-keyword keyword.Memory words l h e = e
 with-keyword keyword.Untyped words l h e = e
 with-keyword keyword.Object words l h e = e
@@ -75,20 +77,22 @@ said-from [] l h e = same_Some _ _ e
 said-from (word ∷ words) l h e = by-keyword (keyword_of word) refl e
   where
     by-label : (o : Option Text) → label_line o words ≡ Some (Ok l)
-        → ◌≡◌ {A = Result Line ℕ} (elim o [ Some name ↦ labelled_line name words | None ↦ (instruction_of word words >>= λ said. Ok (line.Code None said)) ])
+        → ◌≡◌ {A = Result Line LineFault}
+        (elim o [ Some name ↦ labelled_line name words | None ↦ (instruction_of word words >>= λ said. Ok (line.Code None said)) ])
         (Ok l)
     by-label o e = by-words o words e
       where
         by-words : (o : Option Text) (ws : List Text) → label_line o ws ≡ Some (Ok l)
-            → ◌≡◌ {A = Result Line ℕ} (elim o [ Some name ↦ labelled_line name ws | None ↦ (instruction_of word ws >>= λ said. Ok (line.Code None said)) ])
+            → ◌≡◌ {A = Result Line LineFault}
+            (elim o [ Some name ↦ labelled_line name ws | None ↦ (instruction_of word ws >>= λ said. Ok (line.Code None said)) ])
             (Ok l)
         by-words (Some name) [] e = same_Some _ _ e
         by-words (Some name) (w ∷ ws) e = absurd (let no : None ≡ Some (Ok l) = e in cc)
         by-words None ws e = absurd (let no : None ≡ Some (Ok l) = e in cc)
 
     by-keyword : (o : Option Keyword) → keyword_of word ≡ o →
-        ◌≡◌ {A = Option (Result Line ℕ)} (elim o [ Some k ↦ Some (line_for k words) | None ↦ label_line (label_of word) words ]) (Some (Ok l))
-        → ◌≡◌ {A = Result Line ℕ} (elim o [ Some k ↦ line_with k words | None ↦ other_line_of word words ]) (Ok l)
+        ◌≡◌ {A = Option (Result Line LineFault)} (elim o [ Some k ↦ Some (line_for k words) | None ↦ label_line (label_of word) words ]) (Some (Ok l))
+        → ◌≡◌ {A = Result Line LineFault} (elim o [ Some k ↦ line_with k words | None ↦ other_line_of word words ]) (Ok l)
     by-keyword (Some k) is e = with-keyword k words l h (same_Some _ _ e)
     by-keyword None is e = by-label (label_of word) e
 
@@ -99,5 +103,5 @@ pub listed-said : (l : Line) (text : Text) → Lists l text → line_said text �
 unfolding line_said line_read
 listed-said l text h =
     let r = reads l text h in
-    ap told (ap (λ (b : Bool). if b then said_by (words_of (before_comment text)) else Err 1) (reads-ascii l text r)
+    ap numbered (ap (λ (b : Bool). if b then said_by (words_of (before_comment text)) else Err fault.Syntax) (reads-ascii l text r)
     ∙ (ap (λ t. said_by (words_of t)) (bare-text text (reads-code l text r)) ∙ said-from (words_of text) l r.known (reads-says l text r)))

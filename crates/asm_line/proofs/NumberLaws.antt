@@ -13,6 +13,7 @@ use Rattle.model.specs.Images.Listing.{Text, whole_number, register_name}
 use Rattle.asm_line.specs.Words.{◌>>=◌, is_name_start, name_of, object_first, number_of, number_first, value_on, magnitude, digit_in, small_number_of}
 use Rattle.asm_line.specs.Words.{register_numbered, register_of, register_first}
 use Rattle.asm_line.proofs.PlainWords.{decimal-digits, digits-name}
+use Rattle.asm_line.specs.declared.faults.LineFault.TheVariants as fault
 
 -- ---- values
 
@@ -21,8 +22,8 @@ value-append radix m [] ys = refl
 value-append radix m (x ∷ xs) ys =
     let rest = value-append radix (min (m * radix + digit_value x) (2 ^ 63 - 1)) xs ys in
     elim (ltb (digit_value x) radix)
-    as (λ b. ((cond b (Ok (digit_value x)) (Err 1)) >>= λ digit. value_on radix (min (m * radix + digit) (2 ^ 63 - 1)) (xs ++ ys))
-    ≡ (((cond b (Ok (digit_value x)) (Err 1)) >>= λ digit. value_on radix (min (m * radix + digit) (2 ^ 63 - 1)) xs) >>= λ k. value_on radix k ys))
+    as (λ b. ((cond b (Ok (digit_value x)) (Err fault.Syntax)) >>= λ digit. value_on radix (min (m * radix + digit) (2 ^ 63 - 1)) (xs ++ ys))
+    ≡ (((cond b (Ok (digit_value x)) (Err fault.Syntax)) >>= λ digit. value_on radix (min (m * radix + digit) (2 ^ 63 - 1)) xs) >>= λ k. value_on radix k ys))
     [ true ↦ rest | false ↦ refl ]
 
 digit-value : (d : ℕ) → d < 10 → digit_value (48 + d) ≡ d

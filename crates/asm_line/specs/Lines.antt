@@ -19,6 +19,8 @@ use Rattle.asm_line.specs.declared.thread_lines.SlotWords.{SlotWords}
 use Rattle.asm_line.specs.declared.thread_lines.ThreadWords.{ThreadWords}
 use Rattle.asm_line.specs.Words.{◌>>=◌, ends, last_number, last_numbers, name_of, name_first, number_of, number_first, object_first, place_first}
 use Rattle.asm_line.specs.Words.{register_first, register_of, within}
+use Rattle.asm_line.specs.declared.faults.LineFault.{LineFault}
+use Rattle.asm_line.specs.declared.faults.LineFault.TheVariants as fault
 
 -- ---- keywords
 
@@ -45,7 +47,7 @@ keyword_of word =
     if bytes_eq word (codes "promise") then Some keyword.Promise else
     if bytes_eq word (codes "thread") then Some keyword.Thread else thread_keyword_of word
 
-unfoldable pub kind_of : Text → Result ℕ ℕ
+unfoldable pub kind_of : Text → Result ℕ LineFault
 kind_of word =
     if bytes_eq word (codes "untyped") then Ok 1 else
     if bytes_eq word (codes "tcb") then Ok 2 else
@@ -54,31 +56,31 @@ kind_of word =
     if bytes_eq word (codes "cnode") then Ok 5 else
     if bytes_eq word (codes "frame") then Ok 6 else
     if bytes_eq word (codes "table") then Ok 7 else
-    if bytes_eq word (codes "root") then Ok 8 else Err 1
+    if bytes_eq word (codes "root") then Ok 8 else Err fault.Syntax
 
 -- ---- ranges
 
 -- a number of 32 bits
-abbrev pub word : ℤ → Result ℕ ℕ
+abbrev pub word : ℤ → Result ℕ LineFault
 word number = within 0 (2 ^ 32 - 1) number
 
 -- a register that is not x0
-abbrev pub named_register : ℕ → Result ℕ ℕ
-named_register number = if nat_lt 0 number then Ok number else Err 4
+abbrev pub named_register : ℕ → Result ℕ LineFault
+named_register number = if nat_lt 0 number then Ok number else Err fault.Range
 
-abbrev pub checked : Bool → Result (Unit {0}) ℕ
-checked test = if test then Ok tt else Err 4
+abbrev pub checked : Bool → Result (Unit {0}) LineFault
+checked test = if test then Ok tt else Err fault.Range
 
 -- ---- the lines of the sections
 
-unfoldable pub memory_of : List Text → Result Line ℕ
+unfoldable pub memory_of : List Text → Result Line LineFault
 memory_of words = do
   numbers ← last_numbers words
   memory_bits ← within 16 24 numbers.0
   boot_radix ← within 1 (min 14 (memory_bits - 5)) numbers.1
   Ok (line.Memory memory_bits boot_radix)
 
-unfoldable pub untyped_of : List Text → Result Line ℕ
+unfoldable pub untyped_of : List Text → Result Line LineFault
 untyped_of words = do
   name ← object_first words
   numbers ← last_numbers name.1
@@ -86,24 +88,24 @@ untyped_of words = do
   bits ← within 4 24 numbers.1
   Ok (line.Untyped name.0 (record { offset = offset; bits = bits }))
 
-abbrev pub kind_first : List Text → Result (ℕ × List Text) ℕ
-kind_first [] = Err 1
+abbrev pub kind_first : List Text → Result (ℕ × List Text) LineFault
+kind_first [] = Err fault.Syntax
 kind_first (word ∷ words) = kind_of word >>= λ kind. Ok (kind, words)
 
 -- a size that is left out is 0
-abbrev pub size_first : List Text → Result (ℤ × List Text) ℕ
+abbrev pub size_first : List Text → Result (ℤ × List Text) LineFault
 size_first [] = Ok (pos 0, [])
 size_first (word ∷ words) = number_of word >>= λ size. Ok (size, words)
 
 -- a kind and a size, and no more
-unfoldable pub last_kind : List Text → Result (ℕ × ℤ) ℕ
+unfoldable pub last_kind : List Text → Result (ℕ × ℤ) LineFault
 last_kind words = do
   kind ← kind_first words
   size ← size_first kind.1
   last ← ends size.1
   Ok (kind.0, size.0)
 
-unfoldable pub object_of : List Text → Result Line ℕ
+unfoldable pub object_of : List Text → Result Line LineFault
 object_of words = do
   name ← object_first words
   untyped ← object_first name.1
@@ -112,7 +114,7 @@ object_of words = do
   fits ← checked (size_fits kind.0 size)
   Ok (line.Object name.0 untyped.0 kind.0 size)
 
-unfoldable pub interrupt_of : List Text → Result Line ℕ
+unfoldable pub interrupt_of : List Text → Result Line LineFault
 interrupt_of words = do
   place ← place_first words
   badge ← last_number place.3
@@ -120,7 +122,7 @@ interrupt_of words = do
   badge_word ← within 0 (2 ^ 28 - 1) badge
   Ok (line.Interrupt place.0 interrupt_line place.2 badge_word)
 
-unfoldable pub capability_of : List Text → Result Line ℕ
+unfoldable pub capability_of : List Text → Result Line LineFault
 capability_of words = do
   place ← place_first words
   numbers ← last_numbers place.3
@@ -129,14 +131,14 @@ capability_of words = do
   payload ← word numbers.1
   Ok (line.Capability place.0 index place.2 rights payload)
 
-unfoldable pub table_of : List Text → Result Line ℕ
+unfoldable pub table_of : List Text → Result Line LineFault
 table_of words = do
   place ← place_first words
   last ← ends place.3
   address ← word place.1
   Ok (line.Table place.0 address place.2)
 
-unfoldable pub frame_of : List Text → Result Line ℕ
+unfoldable pub frame_of : List Text → Result Line LineFault
 frame_of words = do
   place ← place_first words
   rights ← last_number place.3
@@ -144,23 +146,23 @@ frame_of words = do
   rights_word ← within 0 7 rights
   Ok (line.Frame place.0 address place.2 rights_word)
 
-abbrev pub all_numbers : List Text → Result (Unit {0}) ℕ
+abbrev pub all_numbers : List Text → Result (Unit {0}) LineFault
 all_numbers [] = Ok tt
 all_numbers (w ∷ ws) = number_of w >>= λ _. all_numbers ws
 
-abbrev pub some_numbers : List Text → Result (Unit {0}) ℕ
-some_numbers [] = Err 1
+abbrev pub some_numbers : List Text → Result (Unit {0}) LineFault
+some_numbers [] = Err fault.Syntax
 some_numbers (w ∷ ws) = all_numbers (w ∷ ws)
 
-abbrev pub all_words : List Text → Result (Unit {0}) ℕ
+abbrev pub all_words : List Text → Result (Unit {0}) LineFault
 all_words [] = Ok tt
 all_words (w ∷ ws) = number_of w >>= λ number. word number >>= λ _. all_words ws
 
-abbrev pub word_first : List Text → Result (ℕ × List Text) ℕ
-word_first [] = Err 1
+abbrev pub word_first : List Text → Result (ℕ × List Text) LineFault
+word_first [] = Err fault.Syntax
 word_first (w ∷ ws) = number_of w >>= λ number. word number >>= λ value. Ok (value, ws)
 
-unfoldable pub content_of : List Text → Result Line ℕ
+unfoldable pub content_of : List Text → Result Line LineFault
 content_of words = do
   frame ← object_first words
   grammar ← some_numbers frame.1
@@ -168,17 +170,17 @@ content_of words = do
   Ok (line.Content frame.0 frame.1)
 
 -- numbers, two and two
-abbrev pub number_pairs : List Text → Result (Unit {0}) ℕ
+abbrev pub number_pairs : List Text → Result (Unit {0}) LineFault
 number_pairs [] = Ok tt
-number_pairs (low ∷ []) = Err 1
+number_pairs (low ∷ []) = Err fault.Syntax
 number_pairs (low ∷ high ∷ words) = number_of low >>= λ _. number_of high >>= λ _. number_pairs words
 
-abbrev pub some_pairs : List Text → Result (Unit {0}) ℕ
-some_pairs [] = Err 1
+abbrev pub some_pairs : List Text → Result (Unit {0}) LineFault
+some_pairs [] = Err fault.Syntax
 some_pairs (w ∷ ws) = number_pairs (w ∷ ws)
 
 -- a lowest and a highest value
-unfoldable pub promised_of : Text → Text → Result PromisedWord ℕ
+unfoldable pub promised_of : Text → Text → Result PromisedWord LineFault
 promised_of low high = do
   lowest ← number_of low
   highest ← number_of high
@@ -187,20 +189,20 @@ promised_of low high = do
   rises ← checked (nat_le low_word high_word)
   Ok (record { low = low_word; high = high_word })
 
-abbrev pub promised_first : List Text → Result (PromisedWord × List Text) ℕ
-promised_first [] = Err 1
-promised_first (low ∷ []) = Err 1
+abbrev pub promised_first : List Text → Result (PromisedWord × List Text) LineFault
+promised_first [] = Err fault.Syntax
+promised_first (low ∷ []) = Err fault.Syntax
 promised_first (low ∷ high ∷ words) = promised_of low high >>= λ promised. Ok (promised, words)
 
 -- the ranges of so many words at most
-abbrev pub few_promised : ℕ → List Text → Result (Unit {0}) ℕ
+abbrev pub few_promised : ℕ → List Text → Result (Unit {0}) LineFault
 few_promised most [] = Ok tt
-few_promised most (low ∷ []) = Err 1
-few_promised zero (low ∷ high ∷ words) = Err 4
+few_promised most (low ∷ []) = Err fault.Syntax
+few_promised zero (low ∷ high ∷ words) = Err fault.Range
 few_promised (suc most) (low ∷ high ∷ words) = promised_of low high >>= λ _. few_promised most words
 
 -- the badges are the first range
-unfoldable pub promise_of : List Text → Result Line ℕ
+unfoldable pub promise_of : List Text → Result Line LineFault
 promise_of words = do
   endpoint ← object_first words
   grammar ← some_pairs endpoint.1
@@ -211,12 +213,12 @@ promise_of words = do
 
 -- ---- the lines of threads
 
-unfoldable pub budget_of : ℤ → Result ℕ ℕ
-budget_of (pos n) = if nat_le 1 n && nat_le n (2 ^ 62) then Ok n else Err 4
-budget_of (negsuc n) = Err 4
+unfoldable pub budget_of : ℤ → Result ℕ LineFault
+budget_of (pos n) = if nat_le 1 n && nat_le n (2 ^ 62) then Ok n else Err fault.Range
+budget_of (negsuc n) = Err fault.Range
 
 -- the grammar of a line `thread`
-unfoldable pub thread_words_of : List Text → Result ThreadWords ℕ
+unfoldable pub thread_words_of : List Text → Result ThreadWords LineFault
 thread_words_of words = do
   tcb ← object_first words
   spaces ← place_first tcb.1
@@ -238,7 +240,7 @@ thread_words_of words = do
   })
 
 -- the ranges of its numbers
-unfoldable pub thread_said : ThreadWords → Result Line ℕ
+unfoldable pub thread_said : ThreadWords → Result Line LineFault
 thread_said words = do
   guard ← word words.guard
   priority ← within 0 255 words.priority
@@ -258,16 +260,16 @@ thread_said words = do
     base = base;
   }))
 
-unfoldable pub thread_of : List Text → Result Line ℕ
+unfoldable pub thread_of : List Text → Result Line LineFault
 thread_of words = thread_words_of words >>= thread_said
 
-unfoldable pub buffer_of : List Text → Result Line ℕ
+unfoldable pub buffer_of : List Text → Result Line LineFault
 buffer_of words = do
   frame ← object_first words
   last ← ends frame.1
   Ok (line.Buffer frame.0)
 
-unfoldable pub register_line_of : List Text → Result Line ℕ
+unfoldable pub register_line_of : List Text → Result Line LineFault
 register_line_of words = do
   register ← register_first words
   value ← last_number register.1
@@ -275,7 +277,7 @@ register_line_of words = do
   value_word ← within 1 (2 ^ 32 - 1) value
   Ok (line.Register (record { register = number; value = value_word }))
 
-unfoldable pub range_of : List Text → Result Line ℕ
+unfoldable pub range_of : List Text → Result Line LineFault
 range_of words = do
   register ← register_first words
   ends ← last_numbers register.1
@@ -285,18 +287,18 @@ range_of words = do
   fits ← checked (nat_le low high && (nat_lt 0 low || nat_lt high (2 ^ 32 - 1)))
   Ok (line.Range (record { register = number; low = low; high = high }))
 
-abbrev pub parent_first : List Text → Result (Parent × List Text) ℕ
-parent_first [] = Err 1
+abbrev pub parent_first : List Text → Result (Parent × List Text) LineFault
+parent_first [] = Err fault.Syntax
 parent_first (w ∷ ws) =
     if bytes_eq w (codes "boot") then Ok (parent.Boot, ws) else (name_of w >>= λ cnode. Ok (parent.Slot cnode 0, ws))
 
 -- a parent in the boot CNode is written with 0 after it; an empty slot has no other
-abbrev pub parent_with : Bool → Parent → ℤ → Result Parent ℕ
+abbrev pub parent_with : Bool → Parent → ℤ → Result Parent LineFault
 parent_with is_empty (parent.Boot) index = within 0 0 index >>= λ _. Ok parent.Boot
 parent_with is_empty (parent.Slot cnode _index) index = checked (not is_empty) >>= λ _. within 0 (2 ^ 14 - 1) index >>= λ number. Ok (parent.Slot cnode number)
 
 -- the grammar of a line `slot`
-unfoldable pub slot_words_of : List Text → Result SlotWords ℕ
+unfoldable pub slot_words_of : List Text → Result SlotWords LineFault
 slot_words_of words = do
   cnode ← object_first words
   index ← number_first cnode.1
@@ -307,7 +309,7 @@ slot_words_of words = do
   Ok (record { cnode = cnode.0; index = index.0; word0 = word0.0; word1 = word1.0; parent = parent.0; parent_index = parent_index })
 
 -- the ranges of its numbers
-unfoldable pub slot_said : SlotWords → Result Line ℕ
+unfoldable pub slot_said : SlotWords → Result Line LineFault
 slot_said words = do
   index ← within 0 (2 ^ 14 - 1) words.index
   word0 ← word words.word0
@@ -315,17 +317,17 @@ slot_said words = do
   parent ← parent_with ((word0 == 0) && (word1 == 0)) words.parent words.parent_index
   Ok (line.Slot words.cnode index word0 word1 parent)
 
-unfoldable pub slot_of : List Text → Result Line ℕ
+unfoldable pub slot_of : List Text → Result Line LineFault
 slot_of words = slot_words_of words >>= slot_said
 
-unfoldable pub constant_of : ℤ → Result ℤ ℕ
-constant_of number = if is_constant number then Ok number else Err 4
+unfoldable pub constant_of : ℤ → Result ℤ LineFault
+constant_of number = if is_constant number then Ok number else Err fault.Range
 
 -- a register that is not x0 and a coefficient of 32 bits that is not 0
-unfoldable pub coefficient_of : ℤ → Result ℤ ℕ
-coefficient_of number = if fits_signed w32 number && not_zero number then Ok number else Err 4
+unfoldable pub coefficient_of : ℤ → Result ℤ LineFault
+coefficient_of number = if fits_signed w32 number && not_zero number then Ok number else Err fault.Range
 
-unfoldable pub term_of : Text → Text → Result TermEntry ℕ
+unfoldable pub term_of : Text → Text → Result TermEntry LineFault
 term_of name factor = do
   register ← register_of name
   coefficient ← number_of factor
@@ -333,23 +335,23 @@ term_of name factor = do
   known ← coefficient_of coefficient
   Ok (record { register = number; coefficient = known })
 
-abbrev pub term_first : List Text → Result (TermEntry × List Text) ℕ
-term_first [] = Err 1
-term_first (name ∷ []) = Err 1
+abbrev pub term_first : List Text → Result (TermEntry × List Text) LineFault
+term_first [] = Err fault.Syntax
+term_first (name ∷ []) = Err fault.Syntax
 term_first (name ∷ factor ∷ words) = term_of name factor >>= λ term. Ok (term, words)
 
 -- the grammar of terms: registers, each with a number after it
-abbrev pub all_pairs : List Text → Result (Unit {0}) ℕ
+abbrev pub all_pairs : List Text → Result (Unit {0}) LineFault
 all_pairs [] = Ok tt
-all_pairs (name ∷ []) = Err 1
+all_pairs (name ∷ []) = Err fault.Syntax
 all_pairs (name ∷ factor ∷ words) = register_of name >>= λ _. number_of factor >>= λ _. all_pairs words
 
-abbrev pub all_terms : List Text → Result (Unit {0}) ℕ
+abbrev pub all_terms : List Text → Result (Unit {0}) LineFault
 all_terms [] = Ok tt
-all_terms (name ∷ []) = Err 1
+all_terms (name ∷ []) = Err fault.Syntax
 all_terms (name ∷ factor ∷ words) = term_of name factor >>= λ _. all_terms words
 
-unfoldable pub measure_of : List Text → Result Line ℕ
+unfoldable pub measure_of : List Text → Result Line LineFault
 measure_of words = do
   constant ← number_first words
   grammar ← all_pairs constant.1

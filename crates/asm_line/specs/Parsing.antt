@@ -17,14 +17,15 @@ use Rattle.asm_line.specs.Words.{◌>>=◌, ends, last_number, name_of}
 use Rattle.asm_line.specs.Lines.{buffer_of, capability_of, content_of, frame_of, interrupt_of, keyword_of, measure_of, memory_of, object_of, range_of}
 use Rattle.asm_line.specs.Lines.{register_line_of}
 use Rattle.asm_line.specs.Lines.{promise_of, slot_of, table_of, thread_of, untyped_of, word}
+use Rattle.asm_line.specs.declared.faults.LineFault.{LineFault}
 
-unfoldable pub plain_word_of : List Text → Result Code ℕ
+unfoldable pub plain_word_of : List Text → Result Code LineFault
 plain_word_of words = do
   number ← last_number words
   value ← word number
   Ok (code.Word value)
 
-unfoldable pub line_for : Keyword → List Text → Result Line ℕ
+unfoldable pub line_for : Keyword → List Text → Result Line LineFault
 line_for Memory words = memory_of words
 line_for Untyped words = untyped_of words
 line_for Object words = object_of words
@@ -57,13 +58,13 @@ label_declared [] = None
 label_declared (word ∷ words) = option_and_then (λ name. result_ok (name_of name)) (label_of word)
 
 -- a line that is a label alone
-abbrev pub label_line : Option Text → List Text → Option (Result Line ℕ)
+abbrev pub label_line : Option Text → List Text → Option (Result Line LineFault)
 label_line (Some name) [] = Some (name_of name >>= λ label. Ok (line.Label label))
 label_line (Some name) (word ∷ words) = None
 label_line None words = None
 
 -- what the words of a line say, if it has no instruction
-unfoldable pub line_of : List Text → Option (Result Line ℕ)
+unfoldable pub line_of : List Text → Option (Result Line LineFault)
 line_of [] = Some (Ok line.Blank)
 line_of (word ∷ words) = elim (keyword_of word) [ Some keyword ↦ Some (line_for keyword words) | None ↦ label_line (label_of word) words ]
 

@@ -4,7 +4,7 @@ ghost use Rattle.std.specs.Prelude.{◌≡◌, ◌==◌, ◌<◌, ◌≤ℤ◌, 
 ghost use Rattle.asm_line.specs.Instructions.{address_first, address_of, address_in_parts, bare_line, bare_of, branch_line, coded, immediate_line, immediate_of, instruction_of, jump_line, jump_register_line, load_line, opened, unclosed, register_and_address, register_operand, registers_and_number_of, registers_line, shift_line, spelling, store_line, upper_line};
 ghost use Rattle.model.specs.Machine.Instructions.{IsInstr};
 
-use crate::faults::{RANGE, SYNTAX};
+use crate::faults::LineFault;
 use crate::keywords::is;
 use crate::lines::Code;
 use crate::numbers::{between, number_in};
@@ -19,19 +19,19 @@ use rv32_isa::{
 
 /// A 12-bit immediate.
 #[tactic(auto, unfolding(crate::specs::Instructions::immediate_of))]
-fn immediate_in(number: i64) -> Result<i32, u8>
+fn immediate_in(number: i64) -> Result<i32, LineFault>
     ensures value { result ≡ immediate_of number }
     ensures range { IfOk result (λ n. (negsuc 2047 ≤ℤ n) × (n ≤ℤ pos 2047)) }
 {
     if -2048 <= number && number <= 2047 {
         Ok(number as i32)
     } else {
-        Err(RANGE)
+        Err(LineFault::Range)
     }
 }
 
 /// A register, and the words after it.
-fn register(words: Words<'_>) -> Result<(Register, Words<'_>), u8>
+fn register(words: Words<'_>) -> Result<(Register, Words<'_>), LineFault>
     ensures value { result ≡ register_operand words.entry }
     ensures small { IfOk result (λ x. x.0.0 < 32) }
 {
@@ -80,7 +80,7 @@ fn opened(text: &[u8]) -> Option<(&[u8], &[u8])>
 }
 
 /// An offset and a register, as `4` and `x2`.
-fn address_parts(offset: &[u8], base: &[u8]) -> Result<(i64, Register), u8>
+fn address_parts(offset: &[u8], base: &[u8]) -> Result<(i64, Register), LineFault>
     ensures value { result ≡ address_in_parts (Some (offset.now, base.now)) }
     ensures small { IfOk result (λ x. x.1.0 < 32) }
 {
@@ -90,22 +90,22 @@ fn address_parts(offset: &[u8], base: &[u8]) -> Result<(i64, Register), u8>
 
 /// An offset and a register, as `4(x2)`.
 #[tactic(auto, unfolding(crate::specs::Instructions::address_of))]
-fn address_in(word: &[u8]) -> Result<(i64, Register), u8>
+fn address_in(word: &[u8]) -> Result<(i64, Register), LineFault>
     ensures value { result ≡ address_of word.now }
     ensures small { IfOk result (λ x. x.1.0 < 32) }
 {
     match unclosed(word) {
         Some(front) => match opened(front) {
             Some((offset, base)) => address_parts(offset, base),
-            None => Err(SYNTAX),
+            None => Err(LineFault::Syntax),
         },
-        None => Err(SYNTAX),
+        None => Err(LineFault::Syntax),
     }
 }
 
 /// An offset and a register, and the words after them.
 #[tactic(auto, unfolding(crate::specs::Instructions::address_first))]
-fn address(words: Words<'_>) -> Result<(i64, Register, Words<'_>), u8>
+fn address(words: Words<'_>) -> Result<(i64, Register, Words<'_>), LineFault>
     ensures value { result ≡ address_first words.entry }
     ensures small { IfOk result (λ x. x.1.0 < 32) }
 {
@@ -114,13 +114,13 @@ fn address(words: Words<'_>) -> Result<(i64, Register, Words<'_>), u8>
             let (offset, base) = address_in(word)?;
             Ok((offset, base, words))
         }
-        None => Err(SYNTAX),
+        None => Err(LineFault::Syntax),
     }
 }
 
 /// A register and a signed 12-bit offset from another one, as `x1 4(x2)`, and no more.
 #[tactic(auto, unfolding(crate::specs::Instructions::register_and_address))]
-fn register_and_place(words: Words<'_>) -> Result<(Register, Register, i32), u8>
+fn register_and_place(words: Words<'_>) -> Result<(Register, Register, i32), LineFault>
     ensures value { result ≡ register_and_address words.entry }
     ensures ranges { IfOk result (λ x. (x.0.0 < 32) × (x.1.0 < 32) × (negsuc 2047 ≤ℤ x.2) × (x.2 ≤ℤ pos 2047)) }
 {
@@ -132,7 +132,7 @@ fn register_and_place(words: Words<'_>) -> Result<(Register, Register, i32), u8>
 
 /// Two registers and a number, as `x1 x2 4`, and no more.
 #[tactic(auto, unfolding(crate::specs::Instructions::registers_and_number_of))]
-fn registers_and_number(words: Words<'_>) -> Result<(Register, Register, i64), u8>
+fn registers_and_number(words: Words<'_>) -> Result<(Register, Register, i64), LineFault>
     ensures value { result ≡ registers_and_number_of words.entry }
     ensures small { IfOk result (λ x. (x.0.0 < 32) × (x.1.0 < 32)) }
 {
@@ -152,7 +152,7 @@ fn spelled(instr: Instr) -> u32
 
 /// The operands `rd number`.
 #[tactic(auto, unfolding(crate::specs::Instructions::upper_line))]
-fn upper<'a>(op: UpperOp, words: Words<'a>) -> Result<Code<'a>, u8>
+fn upper<'a>(op: UpperOp, words: Words<'a>) -> Result<Code<'a>, LineFault>
     ensures { result ≡ upper_line op words.entry }
 {
     let (rd, words) = register(words)?;
@@ -163,7 +163,7 @@ fn upper<'a>(op: UpperOp, words: Words<'a>) -> Result<Code<'a>, u8>
 
 /// The operands `rd label`.
 #[tactic(auto, unfolding(crate::specs::Instructions::jump_line))]
-fn jump<'a>(words: Words<'a>) -> Result<Code<'a>, u8>
+fn jump<'a>(words: Words<'a>) -> Result<Code<'a>, LineFault>
     ensures { result ≡ jump_line words.entry }
 {
     let (rd, words) = register(words)?;
@@ -174,7 +174,7 @@ fn jump<'a>(words: Words<'a>) -> Result<Code<'a>, u8>
 
 /// The operands `rd offset(rs1)` of `jalr`.
 #[tactic(auto, unfolding(crate::specs::Instructions::jump_register_line))]
-fn jump_register<'a>(words: Words<'a>) -> Result<Code<'a>, u8>
+fn jump_register<'a>(words: Words<'a>) -> Result<Code<'a>, LineFault>
     ensures { result ≡ jump_register_line words.entry }
 {
     let (rd, rs1, offset) = register_and_place(words)?;
@@ -183,7 +183,7 @@ fn jump_register<'a>(words: Words<'a>) -> Result<Code<'a>, u8>
 
 /// The operands `rs1 rs2 label`.
 #[tactic(auto, unfolding(crate::specs::Instructions::branch_line))]
-fn branch<'a>(op: BranchOp, words: Words<'a>) -> Result<Code<'a>, u8>
+fn branch<'a>(op: BranchOp, words: Words<'a>) -> Result<Code<'a>, LineFault>
     ensures { result ≡ branch_line op words.entry }
 {
     let (rs1, words) = register(words)?;
@@ -200,7 +200,7 @@ fn branch<'a>(op: BranchOp, words: Words<'a>) -> Result<Code<'a>, u8>
 
 /// The operands `rd offset(rs1)` of a load.
 #[tactic(auto, unfolding(crate::specs::Instructions::load_line))]
-fn load<'a>(op: LoadOp, words: Words<'a>) -> Result<Code<'a>, u8>
+fn load<'a>(op: LoadOp, words: Words<'a>) -> Result<Code<'a>, LineFault>
     ensures { result ≡ load_line op words.entry }
 {
     let (rd, rs1, offset) = register_and_place(words)?;
@@ -214,7 +214,7 @@ fn load<'a>(op: LoadOp, words: Words<'a>) -> Result<Code<'a>, u8>
 
 /// The operands `rs2 offset(rs1)`.
 #[tactic(auto, unfolding(crate::specs::Instructions::store_line))]
-fn store<'a>(op: StoreOp, words: Words<'a>) -> Result<Code<'a>, u8>
+fn store<'a>(op: StoreOp, words: Words<'a>) -> Result<Code<'a>, LineFault>
     ensures { result ≡ store_line op words.entry }
 {
     let (rs2, rs1, offset) = register_and_place(words)?;
@@ -228,7 +228,7 @@ fn store<'a>(op: StoreOp, words: Words<'a>) -> Result<Code<'a>, u8>
 
 /// The operands `rd rs1 number`.
 #[tactic(auto, unfolding(crate::specs::Instructions::immediate_line))]
-fn immediate<'a>(op: ImmediateOp, words: Words<'a>) -> Result<Code<'a>, u8>
+fn immediate<'a>(op: ImmediateOp, words: Words<'a>) -> Result<Code<'a>, LineFault>
     ensures { result ≡ immediate_line op words.entry }
 {
     let (rd, rs1, number) = registers_and_number(words)?;
@@ -243,7 +243,7 @@ fn immediate<'a>(op: ImmediateOp, words: Words<'a>) -> Result<Code<'a>, u8>
 
 /// The operands `rd rs1 amount`.
 #[tactic(auto, unfolding(crate::specs::Instructions::shift_line))]
-fn shift<'a>(op: ShiftOp, words: Words<'a>) -> Result<Code<'a>, u8>
+fn shift<'a>(op: ShiftOp, words: Words<'a>) -> Result<Code<'a>, LineFault>
     ensures { result ≡ shift_line op words.entry }
 {
     let (rd, rs1, number) = registers_and_number(words)?;
@@ -258,7 +258,7 @@ fn shift<'a>(op: ShiftOp, words: Words<'a>) -> Result<Code<'a>, u8>
 
 /// The operands `rd rs1 rs2`.
 #[tactic(auto, unfolding(crate::specs::Instructions::registers_line))]
-fn registers<'a>(op: RegisterOp, words: Words<'a>) -> Result<Code<'a>, u8>
+fn registers<'a>(op: RegisterOp, words: Words<'a>) -> Result<Code<'a>, LineFault>
     ensures { result ≡ registers_line op words.entry }
 {
     let (rd, words) = register(words)?;
@@ -270,7 +270,7 @@ fn registers<'a>(op: RegisterOp, words: Words<'a>) -> Result<Code<'a>, u8>
 
 /// An instruction without operands.
 #[tactic(auto, unfolding(crate::specs::Instructions::bare_line))]
-fn alone<'a>(instr: Instr, words: Words<'a>) -> Result<Code<'a>, u8>
+fn alone<'a>(instr: Instr, words: Words<'a>) -> Result<Code<'a>, LineFault>
     requires { IsInstr instr }
     ensures { result ≡ bare_line instr words.entry }
 {
@@ -280,7 +280,7 @@ fn alone<'a>(instr: Instr, words: Words<'a>) -> Result<Code<'a>, u8>
 
 /// The instruction without operands that has this name.
 #[tactic(auto, unfolding(crate::specs::Instructions::bare_of))]
-fn bare<'a>(word: &[u8], words: Words<'a>) -> Result<Code<'a>, u8>
+fn bare<'a>(word: &[u8], words: Words<'a>) -> Result<Code<'a>, LineFault>
     ensures { result ≡ bare_of word.now words.entry }
 {
     if is(word, "fence") {
@@ -290,13 +290,13 @@ fn bare<'a>(word: &[u8], words: Words<'a>) -> Result<Code<'a>, u8>
     } else if is(word, "ebreak") {
         alone(Instr::Ebreak, words)
     } else {
-        Err(SYNTAX)
+        Err(LineFault::Syntax)
     }
 }
 
 /// The instruction that begins with this word.
 #[tactic(auto, unfolding(crate::specs::Instructions::instruction_of))]
-pub(crate) fn instruction<'a>(word: &[u8], words: Words<'a>) -> Result<Code<'a>, u8>
+pub(crate) fn instruction<'a>(word: &[u8], words: Words<'a>) -> Result<Code<'a>, LineFault>
     ensures { result ≡ instruction_of word.now words.entry }
 {
     if let Some(op) = immediate_op(word) {

@@ -4,7 +4,7 @@ ghost use Rattle.std.specs.Prelude.{◌≡◌};
 ghost use Rattle.std.specs.Str.{bytes_eq};
 ghost use Rattle.asm_line.specs.Lines.{keyword_of, kind_of, thread_keyword_of};
 
-use crate::faults::SYNTAX;
+use crate::faults::LineFault;
 
 /// The word with which a line begins, where it is no label and no instruction.
 #[derive(Clone, Copy)]
@@ -91,7 +91,7 @@ fn thread_keyword(word: &[u8]) -> Option<Keyword>
 
 /// The number of a kind of objects, by its name.
 #[tactic(auto, unfolding(crate::specs::Lines::kind_of))]
-pub(crate) fn kind_in(word: &[u8]) -> Result<u32, u8>
+pub(crate) fn kind_in(word: &[u8]) -> Result<u32, LineFault>
     ensures { result ≡ kind_of word.now }
 {
     if is(word, "untyped") {
@@ -111,6 +111,6 @@ pub(crate) fn kind_in(word: &[u8]) -> Result<u32, u8>
     } else if is(word, "root") {
         Ok(8)
     } else {
-        Err(SYNTAX)
+        Err(LineFault::Syntax)
     }
 }

@@ -14,7 +14,7 @@ mod sections;
 mod thread_lines;
 mod words;
 
-pub use faults::{RANGE, SYNTAX};
+pub use faults::{LineFault, RANGE, SYNTAX};
 pub use lines::{Code, Line, Parent, ThreadLine};
 pub use names::Name;
 pub use parsing::{declared_label, parse_line};

@@ -4,7 +4,7 @@ ghost use Rattle.std.specs.Prelude.{◌≡◌};
 ghost use Rattle.asm_line.specs.Words.{is_name, is_name_byte, is_name_start, name_of};
 ghost use Rattle.std.specs.List.{list_all};
 
-use crate::faults::SYNTAX;
+use crate::faults::LineFault;
 use std::marker::Model;
 
 /// A name: a lower-case letter or `_`, and then those and digits.
@@ -63,14 +63,14 @@ fn names_something(word: &[u8]) -> bool
 
 /// The name that a word is.
 #[tactic(auto, unfolding(crate::specs::Words::name_of))]
-pub(crate) fn name_in(word: &[u8]) -> Result<Name<'_>, u8>
+pub(crate) fn name_in(word: &[u8]) -> Result<Name<'_>, LineFault>
     ensures { result ≡ name_of word.now }
 {
     if !names_something(word) {
-        return Err(SYNTAX);
+        return Err(LineFault::Syntax);
     }
     match std::str::from_utf8(word) {
         Ok(text) => Ok(Name { text }),
-        Err(_) => Err(SYNTAX),
+        Err(_) => Err(LineFault::Syntax),
     }
 }

@@ -3,13 +3,13 @@
 ghost use Rattle.std.specs.Prelude.{◌≡◌, ◌≤◌, ◌-◌, ◌^◌, IfOk};
 ghost use Rattle.asm_line.specs.Words.{digit_in, magnitude, number_of, unsigned_of, within};
 
-use crate::faults::{RANGE, SYNTAX};
+use crate::faults::LineFault;
 
 /// The greatest number that is distinguished from the greater ones, which no line may have.
 const GREATEST: u64 = i64::MAX as u64;
 
 /// The value of a digit in a radix of 10 or 16.
-fn digit(byte: u8, radix: u64) -> Result<u64, u8>
+fn digit(byte: u8, radix: u64) -> Result<u64, LineFault>
     ensures { result ≡ digit_in radix byte }
 {
     let value = match byte {
@@ -21,18 +21,18 @@ fn digit(byte: u8, radix: u64) -> Result<u64, u8>
     if (value as u64) < radix {
         Ok(value as u64)
     } else {
-        Err(SYNTAX)
+        Err(LineFault::Syntax)
     }
 }
 
 /// The number that digits spell, or the greatest if it is greater.
-fn digits_value(digits: &[u8], radix: u64) -> Result<u64, u8>
+fn digits_value(digits: &[u8], radix: u64) -> Result<u64, LineFault>
     requires { radix ≤ 16 }
     ensures value { result ≡ magnitude radix digits.now }
     ensures least { IfOk result (λ n. n ≤ GREATEST) }
 {
     if digits.is_empty() {
-        return Err(SYNTAX);
+        return Err(LineFault::Syntax);
     }
     let mut value = 0u64;
     'digits: for byte in digits {
@@ -45,7 +45,7 @@ fn digits_value(digits: &[u8], radix: u64) -> Result<u64, u8>
 }
 
 /// The number that digits spell, with no sign.
-fn whole(digits: &[u8], radix: u64) -> Result<i64, u8>
+fn whole(digits: &[u8], radix: u64) -> Result<i64, LineFault>
     requires { radix ≤ 16 }
     ensures { result ≡ unsigned_of radix digits.now }
 {
@@ -54,7 +54,7 @@ fn whole(digits: &[u8], radix: u64) -> Result<i64, u8>
 
 /// The number that a word is. A number of 2^63 or more counts as the greatest of 63 bits.
 #[tactic(auto, unfolding(crate::specs::Words::number_of))]
-pub(crate) fn number_in(word: &[u8]) -> Result<i64, u8>
+pub(crate) fn number_in(word: &[u8]) -> Result<i64, LineFault>
     ensures { result ≡ number_of word.now }
 {
     match word {
@@ -65,18 +65,18 @@ pub(crate) fn number_in(word: &[u8]) -> Result<i64, u8>
 }
 
 /// An unsigned number from `low` to `high`.
-pub(crate) fn between(number: i64, low: u32, high: u32) -> Result<u32, u8>
+pub(crate) fn between(number: i64, low: u32, high: u32) -> Result<u32, LineFault>
     ensures { result ≡ within low high number }
 {
     if low as i64 <= number && number <= high as i64 {
         Ok(number as u32)
     } else {
-        Err(RANGE)
+        Err(LineFault::Range)
     }
 }
 
 /// A number of 32 bits.
-pub(crate) fn word(number: i64) -> Result<u32, u8>
+pub(crate) fn word(number: i64) -> Result<u32, LineFault>
     ensures { result ≡ within 0 (2 ^ 32 - 1) number }
 {
     between(number, 0, u32::MAX)

@@ -5,10 +5,10 @@ ghost use Rattle.std.specs.List.{list_all};
 ghost use Rattle.asm_line.specs.Words.{words_of};
 ghost use Rattle.asm_line.specs.Listed.{Lists};
 ghost use Rattle.asm_line.specs.declared.lines.Line.{Line};
-ghost use Rattle.asm_line.specs.Meaning.{code_of, labelled_line, fault_told, line_read, line_said, told, line_with, other_line_of, said_by};
+ghost use Rattle.asm_line.specs.Meaning.{code_of, labelled_line, line_read, line_said, line_with, numbered, other_line_of, said_by};
 ghost use Rattle.asm_line.specs.Parsing.{before_comment, label_declared, label_of, plain_word_of};
 
-use crate::faults::{RANGE, SYNTAX};
+use crate::faults::LineFault;
 use crate::instructions::instruction;
 use crate::keywords::{Keyword, is, keyword_in};
 use crate::lines::{Code, Line};
@@ -29,7 +29,7 @@ fn label_in(word: &[u8]) -> Option<&[u8]>
 
 /// `word N`, after its first word.
 #[tactic(auto, unfolding(crate::specs::Parsing::plain_word_of))]
-fn plain_word(words: Words<'_>) -> Result<Code<'_>, u8>
+fn plain_word(words: Words<'_>) -> Result<Code<'_>, LineFault>
     ensures { result ≡ plain_word_of words.entry }
 {
     Ok(Code::Word(word(words.last_number()?)?))
@@ -37,7 +37,7 @@ fn plain_word(words: Words<'_>) -> Result<Code<'_>, u8>
 
 /// What a line says that begins with a keyword.
 #[tactic(auto, unfolding(crate::specs::Parsing::line_for, crate::specs::Meaning::line_with))]
-fn declared(keyword: Keyword, words: Words<'_>) -> Result<Line<'_>, u8>
+fn declared(keyword: Keyword, words: Words<'_>) -> Result<Line<'_>, LineFault>
     ensures { result ≡ line_with keyword words.entry }
 {
     match keyword {
@@ -69,7 +69,7 @@ fn declared(keyword: Keyword, words: Words<'_>) -> Result<Line<'_>, u8>
 
 /// What makes a word of a program.
 #[tactic(auto, unfolding(crate::specs::Meaning::code_of))]
-fn code<'a>(word: &[u8], words: Words<'a>) -> Result<Code<'a>, u8>
+fn code<'a>(word: &[u8], words: Words<'a>) -> Result<Code<'a>, LineFault>
     ensures { result ≡ code_of word.now words.entry }
 {
     if is(word, "word") {
@@ -80,7 +80,7 @@ fn code<'a>(word: &[u8], words: Words<'a>) -> Result<Code<'a>, u8>
 }
 
 /// What a line says that begins with a label, with what follows it.
-fn labelled<'a>(name: &'a [u8], words: Words<'a>) -> Result<Line<'a>, u8>
+fn labelled<'a>(name: &'a [u8], words: Words<'a>) -> Result<Line<'a>, LineFault>
     ensures { result ≡ labelled_line name.now words.entry }
 {
     let label = name_in(name)?;
@@ -95,7 +95,7 @@ fn labelled<'a>(name: &'a [u8], words: Words<'a>) -> Result<Line<'a>, u8>
 
 /// What a line says that begins with no keyword: a label, or an instruction.
 #[tactic(auto, unfolding(crate::specs::Meaning::other_line_of))]
-fn other_line<'a>(word: &'a [u8], words: Words<'a>) -> Result<Line<'a>, u8>
+fn other_line<'a>(word: &'a [u8], words: Words<'a>) -> Result<Line<'a>, LineFault>
     ensures { result ≡ other_line_of word.now words.entry }
 {
     match label_in(word) {
@@ -109,7 +109,7 @@ fn other_line<'a>(word: &'a [u8], words: Words<'a>) -> Result<Line<'a>, u8>
 
 /// What a line says that begins with this word.
 #[tactic(auto, unfolding(crate::specs::Meaning::said_by))]
-fn line_from<'a>(word: &'a [u8], words: Words<'a>) -> Result<Line<'a>, u8>
+fn line_from<'a>(word: &'a [u8], words: Words<'a>) -> Result<Line<'a>, LineFault>
     ensures { result ≡ said_by (word.now ∷ words.entry) }
 {
     match keyword_in(word) {
@@ -120,7 +120,7 @@ fn line_from<'a>(word: &'a [u8], words: Words<'a>) -> Result<Line<'a>, u8>
 
 /// What the words of a line say.
 #[tactic(auto, unfolding(crate::specs::Meaning::said_by))]
-fn line_in(words: Words<'_>) -> Result<Line<'_>, u8>
+fn line_in(words: Words<'_>) -> Result<Line<'_>, LineFault>
     ensures { result ≡ said_by words.entry }
 {
     match words.first() {
@@ -155,33 +155,25 @@ fn without_comment(text: &[u8]) -> &[u8]
 
 /// What a text says, with a comment after its words or none.
 #[tactic(auto, unfolding(crate::specs::Meaning::line_read))]
-fn read(text: &[u8]) -> Result<Line<'_>, u8>
+fn read(text: &[u8]) -> Result<Line<'_>, LineFault>
     ensures { result ≡ line_read text.now }
 {
     if is_ascii(text) {
         line_in(Words::of(without_comment(text)))
     } else {
-        Err(SYNTAX)
+        Err(LineFault::Syntax)
     }
 }
 
-/// The line, or its fault as one of the two.
-fn told(read: Result<Line<'_>, u8>) -> Result<Line<'_>, u8>
-    ensures told { result ≡ told read.entry }
+/// The line, or the number of its fault.
+fn numbered(read: Result<Line<'_>, LineFault>) -> Result<Line<'_>, u8>
+    ensures value { result ≡ numbered read.entry }
     ensures kind { IfErr result (λ kind. (kind ≡ 1) ⊎ (kind ≡ 4)) }
 {
     match read {
         Ok(line) => Ok(line),
-        Err(kind) => Err(fault_in(kind)),
+        Err(fault) => Err(fault.number()),
     }
-}
-
-/// The kind of a fault: syntax, if it is none of the two.
-fn fault_in(kind: u8) -> u8
-    ensures told { result ≡ fault_told kind }
-    ensures kind { (result ≡ 1) ⊎ (result ≡ 4) }
-{
-    if kind == RANGE { RANGE } else { SYNTAX }
 }
 
 /// What one line of an image's text says: the text without the end of its line.
@@ -196,7 +188,7 @@ pub fn parse_line(text: &str) -> Result<Line<'_>, u8>
     ensures listed { (line : Line) → Lists line text.now → result ≡ Ok line }
     ensures kind { IfErr result (λ kind. (kind ≡ 1) ⊎ (kind ≡ 4)) }
 {
-    told(read(text.as_bytes()))
+    numbered(read(text.as_bytes()))
 }
 
 /// The label with which a line of an image's text begins, a name and a colon, whatever is after it: a line that is at

@@ -3,7 +3,7 @@
 ghost use Rattle.std.specs.Prelude.{◌≡◌, ◌<◌, IfOk};
 ghost use Rattle.asm_line.specs.Words.{register_of, small_number_of};
 
-use crate::faults::SYNTAX;
+use crate::faults::LineFault;
 
 /// The number that one or two digits spell, without a zero before another digit.
 fn small_number(digits: &[u8]) -> Option<u8>
@@ -20,15 +20,15 @@ fn small_number(digits: &[u8]) -> Option<u8>
 
 /// The number of the register that a word is.
 #[tactic(auto, unfolding(crate::specs::Words::register_of))]
-pub(crate) fn register_in(word: &[u8]) -> Result<u8, u8>
+pub(crate) fn register_in(word: &[u8]) -> Result<u8, LineFault>
     ensures register { result ≡ register_of word.now }
     ensures small { IfOk result (λ number. number < 32) }
 {
     let [b'x', digits @ ..] = word else {
-        return Err(SYNTAX);
+        return Err(LineFault::Syntax);
     };
     match small_number(digits) {
         Some(number) if number < 32 => Ok(number),
-        _ => Err(SYNTAX),
+        _ => Err(LineFault::Syntax),
     }
 }

@@ -3,7 +3,7 @@
 ghost use Rattle.std.specs.Prelude.{◌≡◌};
 ghost use Rattle.asm_line.specs.Lines.{all_numbers, all_words, some_numbers, capability_of, content_of, few_promised, frame_of, interrupt_of, kind_first, last_kind, memory_of, number_pairs, object_of, promise_of, promised_first, promised_of, size_first, some_pairs, table_of, untyped_of, word_first};
 
-use crate::faults::{RANGE, SYNTAX};
+use crate::faults::LineFault;
 use crate::keywords::kind_in;
 use crate::lines::Line;
 use crate::numbers::{between, number_in, word};
@@ -12,7 +12,7 @@ use model::{ObjectType, PromisedWord, UntypedEntry};
 
 /// `memory BITS RADIX`
 #[tactic(auto, unfolding(crate::specs::Lines::memory_of))]
-pub(crate) fn memory(words: Words<'_>) -> Result<Line<'_>, u8>
+pub(crate) fn memory(words: Words<'_>) -> Result<Line<'_>, LineFault>
     ensures { result ≡ memory_of words.entry }
 {
     let (memory_bits, boot_radix) = words.last_numbers()?;
@@ -26,7 +26,7 @@ pub(crate) fn memory(words: Words<'_>) -> Result<Line<'_>, u8>
 
 /// `untyped NAME OFFSET BITS`
 #[tactic(auto, unfolding(crate::specs::Lines::untyped_of))]
-pub(crate) fn untyped(words: Words<'_>) -> Result<Line<'_>, u8>
+pub(crate) fn untyped(words: Words<'_>) -> Result<Line<'_>, LineFault>
     ensures { result ≡ untyped_of words.entry }
 {
     let (name, words) = words.object()?;
@@ -40,18 +40,18 @@ pub(crate) fn untyped(words: Words<'_>) -> Result<Line<'_>, u8>
 }
 
 /// The first word, which is to be a kind of objects, and those after it.
-fn kind_and_rest(words: Words<'_>) -> Result<(u32, Words<'_>), u8>
+fn kind_and_rest(words: Words<'_>) -> Result<(u32, Words<'_>), LineFault>
     ensures { result ≡ kind_first words.entry }
 {
     match words.first() {
         Some((word, words)) => Ok((kind_in(word)?, words)),
-        None => Err(SYNTAX),
+        None => Err(LineFault::Syntax),
     }
 }
 
 /// The first word, which is to be a number, and those after it; 0 if no word is left.
 #[tactic(auto, unfolding(crate::specs::Words::words_of))]
-fn size_and_rest(words: Words<'_>) -> Result<(i64, Words<'_>), u8>
+fn size_and_rest(words: Words<'_>) -> Result<(i64, Words<'_>), LineFault>
     ensures { result ≡ size_first words.entry }
 {
     match words.first() {
@@ -62,7 +62,7 @@ fn size_and_rest(words: Words<'_>) -> Result<(i64, Words<'_>), u8>
 
 /// A kind of objects and a size, which may be left out, and no more.
 #[tactic(auto, unfolding(crate::specs::Lines::last_kind))]
-fn kind_and_size(words: Words<'_>) -> Result<(u32, i64), u8>
+fn kind_and_size(words: Words<'_>) -> Result<(u32, i64), LineFault>
     ensures { result ≡ last_kind words.entry }
 {
     let (kind, words) = kind_and_rest(words)?;
@@ -73,7 +73,7 @@ fn kind_and_size(words: Words<'_>) -> Result<(u32, i64), u8>
 
 /// `object NAME UNTYPED KIND [SIZE]`
 #[tactic(auto, unfolding(crate::specs::Lines::object_of))]
-pub(crate) fn object(words: Words<'_>) -> Result<Line<'_>, u8>
+pub(crate) fn object(words: Words<'_>) -> Result<Line<'_>, LineFault>
     ensures { result ≡ object_of words.entry }
 {
     let (name, words) = words.object()?;
@@ -81,7 +81,7 @@ pub(crate) fn object(words: Words<'_>) -> Result<Line<'_>, u8>
     let (kind, size) = kind_and_size(words)?;
     let size = word(size)?;
     if !ObjectType::size_fits(kind, size) {
-        return Err(RANGE);
+        return Err(LineFault::Range);
     }
     Ok(Line::Object {
         name,
@@ -93,7 +93,7 @@ pub(crate) fn object(words: Words<'_>) -> Result<Line<'_>, u8>
 
 /// `irq NAME LINE NOTIFICATION BADGE`
 #[tactic(auto, unfolding(crate::specs::Lines::interrupt_of))]
-pub(crate) fn interrupt(words: Words<'_>) -> Result<Line<'_>, u8>
+pub(crate) fn interrupt(words: Words<'_>) -> Result<Line<'_>, LineFault>
     ensures { result ≡ interrupt_of words.entry }
 {
     let (name, line, notification, words) = words.place()?;
@@ -108,7 +108,7 @@ pub(crate) fn interrupt(words: Words<'_>) -> Result<Line<'_>, u8>
 
 /// `cap CNODE INDEX SOURCE RIGHTS DATA`
 #[tactic(auto, unfolding(crate::specs::Lines::capability_of))]
-pub(crate) fn capability(words: Words<'_>) -> Result<Line<'_>, u8>
+pub(crate) fn capability(words: Words<'_>) -> Result<Line<'_>, LineFault>
     ensures { result ≡ capability_of words.entry }
 {
     let (cnode, index, source, words) = words.place()?;
@@ -124,7 +124,7 @@ pub(crate) fn capability(words: Words<'_>) -> Result<Line<'_>, u8>
 
 /// `table ROOT ADDRESS TABLE`
 #[tactic(auto, unfolding(crate::specs::Lines::table_of))]
-pub(crate) fn table(words: Words<'_>) -> Result<Line<'_>, u8>
+pub(crate) fn table(words: Words<'_>) -> Result<Line<'_>, LineFault>
     ensures { result ≡ table_of words.entry }
 {
     let (root, address, table, words) = words.place()?;
@@ -139,7 +139,7 @@ pub(crate) fn table(words: Words<'_>) -> Result<Line<'_>, u8>
 
 /// `map ROOT ADDRESS FRAME RIGHTS`
 #[tactic(auto, unfolding(crate::specs::Lines::frame_of))]
-pub(crate) fn frame(words: Words<'_>) -> Result<Line<'_>, u8>
+pub(crate) fn frame(words: Words<'_>) -> Result<Line<'_>, LineFault>
     ensures { result ≡ frame_of words.entry }
 {
     let (root, address, frame, words) = words.place()?;
@@ -153,11 +153,11 @@ pub(crate) fn frame(words: Words<'_>) -> Result<Line<'_>, u8>
 }
 
 /// Some words are to be left, and all of them numbers.
-fn check_numbers(words: Words<'_>) -> Result<(), u8>
+fn check_numbers(words: Words<'_>) -> Result<(), LineFault>
     ensures { result ≡ some_numbers words.entry }
 {
     let Some((first, mut rest)) = words.first() else {
-        return Err(SYNTAX);
+        return Err(LineFault::Syntax);
     };
     number_in(first)?;
     'numbers: while let Some((word, words)) = rest.first() {
@@ -168,7 +168,7 @@ fn check_numbers(words: Words<'_>) -> Result<(), u8>
 }
 
 /// The words are to be numbers of 32 bits.
-fn check_words(words: Words<'_>) -> Result<(), u8>
+fn check_words(words: Words<'_>) -> Result<(), LineFault>
     ensures { result ≡ all_words words.entry }
 {
     let mut rest = words;
@@ -180,18 +180,18 @@ fn check_words(words: Words<'_>) -> Result<(), u8>
 }
 
 /// The first word, which is to be a number of 32 bits, and those after it.
-pub(crate) fn word_and_rest(words: Words<'_>) -> Result<(u32, Words<'_>), u8>
+pub(crate) fn word_and_rest(words: Words<'_>) -> Result<(u32, Words<'_>), LineFault>
     ensures { result ≡ word_first words.entry }
 {
     match words.first() {
         Some((text, words)) => Ok((word(number_in(text)?)?, words)),
-        None => Err(SYNTAX),
+        None => Err(LineFault::Syntax),
     }
 }
 
 /// `data FRAME WORD ..`
 #[tactic(auto, unfolding(crate::specs::Lines::content_of))]
-pub(crate) fn content(words: Words<'_>) -> Result<Line<'_>, u8>
+pub(crate) fn content(words: Words<'_>) -> Result<Line<'_>, LineFault>
     ensures { result ≡ content_of words.entry }
 {
     let (frame, words) = words.object()?;
@@ -201,13 +201,13 @@ pub(crate) fn content(words: Words<'_>) -> Result<Line<'_>, u8>
 }
 
 /// Some words are to be left, and all of them numbers, two and two.
-fn check_pairs(words: Words<'_>) -> Result<(), u8>
+fn check_pairs(words: Words<'_>) -> Result<(), LineFault>
     ensures { result ≡ number_pairs words.entry }
 {
     let mut rest = words;
     'pairs: while let Some((low, words)) = rest.first() {
         let Some((high, words)) = words.first() else {
-            return Err(SYNTAX);
+            return Err(LineFault::Syntax);
         };
         number_in(low)?;
         number_in(high)?;
@@ -217,18 +217,18 @@ fn check_pairs(words: Words<'_>) -> Result<(), u8>
 }
 
 /// The same, and some words are to be left.
-fn check_some_pairs(words: Words<'_>) -> Result<(), u8>
+fn check_some_pairs(words: Words<'_>) -> Result<(), LineFault>
     ensures { result ≡ some_pairs words.entry }
 {
     if words.copied().first().is_none() {
-        return Err(SYNTAX);
+        return Err(LineFault::Syntax);
     }
     check_pairs(words)
 }
 
 /// A lowest and a highest value.
 #[tactic(auto, unfolding(crate::specs::Lines::promised_of))]
-fn promised_in(low: &[u8], high: &[u8]) -> Result<PromisedWord, u8>
+fn promised_in(low: &[u8], high: &[u8]) -> Result<PromisedWord, LineFault>
     ensures { result ≡ promised_of low.now high.now }
 {
     let low = number_in(low)?;
@@ -236,36 +236,36 @@ fn promised_in(low: &[u8], high: &[u8]) -> Result<PromisedWord, u8>
     let low = word(low)?;
     let high = word(high)?;
     if low > high {
-        return Err(RANGE);
+        return Err(LineFault::Range);
     }
     Ok(PromisedWord { low, high })
 }
 
 /// The first two words, which are to be a lowest and a highest value, and those after them.
-pub(crate) fn promised_and_rest(words: Words<'_>) -> Result<(PromisedWord, Words<'_>), u8>
+pub(crate) fn promised_and_rest(words: Words<'_>) -> Result<(PromisedWord, Words<'_>), LineFault>
     ensures { result ≡ promised_first words.entry }
 {
     let Some((low, words)) = words.first() else {
-        return Err(SYNTAX);
+        return Err(LineFault::Syntax);
     };
     let Some((high, words)) = words.first() else {
-        return Err(SYNTAX);
+        return Err(LineFault::Syntax);
     };
     Ok((promised_in(low, high)?, words))
 }
 
 /// The words are to be lowest and highest values of so many words of a message at most.
-fn check_promised(words: Words<'_>, most: u32) -> Result<(), u8>
+fn check_promised(words: Words<'_>, most: u32) -> Result<(), LineFault>
     ensures { result ≡ few_promised most words.entry }
 {
     let mut rest = words;
     let mut left = most;
     'words: while let Some((low, words)) = rest.first() {
         let Some((high, words)) = words.first() else {
-            return Err(SYNTAX);
+            return Err(LineFault::Syntax);
         };
         if left == 0 {
-            return Err(RANGE);
+            return Err(LineFault::Range);
         }
         promised_in(low, high)?;
         left -= 1;
@@ -276,14 +276,14 @@ fn check_promised(words: Words<'_>, most: u32) -> Result<(), u8>
 
 /// `promise ENDPOINT LOW HIGH [LOW HIGH] ..`
 #[tactic(auto, unfolding(crate::specs::Lines::promise_of))]
-pub(crate) fn promise(words: Words<'_>) -> Result<Line<'_>, u8>
+pub(crate) fn promise(words: Words<'_>) -> Result<Line<'_>, LineFault>
     ensures { result ≡ promise_of words.entry }
 {
     let (endpoint, words) = words.object()?;
     check_some_pairs(words.copied())?;
     let (badges, words) = promised_and_rest(words)?;
     if badges.high >= 1 << 28 {
-        return Err(RANGE);
+        return Err(LineFault::Range);
     }
     check_promised(words.copied(), 8)?;
     Ok(Line::Promise {

@@ -4,7 +4,7 @@ ghost use Rattle.std.specs.Prelude.{◌≡◌, ◌==◌, ◌&&◌};
 ghost use Rattle.asm_line.specs.Meaning.{known, known_slot_of};
 ghost use Rattle.asm_line.specs.Lines.{buffer_of, budget_of, all_pairs, all_terms, coefficient_of, constant_of, measure_of, named_register, parent_first, parent_with, range_of, register_line_of, slot_of, slot_said, slot_words_of, term_first, term_of, thread_of, thread_said, thread_words_of};
 
-use crate::faults::{RANGE, SYNTAX};
+use crate::faults::LineFault;
 use crate::keywords::is;
 use crate::lines::{Line, Parent, ThreadLine};
 use crate::names::{Name, name_in};
@@ -16,13 +16,13 @@ use model::{RangeEntry, RegisterEntry, TermEntry};
 
 /// A number of instructions from one wait to the next.
 #[tactic(auto, unfolding(crate::specs::Lines::budget_of))]
-fn budget_in(number: i64) -> Result<u64, u8>
+fn budget_in(number: i64) -> Result<u64, LineFault>
     ensures { result ≡ budget_of number }
 {
     if 1 <= number && number <= 1 << 62 {
         Ok(number as u64)
     } else {
-        Err(RANGE)
+        Err(LineFault::Range)
     }
 }
 
@@ -42,7 +42,7 @@ struct ThreadWords<'a> {
 
 /// `thread TCB CNODE GUARD ROOT PRIORITY BUDGET FAULT LABEL BASE`, whatever its numbers.
 #[tactic(auto, unfolding(crate::specs::Lines::thread_words_of))]
-fn thread_words(words: Words<'_>) -> Result<ThreadWords<'_>, u8>
+fn thread_words(words: Words<'_>) -> Result<ThreadWords<'_>, LineFault>
     ensures { result ≡ thread_words_of words.entry }
 {
     let (tcb, words) = words.object()?;
@@ -67,7 +67,7 @@ fn thread_words(words: Words<'_>) -> Result<ThreadWords<'_>, u8>
 
 /// What the words of a line `thread` say, if its numbers are in their ranges.
 #[tactic(auto, unfolding(crate::specs::Lines::thread_said))]
-fn thread_in_ranges(words: ThreadWords<'_>) -> Result<Line<'_>, u8>
+fn thread_in_ranges(words: ThreadWords<'_>) -> Result<Line<'_>, LineFault>
     ensures { result ≡ thread_said words.entry }
 {
     let guard = word(words.guard)?;
@@ -90,7 +90,7 @@ fn thread_in_ranges(words: ThreadWords<'_>) -> Result<Line<'_>, u8>
 
 /// `thread TCB CNODE GUARD ROOT PRIORITY BUDGET FAULT LABEL BASE`
 #[tactic(auto, unfolding(crate::specs::Lines::thread_of))]
-pub(crate) fn thread(words: Words<'_>) -> Result<Line<'_>, u8>
+pub(crate) fn thread(words: Words<'_>) -> Result<Line<'_>, LineFault>
     ensures { result ≡ thread_of words.entry }
 {
     thread_in_ranges(thread_words(words)?)
@@ -98,7 +98,7 @@ pub(crate) fn thread(words: Words<'_>) -> Result<Line<'_>, u8>
 
 /// `buffer FRAME`
 #[tactic(auto, unfolding(crate::specs::Lines::buffer_of))]
-pub(crate) fn buffer(words: Words<'_>) -> Result<Line<'_>, u8>
+pub(crate) fn buffer(words: Words<'_>) -> Result<Line<'_>, LineFault>
     ensures { result ≡ buffer_of words.entry }
 {
     let (frame, words) = words.object()?;
@@ -107,19 +107,19 @@ pub(crate) fn buffer(words: Words<'_>) -> Result<Line<'_>, u8>
 }
 
 /// A register that is not x0.
-fn named(register: u8) -> Result<u32, u8>
+fn named(register: u8) -> Result<u32, LineFault>
     ensures { result ≡ named_register register }
 {
     if register > 0 {
         Ok(register as u32)
     } else {
-        Err(RANGE)
+        Err(LineFault::Range)
     }
 }
 
 /// `reg xN VALUE`
 #[tactic(auto, unfolding(crate::specs::Lines::register_line_of))]
-pub(crate) fn register(words: Words<'_>) -> Result<Line<'_>, u8>
+pub(crate) fn register(words: Words<'_>) -> Result<Line<'_>, LineFault>
     ensures { result ≡ register_line_of words.entry }
 {
     let (register, words) = words.register()?;
@@ -132,7 +132,7 @@ pub(crate) fn register(words: Words<'_>) -> Result<Line<'_>, u8>
 
 /// `range xN LOW HIGH`
 #[tactic(auto, unfolding(crate::specs::Lines::range_of))]
-pub(crate) fn range(words: Words<'_>) -> Result<Line<'_>, u8>
+pub(crate) fn range(words: Words<'_>) -> Result<Line<'_>, LineFault>
     ensures { result ≡ range_of words.entry }
 {
     let (register, words) = words.register()?;
@@ -141,7 +141,7 @@ pub(crate) fn range(words: Words<'_>) -> Result<Line<'_>, u8>
     let low = word(low)?;
     let high = word(high)?;
     if high < low || (low == 0 && high == u32::MAX) {
-        return Err(RANGE);
+        return Err(LineFault::Range);
     }
     Ok(Line::Range(RangeEntry {
         register,
@@ -151,7 +151,7 @@ pub(crate) fn range(words: Words<'_>) -> Result<Line<'_>, u8>
 }
 
 /// The first word, which is to be `boot` or the name of a CNode, and those after it.
-fn parent_and_rest(words: Words<'_>) -> Result<(Parent<'_>, Words<'_>), u8>
+fn parent_and_rest(words: Words<'_>) -> Result<(Parent<'_>, Words<'_>), LineFault>
     ensures { result ≡ parent_first words.entry }
 {
     match words.first() {
@@ -162,12 +162,12 @@ fn parent_and_rest(words: Words<'_>) -> Result<(Parent<'_>, Words<'_>), u8>
             let cnode = name_in(word)?;
             Ok((Parent::Slot { cnode, index: 0 }, words))
         }
-        None => Err(SYNTAX),
+        None => Err(LineFault::Syntax),
     }
 }
 
 /// The parent with its index, which is 0 for one in the boot CNode. An empty slot has no other.
-fn whole_parent(is_empty: bool, parent: Parent<'_>, index: i64) -> Result<Parent<'_>, u8>
+fn whole_parent(is_empty: bool, parent: Parent<'_>, index: i64) -> Result<Parent<'_>, LineFault>
     ensures { result ≡ parent_with is_empty parent.entry index }
 {
     match parent {
@@ -177,7 +177,7 @@ fn whole_parent(is_empty: bool, parent: Parent<'_>, index: i64) -> Result<Parent
         }
         Parent::Slot { cnode, .. } => {
             if is_empty {
-                return Err(RANGE);
+                return Err(LineFault::Range);
             }
             let index = between(index, 0, (1 << 14) - 1)?;
             Ok(Parent::Slot { cnode, index })
@@ -205,7 +205,7 @@ struct SlotWords<'a> {
 
 /// `slot CNODE INDEX WORD0 WORD1 PARENT INDEX`, whatever its numbers.
 #[tactic(auto, unfolding(crate::specs::Lines::slot_words_of))]
-fn slot_words(words: Words<'_>) -> Result<SlotWords<'_>, u8>
+fn slot_words(words: Words<'_>) -> Result<SlotWords<'_>, LineFault>
     ensures { result ≡ slot_words_of words.entry }
 {
     let (cnode, words) = words.object()?;
@@ -226,7 +226,7 @@ fn slot_words(words: Words<'_>) -> Result<SlotWords<'_>, u8>
 
 /// What the words of a line `slot` say, if its numbers are in their ranges.
 #[tactic(auto, unfolding(crate::specs::Lines::slot_said))]
-fn slot_in_ranges(words: SlotWords<'_>) -> Result<Line<'_>, u8>
+fn slot_in_ranges(words: SlotWords<'_>) -> Result<Line<'_>, LineFault>
     ensures { result ≡ slot_said words.entry }
 {
     let index = between(words.index, 0, (1 << 14) - 1)?;
@@ -244,7 +244,7 @@ fn slot_in_ranges(words: SlotWords<'_>) -> Result<Line<'_>, u8>
 
 /// What a line `slot` says, by whatever words of a capability.
 #[tactic(auto, unfolding(crate::specs::Lines::slot_of))]
-fn slot_fields(words: Words<'_>) -> Result<Line<'_>, u8>
+fn slot_fields(words: Words<'_>) -> Result<Line<'_>, LineFault>
     ensures { result ≡ slot_of words.entry }
 {
     slot_in_ranges(slot_words(words)?)
@@ -252,7 +252,7 @@ fn slot_fields(words: Words<'_>) -> Result<Line<'_>, u8>
 
 /// A line, of which the words of a slot are to be those of a capability.
 #[tactic(auto, unfolding(crate::specs::Meaning::known))]
-fn known(line: Line<'_>) -> Result<Line<'_>, u8>
+fn known(line: Line<'_>) -> Result<Line<'_>, LineFault>
     ensures { result ≡ known line.entry }
 {
     match line {
@@ -264,7 +264,7 @@ fn known(line: Line<'_>) -> Result<Line<'_>, u8>
             parent,
         } => {
             if !unpacks(word0, word1) {
-                return Err(RANGE);
+                return Err(LineFault::Range);
             }
             Ok(Line::Slot {
                 cnode,
@@ -280,7 +280,7 @@ fn known(line: Line<'_>) -> Result<Line<'_>, u8>
 
 /// `slot CNODE INDEX WORD0 WORD1 PARENT INDEX`
 #[tactic(auto, unfolding(crate::specs::Meaning::known_slot_of))]
-pub(crate) fn slot(words: Words<'_>) -> Result<Line<'_>, u8>
+pub(crate) fn slot(words: Words<'_>) -> Result<Line<'_>, LineFault>
     ensures { result ≡ known_slot_of words.entry }
 {
     known(slot_fields(words)?)
@@ -288,31 +288,31 @@ pub(crate) fn slot(words: Words<'_>) -> Result<Line<'_>, u8>
 
 /// A constant of a measure.
 #[tactic(auto, unfolding(crate::specs::Lines::constant_of))]
-pub(crate) fn constant_in(number: i64) -> Result<i64, u8>
+pub(crate) fn constant_in(number: i64) -> Result<i64, LineFault>
     ensures { result ≡ constant_of number }
 {
     if -(1 << 62) <= number && number <= 1 << 62 {
         Ok(number)
     } else {
-        Err(RANGE)
+        Err(LineFault::Range)
     }
 }
 
 /// A coefficient of a measure.
 #[tactic(auto, unfolding(crate::specs::Lines::coefficient_of))]
-fn coefficient_in(number: i64) -> Result<i32, u8>
+fn coefficient_in(number: i64) -> Result<i32, LineFault>
     ensures { result ≡ coefficient_of number }
 {
     if i32::MIN as i64 <= number && number <= i32::MAX as i64 && number != 0 {
         Ok(number as i32)
     } else {
-        Err(RANGE)
+        Err(LineFault::Range)
     }
 }
 
 /// The term that two words are.
 #[tactic(auto, unfolding(crate::specs::Lines::term_of))]
-fn term_in(name: &[u8], factor: &[u8]) -> Result<TermEntry, u8>
+fn term_in(name: &[u8], factor: &[u8]) -> Result<TermEntry, LineFault>
     ensures { result ≡ term_of name.now factor.now }
 {
     let register = register_in(name)?;
@@ -324,26 +324,26 @@ fn term_in(name: &[u8], factor: &[u8]) -> Result<TermEntry, u8>
 }
 
 /// The first term of a measure and the words after it.
-pub(crate) fn term_and_rest(words: Words<'_>) -> Result<(TermEntry, Words<'_>), u8>
+pub(crate) fn term_and_rest(words: Words<'_>) -> Result<(TermEntry, Words<'_>), LineFault>
     ensures { result ≡ term_first words.entry }
 {
     let Some((name, words)) = words.first() else {
-        return Err(SYNTAX);
+        return Err(LineFault::Syntax);
     };
     let Some((factor, words)) = words.first() else {
-        return Err(SYNTAX);
+        return Err(LineFault::Syntax);
     };
     Ok((term_in(name, factor)?, words))
 }
 
 /// The words are to be registers, each with a number after it.
-fn check_pairs(words: Words<'_>) -> Result<(), u8>
+fn check_pairs(words: Words<'_>) -> Result<(), LineFault>
     ensures { result ≡ all_pairs words.entry }
 {
     let mut rest = words;
     'pairs: while let Some((name, words)) = rest.first() {
         let Some((factor, words)) = words.first() else {
-            return Err(SYNTAX);
+            return Err(LineFault::Syntax);
         };
         register_in(name)?;
         number_in(factor)?;
@@ -353,13 +353,13 @@ fn check_pairs(words: Words<'_>) -> Result<(), u8>
 }
 
 /// The words are to be terms of a measure.
-fn check_terms(words: Words<'_>) -> Result<(), u8>
+fn check_terms(words: Words<'_>) -> Result<(), LineFault>
     ensures { result ≡ all_terms words.entry }
 {
     let mut rest = words;
     'terms: while let Some((name, words)) = rest.first() {
         let Some((factor, words)) = words.first() else {
-            return Err(SYNTAX);
+            return Err(LineFault::Syntax);
         };
         term_in(name, factor)?;
         rest = words;
@@ -369,7 +369,7 @@ fn check_terms(words: Words<'_>) -> Result<(), u8>
 
 /// `measure CONSTANT [xN COEFFICIENT] ..`
 #[tactic(auto, unfolding(crate::specs::Lines::measure_of))]
-pub(crate) fn measure(words: Words<'_>) -> Result<Line<'_>, u8>
+pub(crate) fn measure(words: Words<'_>) -> Result<Line<'_>, LineFault>
     ensures { result ≡ measure_of words.entry }
 {
     let (constant, terms) = words.number()?;

@@ -3,7 +3,7 @@
 ghost use Rattle.std.specs.Prelude.{◌≡◌, ◌<◌, IfOk, [], ◌∷◌, not, position, MatchOption};
 ghost use Rattle.asm_line.specs.Words.{ends, is_blank, last_number, last_numbers, name_first, number_first, object_first, place_first, register_first, words_of};
 
-use crate::faults::SYNTAX;
+use crate::faults::LineFault;
 use crate::keywords::is;
 use crate::names::{Name, name_in};
 use crate::numbers::number_in;
@@ -44,57 +44,57 @@ impl<'a> Words<'a> {
 
     /// The first word, which is to be a name, and those after it.
     #[tactic(auto, unfolding(crate::specs::Words::name_first))]
-    pub(crate) fn name(self) -> Result<(Name<'a>, Words<'a>), u8>
+    pub(crate) fn name(self) -> Result<(Name<'a>, Words<'a>), LineFault>
         ensures { result ≡ name_first self.entry }
     {
         match self.first() {
             Some((word, words)) => Ok((name_in(word)?, words)),
-            None => Err(SYNTAX),
+            None => Err(LineFault::Syntax),
         }
     }
 
     /// The first word, which is to name an untyped, an object or an interrupt, and those after it.
     #[tactic(auto, unfolding(crate::specs::Words::object_first))]
-    pub(crate) fn object(self) -> Result<(Name<'a>, Words<'a>), u8>
+    pub(crate) fn object(self) -> Result<(Name<'a>, Words<'a>), LineFault>
         ensures { result ≡ object_first self.entry }
     {
         match self.first() {
             Some((word, words)) => {
                 if is(word, "boot") {
-                    return Err(SYNTAX);
+                    return Err(LineFault::Syntax);
                 }
                 Ok((name_in(word)?, words))
             }
-            None => Err(SYNTAX),
+            None => Err(LineFault::Syntax),
         }
     }
 
     /// The first word, which is to be a register, and those after it.
     #[tactic(auto, unfolding(crate::specs::Words::register_first))]
-    pub(crate) fn register(self) -> Result<(u8, Words<'a>), u8>
+    pub(crate) fn register(self) -> Result<(u8, Words<'a>), LineFault>
         ensures register { result ≡ register_first self.entry }
         ensures small { IfOk result (λ x. x.0 < 32) }
     {
         match self.first() {
             Some((word, words)) => Ok((register_in(word)?, words)),
-            None => Err(SYNTAX),
+            None => Err(LineFault::Syntax),
         }
     }
 
     /// The first word, which is to be a number, and those after it.
     #[tactic(auto, unfolding(crate::specs::Words::number_first))]
-    pub(crate) fn number(self) -> Result<(i64, Words<'a>), u8>
+    pub(crate) fn number(self) -> Result<(i64, Words<'a>), LineFault>
         ensures { result ≡ number_first self.entry }
     {
         match self.first() {
             Some((word, words)) => Ok((number_in(word)?, words)),
-            None => Err(SYNTAX),
+            None => Err(LineFault::Syntax),
         }
     }
 
     /// The only word, which is to be a number.
     #[tactic(auto, unfolding(crate::specs::Words::last_number))]
-    pub(crate) fn last_number(self) -> Result<i64, u8>
+    pub(crate) fn last_number(self) -> Result<i64, LineFault>
         ensures { result ≡ last_number self.entry }
     {
         let (number, words) = self.number()?;
@@ -104,7 +104,7 @@ impl<'a> Words<'a> {
 
     /// The only two words, which are to be numbers.
     #[tactic(auto, unfolding(crate::specs::Words::last_numbers))]
-    pub(crate) fn last_numbers(self) -> Result<(i64, i64), u8>
+    pub(crate) fn last_numbers(self) -> Result<(i64, i64), LineFault>
         ensures { result ≡ last_numbers self.entry }
     {
         let (first, words) = self.number()?;
@@ -113,7 +113,7 @@ impl<'a> Words<'a> {
 
     /// The first words, which are to be a name, a number and a name, and those after them.
     #[tactic(auto, unfolding(crate::specs::Words::place_first))]
-    pub(crate) fn place(self) -> Result<(Name<'a>, i64, Name<'a>, Words<'a>), u8>
+    pub(crate) fn place(self) -> Result<(Name<'a>, i64, Name<'a>, Words<'a>), LineFault>
         ensures { result ≡ place_first self.entry }
     {
         let (name, words) = self.object()?;
@@ -130,11 +130,11 @@ impl<'a> Words<'a> {
     }
 
     /// No word is to be left.
-    pub(crate) fn end(self) -> Result<(), u8>
+    pub(crate) fn end(self) -> Result<(), LineFault>
         ensures { result ≡ ends self.entry }
     {
         match self.first() {
-            Some(_) => Err(SYNTAX),
+            Some(_) => Err(LineFault::Syntax),
             None => Ok(()),
         }
     }
