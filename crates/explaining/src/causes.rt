@@ -2,9 +2,9 @@
 
 use crate::point_words::{is_full, push_range};
 use crate::scenes::Scene;
-use crate::states::{Found, State};
+use crate::states::State;
 use model::{ImmediateOp, Instr, Range, RegisterOp};
-use program_rules::registers_of;
+use program_rules::{AtPoint, registers_of};
 use rv32_isa::decode;
 use std::alloc::{AllocError, Global};
 use typestate::Written;
@@ -231,14 +231,14 @@ impl Scene<'_, '_, '_, '_, '_, '_, '_> {
             return Ok(written_by(instr) == Some(register));
         }
         match self.state_at(point)? {
-            Found::Known(state) => self.call_writes(point, &state, register),
-            Found::Unmeasured | Found::Missing => Ok(false),
+            AtPoint::Known(state) => self.call_writes(point, &state, register),
+            AtPoint::Unmeasured | AtPoint::Missing => Ok(false),
         }
     }
 
     /// What a register holds after a point that writes it.
     fn range_after(&self, point: u32, register: u8) -> Result<Range, AllocError> {
-        let Found::Known(state) = self.state_at(point)? else {
+        let AtPoint::Known(state) = self.state_at(point)? else {
             return Ok(Range::FULL);
         };
         let ways = self.ways(point, &state)?;
@@ -251,7 +251,7 @@ impl Scene<'_, '_, '_, '_, '_, '_, '_> {
     /// What a register holds before a point.
     pub(crate) fn range_before(&self, point: u32, register: u8) -> Result<Range, AllocError> {
         match self.state_at(point)? {
-            Found::Known(state) if register < 32 => {
+            AtPoint::Known(state) if register < 32 => {
                 Ok(state.bounds.get(model::Register(register)))
             }
             _ => Ok(Range::FULL),

@@ -3,9 +3,10 @@
 use crate::point_words::{push_measure, push_number, push_range};
 use crate::scenes::Scene;
 use crate::slot_gaps::Difference;
-use crate::states::{Found, State};
+use crate::states::State;
 use measure::value_at;
 use model::{Range, Register};
+use program_rules::AtPoint;
 use std::alloc::AllocError;
 
 /// Puts with what value a register starts.
@@ -154,8 +155,8 @@ impl Scene<'_, '_, '_, '_, '_, '_, '_> {
             return Ok(false);
         }
         match self.state_at(point)? {
-            Found::Known(state) => self.report_noted(to, point, &state),
-            Found::Unmeasured | Found::Missing => {
+            AtPoint::Known(state) => self.report_noted(to, point, &state),
+            AtPoint::Unmeasured | AtPoint::Missing => {
                 self.report_unnoted(to, point)?;
                 Ok(true)
             }

@@ -2,9 +2,9 @@
 
 use crate::loops::Loop;
 use crate::scenes::Scene;
-use crate::states::Found;
 use certifying::{Finding, Reason, ThreadFindings};
 use model::{Point, Refusal};
+use program_rules::AtPoint;
 use source_gaps::push_place;
 use std::alloc::AllocError;
 
@@ -51,7 +51,7 @@ impl Scene<'_, '_, '_, '_, '_, '_, '_> {
 
     /// Reports that the load or store at a point can reach what is not mapped, if it can, and returns whether it does.
     fn report_reached(&self, to: &mut String, point: u32) -> Result<bool, AllocError> {
-        let Found::Known(state) = self.state_at(point)? else {
+        let AtPoint::Known(state) = self.state_at(point)? else {
             return Ok(false);
         };
         if !self.reaches_unmapped(point, &state) {

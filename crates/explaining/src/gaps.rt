@@ -3,10 +3,11 @@
 use crate::point_words::{push_measure, push_range};
 use crate::scenes::Scene;
 use crate::slot_gaps::Difference;
-use crate::states::{Found, State};
+use crate::states::State;
 use crate::ways::{Miss, Way};
 use measure::least;
 use model::Register;
+use program_rules::AtPoint;
 use std::alloc::AllocError;
 
 /// Puts by how much a measure misses.
@@ -135,8 +136,8 @@ impl Scene<'_, '_, '_, '_, '_, '_, '_> {
             );
         };
         match self.state_at(target)? {
-            Found::Known(there) => self.report_known(to, way, state, target, &there),
-            Found::Unmeasured => {
+            AtPoint::Known(there) => self.report_known(to, way, state, target, &there),
+            AtPoint::Unmeasured => {
                 to.push_str("  after it comes ")?;
                 self.push_point(to, target)?;
                 let writer = target.saturating_sub(1);
@@ -150,7 +151,7 @@ impl Scene<'_, '_, '_, '_, '_, '_, '_> {
                     )
                 }
             }
-            Found::Missing => {
+            AtPoint::Missing => {
                 to.push_str("  it leads to ")?;
                 self.push_point(to, target)?;
                 to.push_str(", where nothing is known: put a record there\n")

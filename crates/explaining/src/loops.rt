@@ -3,9 +3,9 @@
 use crate::causes::{is_step, origin_words, written_by};
 use crate::point_words::push_range;
 use crate::scenes::Scene;
-use crate::states::Found;
 use crate::ways::Way;
 use model::{ImmediateOp, Instr};
+use program_rules::AtPoint;
 use std::alloc::AllocError;
 
 /// A loop without a measure.
@@ -142,11 +142,11 @@ impl Scene<'_, '_, '_, '_, '_, '_, '_> {
     /// Whether a way leads out of a loop from a point.
     fn leads_out(&self, of: &Loop<'_>, point: u32) -> Result<bool, AllocError> {
         match self.state_at(point)? {
-            Found::Known(state) => {
+            AtPoint::Known(state) => {
                 let ways = self.ways(point, &state)?;
                 Ok(self.has_way_out(of, &ways))
             }
-            Found::Unmeasured | Found::Missing => Ok(false),
+            AtPoint::Unmeasured | AtPoint::Missing => Ok(false),
         }
     }
 

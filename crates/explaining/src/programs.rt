@@ -3,9 +3,10 @@
 use crate::explained_images::ExplainedImage;
 use crate::faults::ExplainFault;
 use crate::scenes::Scene;
-use crate::states::{Found, State};
+use crate::states::State;
 use certifying::{Record, ThreadFindings};
 use model::{Instr, Point, Refusal};
+use program_rules::AtPoint;
 use rv32_isa::decode;
 use std::alloc::AllocError;
 use thread_spaces::{PlacedImage, PlacedThread, ThreadParts, offsets_of, promises_of};
@@ -212,8 +213,8 @@ impl Scene<'_, '_, '_, '_, '_, '_, '_> {
         refusal: Refusal,
     ) -> Result<(), AllocError> {
         match self.state_at(point)? {
-            Found::Known(state) => self.report_state(to, point, refusal, &state),
-            Found::Unmeasured | Found::Missing => self.report_plain(
+            AtPoint::Known(state) => self.report_state(to, point, refusal, &state),
+            AtPoint::Unmeasured | AtPoint::Missing => self.report_plain(
                 to,
                 point,
                 "nothing is known here: put a record before it\n",

@@ -11,7 +11,7 @@ use certifying::Record;
 use image::RecordRef;
 use measure::Measure;
 use model::{Instr, Point, Range, RangeEntry, Refusal, Register};
-use program_rules::{Left, follows, follows_call};
+use program_rules::{AtPoint, Left, follows, follows_call};
 use ranges::Bounds;
 use rv32_isa::decode;
 use std::alloc::AllocError;
@@ -28,15 +28,6 @@ pub(crate) struct State {
     pub(crate) changes: Vec<NotedSlot>,
 }
 
-/// What is found of a point.
-#[derive(Drop)]
-pub(crate) enum Found {
-    Known(State),
-    /// Nothing is known, only because the instruction before writes a register of the measure.
-    Unmeasured,
-    Missing,
-}
-
 /// What a system call leaves.
 #[derive(Drop)]
 pub(crate) struct Called {
@@ -48,15 +39,15 @@ pub(crate) struct Called {
 const MOST: u64 = 1 << 62;
 
 /// What is left for the next point, with these changes of slots.
-fn kept_of(left: Left, changes: Vec<NotedSlot>) -> Found {
+fn kept_of(left: AtPoint<Left>, changes: Vec<NotedSlot>) -> AtPoint<State> {
     match left {
-        Left::Known { bounds, measure } => Found::Known(State {
-            bounds,
-            measure,
+        AtPoint::Known(left) => AtPoint::Known(State {
+            bounds: left.bounds,
+            measure: left.measure,
             changes,
         }),
-        Left::Missing => Found::Missing,
-        Left::Unmeasured => Found::Unmeasured,
+        AtPoint::Missing => AtPoint::Missing,
+        AtPoint::Unmeasured => AtPoint::Unmeasured,
     }
 }
 
@@ -72,20 +63,20 @@ fn note_range(bounds: &mut Bounds, entry: RangeEntry) {
 }
 
 /// What is left for the next point, with these changes of slots.
-fn kept_with(left: Left, changes: &Vec<NotedSlot>) -> Result<Found, AllocError> {
+fn kept_with(left: AtPoint<Left>, changes: &Vec<NotedSlot>) -> Result<AtPoint<State>, AllocError> {
     Ok(kept_of(left, changes.clone()?))
 }
 
 /// What was found at a point, among all that was found.
-fn found_in(known: &[Record], point: u32) -> Result<Found, AllocError> {
+fn found_in(known: &[Record], point: u32) -> Result<AtPoint<State>, AllocError> {
     let place = known.binary_search_by_key(&point, |record| record.point);
     match known.get(place.unwrap_or(known.len())) {
-        Some(record) => Ok(Found::Known(State {
+        Some(record) => Ok(AtPoint::Known(State {
             bounds: record.bounds,
             measure: Measure::new(0),
             changes: record.changes.clone()?,
         })),
-        None => Ok(Found::Missing),
+        None => Ok(AtPoint::Missing),
     }
 }
 
@@ -147,7 +138,7 @@ impl<'a> Scene<'a, '_, '_, '_, '_, '_, '_> {
     }
 
     /// What is known at a point.
-    pub(crate) fn state_at(&self, point: u32) -> Result<Found, AllocError> {
+    pub(crate) fn state_at(&self, point: u32) -> Result<AtPoint<State>, AllocError> {
         match self.known {
             Some(known) => found_in(known, point),
             None => self.noted_at(point),
@@ -155,11 +146,11 @@ impl<'a> Scene<'a, '_, '_, '_, '_, '_, '_> {
     }
 
     /// What is known at a point by the records of the image.
-    fn noted_at(&self, point: u32) -> Result<Found, AllocError> {
+    fn noted_at(&self, point: u32) -> Result<AtPoint<State>, AllocError> {
         let Some(record) = self.last_record(point) else {
-            return Ok(Found::Missing);
+            return Ok(AtPoint::Missing);
         };
-        let mut found = Found::Known(self.state_of(&record)?);
+        let mut found = AtPoint::Known(self.state_of(&record)?);
         for place in record.point()..point {
             found = self.found_after(place, &found)?;
         }
@@ -167,21 +158,25 @@ impl<'a> Scene<'a, '_, '_, '_, '_, '_, '_> {
     }
 
     /// What is found after a point of which this is found.
-    fn found_after(&self, point: u32, found: &Found) -> Result<Found, AllocError> {
+    fn found_after(
+        &self,
+        point: u32,
+        found: &AtPoint<State>,
+    ) -> Result<AtPoint<State>, AllocError> {
         match found {
-            Found::Known(state) => self.following(point, state),
-            Found::Unmeasured | Found::Missing => Ok(Found::Missing),
+            AtPoint::Known(state) => self.following(point, state),
+            AtPoint::Unmeasured | AtPoint::Missing => Ok(AtPoint::Missing),
         }
     }
 
     /// What follows from a point in a state for the next one.
-    fn following(&self, point: u32, state: &State) -> Result<Found, AllocError> {
+    fn following(&self, point: u32, state: &State) -> Result<AtPoint<State>, AllocError> {
         let thread = self.given.space.thread;
         if point >= thread.word_count() || state.measure.constant() < -(1 << 62) - 65536 {
-            return Ok(Found::Missing);
+            return Ok(AtPoint::Missing);
         }
         match decode(thread.word(point)) {
-            None => Ok(Found::Missing),
+            None => Ok(AtPoint::Missing),
             Some(Instr::Ecall) => self.following_call(point, state),
             Some(instr) => {
                 let left = follows(self.address(point), instr, &state.bounds, &state.measure);
@@ -191,7 +186,7 @@ impl<'a> Scene<'a, '_, '_, '_, '_, '_, '_> {
     }
 
     /// What follows from a system call in a state, if it is not refused.
-    fn following_call(&self, point: u32, state: &State) -> Result<Found, AllocError>
+    fn following_call(&self, point: u32, state: &State) -> Result<AtPoint<State>, AllocError>
         requires measure { negsuc (2 ^ 63 - 2) ≤ℤ (measure_of state.now.measure).constant }
     {
         match self.called(point, state)? {
@@ -200,7 +195,7 @@ impl<'a> Scene<'a, '_, '_, '_, '_, '_, '_> {
                 let left = follows_call(budget, &state.measure, &called.behind);
                 Ok(kept_of(left, called.changes))
             }
-            Err(_) => Ok(Found::Missing),
+            Err(_) => Ok(AtPoint::Missing),
         }
     }
 

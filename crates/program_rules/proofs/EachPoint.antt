@@ -5,9 +5,8 @@ use Rattle.model.specs.Acceptance.NotedStates.{NotedSlot, record_of}
 use Rattle.model.specs.Acceptance.PointStates.{Noted, Known, follows, noted, noted_or}
 use Rattle.model.specs.Images.Described.{Numbered}
 use Rattle.model.specs.Images.Image.{Image, StateRecord, Thread}
-use Rattle.program_rules.specs.Kept.{AreKept, HasPart, IsAt, IsCleanIn, IsKeptAt, IsPlain, IsRead, IsSound, before, noted_by}
-use Rattle.program_rules.specs.declared.kept.Kept.TheVariants as kept
-use Rattle.program_rules.specs.declared.kept.Kept.{Kept}
+use Rattle.program_rules.specs.Kept.{AreKept, HasPart, IsAt, IsCleanIn, IsKeptAt, IsPlain, IsRead, IsSound, Kept, before, noted_by}
+use Rattle.program_rules.specs.declared.at_points.AtPoint.TheVariants as kept
 use Rattle.program_rules.specs.declared.kept_points.KeptPoints.{KeptPoints}
 use Rattle.program_rules.specs.declared.places.Place.TheVariants as place
 use Rattle.program_rules.specs.declared.places.Place.{Place}

@@ -14,7 +14,8 @@ use Rattle.model.specs.Acceptance.RangeRules.{destination}
 use Rattle.model.specs.Images.Image.{Image, Thread}
 use Rattle.model.specs.declared.instructions.Instr.{Instr}
 use Rattle.program_rules.specs.point_rules.Points.{left_with}
-use Rattle.program_rules.specs.declared.point_rules.following.Left.TheVariants as left
+use Rattle.program_rules.specs.declared.at_points.AtPoint.TheVariants as kept
+use Rattle.program_rules.specs.declared.at_points.AtPoint.{AtPoint}
 use Rattle.program_rules.specs.declared.point_rules.following.Left.{Left}
 use Rattle.program_rules.specs.Kept.{IsCleanIn, IsSound, kept_as, noted_by}
 use Rattle.typestate.specs.Logs.{Holds, part_of}
@@ -30,23 +31,23 @@ IsAtLeast bound Missing = Unit {0}
 IsAtLeast bound Unmeasured = Unit {0}
 
 -- what is kept of what is left is what it is
-pub kept-same : (slots : List NotedSlot) (log : List LogEntry) (n : Left) (part : Part) (clean : Bool) →
+pub kept-same : (slots : List NotedSlot) (log : List LogEntry) (n : AtPoint Left) (part : Part) (clean : Bool) →
     noted_by slots log (kept_as n part clean) ≡ left_with (replayed slots (part_of log part)) n
-kept-same slots log (left.Known bounds measure) part clean = refl
-kept-same slots log left.Missing part clean = refl
-kept-same slots log left.Unmeasured part clean = refl
+kept-same slots log (kept.Known left) part clean = refl
+kept-same slots log kept.Missing part clean = refl
+kept-same slots log kept.Unmeasured part clean = refl
 
-pub kept-sound : (slots : List NotedSlot) (log : List LogEntry) (point : ℕ) (n : Left) (part : Part) (clean : Bool) → Holds log part →
+pub kept-sound : (slots : List NotedSlot) (log : List LogEntry) (point : ℕ) (n : AtPoint Left) (part : Part) (clean : Bool) → Holds log part →
     IsAtLeast (negsuc (2 ^ 62 + point)) (left_with slots n) → IsSound log point (kept_as n part clean)
-kept-sound slots log point (left.Known bounds measure) part clean held least = (held, least)
-kept-sound slots log point left.Missing part clean held least = tt
-kept-sound slots log point left.Unmeasured part clean held least = tt
+kept-sound slots log point (kept.Known left) part clean held least = (held, least)
+kept-sound slots log point kept.Missing part clean held least = tt
+kept-sound slots log point kept.Unmeasured part clean held least = tt
 
-pub kept-clean : (image : Image) (t : Thread) (slots : List NotedSlot) (log : List LogEntry) (n : Left) (part : Part) (clean : Bool)
+pub kept-clean : (image : Image) (t : Thread) (slots : List NotedSlot) (log : List LogEntry) (n : AtPoint Left) (part : Part) (clean : Bool)
     → (clean ≡ true → NoneStray image t (replayed slots (part_of log part))) → IsCleanIn image t slots log (kept_as n part clean)
-kept-clean image t slots log (left.Known bounds measure) part clean none = none
-kept-clean image t slots log left.Missing part clean none = tt
-kept-clean image t slots log left.Unmeasured part clean none = tt
+kept-clean image t slots log (kept.Known left) part clean none = none
+kept-clean image t slots log kept.Missing part clean none = tt
+kept-clean image t slots log kept.Unmeasured part clean none = tt
 
 -- ---- one less
 

@@ -16,12 +16,11 @@ use Rattle.model.specs.declared.instructions.Instr.TheVariants.{Ecall}
 use Rattle.model.specs.declared.ranges.Range.{Range}
 use Rattle.program_rules.proofs.EachPoint.{noted-is}
 use Rattle.program_rules.proofs.LongRanges.{known-long, with-long, words-long}
-use Rattle.program_rules.specs.Kept.{AreKept, AreOne, IsAt, IsBehindCall, IsCalled, IsInRecord, IsKeptAt, IsNextAt, IsPlain, IsRecorded, IsSound, IsWhole}
+use Rattle.program_rules.specs.Kept.{AreKept, AreOne, IsAt, IsBehindCall, IsCalled, IsInRecord, IsKeptAt, IsNextAt, IsPlain, IsRecorded, IsSound, IsWhole, Kept}
 use Rattle.program_rules.specs.Kept.{KeepsAll, Leads, before as states_before, has_state, is_known_at, is_step, measure_behind, ranges_behind}
 use Rattle.program_rules.specs.Kept.{state_by, wide}
 use Rattle.program_rules.specs.declared.places.CalledPoint.{CalledPoint}
-use Rattle.program_rules.specs.declared.kept.Kept.TheVariants as kept
-use Rattle.program_rules.specs.declared.kept.Kept.{Kept}
+use Rattle.program_rules.specs.declared.at_points.AtPoint.TheVariants as kept
 use Rattle.program_rules.specs.declared.kept.Known.{Known as State}
 use Rattle.program_rules.specs.declared.kept_points.KeptPoints.{KeptPoints}
 use Rattle.program_rules.specs.declared.places.Place.TheVariants as place

@@ -13,13 +13,10 @@ use Rattle.model.specs.Images.Described.{Numbered}
 use Rattle.model.specs.Images.Image.{Image, StateRecord, Thread}
 use Rattle.model.specs.declared.instructions.Instr.TheVariants.{Ecall}
 use Rattle.model.specs.declared.refusals.Refusal.{Refusal}
-use Rattle.program_rules.specs.declared.point_rules.following.Left.TheVariants as left
 use Rattle.program_rules.specs.declared.point_rules.following.Left.{Left}
-use Rattle.program_rules.specs.declared.kept.Kept.TheVariants as kept
-use Rattle.program_rules.specs.declared.kept.Kept.{Kept}
+use Rattle.program_rules.specs.declared.at_points.AtPoint.TheVariants as kept
+use Rattle.program_rules.specs.declared.at_points.AtPoint.{AtPoint}
 use Rattle.program_rules.specs.declared.kept.Known.{Known as State}
-use Rattle.program_rules.specs.declared.passing.Passed.TheVariants as passed
-use Rattle.program_rules.specs.declared.passing.Passed.{Passed}
 use Rattle.program_rules.specs.declared.places.CalledPoint.{CalledPoint}
 use Rattle.program_rules.specs.declared.kept_points.KeptPoints.{KeptPoints}
 use Rattle.program_rules.specs.declared.places.Place.TheVariants as place
@@ -38,6 +35,10 @@ use Rattle.typestate.specs.declared.logs.ShownPart.{ShownPart}
 use Rattle.typestate.specs.Replays.{replayed}
 use Rattle.typestate.specs.declared.log_entries.LogEntry.{LogEntry}
 
+-- what is kept of a point
+abbrev pub Kept : Type 0
+Kept = AtPoint State
+
 -- the state, by what is kept beside the image's slots and the log of changes
 abbrev pub state_by : List NotedSlot → List LogEntry → State → PointState
 state_by slots log k = record { ranges = k.bounds; slots = replayed slots (part_of log k.part); measure = measure_of k.measure }
@@ -55,16 +56,16 @@ has_state Missing = false
 has_state Unmeasured = false
 
 -- what is kept of what a point leaves for the next one, with the part that its slots have
-abbrev pub kept_as : Left → Part → Bool → Kept
-kept_as (left.Known bounds measure) part clean = kept.Known (record { bounds = bounds; measure = measure; part = part; is_clean = clean })
-kept_as left.Missing part clean = kept.Missing
-kept_as left.Unmeasured part clean = kept.Unmeasured
+abbrev pub kept_as : AtPoint Left → Part → Bool → Kept
+kept_as (kept.Known left) part clean = kept.Known (record { bounds = left.bounds; measure = left.measure; part = part; is_clean = clean })
+kept_as kept.Missing part clean = kept.Missing
+kept_as kept.Unmeasured part clean = kept.Unmeasured
 
 -- what is kept of what became of a state
-abbrev pub passed_as : State → Passed → Kept
-passed_as k passed.Known = kept.Known k
-passed_as k passed.Missing = kept.Missing
-passed_as k passed.Unmeasured = kept.Unmeasured
+abbrev pub passed_as : State → AtPoint (Unit {0}) → Kept
+passed_as k (kept.Known here) = kept.Known k
+passed_as k kept.Missing = kept.Missing
+passed_as k kept.Unmeasured = kept.Unmeasured
 
 -- its changes are in the log
 abbrev pub HasPart : List LogEntry → Kept → Type 0

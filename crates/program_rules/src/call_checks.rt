@@ -9,7 +9,7 @@ ghost use Rattle.model.specs.declared.instructions.Instr.TheVariants.{Ecall};
 ghost use Rattle.program_rules.specs.Kept.{IsKeptAt, IsRead, state_by};
 ghost use Rattle.program_rules.specs.PointChecks.{later_rules};
 ghost use Rattle.program_rules.specs.Programs.{thread_of};
-ghost use Rattle.program_rules.specs.declared.kept.Kept.TheVariants as kept;
+ghost use Rattle.program_rules.specs.declared.at_points.AtPoint.TheVariants as kept;
 ghost use Rattle.typestate.specs.Calls.{behind_with};
 ghost use Rattle.typestate.specs.Logs.{KeepsParts, Shows, ShowsSome, part_of};
 ghost use Rattle.wellformed.specs.Answering.{Answers};

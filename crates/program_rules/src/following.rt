@@ -10,13 +10,13 @@ ghost use Rattle.model.specs.Machine.Instructions.{IsInstr};
 ghost use Rattle.model.specs.declared.instructions.Instr.TheVariants.{Ecall};
 ghost use Rattle.program_rules.specs.Kept.{IsCleanIn, IsKeptAt, IsLookedAt, IsSound, ShowsKept, kept_as, noted_by, passed_as, state_by};
 ghost use Rattle.program_rules.specs.Programs.{thread_of};
-ghost use Rattle.program_rules.specs.declared.kept.Kept.TheVariants as kept;
+ghost use Rattle.program_rules.specs.declared.at_points.AtPoint.TheVariants as kept;
 ghost use Rattle.program_rules.specs.declared.kept.Known.{Known as State};
 ghost use Rattle.typestate.specs.Logs.{KeepsParts};
 ghost use Rattle.typestate.specs.declared.log_entries.LogEntry.{LogEntry};
 
-use crate::kept::{Kept, Known};
-use crate::passing::Passed;
+use crate::at_points::AtPoint;
+use crate::kept::Known;
 use crate::point_rules::{Left, follows, follows_call};
 use crate::programs::Program;
 use crate::space_rules::Called;
@@ -28,24 +28,24 @@ use typestate::{Part, ShownPart, SlotLog, points_without_stray_slots_have_none};
 
 /// What is kept of what a point leaves for the next one, with the part that its slots have, and whether it is known that none of
 /// them is one that the thread may not have.
-fn keep(left: Left, part: Part, is_clean: bool) -> Kept
+fn keep(left: AtPoint<Left>, part: Part, is_clean: bool) -> AtPoint<Known>
     ensures { result ≡ kept_as left part is_clean }
 {
     match left {
-        Left::Known { bounds, measure } => Kept::Known(Known {
-            bounds,
-            measure,
+        AtPoint::Known(left) => AtPoint::Known(Known {
+            bounds: left.bounds,
+            measure: left.measure,
             part,
             is_clean,
         }),
-        Left::Missing => Kept::Missing,
-        Left::Unmeasured => Kept::Unmeasured,
+        AtPoint::Missing => AtPoint::Missing,
+        AtPoint::Unmeasured => AtPoint::Unmeasured,
     }
 }
 
 impl Known {
     /// Goes on after an instruction that is no system call: slots stay.
-    fn pass(&mut self, pc: u32, instr: Instr) -> Passed
+    fn pass(&mut self, pc: u32, instr: Instr) -> AtPoint<()>
         requires instr { IsInstr instr }
         requires measure { negsuc (2 ^ 63 - 2) ≤ℤ (measure_of self.old.measure).constant }
         ensures same { (slots : List NotedSlot) (log : List LogEntry) → noted_by slots log (passed_as self.new result) ≡ follows_edge instr (state_by slots log self.old) (after pc instr self.old.bounds).fall_through }
@@ -53,26 +53,26 @@ impl Known {
         ensures clean { (image : Image) (t : Thread) (slots : List NotedSlot) (log : List LogEntry) → IsCleanIn image t slots log (kept.Known self.old) → IsCleanIn image t slots log (passed_as self.new result) }
     {
         match follows(pc, instr, &self.bounds, &self.measure) {
-            Left::Known { bounds, measure } => {
-                self.bounds = bounds;
-                self.measure = measure;
-                Passed::Known
+            AtPoint::Known(left) => {
+                self.bounds = left.bounds;
+                self.measure = left.measure;
+                AtPoint::Known(())
             }
-            Left::Missing => Passed::Missing,
-            Left::Unmeasured => Passed::Unmeasured,
+            AtPoint::Missing => AtPoint::Missing,
+            AtPoint::Unmeasured => AtPoint::Unmeasured,
         }
     }
 }
 
-impl Kept {
+impl AtPoint<Known> {
     /// Keeps what became of its state.
-    fn leave(&mut self, passed: Passed)
+    fn leave(&mut self, passed: AtPoint<()>)
         ensures { (k : State) → self.old ≡ kept.Known k → self.new ≡ passed_as k passed }
     {
         match passed {
-            Passed::Known => {}
-            Passed::Missing => *self = Kept::Missing,
-            Passed::Unmeasured => *self = Kept::Unmeasured,
+            AtPoint::Known(()) => {}
+            AtPoint::Missing => *self = AtPoint::Missing,
+            AtPoint::Unmeasured => *self = AtPoint::Unmeasured,
         }
     }
 }
@@ -87,7 +87,7 @@ impl Program<'_, '_> {
     }
 
     /// Makes of what is kept of a point that has no system call what is kept of the one after it, where no record notes that.
-    pub(crate) fn pass_plain(&self, point: u32, kept: &mut Kept, log: &SlotLog)
+    pub(crate) fn pass_plain(&self, point: u32, kept: &mut AtPoint<Known>, log: &SlotLog)
         requires within { point < self.now.given.space.thread.now.header.words }
         requires plain { instruction_at self.now.given.space.thread.now point ≢ Some Ecall }
         requires kept { IsKeptAt self.now.given.space.image.now (thread_of self.now) self.now.given.slots.now log.now point kept.old }
@@ -95,12 +95,12 @@ impl Program<'_, '_> {
         ensures sound { IsSound log.now (point + 1) kept.new }
         ensures clean { IsCleanIn self.now.given.space.image.now self.now.given.space.thread.now self.now.given.slots.now log.now kept.new }
     {
-        let Kept::Known(known) = kept else {
-            *kept = Kept::Missing;
+        let AtPoint::Known(known) = kept else {
+            *kept = AtPoint::Missing;
             return;
         };
         match decode(self.given.space.thread.word(point)) {
-            None | Some(Instr::Ecall) => *kept = Kept::Missing,
+            None | Some(Instr::Ecall) => *kept = AtPoint::Missing,
             Some(instr) => {
                 let passed = known.pass(self.address(point), instr);
                 kept.leave(passed);
@@ -111,7 +111,7 @@ impl Program<'_, '_> {
 
 impl Visit<'_, '_, '_, '_> {
     /// Adds to what is kept of the point what a look at its slots shows, where nothing is known of them.
-    pub(crate) fn look(&self, kept: &mut Kept, log: &SlotLog, shown: &ShownPart)
+    pub(crate) fn look(&self, kept: &mut AtPoint<Known>, log: &SlotLog, shown: &ShownPart)
         requires { IsLookedAt self.now.program.now.given.space.image.now self.now.program.now.given.space.thread.now self.now.program.now.given.slots.now log.now self.now.point shown.now kept.old }
         ensures same { noted_by self.now.program.now.given.slots.now log.now kept.new ≡ noted_by self.now.program.now.given.slots.now log.now kept.old }
         ensures sound { IsSound log.now self.now.point kept.new }
@@ -119,7 +119,7 @@ impl Visit<'_, '_, '_, '_> {
         ensures clean { IsCleanIn self.now.program.now.given.space.image.now self.now.program.now.given.space.thread.now self.now.program.now.given.slots.now log.now kept.new }
     {
         points_without_stray_slots_have_none();
-        if let Kept::Known(known) = kept {
+        if let AtPoint::Known(known) = kept {
             if known.is_clean {
                 return;
             }
@@ -140,7 +140,7 @@ impl Visit<'_, '_, '_, '_> {
         known: &Known,
         log: &mut SlotLog,
         shown: &ShownPart,
-    ) -> Result<Kept, AllocError>
+    ) -> Result<AtPoint<Known>, AllocError>
         requires { IsLookedAt self.now.program.now.given.space.image.now self.now.program.now.given.space.thread.now self.now.program.now.given.slots.now log.old self.now.point shown.now (kept.Known known.now) }
         ensures same { IfOk result (λ k. noted_by self.now.program.now.given.slots.now log.new k
             ≡ follows_call self.now.program.now.given.space.thread.now (measure_of known.now.measure) (call_at self.now.program.now.given.space.image.now (thread_of self.now.program.now) self.now.point (state_by self.now.program.now.given.slots.now log.old known.now))) }
@@ -156,8 +156,8 @@ impl Visit<'_, '_, '_, '_> {
             is_clean: known.is_clean,
         };
         match here.called(&known.bounds)? {
-            Called::Stray => Ok(Kept::Missing),
-            Called::Refused(_) => Ok(Kept::Missing),
+            Called::Stray => Ok(AtPoint::Missing),
+            Called::Refused(_) => Ok(AtPoint::Missing),
             Called::Leaves(behind, made) => {
                 let part = log.follow(known.part, &made)?;
                 let budget = program.given.space.thread.header().budget;
@@ -171,7 +171,7 @@ impl Visit<'_, '_, '_, '_> {
     /// does. Memory may be refused.
     pub(crate) fn pass(
         &self,
-        kept: &mut Kept,
+        kept: &mut AtPoint<Known>,
         log: &mut SlotLog,
         shown: &ShownPart,
     ) -> Result<(), AllocError>
@@ -182,16 +182,16 @@ impl Visit<'_, '_, '_, '_> {
         ensures others { IfOk result (λ _. KeepsParts log.old log.new) }
     {
         if self.is_next_noted {
-            *kept = Kept::Missing;
+            *kept = AtPoint::Missing;
             return Ok(());
         }
-        let Kept::Known(known) = kept else {
-            *kept = Kept::Missing;
+        let AtPoint::Known(known) = kept else {
+            *kept = AtPoint::Missing;
             return Ok(());
         };
         match self.instr {
             None => {
-                *kept = Kept::Missing;
+                *kept = AtPoint::Missing;
                 Ok(())
             }
             Some(Instr::Ecall) => {

@@ -4,6 +4,7 @@ ghost use Rattle.std.specs.Prelude.{◌≡◌, IfOk};
 ghost use Rattle.program_rules.specs.Kept.{HasPart, ShowsKept, is_known};
 ghost use Rattle.typestate.specs.Logs.{ShowsSome};
 
+use crate::at_points::AtPoint;
 use measure::Measure;
 use ranges::Bounds;
 use std::alloc::AllocError;
@@ -19,29 +20,19 @@ pub(crate) struct Known {
     pub(crate) is_clean: bool,
 }
 
-/// What is noted of a point.
-#[derive(Clone, Copy)]
-pub(crate) enum Kept {
-    Known(Known),
-    /// It has no state.
-    Missing,
-    /// It has none only because the instruction before writes a register of the measure.
-    Unmeasured,
-}
-
-impl Kept {
+impl AtPoint<Known> {
     /// Whether a state is noted.
     pub(crate) fn has_state(&self) -> bool
         ensures { result ≡ is_known self.now }
     {
-        matches!(self, Kept::Known(_))
+        matches!(self, AtPoint::Known(_))
     }
 
     /// Whether the part of its state is empty: its slots are those that the image lists.
     pub(crate) fn has_empty_part(&self) -> bool {
         match self {
-            Kept::Known(known) => known.part.first == known.part.end,
-            Kept::Missing | Kept::Unmeasured => false,
+            AtPoint::Known(known) => known.part.first == known.part.end,
+            AtPoint::Missing | AtPoint::Unmeasured => false,
         }
     }
 
@@ -53,8 +44,8 @@ impl Kept {
         ensures own { IfOk result (λ _. ShowsKept log.now shown.new self.now) }
     {
         match self {
-            Kept::Known(known) => log.show(shown, known.part),
-            Kept::Missing | Kept::Unmeasured => Ok(()),
+            AtPoint::Known(known) => log.show(shown, known.part),
+            AtPoint::Missing | AtPoint::Unmeasured => Ok(()),
         }
     }
 }

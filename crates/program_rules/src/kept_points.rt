@@ -10,13 +10,14 @@ ghost use Rattle.model.specs.Machine.Decoding.{decoded};
 ghost use Rattle.model.specs.declared.instructions.Instr.TheVariants.{Ecall};
 ghost use Rattle.program_rules.specs.Kept.{AreKept, IsAt, IsInRecord, IsKeptAt, IsNextAt, IsWhole, KeepsAll, has_state, is_step, wide};
 ghost use Rattle.program_rules.specs.Programs.{thread_of};
-ghost use Rattle.program_rules.specs.declared.kept.Kept.TheVariants as kept;
+ghost use Rattle.program_rules.specs.declared.at_points.AtPoint.TheVariants as kept;
 ghost use Rattle.program_rules.specs.declared.kept.Known.{Known as State};
 ghost use Rattle.program_rules.specs.declared.places.Place.TheVariants as place;
 ghost use Rattle.program_rules.specs.declared.places.Place.{Place};
 ghost use Rattle.typestate.specs.declared.log_entries.LogEntry.{LogEntry};
 
-use crate::kept::{Kept, Known};
+use crate::at_points::AtPoint;
+use crate::kept::Known;
 use crate::notes::PlacedRecord;
 use crate::places::{CalledPoint, Place, RecordedPoint, ShortPart, narrowed};
 use crate::programs::Program;
@@ -63,12 +64,12 @@ fn part_of_record(noted: &PlacedRecord<'_>, known: &Known) -> Option<ShortPart>
 }
 
 /// A state, if there is one.
-fn known_or_none(known: Option<Known>) -> Kept
+fn known_or_none(known: Option<Known>) -> AtPoint<Known>
     ensures { (k : State) → known ≡ Some k → result ≡ kept.Known k }
 {
     match known {
-        Some(known) => Kept::Known(known),
-        None => Kept::Missing,
+        Some(known) => AtPoint::Known(known),
+        None => AtPoint::Missing,
     }
 }
 
@@ -132,14 +133,14 @@ impl<'a> KeptPoints<'a> {
     fn keep_call(
         &mut self,
         program: &Program<'_, '_>,
-        before: &Kept,
+        before: &AtPoint<Known>,
         known: &Known,
     ) -> Result<Place, AllocError>
         ensures same { IfOk result (λ _. self.new.places ≡ self.old.places) }
         ensures others { IfOk result (λ _. KeepsAll self.old self.new) }
         ensures at { IfOk result (λ place. (point : ℕ) → 1 ≤ point → IsNextAt program.now.given.space.thread.now self.new before.now point (kept.Known known.now) place) }
     {
-        let Kept::Known(before) = before else {
+        let AtPoint::Known(before) = before else {
             return self.keep_whole(known);
         };
         let Some(called) = CalledPoint::between(program, before, known) else {
@@ -154,7 +155,7 @@ impl<'a> KeptPoints<'a> {
     fn keep_step(
         &mut self,
         visit: &Visit<'_, '_, '_, '_>,
-        before: &Kept,
+        before: &AtPoint<Known>,
         known: &Known,
     ) -> Result<Place, AllocError>
         ensures same { IfOk result (λ _. self.new.places ≡ self.old.places) }
@@ -179,17 +180,17 @@ impl<'a> KeptPoints<'a> {
     fn keep(
         &mut self,
         visit: &Visit<'_, '_, 'a, '_>,
-        before: &Kept,
-        kept: &Kept,
+        before: &AtPoint<Known>,
+        kept: &AtPoint<Known>,
     ) -> Result<Place, AllocError>
         ensures same { IfOk result (λ _. self.new.places ≡ self.old.places) }
         ensures others { IfOk result (λ _. KeepsAll self.old self.new) }
         ensures at { IfOk result (IsNextAt visit.now.program.now.given.space.thread.now self.new before.now visit.now.point kept.now) }
     {
         match kept {
-            Kept::Missing => Ok(Place::Missing),
-            Kept::Unmeasured => Ok(Place::Unmeasured),
-            Kept::Known(known) => match visit.noted {
+            AtPoint::Missing => Ok(Place::Missing),
+            AtPoint::Unmeasured => Ok(Place::Unmeasured),
+            AtPoint::Known(known) => match visit.noted {
                 Some(noted) => self.keep_record(noted, known),
                 None => self.keep_step(visit, before, known),
             },
@@ -200,8 +201,8 @@ impl<'a> KeptPoints<'a> {
     pub(crate) fn push(
         &mut self,
         visit: &Visit<'_, '_, 'a, '_>,
-        before: &Kept,
-        kept: &Kept,
+        before: &AtPoint<Known>,
+        kept: &AtPoint<Known>,
     ) -> Result<(), AllocError>
         ensures count { IfOk result (λ _. length self.new.places.items ≡ length self.old.places.items + 1) }
         ensures kept { IfOk result (λ _. (image : Image) (t : Numbered) (slots : List NotedSlot) (log : List LogEntry) → t.thread ≡ visit.now.program.now.given.space.thread.now → length self.old.places.items ≡ visit.now.point
@@ -218,49 +219,49 @@ impl<'a> KeptPoints<'a> {
     }
 
     /// What is kept of the point of a record.
-    fn record_at(&self, at: u32, is_clean: bool) -> Kept
+    fn record_at(&self, at: u32, is_clean: bool) -> AtPoint<Known>
         ensures { (image : Image) (t : Numbered) (slots : List NotedSlot) (log : List LogEntry) (point : ℕ) → IsInRecord image t slots log self.now.recorded.items point at is_clean → IsKeptAt image t slots log point result }
     {
         if self.recorded.len() <= at as usize {
-            return Kept::Missing;
+            return AtPoint::Missing;
         }
-        Kept::Known(self.recorded[at as usize].known(is_clean))
+        AtPoint::Known(self.recorded[at as usize].known(is_clean))
     }
 
     /// What is kept of the point of a state that is kept whole.
-    fn whole_at(&self, at: u32) -> Kept
+    fn whole_at(&self, at: u32) -> AtPoint<Known>
         ensures { (image : Image) (t : Numbered) (slots : List NotedSlot) (log : List LogEntry) (point : ℕ) → IsWhole image t slots log self.now.whole.items point at → IsKeptAt image t slots log point result }
     {
         if self.whole.len() <= at as usize {
-            return Kept::Missing;
+            return AtPoint::Missing;
         }
-        Kept::Known(self.whole[at as usize])
+        AtPoint::Known(self.whole[at as usize])
     }
 
     /// What is kept of a point that does not follow from the one before it.
-    pub(crate) fn first(&self, point: u32) -> Kept
+    pub(crate) fn first(&self, point: u32) -> AtPoint<Known>
         ensures { (image : Image) (t : Numbered) (slots : List NotedSlot) (log : List LogEntry) → AreKept image t slots log self.now → point < length self.now.places.items
             → ((place : Place) → slice_get self.now.places.items point ≡ Some place → is_step place ≡ true → point ≡ 0) → IsKeptAt image t slots log point result }
     {
         if self.places.len() <= point as usize {
-            return Kept::Missing;
+            return AtPoint::Missing;
         }
         self.at_place(self.places[point as usize])
     }
 
     /// What is kept at a place.
-    pub(crate) fn at_place(&self, place: Place) -> Kept
+    pub(crate) fn at_place(&self, place: Place) -> AtPoint<Known>
         ensures { (image : Image) (t : Numbered) (slots : List NotedSlot) (log : List LogEntry) (point : ℕ) → IsAt image t slots log self.now point place → (is_step place ≡ true → point ≡ 0)
             → IsKeptAt image t slots log point result }
     {
         match place {
-            Place::Missing => Kept::Missing,
-            Place::Unmeasured => Kept::Unmeasured,
+            Place::Missing => AtPoint::Missing,
+            Place::Unmeasured => AtPoint::Unmeasured,
             Place::Whole(at) => self.whole_at(at),
             Place::Recorded(at) => self.record_at(at, false),
             Place::Clean(at) => self.record_at(at, true),
-            Place::Plain => Kept::Missing,
-            Place::Called(_) => Kept::Missing,
+            Place::Plain => AtPoint::Missing,
+            Place::Called(_) => AtPoint::Missing,
         }
     }
 
@@ -289,17 +290,22 @@ impl<'a> KeptPoints<'a> {
     }
 
     /// What is kept of the point after one of which this is kept, by what is kept of the system call there.
-    pub(crate) fn after_call(&self, program: &Program<'_, '_>, at: u32, kept: &Kept) -> Kept
+    pub(crate) fn after_call(
+        &self,
+        program: &Program<'_, '_>,
+        at: u32,
+        kept: &AtPoint<Known>,
+    ) -> AtPoint<Known>
         ensures { (image : Image) (t : Numbered) (slots : List NotedSlot) (log : List LogEntry) (point : ℕ) → t.thread ≡ program.now.given.space.thread.now → point ≤ 2 ^ 32
             → IsKeptAt image t slots log point kept.now → IsAt image t slots log self.now (point + 1) (place.Called at) → IsKeptAt image t slots log (point + 1) result }
     {
         if self.called.len() <= at as usize {
-            return Kept::Missing;
+            return AtPoint::Missing;
         }
         match kept {
-            Kept::Known(known) => known_or_none(self.called[at as usize].behind(program, known)),
-            Kept::Missing => Kept::Missing,
-            Kept::Unmeasured => Kept::Missing,
+            AtPoint::Known(known) => known_or_none(self.called[at as usize].behind(program, known)),
+            AtPoint::Missing => AtPoint::Missing,
+            AtPoint::Unmeasured => AtPoint::Missing,
         }
     }
 }

@@ -2,6 +2,7 @@
 //! first rule that is broken, of all threads in their order.
 #![tactic(auto)]
 
+mod at_points;
 mod call_checks;
 mod called_points;
 mod checking;
@@ -10,7 +11,6 @@ mod kept;
 mod kept_points;
 mod notes;
 mod own_checks;
-mod passing;
 mod places;
 mod point_rules;
 mod points;
@@ -23,5 +23,6 @@ mod space_rules;
 mod visits;
 mod ways;
 
+pub use at_points::AtPoint;
 pub use checking::check_programs;
 pub use point_rules::{Left, follows, follows_call, registers_of};

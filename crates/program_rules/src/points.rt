@@ -9,7 +9,8 @@ ghost use Rattle.program_rules.specs.Programs.{thread_of};
 ghost use Rattle.typestate.specs.Logs.{KeepsParts, ShowsSome};
 ghost use Rattle.typestate.specs.Orders.{Rise};
 
-use crate::kept::{Kept, Known};
+use crate::at_points::AtPoint;
+use crate::kept::Known;
 use crate::kept_points::KeptPoints;
 use crate::notes::{PlacedRecord, RecordsLeft};
 use crate::programs::Program;
@@ -28,7 +29,7 @@ pub(crate) struct Points<'a> {
 
 /// What is kept of a point that has a record.
 #[tactic(auto, unfolding(model::specs::Acceptance::NotedStates::record_state))]
-fn recorded(log: &mut SlotLog, placed: &PlacedRecord<'_>) -> Result<Kept, AllocError>
+fn recorded(log: &mut SlotLog, placed: &PlacedRecord<'_>) -> Result<AtPoint<Known>, AllocError>
     ensures same { IfOk result (λ k. (image : Image) (t : Thread) → Rise (image_slots image t) → noted_by (image_slots image t) log.new k ≡ states.Known (record_state image t placed.now)) }
     ensures sound { IfOk result (λ k. (point : ℕ) → IsSound log.new point k) }
     ensures clean { IfOk result (λ k. (image : Image) (t : Thread) (slots : List NotedSlot) → IsCleanIn image t slots log.new k) }
@@ -37,7 +38,7 @@ fn recorded(log: &mut SlotLog, placed: &PlacedRecord<'_>) -> Result<Kept, AllocE
     let noted = placed.record();
     let part = log.note(noted)?;
     let measured = MeasuredRecord { noted };
-    Ok(Kept::Known(Known {
+    Ok(AtPoint::Known(Known {
         bounds: bounds_of(noted),
         measure: measured.measure(),
         part,
@@ -49,7 +50,7 @@ fn recorded(log: &mut SlotLog, placed: &PlacedRecord<'_>) -> Result<Kept, AllocE
 fn note_own(
     log: &mut SlotLog,
     noted: Option<&PlacedRecord<'_>>,
-    derived: &mut Kept,
+    derived: &mut AtPoint<Known>,
 ) -> Result<(), AllocError>
     ensures same { IfOk result (λ _. (image : Image) (t : Thread) → Rise (image_slots image t) → noted_by (image_slots image t) log.new derived.new
         ≡ states.noted_or image t (option_map (λ r. r.now) noted.entry) (noted_by (image_slots image t) log.old derived.old)) }
@@ -72,8 +73,8 @@ impl<'a> Points<'a> {
     fn note(
         &mut self,
         visit: &Visit<'_, '_, 'a, '_>,
-        last: &mut Kept,
-        derived: &mut Kept,
+        last: &mut AtPoint<Known>,
+        derived: &mut AtPoint<Known>,
         shown: &mut ShownPart,
     ) -> Result<(), AllocError>
         requires read { IsReadTo visit.now.program.now.given.space.image.now (thread_of visit.now.program.now) visit.now.program.now.given.slots.now visit.now.point self.old.log self.old.kept last.old derived.old }
@@ -99,8 +100,8 @@ impl<'a> Points<'a> {
             kept: KeptPoints::new(program.alloc),
             log: SlotLog::new(program.alloc),
         };
-        let mut last = Kept::Missing;
-        let mut derived = Kept::Missing;
+        let mut last = AtPoint::Missing;
+        let mut derived = AtPoint::Missing;
         let mut shown = ShownPart::new(program.alloc);
         'notes: for point in 0..program.given.space.thread.word_count() {
             let noted = records.take(point);

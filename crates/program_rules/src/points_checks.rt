@@ -10,13 +10,14 @@ ghost use Rattle.program_rules.specs.FoundPages.{AreFound};
 ghost use Rattle.program_rules.specs.Kept.{IsKeptAt, IsRead, state_by};
 ghost use Rattle.program_rules.specs.Programs.{thread_of};
 ghost use Rattle.program_rules.specs.SameParts.{AreSame};
-ghost use Rattle.program_rules.specs.declared.kept.Kept.TheVariants as kept;
+ghost use Rattle.program_rules.specs.declared.at_points.AtPoint.TheVariants as kept;
 ghost use Rattle.typestate.specs.Logs.{Holds, KeepsParts, Shows, ShowsSome, part_of};
 ghost use Rattle.typestate.specs.Replays.{replayed};
 ghost use Rattle.typestate.specs.declared.log_entries.LogEntry.{LogEntry};
 ghost use Rattle.wellformed.specs.Answering.{Answers};
 
-use crate::kept::{Kept, Known};
+use crate::at_points::AtPoint;
+use crate::kept::Known;
 use crate::notes::RecordsLeft;
 use crate::point_rules::{FoundPages, entered};
 use crate::points::Points;
@@ -85,7 +86,7 @@ impl<'a> Visit<'_, '_, 'a, '_> {
         &self,
         points: &mut Points<'a>,
         shown: &mut ShownPart,
-        kept: &Kept,
+        kept: &AtPoint<Known>,
         same: &mut SameParts,
         found: &mut FoundPages,
     ) -> Result<(), Refusal>
@@ -102,7 +103,7 @@ impl<'a> Visit<'_, '_, 'a, '_> {
         ensures others { IfOk result (λ _. KeepsParts points.old.log points.new.log) }
     {
         match kept {
-            Kept::Known(known) => {
+            AtPoint::Known(known) => {
                 if self.keeps_own_unseen(known) {
                     if self.leaves_next(points) {
                         return Ok(());
@@ -111,7 +112,7 @@ impl<'a> Visit<'_, '_, 'a, '_> {
                 points.log.show(shown, known.part)?;
                 self.state_rules(points, shown, known, same, found)
             }
-            Kept::Missing | Kept::Unmeasured => Ok(()),
+            AtPoint::Missing | AtPoint::Unmeasured => Ok(()),
         }
     }
 }
@@ -127,11 +128,11 @@ impl ReadPoints<'_, '_, '_, '_> {
         let entry = program.given.space.thread.header().entry;
         let at = program.at(entry);
         match self.at(entry) {
-            Kept::Known(known) => {
+            AtPoint::Known(known) => {
                 let has_slots = program.has_listed_slots(&points.log, known.part)?;
                 entered(program.given.space.thread, at, &known, has_slots)
             }
-            Kept::Missing | Kept::Unmeasured => Err(Refusal::RangeNotKept(at)),
+            AtPoint::Missing | AtPoint::Unmeasured => Err(Refusal::RangeNotKept(at)),
         }
     }
 }

@@ -6,7 +6,8 @@ ghost use Rattle.program_rules.specs.Kept.{IsKeptAt, IsRead};
 ghost use Rattle.program_rules.specs.Programs.{thread_of};
 ghost use Rattle.program_rules.specs.Propositions.{IsAt-prop};
 
-use crate::kept::Kept;
+use crate::at_points::AtPoint;
+use crate::kept::Known;
 use crate::places::Place;
 use crate::points::Points;
 use crate::programs::Program;
@@ -21,7 +22,7 @@ pub(crate) struct ReadPoints<'p, 'k, 'a, 's> {
 
 impl ReadPoints<'_, '_, '_, '_> {
     /// Makes of what is kept of a point what is kept of the one after it, if the program has one.
-    pub(crate) fn pass(&self, point: u32, kept: &mut Kept)
+    pub(crate) fn pass(&self, point: u32, kept: &mut AtPoint<Known>)
         requires { IsKeptAt self.now.program.now.given.space.image.now (thread_of self.now.program.now) self.now.program.now.given.slots.now self.now.points.now.log point kept.old }
         ensures { point + 1 < self.now.program.now.given.space.thread.now.header.words → IsKeptAt self.now.program.now.given.space.image.now (thread_of self.now.program.now) self.now.program.now.given.slots.now self.now.points.now.log (point + 1) kept.new }
     {
@@ -39,7 +40,7 @@ impl ReadPoints<'_, '_, '_, '_> {
     }
 
     /// What is kept of a point.
-    pub(crate) fn at(&self, point: u32) -> Kept
+    pub(crate) fn at(&self, point: u32) -> AtPoint<Known>
         requires { point < self.now.program.now.given.space.thread.now.header.words }
         ensures { IsKeptAt self.now.program.now.given.space.image.now (thread_of self.now.program.now) self.now.program.now.given.slots.now self.now.points.now.log point result }
     {

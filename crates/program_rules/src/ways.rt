@@ -21,7 +21,8 @@ ghost use Rattle.typestate.specs.Logs.{Holds, part_of};
 ghost use Rattle.typestate.specs.Replays.{replayed};
 ghost use Rattle.wellformed.specs.Answering.{Answers};
 
-use crate::kept::{Kept, Known};
+use crate::at_points::AtPoint;
+use crate::kept::Known;
 use crate::point_rules::{Way, kept_at, left_calls_are_kept, left_states_are_kept};
 use crate::points::Points;
 use crate::programs::Program;
@@ -73,7 +74,7 @@ impl Program<'_, '_> {
 
 impl Seen<'_, '_, '_, '_, '_> {
     /// What is kept of the point at an address: nothing, where the program has none there.
-    fn kept_at(&self, address: u32) -> Kept
+    fn kept_at(&self, address: u32) -> AtPoint<Known>
         ensures noted { noted_by self.now.program.now.given.slots.now self.now.points.now.log result ≡ noted_at self.now.program.now.given.space.image.now (thread_of self.now.program.now) address }
         ensures held { HasPart self.now.points.now.log result }
     {
@@ -83,7 +84,7 @@ impl Seen<'_, '_, '_, '_, '_> {
         };
         match self.program.point_at(address) {
             Some(point) => read.at(point),
-            None => Kept::Missing,
+            None => AtPoint::Missing,
         }
     }
 
@@ -129,14 +130,14 @@ impl Seen<'_, '_, '_, '_, '_> {
     {
         let there = self.kept_at(address);
         match &there {
-            Kept::Known(known) => {
+            AtPoint::Known(known) => {
                 let has_slots = self.has_same_slots(known.part, same)?;
                 let program = self.program;
                 let budget = program.given.space.thread.header().budget;
                 kept_at(budget, way, step, known, has_slots)
             }
-            Kept::Missing => Err(Refusal::BadTarget(way.at)),
-            Kept::Unmeasured => Err(Refusal::MeasureNotFalling(way.at)),
+            AtPoint::Missing => Err(Refusal::BadTarget(way.at)),
+            AtPoint::Unmeasured => Err(Refusal::MeasureNotFalling(way.at)),
         }
     }
 }

@@ -7,7 +7,8 @@ use Rattle.model.specs.Acceptance.PointRules.{ProgramEdge}
 use Rattle.model.specs.Acceptance.PointStates.{Noted, Known, Missing, Unmeasured}
 use Rattle.program_rules.specs.declared.kept.Known.{Known as State}
 use Rattle.program_rules.specs.declared.point_rules.following.Left.{Left}
-use Rattle.program_rules.specs.declared.point_rules.following.Left.TheVariants as left
+use Rattle.program_rules.specs.declared.at_points.AtPoint.TheVariants as kept
+use Rattle.program_rules.specs.declared.at_points.AtPoint.{AtPoint}
 use Rattle.program_rules.specs.declared.point_rules.ways.Way.{Way}
 
 -- the state that is kept, with these slots
@@ -26,7 +27,7 @@ edge_of address value_of slots way = record {
 }
 
 -- what is left for the next point, with these slots
-abbrev pub left_with : List NotedSlot → Left → Noted
-left_with slots (left.Known bounds measure) = Known (record { ranges = bounds; slots = slots; measure = measure_of measure })
-left_with slots left.Missing = Missing
-left_with slots left.Unmeasured = Unmeasured
+abbrev pub left_with : List NotedSlot → AtPoint Left → Noted
+left_with slots (kept.Known left) = Known (record { ranges = left.bounds; slots = slots; measure = measure_of left.measure })
+left_with slots kept.Missing = Missing
+left_with slots kept.Unmeasured = Unmeasured

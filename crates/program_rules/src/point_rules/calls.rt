@@ -10,6 +10,7 @@ ghost use Rattle.model.specs.Images.Image.{Thread};
 ghost use Rattle.program_rules.specs.point_rules.Points.{left_with};
 ghost use Rattle.typestate.specs.Calls.{behind_with, registers_of};
 
+use crate::at_points::AtPoint;
 use crate::point_rules::Left;
 use measure::Measure;
 use model::Register;
@@ -57,7 +58,7 @@ fn has_one(measure: &Measure, registers: &[Register]) -> bool
 
 /// What a system call leaves for the next point: the budget is there anew after a wait, and else one instruction less is left
 /// to run.
-pub fn follows_call(budget: u64, measure: &Measure, behind: &Behind) -> Left
+pub fn follows_call(budget: u64, measure: &Measure, behind: &Behind) -> AtPoint<Left>
     requires budget { budget ≤ 2 ^ 62 }
     requires measure { negsuc (2 ^ 63 - 2) ≤ℤ (measure_of measure.now).constant }
     ensures { (t : Thread) (slots : List NotedSlot) → t.header.budget ≡ budget → left_with slots result ≡ behind_call t (measure_of measure.now) (behind_with slots behind.now) }
@@ -65,12 +66,12 @@ pub fn follows_call(budget: u64, measure: &Measure, behind: &Behind) -> Left
     let measure = if behind.is_wait {
         Measure::new(budget as i64)
     } else if has_one(measure, registers_of(behind.written)) {
-        return Left::Unmeasured;
+        return AtPoint::Unmeasured;
     } else {
         measure.lowered()
     };
-    Left::Known {
+    AtPoint::Known(Left {
         bounds: behind.bounds,
         measure,
-    }
+    })
 }

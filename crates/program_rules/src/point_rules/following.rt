@@ -12,19 +12,16 @@ ghost use Rattle.model.specs.Machine.Instructions.{IsInstr};
 ghost use Rattle.program_rules.specs.point_rules.Points.{left_with};
 ghost use Rattle.typestate.specs.Calls.{known_with};
 
+use crate::at_points::AtPoint;
 use measure::{Measure, destination};
 use model::Instr;
 use ranges::{Bounds, after};
 
-/// What a point leaves for the next one.
+/// The state that a point leaves for the next one, but for its slots.
 #[derive(Clone, Copy)]
-pub enum Left {
-    /// These ranges, and this measure.
-    Known { bounds: Bounds, measure: Measure },
-    /// No state.
-    Missing,
-    /// No state, only because a register of the measure is written.
-    Unmeasured,
+pub struct Left {
+    pub bounds: Bounds,
+    pub measure: Measure,
 }
 
 /// Whether an instruction writes a register of a measure.
@@ -39,17 +36,17 @@ fn writes_term(instr: Instr, measure: &Measure) -> bool
 
 /// What the instruction at a pc leaves for the next point, whose slots are those of this one: one instruction less is left to run. It is
 /// no system call.
-pub fn follows(pc: u32, instr: Instr, bounds: &Bounds, measure: &Measure) -> Left
+pub fn follows(pc: u32, instr: Instr, bounds: &Bounds, measure: &Measure) -> AtPoint<Left>
     requires instr { IsInstr instr }
     requires measure { negsuc (2 ^ 63 - 2) ≤ℤ (measure_of measure.now).constant }
     ensures { (slots : List NotedSlot) → left_with slots result ≡ follows_edge instr (known_with bounds.now slots (measure_of measure.now)) (after pc instr bounds.now).fall_through }
 {
     match after(pc, instr, bounds).fall_through {
-        Some(_) if writes_term(instr, measure) => Left::Unmeasured,
-        Some(edge) => Left::Known {
+        Some(_) if writes_term(instr, measure) => AtPoint::Unmeasured,
+        Some(edge) => AtPoint::Known(Left {
             bounds: edge.bounds,
             measure: measure.lowered(),
-        },
-        None => Left::Missing,
+        }),
+        None => AtPoint::Missing,
     }
 }

@@ -4,7 +4,7 @@ use Rattle.model.specs.Images.Image.{Thread}
 use Rattle.program_rules.proofs.Placed.{called-known, in-range, some-place}
 use Rattle.program_rules.proofs.kept_points.KeptPoints.after_call.Goals as goal
 use Rattle.program_rules.specs.Kept.{IsCalled, IsKeptAt, has_state}
-use Rattle.program_rules.specs.declared.kept.Kept.TheVariants as kept
+use Rattle.program_rules.specs.declared.at_points.AtPoint.TheVariants as kept
 use Rattle.program_rules.specs.declared.places.CalledPoint.{CalledPoint}
 
 pub returns-then-len-at : goal.returns-then-len-at

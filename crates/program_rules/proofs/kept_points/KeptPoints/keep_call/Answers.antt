@@ -3,9 +3,8 @@ use Rattle.std.proofs.Common.{rules, ◌≡◌, ◌∙◌, length, sym, subst}
 use Rattle.std.specs.Vec.{vec_len}
 use Rattle.program_rules.proofs.Placed.{all-kept, longer-pushed, longer-same, next-called}
 use Rattle.program_rules.proofs.kept_points.KeptPoints.keep_call.Goals as goal
-use Rattle.program_rules.specs.Kept.{IsNextAt}
-use Rattle.program_rules.specs.declared.kept.Kept.TheVariants as kept
-use Rattle.program_rules.specs.declared.kept.Kept.{Kept}
+use Rattle.program_rules.specs.Kept.{IsNextAt, Kept}
+use Rattle.program_rules.specs.declared.at_points.AtPoint.TheVariants as kept
 use Rattle.program_rules.specs.declared.places.Place.TheVariants as place
 
 pub returns-clause-others : goal.returns-clause-others

@@ -9,9 +9,8 @@ use Rattle.program_rules.proofs.EachPoint.{has-part}
 use Rattle.program_rules.proofs.Outcomes.{told}
 use Rattle.program_rules.proofs.PointLists.{at-entry}
 use Rattle.program_rules.proofs.read_points.ReadPoints.entry_rules.Goals as goal
-use Rattle.program_rules.specs.Kept.{HasPart, noted_by}
+use Rattle.program_rules.specs.Kept.{HasPart, Kept, noted_by}
 use Rattle.program_rules.specs.Programs.{thread_of}
-use Rattle.program_rules.specs.declared.kept.Kept.{Kept}
 use Rattle.typestate.specs.Logs.{part_of}
 use Rattle.typestate.specs.Replays.{replayed}
 

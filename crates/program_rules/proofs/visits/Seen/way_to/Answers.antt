@@ -7,8 +7,7 @@ use Rattle.model.specs.Acceptance.Rules.{first_broken}
 use Rattle.program_rules.proofs.Outcomes.{told}
 use Rattle.program_rules.specs.point_rules.Points.{edge_of, known_of}
 use Rattle.program_rules.proofs.visits.Seen.way_to.Goals as goal
-use Rattle.program_rules.specs.Kept.{HasPart, noted_by}
-use Rattle.program_rules.specs.declared.kept.Kept.{Kept}
+use Rattle.program_rules.specs.Kept.{HasPart, Kept, noted_by}
 use Rattle.typestate.specs.Logs.{part_of}
 use Rattle.typestate.specs.Replays.{replayed}
 use Rattle.wellformed.specs.Answering.{Answers}

@@ -5,9 +5,8 @@ use Rattle.model.specs.declared.refusals.Refusal.{Refusal}
 use Rattle.program_rules.proofs.OwnKept.{unseen-kept}
 use Rattle.program_rules.proofs.PointLists.{noted-rules}
 use Rattle.program_rules.proofs.visits.Visit.point_rules.Goals as goal
-use Rattle.program_rules.specs.Kept.{IsCleanIn, IsKeptAt, IsSound, noted_by, state_by}
+use Rattle.program_rules.specs.Kept.{IsCleanIn, IsKeptAt, IsSound, Kept, noted_by, state_by}
 use Rattle.program_rules.specs.Programs.{thread_of}
-use Rattle.program_rules.specs.declared.kept.Kept.{Kept}
 use Rattle.typestate.specs.Logs.{part_of}
 use Rattle.typestate.specs.Replays.{replayed}
 use Rattle.wellformed.specs.Answering.{Answers}
