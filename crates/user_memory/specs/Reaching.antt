@@ -1,5 +1,5 @@
 -- Which instructions reach memory.
-use Rattle.std.specs.Prelude.{Bool, true, false, None}
+use Rattle.std.specs.Prelude.{ℕ, Bool, true, false, if◌then◌else◌, List, length, nat_lt, slice_index, Some, None}
 use Rattle.model.specs.declared.instructions.Instr.{Instr}
 use Rattle.model.specs.declared.instructions.Instr.TheVariants.{Upper, Jal, Jalr, Branch, Load, Store, Immediate, Shift, Registers, Fence, Ecall, Ebreak}
 use Rattle.model.specs.Machine.ProgramMemory.{Content}
@@ -19,6 +19,6 @@ reaches Fence = false
 reaches Ecall = false
 reaches Ebreak = false
 
--- no address has a place
-abbrev pub no_content : Content
-no_content = record { place = λ access address. None; byte = λ place. 0 }
+-- memory of these bytes, from the address 0 on
+abbrev pub one_byte : List ℕ → Content
+one_byte bytes = record { place = λ access address. if nat_lt address (length bytes) then Some address else None; byte = λ place. slice_index bytes place }

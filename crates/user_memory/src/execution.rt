@@ -15,7 +15,7 @@ ghost use Rattle.objects.specs.Lives.{state_in};
 
 use crate::keeping::{KeptPages, NO_PAGE, keep_page, keep_reached};
 use crate::known_words::ValidInstr;
-use crate::no_memory::{NoMemory, reaches};
+use crate::one_byte::{OneByte, reaches};
 use crate::spaces::Space;
 use crate::view::UserMemory;
 use cnode_ops::Kernel;
@@ -128,7 +128,7 @@ fn reach<S: WalkStore>(
     exec(registers, known.instruction, &mut memory)
 }
 
-/// The same, where most instructions reach no memory: these run over none.
+/// The same, where most instructions reach no memory: these run over a byte of their own.
 #[inline]
 pub(crate) fn run<S: WalkStore>(
     kernel: &mut Kernel<S>,
@@ -148,7 +148,7 @@ pub(crate) fn run<S: WalkStore>(
     if reaches(known.instruction) {
         reach(kernel, thread, root, registers, known, kept)
     } else {
-        exec(registers, known.instruction, &mut NoMemory)
+        exec(registers, known.instruction, &mut OneByte::new())
     }
 }
 

@@ -9,7 +9,7 @@ mod filling;
 mod keeping;
 mod known_words;
 mod labels;
-mod no_memory;
+mod one_byte;
 mod plain_runs;
 mod roots;
 mod spaces;
