@@ -1,5 +1,6 @@
 -- A word spells what `decoded` reads of it, and so no more than one instruction.
-use Rattle.std.proofs.Common.{ℕ, ◌≡◌, ◌∙◌, ◌==◌, ◌||◌, ◌+◌, ◌*◌, ◌^◌, if◌then◌else◌, Option, Some, None, ℤ, sym, ap, arith}
+use Rattle.std.proofs.Common.{ℕ, ◌≡◌, ◌∙◌, ◌==◌, ◌||◌, ◌+◌, ◌*◌, ◌^◌, ◌<◌, if◌then◌else◌}
+use Rattle.std.proofs.Common.{true, false, Option, Some, None, ℤ, refl, sym, ap, arith}
 use Rattle.std.specs.Prelude.{option_map}
 use Rattle.model.specs.declared.instructions.UpperOp.{UpperOp}
 use Rattle.model.specs.declared.instructions.UpperOp.TheVariants.{Lui, Auipc}
@@ -18,7 +19,8 @@ use Rattle.model.specs.declared.instructions.RegisterOp.TheVariants.{Add, Sub, S
 use Rattle.model.specs.declared.instructions.Instr.{Instr}
 use Rattle.model.specs.declared.instructions.Instr.TheVariants.{Upper, Jal, Jalr, Branch, Load, Store, Immediate, Shift, Registers, Fence, Ecall, Ebreak}
 use Rattle.model.specs.declared.instructions.Register.{Register}
-use Rattle.model.specs.Machine.Instructions.{Spells, bits, word_of}
+use Rattle.model.specs.Machine.Instructions.{IsInstr, Spells, b_type, bits, branch_funct3, i_type, immediate_funct3, load_funct3, r_type, register_funct3}
+use Rattle.model.specs.Machine.Instructions.{register_funct7, s_type, shift_funct3, shift_funct7, store_funct3, word_of}
 use Rattle.model.specs.Machine.Decoding.{b_offset, branch_op, decoded, decoded_branch, decoded_fence, decoded_immediate, decoded_jal, decoded_jalr}
 use Rattle.model.specs.Machine.Decoding.{decoded_load, decoded_registers, decoded_shift, decoded_store, decoded_system, decoded_upper, funct3_of, funct7_of}
 use Rattle.model.specs.Machine.Decoding.{i_immediate, immediate_op, j_offset, load_op, rd_of, register_op, rs1_of, rs2_of, s_immediate, shift_op, sign_extended}
@@ -81,385 +83,146 @@ jalr word rd rs1 offset s =
     ∙ ap (λ f. if f == 0 then Some (Jalr (rd_of word) (rs1_of word) (i_immediate word)) else None) f3
     ∙ cc (rd_same, rs1_same, signed_same)
 
-branch : (word : ℕ) (op : BranchOp) (rs1 rs2 : Register) (offset : ℤ) → Spells word (Branch op rs1 rs2 offset) → decoded word ≡ Some (Branch op rs1 rs2 offset)
-branch word Beq rs1 rs2 offset s =
-    let opcode : bits word 0 7 ≡ 0x63 = omega (arith, s) in
-    let f3 : funct3_of word ≡ 0 = omega (arith, s) in
-    let rs1_same : rs1_of word ≡ rs1 = same_register (rs1_of word) rs1 (omega (arith, s)) in
-    let rs2_same : rs2_of word ≡ rs2 = same_register (rs2_of word) rs2 (omega (arith, s)) in
-    let parts : 2 * bits word 8 4 + 2 ^ 5 * bits word 25 6 + 2 ^ 11 * bits word 7 1 + 2 ^ 12 * bits word 31 1
-    ≡ 2 * bits (word_of offset) 1 4 + 2 ^ 5 * bits (word_of offset) 5 6 + 2 ^ 11 * bits (word_of offset) 11 1 + 2 ^ 12 * bits (word_of offset) 12 1 =
-    omega (arith, s) in
-    let same : b_offset word ≡ offset = ap (λ n. sign_extended n (2 ^ 12)) parts ∙ b-sign offset s.0.2 in
-    decoded-by word 0x63 opcode
-    ∙ ap (λ f. option_map (λ op. Branch op (rs1_of word) (rs2_of word) (b_offset word)) (branch_op f)) f3
-    ∙ cc (rs1_same, rs2_same, same)
-branch word Bne rs1 rs2 offset s =
-    let opcode : bits word 0 7 ≡ 0x63 = omega (arith, s) in
-    let f3 : funct3_of word ≡ 1 = omega (arith, s) in
-    let rs1_same : rs1_of word ≡ rs1 = same_register (rs1_of word) rs1 (omega (arith, s)) in
-    let rs2_same : rs2_of word ≡ rs2 = same_register (rs2_of word) rs2 (omega (arith, s)) in
-    let parts : 2 * bits word 8 4 + 2 ^ 5 * bits word 25 6 + 2 ^ 11 * bits word 7 1 + 2 ^ 12 * bits word 31 1
-    ≡ 2 * bits (word_of offset) 1 4 + 2 ^ 5 * bits (word_of offset) 5 6 + 2 ^ 11 * bits (word_of offset) 11 1 + 2 ^ 12 * bits (word_of offset) 12 1 =
-    omega (arith, s) in
-    let same : b_offset word ≡ offset = ap (λ n. sign_extended n (2 ^ 12)) parts ∙ b-sign offset s.0.2 in
-    decoded-by word 0x63 opcode
-    ∙ ap (λ f. option_map (λ op. Branch op (rs1_of word) (rs2_of word) (b_offset word)) (branch_op f)) f3
-    ∙ cc (rs1_same, rs2_same, same)
-branch word Blt rs1 rs2 offset s =
-    let opcode : bits word 0 7 ≡ 0x63 = omega (arith, s) in
-    let f3 : funct3_of word ≡ 4 = omega (arith, s) in
-    let rs1_same : rs1_of word ≡ rs1 = same_register (rs1_of word) rs1 (omega (arith, s)) in
-    let rs2_same : rs2_of word ≡ rs2 = same_register (rs2_of word) rs2 (omega (arith, s)) in
-    let parts : 2 * bits word 8 4 + 2 ^ 5 * bits word 25 6 + 2 ^ 11 * bits word 7 1 + 2 ^ 12 * bits word 31 1
-    ≡ 2 * bits (word_of offset) 1 4 + 2 ^ 5 * bits (word_of offset) 5 6 + 2 ^ 11 * bits (word_of offset) 11 1 + 2 ^ 12 * bits (word_of offset) 12 1 =
-    omega (arith, s) in
-    let same : b_offset word ≡ offset = ap (λ n. sign_extended n (2 ^ 12)) parts ∙ b-sign offset s.0.2 in
-    decoded-by word 0x63 opcode
-    ∙ ap (λ f. option_map (λ op. Branch op (rs1_of word) (rs2_of word) (b_offset word)) (branch_op f)) f3
-    ∙ cc (rs1_same, rs2_same, same)
-branch word Bge rs1 rs2 offset s =
-    let opcode : bits word 0 7 ≡ 0x63 = omega (arith, s) in
-    let f3 : funct3_of word ≡ 5 = omega (arith, s) in
-    let rs1_same : rs1_of word ≡ rs1 = same_register (rs1_of word) rs1 (omega (arith, s)) in
-    let rs2_same : rs2_of word ≡ rs2 = same_register (rs2_of word) rs2 (omega (arith, s)) in
-    let parts : 2 * bits word 8 4 + 2 ^ 5 * bits word 25 6 + 2 ^ 11 * bits word 7 1 + 2 ^ 12 * bits word 31 1
-    ≡ 2 * bits (word_of offset) 1 4 + 2 ^ 5 * bits (word_of offset) 5 6 + 2 ^ 11 * bits (word_of offset) 11 1 + 2 ^ 12 * bits (word_of offset) 12 1 =
-    omega (arith, s) in
-    let same : b_offset word ≡ offset = ap (λ n. sign_extended n (2 ^ 12)) parts ∙ b-sign offset s.0.2 in
-    decoded-by word 0x63 opcode
-    ∙ ap (λ f. option_map (λ op. Branch op (rs1_of word) (rs2_of word) (b_offset word)) (branch_op f)) f3
-    ∙ cc (rs1_same, rs2_same, same)
-branch word Bltu rs1 rs2 offset s =
-    let opcode : bits word 0 7 ≡ 0x63 = omega (arith, s) in
-    let f3 : funct3_of word ≡ 6 = omega (arith, s) in
-    let rs1_same : rs1_of word ≡ rs1 = same_register (rs1_of word) rs1 (omega (arith, s)) in
-    let rs2_same : rs2_of word ≡ rs2 = same_register (rs2_of word) rs2 (omega (arith, s)) in
-    let parts : 2 * bits word 8 4 + 2 ^ 5 * bits word 25 6 + 2 ^ 11 * bits word 7 1 + 2 ^ 12 * bits word 31 1
-    ≡ 2 * bits (word_of offset) 1 4 + 2 ^ 5 * bits (word_of offset) 5 6 + 2 ^ 11 * bits (word_of offset) 11 1 + 2 ^ 12 * bits (word_of offset) 12 1 =
-    omega (arith, s) in
-    let same : b_offset word ≡ offset = ap (λ n. sign_extended n (2 ^ 12)) parts ∙ b-sign offset s.0.2 in
-    decoded-by word 0x63 opcode
-    ∙ ap (λ f. option_map (λ op. Branch op (rs1_of word) (rs2_of word) (b_offset word)) (branch_op f)) f3
-    ∙ cc (rs1_same, rs2_same, same)
-branch word Bgeu rs1 rs2 offset s =
-    let opcode : bits word 0 7 ≡ 0x63 = omega (arith, s) in
-    let f3 : funct3_of word ≡ 7 = omega (arith, s) in
-    let rs1_same : rs1_of word ≡ rs1 = same_register (rs1_of word) rs1 (omega (arith, s)) in
-    let rs2_same : rs2_of word ≡ rs2 = same_register (rs2_of word) rs2 (omega (arith, s)) in
-    let parts : 2 * bits word 8 4 + 2 ^ 5 * bits word 25 6 + 2 ^ 11 * bits word 7 1 + 2 ^ 12 * bits word 31 1
-    ≡ 2 * bits (word_of offset) 1 4 + 2 ^ 5 * bits (word_of offset) 5 6 + 2 ^ 11 * bits (word_of offset) 11 1 + 2 ^ 12 * bits (word_of offset) 12 1 =
-    omega (arith, s) in
-    let same : b_offset word ≡ offset = ap (λ n. sign_extended n (2 ^ 12)) parts ∙ b-sign offset s.0.2 in
-    decoded-by word 0x63 opcode
-    ∙ ap (λ f. option_map (λ op. Branch op (rs1_of word) (rs2_of word) (b_offset word)) (branch_op f)) f3
-    ∙ cc (rs1_same, rs2_same, same)
+-- ---- instructions whose operation is a number of three bits, or of three and seven: each number leads to its operation
 
-load : (word : ℕ) (op : LoadOp) (rd rs1 : Register) (offset : ℤ) → Spells word (Load op rd rs1 offset) → decoded word ≡ Some (Load op rd rs1 offset)
-load word Lb rd rs1 offset s =
-    let opcode : bits word 0 7 ≡ 0x03 = omega (arith, s) in
-    let f3 : funct3_of word ≡ 0 = omega (arith, s) in
-    let rd_same : rd_of word ≡ rd = same_register (rd_of word) rd (omega (arith, s)) in
-    let rs1_same : rs1_of word ≡ rs1 = same_register (rs1_of word) rs1 (omega (arith, s)) in
-    let cut : bits word 20 12 ≡ bits (word_of offset) 0 12 = omega (arith, s) in
-    let signed_same : i_immediate word ≡ offset = ap (λ n. sign_extended n (2 ^ 11)) cut ∙ i-sign offset s.0.2 in
-    decoded-by word 0x03 opcode
-    ∙ ap (λ f. option_map (λ op. Load op (rd_of word) (rs1_of word) (i_immediate word)) (load_op f)) f3
-    ∙ cc (rd_same, rs1_same, signed_same)
-load word Lh rd rs1 offset s =
-    let opcode : bits word 0 7 ≡ 0x03 = omega (arith, s) in
-    let f3 : funct3_of word ≡ 1 = omega (arith, s) in
-    let rd_same : rd_of word ≡ rd = same_register (rd_of word) rd (omega (arith, s)) in
-    let rs1_same : rs1_of word ≡ rs1 = same_register (rs1_of word) rs1 (omega (arith, s)) in
-    let cut : bits word 20 12 ≡ bits (word_of offset) 0 12 = omega (arith, s) in
-    let signed_same : i_immediate word ≡ offset = ap (λ n. sign_extended n (2 ^ 11)) cut ∙ i-sign offset s.0.2 in
-    decoded-by word 0x03 opcode
-    ∙ ap (λ f. option_map (λ op. Load op (rd_of word) (rs1_of word) (i_immediate word)) (load_op f)) f3
-    ∙ cc (rd_same, rs1_same, signed_same)
-load word Lw rd rs1 offset s =
-    let opcode : bits word 0 7 ≡ 0x03 = omega (arith, s) in
-    let f3 : funct3_of word ≡ 2 = omega (arith, s) in
-    let rd_same : rd_of word ≡ rd = same_register (rd_of word) rd (omega (arith, s)) in
-    let rs1_same : rs1_of word ≡ rs1 = same_register (rs1_of word) rs1 (omega (arith, s)) in
-    let cut : bits word 20 12 ≡ bits (word_of offset) 0 12 = omega (arith, s) in
-    let signed_same : i_immediate word ≡ offset = ap (λ n. sign_extended n (2 ^ 11)) cut ∙ i-sign offset s.0.2 in
-    decoded-by word 0x03 opcode
-    ∙ ap (λ f. option_map (λ op. Load op (rd_of word) (rs1_of word) (i_immediate word)) (load_op f)) f3
-    ∙ cc (rd_same, rs1_same, signed_same)
-load word Lbu rd rs1 offset s =
-    let opcode : bits word 0 7 ≡ 0x03 = omega (arith, s) in
-    let f3 : funct3_of word ≡ 4 = omega (arith, s) in
-    let rd_same : rd_of word ≡ rd = same_register (rd_of word) rd (omega (arith, s)) in
-    let rs1_same : rs1_of word ≡ rs1 = same_register (rs1_of word) rs1 (omega (arith, s)) in
-    let cut : bits word 20 12 ≡ bits (word_of offset) 0 12 = omega (arith, s) in
-    let signed_same : i_immediate word ≡ offset = ap (λ n. sign_extended n (2 ^ 11)) cut ∙ i-sign offset s.0.2 in
-    decoded-by word 0x03 opcode
-    ∙ ap (λ f. option_map (λ op. Load op (rd_of word) (rs1_of word) (i_immediate word)) (load_op f)) f3
-    ∙ cc (rd_same, rs1_same, signed_same)
-load word Lhu rd rs1 offset s =
-    let opcode : bits word 0 7 ≡ 0x03 = omega (arith, s) in
-    let f3 : funct3_of word ≡ 5 = omega (arith, s) in
-    let rd_same : rd_of word ≡ rd = same_register (rd_of word) rd (omega (arith, s)) in
-    let rs1_same : rs1_of word ≡ rs1 = same_register (rs1_of word) rs1 (omega (arith, s)) in
-    let cut : bits word 20 12 ≡ bits (word_of offset) 0 12 = omega (arith, s) in
-    let signed_same : i_immediate word ≡ offset = ap (λ n. sign_extended n (2 ^ 11)) cut ∙ i-sign offset s.0.2 in
-    decoded-by word 0x03 opcode
-    ∙ ap (λ f. option_map (λ op. Load op (rd_of word) (rs1_of word) (i_immediate word)) (load_op f)) f3
-    ∙ cc (rd_same, rs1_same, signed_same)
+branch-code : (op : BranchOp) → (branch_funct3 op < 8) × (branch_op (branch_funct3 op) ≡ Some op)
+branch-code Beq = (omega arith, refl)
+branch-code Bne = (omega arith, refl)
+branch-code Blt = (omega arith, refl)
+branch-code Bge = (omega arith, refl)
+branch-code Bltu = (omega arith, refl)
+branch-code Bgeu = (omega arith, refl)
 
-store : (word : ℕ) (op : StoreOp) (rs1 rs2 : Register) (offset : ℤ) → Spells word (Store op rs1 rs2 offset) → decoded word ≡ Some (Store op rs1 rs2 offset)
-store word Sb rs1 rs2 offset s =
-    let opcode : bits word 0 7 ≡ 0x23 = omega (arith, s) in
-    let f3 : funct3_of word ≡ 0 = omega (arith, s) in
-    let rs1_same : rs1_of word ≡ rs1 = same_register (rs1_of word) rs1 (omega (arith, s)) in
-    let rs2_same : rs2_of word ≡ rs2 = same_register (rs2_of word) rs2 (omega (arith, s)) in
-    let cut : bits word 7 5 + 2 ^ 5 * bits word 25 7 ≡ bits (word_of offset) 0 12 = omega (arith, s) in
-    let signed_same : s_immediate word ≡ offset = ap (λ n. sign_extended n (2 ^ 11)) cut ∙ i-sign offset s.0.2 in
-    decoded-by word 0x23 opcode
-    ∙ ap (λ f. option_map (λ op. Store op (rs1_of word) (rs2_of word) (s_immediate word)) (store_op f)) f3
-    ∙ cc (rs1_same, rs2_same, signed_same)
-store word Sh rs1 rs2 offset s =
-    let opcode : bits word 0 7 ≡ 0x23 = omega (arith, s) in
-    let f3 : funct3_of word ≡ 1 = omega (arith, s) in
-    let rs1_same : rs1_of word ≡ rs1 = same_register (rs1_of word) rs1 (omega (arith, s)) in
-    let rs2_same : rs2_of word ≡ rs2 = same_register (rs2_of word) rs2 (omega (arith, s)) in
-    let cut : bits word 7 5 + 2 ^ 5 * bits word 25 7 ≡ bits (word_of offset) 0 12 = omega (arith, s) in
-    let signed_same : s_immediate word ≡ offset = ap (λ n. sign_extended n (2 ^ 11)) cut ∙ i-sign offset s.0.2 in
-    decoded-by word 0x23 opcode
-    ∙ ap (λ f. option_map (λ op. Store op (rs1_of word) (rs2_of word) (s_immediate word)) (store_op f)) f3
-    ∙ cc (rs1_same, rs2_same, signed_same)
-store word Sw rs1 rs2 offset s =
-    let opcode : bits word 0 7 ≡ 0x23 = omega (arith, s) in
-    let f3 : funct3_of word ≡ 2 = omega (arith, s) in
-    let rs1_same : rs1_of word ≡ rs1 = same_register (rs1_of word) rs1 (omega (arith, s)) in
-    let rs2_same : rs2_of word ≡ rs2 = same_register (rs2_of word) rs2 (omega (arith, s)) in
-    let cut : bits word 7 5 + 2 ^ 5 * bits word 25 7 ≡ bits (word_of offset) 0 12 = omega (arith, s) in
-    let signed_same : s_immediate word ≡ offset = ap (λ n. sign_extended n (2 ^ 11)) cut ∙ i-sign offset s.0.2 in
-    decoded-by word 0x23 opcode
-    ∙ ap (λ f. option_map (λ op. Store op (rs1_of word) (rs2_of word) (s_immediate word)) (store_op f)) f3
-    ∙ cc (rs1_same, rs2_same, signed_same)
+branch-by : (word f : ℕ) (op : BranchOp) (rs1 rs2 : Register) (offset : ℤ) → (f < 8) × (branch_op f ≡ Some op)
+    → IsInstr (Branch op rs1 rs2 offset) × (word ≡ b_type 0x63 f rs1 rs2 offset) → decoded word ≡ Some (Branch op rs1 rs2 offset)
+branch-by word f op rs1 rs2 offset code s =
+    let small = code.0 in
+    let opcode : bits word 0 7 ≡ 0x63 = omega (arith, s, small) in
+    let f3 : funct3_of word ≡ f = omega (arith, s, small) in
+    let rs1_same : rs1_of word ≡ rs1 = same_register (rs1_of word) rs1 (omega (arith, s, small)) in
+    let rs2_same : rs2_of word ≡ rs2 = same_register (rs2_of word) rs2 (omega (arith, s, small)) in
+    let parts : 2 * bits word 8 4 + 2 ^ 5 * bits word 25 6 + 2 ^ 11 * bits word 7 1 + 2 ^ 12 * bits word 31 1
+    ≡ 2 * bits (word_of offset) 1 4 + 2 ^ 5 * bits (word_of offset) 5 6 + 2 ^ 11 * bits (word_of offset) 11 1 + 2 ^ 12 * bits (word_of offset) 12 1 =
+    omega (arith, s, small) in
+    let same : b_offset word ≡ offset = ap (λ n. sign_extended n (2 ^ 12)) parts ∙ b-sign offset s.0.2 in
+    let made : BranchOp → Instr = λ o. Branch o (rs1_of word) (rs2_of word) (b_offset word) in
+    decoded-by word 0x63 opcode ∙ ap (λ f. option_map made (branch_op f)) f3 ∙ ap (option_map made) code.1 ∙ cc (rs1_same, rs2_same, same)
 
-immediate_op_word : (word : ℕ) (op : ImmediateOp) (rd rs1 : Register) (immediate : ℤ) → Spells word (Immediate op rd rs1 immediate) →
-    decoded word ≡ Some (Immediate op rd rs1 immediate)
-immediate_op_word word Addi rd rs1 immediate s =
-    let opcode : bits word 0 7 ≡ 0x13 = omega (arith, s) in
-    let f3 : funct3_of word ≡ 0 = omega (arith, s) in
-    let rd_same : rd_of word ≡ rd = same_register (rd_of word) rd (omega (arith, s)) in
-    let rs1_same : rs1_of word ≡ rs1 = same_register (rs1_of word) rs1 (omega (arith, s)) in
-    let cut : bits word 20 12 ≡ bits (word_of immediate) 0 12 = omega (arith, s) in
-    let signed_same : i_immediate word ≡ immediate = ap (λ n. sign_extended n (2 ^ 11)) cut ∙ i-sign immediate s.0.2 in
-    decoded-by word 0x13 opcode
-    ∙ ap (λ f. if (f == 1) || (f == 5) then decoded_shift word else
-    option_map (λ op. Immediate op (rd_of word) (rs1_of word) (i_immediate word)) (immediate_op f)) f3
-    ∙ cc (rd_same, rs1_same, signed_same)
-immediate_op_word word Slti rd rs1 immediate s =
-    let opcode : bits word 0 7 ≡ 0x13 = omega (arith, s) in
-    let f3 : funct3_of word ≡ 2 = omega (arith, s) in
-    let rd_same : rd_of word ≡ rd = same_register (rd_of word) rd (omega (arith, s)) in
-    let rs1_same : rs1_of word ≡ rs1 = same_register (rs1_of word) rs1 (omega (arith, s)) in
-    let cut : bits word 20 12 ≡ bits (word_of immediate) 0 12 = omega (arith, s) in
-    let signed_same : i_immediate word ≡ immediate = ap (λ n. sign_extended n (2 ^ 11)) cut ∙ i-sign immediate s.0.2 in
-    decoded-by word 0x13 opcode
-    ∙ ap (λ f. if (f == 1) || (f == 5) then decoded_shift word else
-    option_map (λ op. Immediate op (rd_of word) (rs1_of word) (i_immediate word)) (immediate_op f)) f3
-    ∙ cc (rd_same, rs1_same, signed_same)
-immediate_op_word word Sltiu rd rs1 immediate s =
-    let opcode : bits word 0 7 ≡ 0x13 = omega (arith, s) in
-    let f3 : funct3_of word ≡ 3 = omega (arith, s) in
-    let rd_same : rd_of word ≡ rd = same_register (rd_of word) rd (omega (arith, s)) in
-    let rs1_same : rs1_of word ≡ rs1 = same_register (rs1_of word) rs1 (omega (arith, s)) in
-    let cut : bits word 20 12 ≡ bits (word_of immediate) 0 12 = omega (arith, s) in
-    let signed_same : i_immediate word ≡ immediate = ap (λ n. sign_extended n (2 ^ 11)) cut ∙ i-sign immediate s.0.2 in
-    decoded-by word 0x13 opcode
-    ∙ ap (λ f. if (f == 1) || (f == 5) then decoded_shift word else
-    option_map (λ op. Immediate op (rd_of word) (rs1_of word) (i_immediate word)) (immediate_op f)) f3
-    ∙ cc (rd_same, rs1_same, signed_same)
-immediate_op_word word Xori rd rs1 immediate s =
-    let opcode : bits word 0 7 ≡ 0x13 = omega (arith, s) in
-    let f3 : funct3_of word ≡ 4 = omega (arith, s) in
-    let rd_same : rd_of word ≡ rd = same_register (rd_of word) rd (omega (arith, s)) in
-    let rs1_same : rs1_of word ≡ rs1 = same_register (rs1_of word) rs1 (omega (arith, s)) in
-    let cut : bits word 20 12 ≡ bits (word_of immediate) 0 12 = omega (arith, s) in
-    let signed_same : i_immediate word ≡ immediate = ap (λ n. sign_extended n (2 ^ 11)) cut ∙ i-sign immediate s.0.2 in
-    decoded-by word 0x13 opcode
-    ∙ ap (λ f. if (f == 1) || (f == 5) then decoded_shift word else
-    option_map (λ op. Immediate op (rd_of word) (rs1_of word) (i_immediate word)) (immediate_op f)) f3
-    ∙ cc (rd_same, rs1_same, signed_same)
-immediate_op_word word Ori rd rs1 immediate s =
-    let opcode : bits word 0 7 ≡ 0x13 = omega (arith, s) in
-    let f3 : funct3_of word ≡ 6 = omega (arith, s) in
-    let rd_same : rd_of word ≡ rd = same_register (rd_of word) rd (omega (arith, s)) in
-    let rs1_same : rs1_of word ≡ rs1 = same_register (rs1_of word) rs1 (omega (arith, s)) in
-    let cut : bits word 20 12 ≡ bits (word_of immediate) 0 12 = omega (arith, s) in
-    let signed_same : i_immediate word ≡ immediate = ap (λ n. sign_extended n (2 ^ 11)) cut ∙ i-sign immediate s.0.2 in
-    decoded-by word 0x13 opcode
-    ∙ ap (λ f. if (f == 1) || (f == 5) then decoded_shift word else
-    option_map (λ op. Immediate op (rd_of word) (rs1_of word) (i_immediate word)) (immediate_op f)) f3
-    ∙ cc (rd_same, rs1_same, signed_same)
-immediate_op_word word Andi rd rs1 immediate s =
-    let opcode : bits word 0 7 ≡ 0x13 = omega (arith, s) in
-    let f3 : funct3_of word ≡ 7 = omega (arith, s) in
-    let rd_same : rd_of word ≡ rd = same_register (rd_of word) rd (omega (arith, s)) in
-    let rs1_same : rs1_of word ≡ rs1 = same_register (rs1_of word) rs1 (omega (arith, s)) in
-    let cut : bits word 20 12 ≡ bits (word_of immediate) 0 12 = omega (arith, s) in
-    let signed_same : i_immediate word ≡ immediate = ap (λ n. sign_extended n (2 ^ 11)) cut ∙ i-sign immediate s.0.2 in
-    decoded-by word 0x13 opcode
-    ∙ ap (λ f. if (f == 1) || (f == 5) then decoded_shift word else
-    option_map (λ op. Immediate op (rd_of word) (rs1_of word) (i_immediate word)) (immediate_op f)) f3
-    ∙ cc (rd_same, rs1_same, signed_same)
+load-code : (op : LoadOp) → (load_funct3 op < 8) × (load_op (load_funct3 op) ≡ Some op)
+load-code Lb = (omega arith, refl)
+load-code Lh = (omega arith, refl)
+load-code Lw = (omega arith, refl)
+load-code Lbu = (omega arith, refl)
+load-code Lhu = (omega arith, refl)
 
-shift : (word : ℕ) (op : ShiftOp) (rd rs1 : Register) (amount : ℕ) → Spells word (Shift op rd rs1 amount) → decoded word ≡ Some (Shift op rd rs1 amount)
-shift word Slli rd rs1 amount s =
-    let opcode : bits word 0 7 ≡ 0x13 = omega (arith, s) in
-    let f3 : funct3_of word ≡ 1 = omega (arith, s) in
-    let f7 : funct7_of word ≡ 0 = omega (arith, s) in
-    let rd_same : rd_of word ≡ rd = same_register (rd_of word) rd (omega (arith, s)) in
-    let rs1_same : rs1_of word ≡ rs1 = same_register (rs1_of word) rs1 (omega (arith, s)) in
-    let value : bits word 20 5 ≡ amount = omega (arith, s) in
-    decoded-by word 0x13 opcode
-    ∙ ap (λ f. if (f == 1) || (f == 5) then decoded_shift word else
-    option_map (λ op. Immediate op (rd_of word) (rs1_of word) (i_immediate word)) (immediate_op f)) f3
-    ∙ ap (λ f. option_map (λ op. Shift op (rd_of word) (rs1_of word) (bits word 20 5)) (shift_op f (funct7_of word))) f3
-    ∙ ap (λ f. option_map (λ op. Shift op (rd_of word) (rs1_of word) (bits word 20 5)) (shift_op 1 f)) f7
-    ∙ cc (rd_same, rs1_same, value)
-shift word Srli rd rs1 amount s =
-    let opcode : bits word 0 7 ≡ 0x13 = omega (arith, s) in
-    let f3 : funct3_of word ≡ 5 = omega (arith, s) in
-    let f7 : funct7_of word ≡ 0 = omega (arith, s) in
-    let rd_same : rd_of word ≡ rd = same_register (rd_of word) rd (omega (arith, s)) in
-    let rs1_same : rs1_of word ≡ rs1 = same_register (rs1_of word) rs1 (omega (arith, s)) in
-    let value : bits word 20 5 ≡ amount = omega (arith, s) in
-    decoded-by word 0x13 opcode
-    ∙ ap (λ f. if (f == 1) || (f == 5) then decoded_shift word else
-    option_map (λ op. Immediate op (rd_of word) (rs1_of word) (i_immediate word)) (immediate_op f)) f3
-    ∙ ap (λ f. option_map (λ op. Shift op (rd_of word) (rs1_of word) (bits word 20 5)) (shift_op f (funct7_of word))) f3
-    ∙ ap (λ f. option_map (λ op. Shift op (rd_of word) (rs1_of word) (bits word 20 5)) (shift_op 5 f)) f7
-    ∙ cc (rd_same, rs1_same, value)
-shift word Srai rd rs1 amount s =
-    let opcode : bits word 0 7 ≡ 0x13 = omega (arith, s) in
-    let f3 : funct3_of word ≡ 5 = omega (arith, s) in
-    let f7 : funct7_of word ≡ 0x20 = omega (arith, s) in
-    let rd_same : rd_of word ≡ rd = same_register (rd_of word) rd (omega (arith, s)) in
-    let rs1_same : rs1_of word ≡ rs1 = same_register (rs1_of word) rs1 (omega (arith, s)) in
-    let value : bits word 20 5 ≡ amount = omega (arith, s) in
-    decoded-by word 0x13 opcode
-    ∙ ap (λ f. if (f == 1) || (f == 5) then decoded_shift word else
-    option_map (λ op. Immediate op (rd_of word) (rs1_of word) (i_immediate word)) (immediate_op f)) f3
-    ∙ ap (λ f. option_map (λ op. Shift op (rd_of word) (rs1_of word) (bits word 20 5)) (shift_op f (funct7_of word))) f3
-    ∙ ap (λ f. option_map (λ op. Shift op (rd_of word) (rs1_of word) (bits word 20 5)) (shift_op 5 f)) f7
-    ∙ cc (rd_same, rs1_same, value)
+load-by : (word f : ℕ) (op : LoadOp) (rd rs1 : Register) (offset : ℤ) → (f < 8) × (load_op f ≡ Some op)
+    → IsInstr (Load op rd rs1 offset) × (word ≡ i_type 0x03 rd f rs1 offset) → decoded word ≡ Some (Load op rd rs1 offset)
+load-by word f op rd rs1 offset code s =
+    let small = code.0 in
+    let opcode : bits word 0 7 ≡ 0x03 = omega (arith, s, small) in
+    let f3 : funct3_of word ≡ f = omega (arith, s, small) in
+    let rd_same : rd_of word ≡ rd = same_register (rd_of word) rd (omega (arith, s, small)) in
+    let rs1_same : rs1_of word ≡ rs1 = same_register (rs1_of word) rs1 (omega (arith, s, small)) in
+    let cut : bits word 20 12 ≡ bits (word_of offset) 0 12 = omega (arith, s, small) in
+    let same : i_immediate word ≡ offset = ap (λ n. sign_extended n (2 ^ 11)) cut ∙ i-sign offset s.0.2 in
+    let made : LoadOp → Instr = λ o. Load o (rd_of word) (rs1_of word) (i_immediate word) in
+    decoded-by word 0x03 opcode ∙ ap (λ f. option_map made (load_op f)) f3 ∙ ap (option_map made) code.1 ∙ cc (rd_same, rs1_same, same)
 
-registers : (word : ℕ) (op : RegisterOp) (rd rs1 rs2 : Register) → Spells word (Registers op rd rs1 rs2) → decoded word ≡ Some (Registers op rd rs1 rs2)
-registers word Add rd rs1 rs2 s =
-    let opcode : bits word 0 7 ≡ 0x33 = omega (arith, s) in
-    let f3 : funct3_of word ≡ 0 = omega (arith, s) in
-    let f7 : funct7_of word ≡ 0 = omega (arith, s) in
-    let rd_same : rd_of word ≡ rd = same_register (rd_of word) rd (omega (arith, s)) in
-    let rs1_same : rs1_of word ≡ rs1 = same_register (rs1_of word) rs1 (omega (arith, s)) in
-    let rs2_same : rs2_of word ≡ rs2 = same_register (rs2_of word) rs2 (omega (arith, s)) in
+store-code : (op : StoreOp) → (store_funct3 op < 8) × (store_op (store_funct3 op) ≡ Some op)
+store-code Sb = (omega arith, refl)
+store-code Sh = (omega arith, refl)
+store-code Sw = (omega arith, refl)
+
+store-by : (word f : ℕ) (op : StoreOp) (rs1 rs2 : Register) (offset : ℤ) → (f < 8) × (store_op f ≡ Some op)
+    → IsInstr (Store op rs1 rs2 offset) × (word ≡ s_type 0x23 f rs1 rs2 offset) → decoded word ≡ Some (Store op rs1 rs2 offset)
+store-by word f op rs1 rs2 offset code s =
+    let small = code.0 in
+    let opcode : bits word 0 7 ≡ 0x23 = omega (arith, s, small) in
+    let f3 : funct3_of word ≡ f = omega (arith, s, small) in
+    let rs1_same : rs1_of word ≡ rs1 = same_register (rs1_of word) rs1 (omega (arith, s, small)) in
+    let rs2_same : rs2_of word ≡ rs2 = same_register (rs2_of word) rs2 (omega (arith, s, small)) in
+    let cut : bits word 7 5 + 2 ^ 5 * bits word 25 7 ≡ bits (word_of offset) 0 12 = omega (arith, s, small) in
+    let same : s_immediate word ≡ offset = ap (λ n. sign_extended n (2 ^ 11)) cut ∙ i-sign offset s.0.2 in
+    let made : StoreOp → Instr = λ o. Store o (rs1_of word) (rs2_of word) (s_immediate word) in
+    decoded-by word 0x23 opcode ∙ ap (λ f. option_map made (store_op f)) f3 ∙ ap (option_map made) code.1 ∙ cc (rs1_same, rs2_same, same)
+
+immediate-code : (op : ImmediateOp) → let f = immediate_funct3 op in (f < 8) × (((f == 1) || (f == 5)) ≡ false) × (immediate_op f ≡ Some op)
+immediate-code Addi = (omega arith, refl, refl)
+immediate-code Slti = (omega arith, refl, refl)
+immediate-code Sltiu = (omega arith, refl, refl)
+immediate-code Xori = (omega arith, refl, refl)
+immediate-code Ori = (omega arith, refl, refl)
+immediate-code Andi = (omega arith, refl, refl)
+
+immediate-by : (word f : ℕ) (op : ImmediateOp) (rd rs1 : Register) (immediate : ℤ)
+    → (f < 8) × (((f == 1) || (f == 5)) ≡ false) × (immediate_op f ≡ Some op)
+    → IsInstr (Immediate op rd rs1 immediate) × (word ≡ i_type 0x13 rd f rs1 immediate) → decoded word ≡ Some (Immediate op rd rs1 immediate)
+immediate-by word f op rd rs1 immediate code s =
+    let small = code.0 in
+    let opcode : bits word 0 7 ≡ 0x13 = omega (arith, s, small) in
+    let f3 : funct3_of word ≡ f = omega (arith, s, small) in
+    let rd_same : rd_of word ≡ rd = same_register (rd_of word) rd (omega (arith, s, small)) in
+    let rs1_same : rs1_of word ≡ rs1 = same_register (rs1_of word) rs1 (omega (arith, s, small)) in
+    let cut : bits word 20 12 ≡ bits (word_of immediate) 0 12 = omega (arith, s, small) in
+    let same : i_immediate word ≡ immediate = ap (λ n. sign_extended n (2 ^ 11)) cut ∙ i-sign immediate s.0.2 in
+    let made : ImmediateOp → Instr = λ o. Immediate o (rd_of word) (rs1_of word) (i_immediate word) in
+    decoded-by word 0x13 opcode
+    ∙ ap (λ f. if (f == 1) || (f == 5) then decoded_shift word else option_map made (immediate_op f)) f3
+    ∙ ap (λ b. if b then decoded_shift word else option_map made (immediate_op f)) code.1
+    ∙ ap (option_map made) code.2 ∙ cc (rd_same, rs1_same, same)
+
+shift-code : (op : ShiftOp) → let f = shift_funct3 op in let g = shift_funct7 op in
+    (f < 8) × (g < 128) × (((f == 1) || (f == 5)) ≡ true) × (shift_op f g ≡ Some op)
+shift-code Slli = (omega arith, omega arith, refl, refl)
+shift-code Srli = (omega arith, omega arith, refl, refl)
+shift-code Srai = (omega arith, omega arith, refl, refl)
+
+shift-by : (word f g : ℕ) (op : ShiftOp) (rd rs1 : Register) (amount : ℕ)
+    → (f < 8) × (g < 128) × (((f == 1) || (f == 5)) ≡ true) × (shift_op f g ≡ Some op)
+    → IsInstr (Shift op rd rs1 amount) × (word ≡ r_type 0x13 rd f rs1 amount g) → decoded word ≡ Some (Shift op rd rs1 amount)
+shift-by word f g op rd rs1 amount code s =
+    let small = code.0 in let narrow = code.1 in
+    let opcode : bits word 0 7 ≡ 0x13 = omega (arith, s, small, narrow) in
+    let f3 : funct3_of word ≡ f = omega (arith, s, small, narrow) in
+    let f7 : funct7_of word ≡ g = omega (arith, s, small, narrow) in
+    let rd_same : rd_of word ≡ rd = same_register (rd_of word) rd (omega (arith, s, small, narrow)) in
+    let rs1_same : rs1_of word ≡ rs1 = same_register (rs1_of word) rs1 (omega (arith, s, small, narrow)) in
+    let value : bits word 20 5 ≡ amount = omega (arith, s, small, narrow) in
+    let made : ShiftOp → Instr = λ o. Shift o (rd_of word) (rs1_of word) (bits word 20 5) in
+    let other : Option Instr = option_map (λ o. Immediate o (rd_of word) (rs1_of word) (i_immediate word)) (immediate_op (funct3_of word)) in
+    decoded-by word 0x13 opcode
+    ∙ ap (λ (k : ℕ). if (k == 1) || (k == 5) then decoded_shift word else other) f3
+    ∙ ap (λ b. if b then decoded_shift word else other) code.2
+    ∙ ap (λ f. option_map made (shift_op f (funct7_of word))) f3 ∙ ap (λ g. option_map made (shift_op f g)) f7
+    ∙ ap (option_map made) code.3 ∙ cc (rd_same, rs1_same, value)
+
+registers-code : (op : RegisterOp) → let f = register_funct3 op in let g = register_funct7 op in
+    (f < 8) × (g < 128) × (register_op f g ≡ Some op)
+registers-code Add = (omega arith, omega arith, refl)
+registers-code Sub = (omega arith, omega arith, refl)
+registers-code Sll = (omega arith, omega arith, refl)
+registers-code Slt = (omega arith, omega arith, refl)
+registers-code Sltu = (omega arith, omega arith, refl)
+registers-code Xor = (omega arith, omega arith, refl)
+registers-code Srl = (omega arith, omega arith, refl)
+registers-code Sra = (omega arith, omega arith, refl)
+registers-code Or = (omega arith, omega arith, refl)
+registers-code And = (omega arith, omega arith, refl)
+
+registers-by : (word f g : ℕ) (op : RegisterOp) (rd rs1 rs2 : Register) → (f < 8) × (g < 128) × (register_op f g ≡ Some op)
+    → IsInstr (Registers op rd rs1 rs2) × (word ≡ r_type 0x33 rd f rs1 rs2.0 g) → decoded word ≡ Some (Registers op rd rs1 rs2)
+registers-by word f g op rd rs1 rs2 code s =
+    let small = code.0 in let narrow = code.1 in
+    let opcode : bits word 0 7 ≡ 0x33 = omega (arith, s, small, narrow) in
+    let f3 : funct3_of word ≡ f = omega (arith, s, small, narrow) in
+    let f7 : funct7_of word ≡ g = omega (arith, s, small, narrow) in
+    let rd_same : rd_of word ≡ rd = same_register (rd_of word) rd (omega (arith, s, small, narrow)) in
+    let rs1_same : rs1_of word ≡ rs1 = same_register (rs1_of word) rs1 (omega (arith, s, small, narrow)) in
+    let rs2_same : rs2_of word ≡ rs2 = same_register (rs2_of word) rs2 (omega (arith, s, small, narrow)) in
+    let made : RegisterOp → Instr = λ o. Registers o (rd_of word) (rs1_of word) (rs2_of word) in
     decoded-by word 0x33 opcode
-    ∙ ap (λ f. option_map (λ op. Registers op (rd_of word) (rs1_of word) (rs2_of word)) (register_op f (funct7_of word))) f3
-    ∙ ap (λ f. option_map (λ op. Registers op (rd_of word) (rs1_of word) (rs2_of word)) (register_op 0 f)) f7
-    ∙ cc (rd_same, rs1_same, rs2_same)
-registers word Sub rd rs1 rs2 s =
-    let opcode : bits word 0 7 ≡ 0x33 = omega (arith, s) in
-    let f3 : funct3_of word ≡ 0 = omega (arith, s) in
-    let f7 : funct7_of word ≡ 0x20 = omega (arith, s) in
-    let rd_same : rd_of word ≡ rd = same_register (rd_of word) rd (omega (arith, s)) in
-    let rs1_same : rs1_of word ≡ rs1 = same_register (rs1_of word) rs1 (omega (arith, s)) in
-    let rs2_same : rs2_of word ≡ rs2 = same_register (rs2_of word) rs2 (omega (arith, s)) in
-    decoded-by word 0x33 opcode
-    ∙ ap (λ f. option_map (λ op. Registers op (rd_of word) (rs1_of word) (rs2_of word)) (register_op f (funct7_of word))) f3
-    ∙ ap (λ f. option_map (λ op. Registers op (rd_of word) (rs1_of word) (rs2_of word)) (register_op 0 f)) f7
-    ∙ cc (rd_same, rs1_same, rs2_same)
-registers word Sll rd rs1 rs2 s =
-    let opcode : bits word 0 7 ≡ 0x33 = omega (arith, s) in
-    let f3 : funct3_of word ≡ 1 = omega (arith, s) in
-    let f7 : funct7_of word ≡ 0 = omega (arith, s) in
-    let rd_same : rd_of word ≡ rd = same_register (rd_of word) rd (omega (arith, s)) in
-    let rs1_same : rs1_of word ≡ rs1 = same_register (rs1_of word) rs1 (omega (arith, s)) in
-    let rs2_same : rs2_of word ≡ rs2 = same_register (rs2_of word) rs2 (omega (arith, s)) in
-    decoded-by word 0x33 opcode
-    ∙ ap (λ f. option_map (λ op. Registers op (rd_of word) (rs1_of word) (rs2_of word)) (register_op f (funct7_of word))) f3
-    ∙ ap (λ f. option_map (λ op. Registers op (rd_of word) (rs1_of word) (rs2_of word)) (register_op 1 f)) f7
-    ∙ cc (rd_same, rs1_same, rs2_same)
-registers word Slt rd rs1 rs2 s =
-    let opcode : bits word 0 7 ≡ 0x33 = omega (arith, s) in
-    let f3 : funct3_of word ≡ 2 = omega (arith, s) in
-    let f7 : funct7_of word ≡ 0 = omega (arith, s) in
-    let rd_same : rd_of word ≡ rd = same_register (rd_of word) rd (omega (arith, s)) in
-    let rs1_same : rs1_of word ≡ rs1 = same_register (rs1_of word) rs1 (omega (arith, s)) in
-    let rs2_same : rs2_of word ≡ rs2 = same_register (rs2_of word) rs2 (omega (arith, s)) in
-    decoded-by word 0x33 opcode
-    ∙ ap (λ f. option_map (λ op. Registers op (rd_of word) (rs1_of word) (rs2_of word)) (register_op f (funct7_of word))) f3
-    ∙ ap (λ f. option_map (λ op. Registers op (rd_of word) (rs1_of word) (rs2_of word)) (register_op 2 f)) f7
-    ∙ cc (rd_same, rs1_same, rs2_same)
-registers word Sltu rd rs1 rs2 s =
-    let opcode : bits word 0 7 ≡ 0x33 = omega (arith, s) in
-    let f3 : funct3_of word ≡ 3 = omega (arith, s) in
-    let f7 : funct7_of word ≡ 0 = omega (arith, s) in
-    let rd_same : rd_of word ≡ rd = same_register (rd_of word) rd (omega (arith, s)) in
-    let rs1_same : rs1_of word ≡ rs1 = same_register (rs1_of word) rs1 (omega (arith, s)) in
-    let rs2_same : rs2_of word ≡ rs2 = same_register (rs2_of word) rs2 (omega (arith, s)) in
-    decoded-by word 0x33 opcode
-    ∙ ap (λ f. option_map (λ op. Registers op (rd_of word) (rs1_of word) (rs2_of word)) (register_op f (funct7_of word))) f3
-    ∙ ap (λ f. option_map (λ op. Registers op (rd_of word) (rs1_of word) (rs2_of word)) (register_op 3 f)) f7
-    ∙ cc (rd_same, rs1_same, rs2_same)
-registers word Xor rd rs1 rs2 s =
-    let opcode : bits word 0 7 ≡ 0x33 = omega (arith, s) in
-    let f3 : funct3_of word ≡ 4 = omega (arith, s) in
-    let f7 : funct7_of word ≡ 0 = omega (arith, s) in
-    let rd_same : rd_of word ≡ rd = same_register (rd_of word) rd (omega (arith, s)) in
-    let rs1_same : rs1_of word ≡ rs1 = same_register (rs1_of word) rs1 (omega (arith, s)) in
-    let rs2_same : rs2_of word ≡ rs2 = same_register (rs2_of word) rs2 (omega (arith, s)) in
-    decoded-by word 0x33 opcode
-    ∙ ap (λ f. option_map (λ op. Registers op (rd_of word) (rs1_of word) (rs2_of word)) (register_op f (funct7_of word))) f3
-    ∙ ap (λ f. option_map (λ op. Registers op (rd_of word) (rs1_of word) (rs2_of word)) (register_op 4 f)) f7
-    ∙ cc (rd_same, rs1_same, rs2_same)
-registers word Srl rd rs1 rs2 s =
-    let opcode : bits word 0 7 ≡ 0x33 = omega (arith, s) in
-    let f3 : funct3_of word ≡ 5 = omega (arith, s) in
-    let f7 : funct7_of word ≡ 0 = omega (arith, s) in
-    let rd_same : rd_of word ≡ rd = same_register (rd_of word) rd (omega (arith, s)) in
-    let rs1_same : rs1_of word ≡ rs1 = same_register (rs1_of word) rs1 (omega (arith, s)) in
-    let rs2_same : rs2_of word ≡ rs2 = same_register (rs2_of word) rs2 (omega (arith, s)) in
-    decoded-by word 0x33 opcode
-    ∙ ap (λ f. option_map (λ op. Registers op (rd_of word) (rs1_of word) (rs2_of word)) (register_op f (funct7_of word))) f3
-    ∙ ap (λ f. option_map (λ op. Registers op (rd_of word) (rs1_of word) (rs2_of word)) (register_op 5 f)) f7
-    ∙ cc (rd_same, rs1_same, rs2_same)
-registers word Sra rd rs1 rs2 s =
-    let opcode : bits word 0 7 ≡ 0x33 = omega (arith, s) in
-    let f3 : funct3_of word ≡ 5 = omega (arith, s) in
-    let f7 : funct7_of word ≡ 0x20 = omega (arith, s) in
-    let rd_same : rd_of word ≡ rd = same_register (rd_of word) rd (omega (arith, s)) in
-    let rs1_same : rs1_of word ≡ rs1 = same_register (rs1_of word) rs1 (omega (arith, s)) in
-    let rs2_same : rs2_of word ≡ rs2 = same_register (rs2_of word) rs2 (omega (arith, s)) in
-    decoded-by word 0x33 opcode
-    ∙ ap (λ f. option_map (λ op. Registers op (rd_of word) (rs1_of word) (rs2_of word)) (register_op f (funct7_of word))) f3
-    ∙ ap (λ f. option_map (λ op. Registers op (rd_of word) (rs1_of word) (rs2_of word)) (register_op 5 f)) f7
-    ∙ cc (rd_same, rs1_same, rs2_same)
-registers word Or rd rs1 rs2 s =
-    let opcode : bits word 0 7 ≡ 0x33 = omega (arith, s) in
-    let f3 : funct3_of word ≡ 6 = omega (arith, s) in
-    let f7 : funct7_of word ≡ 0 = omega (arith, s) in
-    let rd_same : rd_of word ≡ rd = same_register (rd_of word) rd (omega (arith, s)) in
-    let rs1_same : rs1_of word ≡ rs1 = same_register (rs1_of word) rs1 (omega (arith, s)) in
-    let rs2_same : rs2_of word ≡ rs2 = same_register (rs2_of word) rs2 (omega (arith, s)) in
-    decoded-by word 0x33 opcode
-    ∙ ap (λ f. option_map (λ op. Registers op (rd_of word) (rs1_of word) (rs2_of word)) (register_op f (funct7_of word))) f3
-    ∙ ap (λ f. option_map (λ op. Registers op (rd_of word) (rs1_of word) (rs2_of word)) (register_op 6 f)) f7
-    ∙ cc (rd_same, rs1_same, rs2_same)
-registers word And rd rs1 rs2 s =
-    let opcode : bits word 0 7 ≡ 0x33 = omega (arith, s) in
-    let f3 : funct3_of word ≡ 7 = omega (arith, s) in
-    let f7 : funct7_of word ≡ 0 = omega (arith, s) in
-    let rd_same : rd_of word ≡ rd = same_register (rd_of word) rd (omega (arith, s)) in
-    let rs1_same : rs1_of word ≡ rs1 = same_register (rs1_of word) rs1 (omega (arith, s)) in
-    let rs2_same : rs2_of word ≡ rs2 = same_register (rs2_of word) rs2 (omega (arith, s)) in
-    decoded-by word 0x33 opcode
-    ∙ ap (λ f. option_map (λ op. Registers op (rd_of word) (rs1_of word) (rs2_of word)) (register_op f (funct7_of word))) f3
-    ∙ ap (λ f. option_map (λ op. Registers op (rd_of word) (rs1_of word) (rs2_of word)) (register_op 7 f)) f7
-    ∙ cc (rd_same, rs1_same, rs2_same)
+    ∙ ap (λ f. option_map made (register_op f (funct7_of word))) f3 ∙ ap (λ g. option_map made (register_op f g)) f7
+    ∙ ap (option_map made) code.2 ∙ cc (rd_same, rs1_same, rs2_same)
 
 fence : (word : ℕ) → Spells word Fence → decoded word ≡ Some Fence
 fence word s = decoded-by word 0x0F s.1 ∙ ap (λ f. if f == 0 then Some Fence else None) s.2
@@ -476,12 +239,12 @@ pub spelled-decoded : (word : ℕ) (i : Instr) → Spells word i → decoded wor
 spelled-decoded word (Upper op rd n) s = upper word op rd n s
 spelled-decoded word (Jal rd offset) s = jal word rd offset s
 spelled-decoded word (Jalr rd rs1 offset) s = jalr word rd rs1 offset s
-spelled-decoded word (Branch op rs1 rs2 offset) s = branch word op rs1 rs2 offset s
-spelled-decoded word (Load op rd rs1 offset) s = load word op rd rs1 offset s
-spelled-decoded word (Store op rs1 rs2 offset) s = store word op rs1 rs2 offset s
-spelled-decoded word (Immediate op rd rs1 n) s = immediate_op_word word op rd rs1 n s
-spelled-decoded word (Shift op rd rs1 amount) s = shift word op rd rs1 amount s
-spelled-decoded word (Registers op rd rs1 rs2) s = registers word op rd rs1 rs2 s
+spelled-decoded word (Branch op rs1 rs2 offset) s = branch-by word (branch_funct3 op) op rs1 rs2 offset (branch-code op) s
+spelled-decoded word (Load op rd rs1 offset) s = load-by word (load_funct3 op) op rd rs1 offset (load-code op) s
+spelled-decoded word (Store op rs1 rs2 offset) s = store-by word (store_funct3 op) op rs1 rs2 offset (store-code op) s
+spelled-decoded word (Immediate op rd rs1 n) s = immediate-by word (immediate_funct3 op) op rd rs1 n (immediate-code op) s
+spelled-decoded word (Shift op rd rs1 amount) s = shift-by word (shift_funct3 op) (shift_funct7 op) op rd rs1 amount (shift-code op) s
+spelled-decoded word (Registers op rd rs1 rs2) s = registers-by word (register_funct3 op) (register_funct7 op) op rd rs1 rs2 (registers-code op) s
 spelled-decoded word Fence s = fence word s
 spelled-decoded word Ecall s = ecall word s
 spelled-decoded word Ebreak s = ebreak word s
