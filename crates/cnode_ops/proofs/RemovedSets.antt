@@ -1,7 +1,14 @@
 -- What a removal's loops leave, of a state and slots that are kept apart.
-use Rattle.std.proofs.Common.{ℕ, ◌≡◌, ◌∙◌, ◌*◌, ◌^◌, ◌/◌, ◌<◌, ◌&&◌, Bool, false, true, not, is_some, Some, None, option_map, Ok, refl, sym, ap, subst, arith}
+use Rattle.std.proofs.Common.{ℕ, ◌≡◌, ◌∙◌, ◌*◌, ◌^◌, ◌/◌, ◌<◌, ◌&&◌, Bool, false, true, not, is_some, Some, None, option_map, Ok, List, length, refl, sym, ap}
+use Rattle.std.proofs.Common.{subst, arith}
 use Rattle.cnode_ops.proofs.LinesTaken.{lines-told}
 use Rattle.cnode_ops.proofs.Unsettling.{covers-first, covers-now}
+use Rattle.cnode_ops.proofs.object_lifetimes.Laws.{whole-of}
+use Rattle.cnode_ops.specs.object_lifetimes.Kernels.{IsConsistent}
+use Rattle.kernel_invariant.proofs.Laws.{of_slots-law}
+use Rattle.objects.specs.Lives.{Parts, state_in}
+use Rattle.objects.specs.Standing.{Standing}
+use Rattle.objects.specs.Tables.{Tables, state_of}
 use Rattle.cnode_ops.specs.Lines.{LinesGone, has_line}
 use Rattle.cnode_ops.specs.Unsettled.{Covers, Notes, nothing}
 use Rattle.cnode_ops.specs.declared.lines.LineSet.{LineSet}
@@ -50,6 +57,29 @@ loops-ran w one two slots bare bytes set gone lost has sound members kept_first 
   bound = bound;
   kept_first = kept_first;
 }
+
+-- the same of a kernel that lends its parts to the loops
+pub loops-lent : {S : Type 0} (slots : S → Slots) (memory : S → List ℕ) (set : Removed) (gone lost : LineSet) {o : Tables} {store bare : S} {one two : State}
+    {parts kernel : Parts S}
+    → IsConsistent (state_in slots memory parts) (memory parts.store) → record { store = store; tables = o } ≡ parts
+    → Standing o (slots store) (memory store) → parts ≡ kernel
+    → ((slot : ℕ) → set_of (slots kernel.store) set slot ≡ true → IsOpen (slots kernel.store) slot)
+    → ((w : State) → w.slots ≡ slots store → IsSound w → 2 ^ w.memory_bits ≡ length (memory store)
+    → wants_revoke_first w (with_bindings w (set_of w.slots set)) ≡ false)
+    → one.slots ≡ slots bare → 2 ^ one.memory_bits ≡ length (memory bare) → IsDerivation one.slots
+    → SameShape (state_of o (slots store) (memory store)) one
+    → ((more : SlotSet) → ((slot : ℕ) → more slot ≡ true → IsOpen (slots store) slot)
+    → emptied (state_of o (slots store) (memory store)) (joined (set_of (slots store) set) more) ≡ emptied one more)
+    → LinesGone (state_of o (slots store) (memory store)) one gone
+    → ((line : ℕ) → line < 64 → has_line lost line ≡ (has_line gone line && not (is_handled (slots bare) (length (memory bare) / 16) line)))
+    → emptied one (bindings_from one (λ line. has_line lost line) 0) ≡ two
+    → LoopsRan (state_of o (slots store) (memory store)) one two (slots store) set (λ line. has_line lost line)
+loops-lent {S} slots memory set gone lost {o} {store} {bare} {one} {two} kept is stands of members keeps has_bare size tree shape taken lines last bound =
+    let w : State = state_of o (slots store) (memory store) in
+    let whole = whole-of slots memory o store kept is stands in
+    let here = subst (λ (k : Parts S). (slot : ℕ) → set_of (slots k.store) set slot ≡ true → IsOpen (slots k.store) slot) (sym (is ∙ of)) members in
+    loops-ran w one two (slots store) (slots bare) (length (memory bare)) set gone lost (of_slots-law _ _ _) whole.sound here
+    (keeps w (of_slots-law _ _ _) whole.sound whole.agrees.size) has_bare size tree shape taken lines last bound
 
 -- emptying opens no slot
 open-was : (s : State) (all : SlotSet) (y : ℕ) → ((slot : ℕ) → all slot ≡ true → IsOpen s.slots slot) → IsOpen (emptied s all).slots y → IsOpen s.slots y

@@ -1,7 +1,6 @@
 -- The loops, and what settles them, are the removal, which keeps the state sound.
-use Rattle.std.proofs.Common.{ℕ, ◌≡◌, ◌∙◌, ◌^◌, Bool, Err, Ok, length, sym, ap, subst, true}
+use Rattle.std.proofs.Common.{ℕ, ◌≡◌, ◌∙◌, ◌^◌, Err, Ok, length, sym, ap, subst, true}
 use Rattle.kernel_invariant.proofs.Laws.{of_slots-law}
-use Rattle.cnode_ops.specs.Lines.{has_line}
 use Rattle.cnode_ops.specs.Sets.{set_of}
 use Rattle.model.specs.Capabilities.Slots.{IsOpen, Slots}
 use Rattle.model.specs.Kernel.Removal.{remove}
@@ -11,7 +10,7 @@ use Rattle.objects.specs.Lives.{state_in}
 use Rattle.objects.specs.Tables.{state_of}
 use Rattle.removal_laws.proofs.Laws.{refused, sound-ready}
 use Rattle.cnode_ops.proofs.Unsettling.{sound-lie}
-use Rattle.cnode_ops.proofs.RemovedSets.{LoopsRan, loops-cover, loops-may-settle, loops-ran, loops-remove}
+use Rattle.cnode_ops.proofs.RemovedSets.{loops-cover, loops-lent, loops-may-settle, loops-remove}
 use Rattle.cnode_ops.proofs.object_lifetimes.Laws.{whole-of}
 use Rattle.cnode_ops.proofs.removal.remove.Goals as goal
 
@@ -56,109 +55,52 @@ empty_bindings-requires-clause-lie g c =
 
 pub settle-requires-clause-may : goal.settle-requires-clause-may
 settle-requires-clause-may g c =
-    let whole = whole-of g.S.SlotMap.slots g.S.SlotStore.memory c.live.inside.objects c.live.inside.store c.kernel.invariant c.live.view_is c.live.invariant in
-    let of_kernel = c.live.view_is ∙ c.kernel.view_is in
-    let slots : Slots = g.S.SlotMap.slots c.live.inside.store in
-    let w : State = state_of c.live.inside.objects slots (g.S.SlotStore.memory c.live.inside.store) in
-    let size : 2 ^ w.memory_bits ≡ length (g.S.SlotStore.memory c.live.inside.store) = whole.agrees.size in
-    let members = subst (λ k. (slot : ℕ) → set_of (g.S.SlotMap.slots k.store) c.args.set slot ≡ true → IsOpen (g.S.SlotMap.slots k.store) slot)
-    (sym of_kernel) c.requires in
-    let bare : Slots = g.S.SlotMap.slots c.empty_all-gone.new.store in
-    let bytes = g.S.SlotStore.memory c.empty_all-gone.new.store in
-    let one : State = state_of c.empty_all-gone.new.objects bare bytes in
-    let now : Slots = g.S.SlotMap.slots c.empty_bindings.new.store in
-    let two : State = state_of c.empty_bindings.new.objects now (g.S.SlotStore.memory c.empty_bindings.new.store) in
-    let lost : ℕ → Bool = λ line. has_line c.lines_lost-lost.result line in
     let first = c.empty_all-gone.ensures in
-    let kept_first = sym (c.wants_revoke_first.ensures w (of_slots-law _ _ _) whole.sound size) ∙ c.if-wants_revoke_first.false in
-    let ran : LoopsRan w one two slots c.args.set lost =
-    loops-ran w one two slots bare (length bytes) c.args.set c.empty_all-gone.result c.lines_lost-lost.result (of_slots-law _ _ _) whole.sound members
-    kept_first
-    (of_slots-law _ _ _) first.agree.0.size first.ready.derivation first.shape first.taken first.lines c.lines_lost-lost.ensures c.empty_bindings.ensures.state
-    in
-    loops-may-settle w one two slots c.args.set lost ran
+    let ran = loops-lent g.S.SlotMap.slots g.S.SlotStore.memory c.args.set c.empty_all-gone.result c.lines_lost-lost.result c.kernel.invariant c.live.view_is
+    c.live.invariant c.kernel.view_is c.requires (λ w has sound size. sym (c.wants_revoke_first.ensures w has sound size) ∙ c.if-wants_revoke_first.false)
+    (of_slots-law _ _ _) first.agree.0.size first.ready.derivation first.shape first.taken first.lines c.lines_lost-lost.ensures
+    c.empty_bindings.ensures.state in
+    loops-may-settle _ _ _ _ c.args.set _ ran
 
 pub settle-requires-clause-covered : goal.settle-requires-clause-covered
 settle-requires-clause-covered g c =
-    let whole = whole-of g.S.SlotMap.slots g.S.SlotStore.memory c.live.inside.objects c.live.inside.store c.kernel.invariant c.live.view_is c.live.invariant in
-    let of_kernel = c.live.view_is ∙ c.kernel.view_is in
-    let slots : Slots = g.S.SlotMap.slots c.live.inside.store in
-    let w : State = state_of c.live.inside.objects slots (g.S.SlotStore.memory c.live.inside.store) in
-    let size : 2 ^ w.memory_bits ≡ length (g.S.SlotStore.memory c.live.inside.store) = whole.agrees.size in
-    let members = subst (λ k. (slot : ℕ) → set_of (g.S.SlotMap.slots k.store) c.args.set slot ≡ true → IsOpen (g.S.SlotMap.slots k.store) slot)
-    (sym of_kernel) c.requires in
-    let bare : Slots = g.S.SlotMap.slots c.empty_all-gone.new.store in
-    let bytes = g.S.SlotStore.memory c.empty_all-gone.new.store in
-    let one : State = state_of c.empty_all-gone.new.objects bare bytes in
-    let now : Slots = g.S.SlotMap.slots c.empty_bindings.new.store in
-    let two : State = state_of c.empty_bindings.new.objects now (g.S.SlotStore.memory c.empty_bindings.new.store) in
-    let lost : ℕ → Bool = λ line. has_line c.lines_lost-lost.result line in
     let first = c.empty_all-gone.ensures in
-    let kept_first = sym (c.wants_revoke_first.ensures w (of_slots-law _ _ _) whole.sound size) ∙ c.if-wants_revoke_first.false in
-    let ran : LoopsRan w one two slots c.args.set lost =
-    loops-ran w one two slots bare (length bytes) c.args.set c.empty_all-gone.result c.lines_lost-lost.result (of_slots-law _ _ _) whole.sound members
-    kept_first
-    (of_slots-law _ _ _) first.agree.0.size first.ready.derivation first.shape first.taken first.lines c.lines_lost-lost.ensures c.empty_bindings.ensures.state
-    in
-    loops-cover w one two slots c.args.set lost ran now c.count.result c.nothing-left.result c.empty_all-gone.new.left c.empty_bindings.new.left
-    (of_slots-law _ _ _) (c.count.ensures.value ∙ sym size) c.nothing-left.ensures first.noted c.empty_bindings.ensures.noted
+    let ran = loops-lent g.S.SlotMap.slots g.S.SlotStore.memory c.args.set c.empty_all-gone.result c.lines_lost-lost.result c.kernel.invariant c.live.view_is
+    c.live.invariant c.kernel.view_is c.requires (λ w has sound size. sym (c.wants_revoke_first.ensures w has sound size) ∙ c.if-wants_revoke_first.false)
+    (of_slots-law _ _ _) first.agree.0.size first.ready.derivation first.shape first.taken first.lines c.lines_lost-lost.ensures
+    c.empty_bindings.ensures.state in
+    let whole = whole-of g.S.SlotMap.slots g.S.SlotStore.memory c.live.inside.objects c.live.inside.store c.kernel.invariant c.live.view_is c.live.invariant in
+    loops-cover _ _ _ _ c.args.set _ ran (g.S.SlotMap.slots c.empty_bindings.new.store) c.count.result c.nothing-left.result c.empty_all-gone.new.left
+    c.empty_bindings.new.left (of_slots-law _ _ _) (c.count.ensures.value ∙ sym whole.agrees.size) c.nothing-left.ensures first.noted
+    c.empty_bindings.ensures.noted
 
 pub returns-clause-outcome : goal.returns-clause-outcome
 returns-clause-outcome g c =
-    let whole = whole-of g.S.SlotMap.slots g.S.SlotStore.memory c.live.inside.objects c.live.inside.store c.kernel.invariant c.live.view_is c.live.invariant in
-    let of_kernel = c.live.view_is ∙ c.kernel.view_is in
-    let slots : Slots = g.S.SlotMap.slots c.live.inside.store in
-    let w : State = state_of c.live.inside.objects slots (g.S.SlotStore.memory c.live.inside.store) in
-    let size : 2 ^ w.memory_bits ≡ length (g.S.SlotStore.memory c.live.inside.store) = whole.agrees.size in
-    let members = subst (λ k. (slot : ℕ) → set_of (g.S.SlotMap.slots k.store) c.args.set slot ≡ true → IsOpen (g.S.SlotMap.slots k.store) slot)
-    (sym of_kernel) c.requires in
-    let bare : Slots = g.S.SlotMap.slots c.empty_all-gone.new.store in
-    let bytes = g.S.SlotStore.memory c.empty_all-gone.new.store in
-    let one : State = state_of c.empty_all-gone.new.objects bare bytes in
-    let now : Slots = g.S.SlotMap.slots c.empty_bindings.new.store in
-    let two : State = state_of c.empty_bindings.new.objects now (g.S.SlotStore.memory c.empty_bindings.new.store) in
-    let lost : ℕ → Bool = λ line. has_line c.lines_lost-lost.result line in
     let first = c.empty_all-gone.ensures in
-    let kept_first = sym (c.wants_revoke_first.ensures w (of_slots-law _ _ _) whole.sound size) ∙ c.if-wants_revoke_first.false in
-    let ran : LoopsRan w one two slots c.args.set lost =
-    loops-ran w one two slots bare (length bytes) c.args.set c.empty_all-gone.result c.lines_lost-lost.result (of_slots-law _ _ _) whole.sound members
-    kept_first
-    (of_slots-law _ _ _) first.agree.0.size first.ready.derivation first.shape first.taken first.lines c.lines_lost-lost.ensures c.empty_bindings.ensures.state
-    in
+    let ran = loops-lent g.S.SlotMap.slots g.S.SlotStore.memory c.args.set c.empty_all-gone.result c.lines_lost-lost.result c.kernel.invariant c.live.view_is
+    c.live.invariant c.kernel.view_is c.requires (λ w has sound size. sym (c.wants_revoke_first.ensures w has sound size) ∙ c.if-wants_revoke_first.false)
+    (of_slots-law _ _ _) first.agree.0.size first.ready.derivation first.shape first.taken first.lines c.lines_lost-lost.ensures
+    c.empty_bindings.ensures.state in
     let last : State = state_of c.settle.new.objects (g.S.SlotMap.slots c.settle.new.store) (g.S.SlotStore.memory c.settle.new.store) in
-    subst (λ k. remove (state_in g.S.SlotMap.slots g.S.SlotStore.memory k) (set_of (g.S.SlotMap.slots k.store) c.args.set) ≡ Ok last) of_kernel
-    (loops-remove w one two slots c.args.set lost ran last c.settle.ensures.state)
+    subst (λ k. remove (state_in g.S.SlotMap.slots g.S.SlotStore.memory k) (set_of (g.S.SlotMap.slots k.store) c.args.set) ≡ Ok last)
+    (c.live.view_is ∙ c.kernel.view_is) (loops-remove _ _ _ _ c.args.set _ ran last c.settle.ensures.state)
 
 pub invariant_of-live : goal.invariant_of-live
-invariant_of-live g c =
-    c.settle.ensures.agree.1
+invariant_of-live g c = c.settle.ensures.agree.1
 
 pub invariant_of-kernel-2 : goal.invariant_of-kernel-2
 invariant_of-kernel-2 g c =
-    let whole = whole-of g.S.SlotMap.slots g.S.SlotStore.memory c.live.inside.objects c.live.inside.store c.kernel.invariant c.live.view_is c.live.invariant in
-    let of_kernel = c.live.view_is ∙ c.kernel.view_is in
+    let first = c.empty_all-gone.ensures in
+    let ran = loops-lent g.S.SlotMap.slots g.S.SlotStore.memory c.args.set c.empty_all-gone.result c.lines_lost-lost.result c.kernel.invariant c.live.view_is
+    c.live.invariant c.kernel.view_is c.requires (λ w has sound size. sym (c.wants_revoke_first.ensures w has sound size) ∙ c.if-wants_revoke_first.false)
+    (of_slots-law _ _ _) first.agree.0.size first.ready.derivation first.shape first.taken first.lines c.lines_lost-lost.ensures
+    c.empty_bindings.ensures.state in
     let slots : Slots = g.S.SlotMap.slots c.live.inside.store in
     let w : State = state_of c.live.inside.objects slots (g.S.SlotStore.memory c.live.inside.store) in
-    let size : 2 ^ w.memory_bits ≡ length (g.S.SlotStore.memory c.live.inside.store) = whole.agrees.size in
-    let members = subst (λ k. (slot : ℕ) → set_of (g.S.SlotMap.slots k.store) c.args.set slot ≡ true → IsOpen (g.S.SlotMap.slots k.store) slot)
-    (sym of_kernel) c.requires in
-    let bare : Slots = g.S.SlotMap.slots c.empty_all-gone.new.store in
-    let bytes = g.S.SlotStore.memory c.empty_all-gone.new.store in
-    let one : State = state_of c.empty_all-gone.new.objects bare bytes in
-    let now : Slots = g.S.SlotMap.slots c.empty_bindings.new.store in
-    let two : State = state_of c.empty_bindings.new.objects now (g.S.SlotStore.memory c.empty_bindings.new.store) in
-    let lost : ℕ → Bool = λ line. has_line c.lines_lost-lost.result line in
-    let first = c.empty_all-gone.ensures in
-    let kept_first = sym (c.wants_revoke_first.ensures w (of_slots-law _ _ _) whole.sound size) ∙ c.if-wants_revoke_first.false in
-    let ran : LoopsRan w one two slots c.args.set lost =
-    loops-ran w one two slots bare (length bytes) c.args.set c.empty_all-gone.result c.lines_lost-lost.result (of_slots-law _ _ _) whole.sound members
-    kept_first
-    (of_slots-law _ _ _) first.agree.0.size first.ready.derivation first.shape first.taken first.lines c.lines_lost-lost.ensures c.empty_bindings.ensures.state
-    in
     let last : State = state_of c.settle.new.objects (g.S.SlotMap.slots c.settle.new.store) (g.S.SlotStore.memory c.settle.new.store) in
     record {
-      sound = c.removals_keep_soundness.ensures w last (set_of slots c.args.set) whole.sound
-          (subst (λ (n : Slots). (slot : ℕ) → set_of slots c.args.set slot ≡ true → IsOpen n slot) (sym (of_slots-law _ _ _)) members)
-          (loops-remove w one two slots c.args.set lost ran last c.settle.ensures.state);
+      sound = c.removals_keep_soundness.ensures w last (set_of slots c.args.set) ran.sound
+          (subst (λ (n : Slots). (slot : ℕ) → set_of slots c.args.set slot ≡ true → IsOpen n slot) (sym (of_slots-law _ _ _)) ran.members)
+          (loops-remove w _ _ slots c.args.set _ ran last c.settle.ensures.state);
       agrees = c.settle.ensures.agree.0;
     }
