@@ -1,6 +1,8 @@
 -- A line is bound to a notification, in place of what it was bound to.
 use Rattle.std.proofs.Common.{ℕ, ◌≡◌, ◌∙◌, ◌==◌, ◌<◌, ◌^◌, ◌+◌, Bool, true, false, not, nat_lt, Some, None, List, Result, Ok, Err, if◌then◌else◌, refl, sym, ap}
 use Rattle.std.proofs.Common.{subst}
+use Rattle.cnode_ops.proofs.Laws.{whole-of}
+use Rattle.cnode_ops.specs.object_lifetimes.Kernels.{IsConsistent}
 use Rattle.kernel_invariant.specs.Wholeness.{Agreed, IsWhole}
 use Rattle.irq.proofs.Left.{Child, child-state, child-whole}
 use Rattle.irq.specs.Handlers.{bound_source}
@@ -17,6 +19,8 @@ use Rattle.model.specs.declared.capabilities.Cap.{Cap}
 use Rattle.model.specs.declared.errors.KError.{KError}
 use Rattle.model.specs.declared.errors.KError.TheVariants.{IllegalOperation, InvalidCapability}
 use Rattle.model.specs.declared.invocations.SlotName.{SlotName}
+use Rattle.objects.specs.Lives.{Parts, state_in}
+use Rattle.objects.specs.Standing.{Standing}
 use Rattle.objects.specs.Tables.{Tables, state_of}
 use Rattle.slots.specs.Kin.{object_at}
 use Rattle.soundness.proofs.Laws.{Binds, bind-sound, bindable, check-passes, deleted-leaves, empty-open, line-empty, line-open, passes-both, room-below}
@@ -122,20 +126,28 @@ module _ (o : Tables) (slots : Slots) (memory : List ℕ) (root : Cap) (line : �
         may = check-passes (may_be_bound (capability_at slots one.value)) InvalidCapability two.value two.first;
       })
 
+  -- a source was found, and then the old binding went
+  pub record IsRebinding (left : Tables) (bare : Slots) (old : List ℕ) (source slot : ℕ) : Type 0 where
+    pub whole : IsWhole o slots memory
+    pub is_root : IsRoot s root
+    pub less : line < 64
+    pub found : Ok source ≡ source_of
+    pub here : slot ≡ binding_slot s line
+    pub gone : delete s slot ≡ Ok (state_of left bare old)
+
   -- what the removal leaves, and then the insertion
-  module _ (left : Tables) (bare : Slots) (old : List ℕ) (source slot : ℕ) (whole : IsWhole o slots memory) (is_root : IsRoot s root) (less : line < 64)
-      (told : Ok source ≡ source_of) (here : slot ≡ binding_slot s line) (gone : delete s slot ≡ Ok (state_of left bare old)) where
+  module _ (left : Tables) (bare : Slots) (old : List ℕ) (source slot : ℕ) (rebinding : IsRebinding left bare old source slot) where
     abbrev t : State
     t = state_of left bare old
 
     passes : source_of ≡ Ok source
-    passes = sym told
+    passes = sym rebinding.found
 
     binds : Binds s line source
-    binds = source-binds whole.sound is_root less source passes
+    binds = source-binds rebinding.whole.sound rebinding.is_root rebinding.less source passes
 
     gone-there : delete s (binding_slot s line) ≡ Ok t
-    gone-there = ap (delete s) (sym here) ∙ gone
+    gone-there = ap (delete s) (sym rebinding.here) ∙ rebinding.gone
 
     bare-line : Unbound s t line source
     bare-line = unbound s t line source binds gone-there
@@ -143,8 +155,8 @@ module _ (o : Tables) (slots : Slots) (memory : List ℕ) (root : Cap) (line : �
     pub slot-empty : bare slot ≡ Some empty_entry
     unfolding state_of
     slot-empty =
-        let at : slot ≡ binding_slot t line = here ∙ ap (λ (radix : ℕ). 2 ^ radix + line) (sym bare-line.radix) in
-        ap bare at ∙ empty-open bare (binding_slot t line) bare-line.sound.slots.derivation (line-open t bare-line.sound.slots line less) bare-line.empty
+        let at : slot ≡ binding_slot t line = rebinding.here ∙ ap (λ (radix : ℕ). 2 ^ radix + line) (sym bare-line.radix) in
+        ap bare at ∙ empty-open bare (binding_slot t line) bare-line.sound.slots.derivation (line-open t bare-line.sound.slots line rebinding.less) bare-line.empty
 
     pub source-full : IsFull bare source
     unfolding state_of
@@ -167,7 +179,7 @@ module _ (o : Tables) (slots : Slots) (memory : List ℕ) (root : Cap) (line : �
           let facts = bindable (capability_at slots source) binds.may in
           record {
             empty = slot-empty;
-            valid = whole.sound.slots.derivation.valid source;
+            valid = rebinding.whole.sound.slots.derivation.valid source;
             single = facts.single;
             unmapped = facts.unmapped;
             object = ap object_named (sym bare-line.same);
@@ -175,7 +187,7 @@ module _ (o : Tables) (slots : Slots) (memory : List ℕ) (root : Cap) (line : �
 
       put-there : with_slots t (inserted bare slot (capability_at slots source) (Some source)) ≡ put_in source t
       unfolding state_of
-      put-there = ap (λ (at : ℕ). with_slots t (inserted bare at (capability_at slots source) (Some source))) here
+      put-there = ap (λ (at : ℕ). with_slots t (inserted bare at (capability_at slots source) (Some source))) rebinding.here
 
       pub bind-left : (call : Call) → call.root ≡ root → bind s call line name ≡ Ok (state_of left now new)
       bind-left call at =
@@ -185,5 +197,30 @@ module _ (o : Tables) (slots : Slots) (memory : List ℕ) (root : Cap) (line : �
       pub bind-whole : IsWhole left now new
       bind-whole =
           child-whole left bare now old new slot source (capability_at slots source) agreed same child is
-          (subst IsSound (sym put-there) (bind-sound s (put_in source t) call_of line name whole.sound (record { root = is_root; invoked = boot refl }) less
+          (subst IsSound (sym put-there) (bind-sound s (put_in source t) call_of line name rebinding.whole.sound
+          (record { root = rebinding.is_root; invoked = boot refl }) rebinding.less
           (bind-passes source t passes gone-there call_of refl)))
+
+-- the same of a kernel that lends its parts to the checks, to the removal, and to the insertion
+pub lent : {S : Type 0} (slots : S → Slots) (memory : S → List ℕ) {o left : Tables} {store bare : S} {parts kernel bare_parts after : Parts S} (root : Cap)
+    (line : ℕ) (name : SlotName) (source slot : ℕ)
+    → IsConsistent (state_in slots memory parts) (memory parts.store) → record { store = store; tables = o } ≡ parts
+    → Standing o (slots store) (memory store) → parts ≡ kernel → record { store = bare; tables = left } ≡ bare_parts → bare_parts ≡ after
+    → IsRoot (state_in slots memory kernel) root → (IsSound (state_in slots memory kernel) → line < 64)
+    → Ok source ≡ bound_source (slots store) root name → slot ≡ binding_slot (state_of o (slots store) (memory store)) line
+    → delete (state_in slots memory kernel) slot ≡ Ok (state_in slots memory after)
+    → IsRebinding o (slots store) (memory store) root line name left (slots bare) (memory bare) source slot
+lent {S} slots memory {o} {left} {store} {bare} {kernel = kernel} {after = after} root line name source slot kept is stands of bare_is bare_of is_root less
+    found here gone =
+    let at : record { store = store; tables = o } ≡ kernel = is ∙ of in
+    let there : record { store = bare; tables = left } ≡ after = bare_is ∙ bare_of in
+    let whole = whole-of slots memory o store kept is stands in
+    record {
+      whole = whole;
+      is_root = subst (λ (k : Parts S). IsRoot (state_in slots memory k) root) (sym at) is_root;
+      less = less (subst (λ (k : Parts S). IsSound (state_in slots memory k)) at whole.sound);
+      found = found;
+      here = here;
+      gone = subst (λ (k : Parts S). delete (state_in slots memory k) slot ≡ Ok (state_of left (slots bare) (memory bare))) (sym at)
+          (subst (λ (k : Parts S). delete (state_in slots memory kernel) slot ≡ Ok (state_in slots memory k)) (sym there) gone);
+    }
