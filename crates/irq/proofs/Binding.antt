@@ -156,7 +156,8 @@ module _ (o : Tables) (slots : Slots) (memory : List ℕ) (root : Cap) (line : �
     unfolding state_of
     slot-empty =
         let at : slot ≡ binding_slot t line = rebinding.here ∙ ap (λ (radix : ℕ). 2 ^ radix + line) (sym bare-line.radix) in
-        ap bare at ∙ empty-open bare (binding_slot t line) bare-line.sound.slots.derivation (line-open t bare-line.sound.slots line rebinding.less) bare-line.empty
+        ap bare at ∙ empty-open bare (binding_slot t line) bare-line.sound.slots.derivation (line-open t bare-line.sound.slots line rebinding.less)
+        bare-line.empty
 
     pub source-full : IsFull bare source
     unfolding state_of

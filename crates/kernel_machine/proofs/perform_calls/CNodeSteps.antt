@@ -5,6 +5,7 @@ use Rattle.std.proofs.lemmas.Bool.{not-true}
 use Rattle.kernel_invariant.proofs.Laws.{copy-agrees, follows-law, move-agrees, moved-closes, mutate-agrees, mutate-closes, put-closes}
 use Rattle.model.specs.Kernel.Outcomes.{Gives, GivesState}
 use Rattle.kernel_invariant.specs.Wholeness.{Agreed, IsWhole}
+use Rattle.kernel_machine.proofs.perform_calls.Lent.{IsLent}
 use Rattle.kernel_machine.proofs.perform_calls.Standing.{Whole, refused-whole}
 use Rattle.model.proofs.Ancestors.{full-open}
 use Rattle.model.specs.Capabilities.CapabilityKinds.{badge_fits, carries_messages, copied, guard_fits, is_badged, may_be_copied, with_payload}
@@ -181,53 +182,42 @@ called slots_in memory_in o store now defined call result whole same leaves give
           (leaves (subst (λ r. Gives (defined s call) s (slots_in now) r) is known))),
     )
 
-pub copy-made : {A S : Type 0} (slots_in : S → Slots) (memory_in : S → List ℕ) (o : Tables) (store now : S) (call : Call) (to from : SlotName)
-    (word : ℕ)
-    (result : Result A KError) → Whole slots_in memory_in o store → IsCall (state_of o (slots_in store) (memory_in store)) call
-    → SameOutside (slots_in store) (memory_in store) (memory_in now)
-    → GivesTo (λ s made. copy s made to from word) call (slots_in store) (slots_in now) result
-    → OnErr result (now ≡ store)
+pub copy-made : {A S : Type 0} {slots_in : S → Slots} {memory_in : S → List ℕ} {o : Tables} {store : S} {call : Call} → IsLent slots_in memory_in o store call
+    → (now : S) (to from : SlotName) (word : ℕ) (result : Result A KError) → SameOutside (slots_in store) (memory_in store) (memory_in now)
+    → GivesTo (λ s made. copy s made to from word) call (slots_in store) (slots_in now) result → OnErr result (now ≡ store)
     → GivesState (copy (state_of o (slots_in store) (memory_in store)) call to from word) result (state_of o (slots_in now) (memory_in now))
     × Whole slots_in memory_in o now
-copy-made slots_in memory_in o store now call to from word result whole is_call same gives unchanged =
-    called slots_in memory_in o store now (λ s made. copy s made to from word) call result whole same
-    (copy-left o (slots_in store) (slots_in now) (memory_in store) (memory_in now) call to from whole.sound (whole.agrees, whole.stands) same is_call word)
-    gives unchanged
+copy-made {slots_in = slots_in} {memory_in} {o} {store} {call} lent now to from word result same gives unchanged =
+    called slots_in memory_in o store now (λ s made. copy s made to from word) call result lent.whole same
+    (copy-left o (slots_in store) (slots_in now) (memory_in store) (memory_in now) call to from lent.whole.sound (lent.whole.agrees, lent.whole.stands)
+    same lent.is_call word) gives unchanged
 
-pub mint-made : {A S : Type 0} (slots_in : S → Slots) (memory_in : S → List ℕ) (o : Tables) (store now : S) (call : Call) (to from : SlotName)
-    (word payload : ℕ)
-    (result : Result A KError) → Whole slots_in memory_in o store → IsCall (state_of o (slots_in store) (memory_in store)) call
-    → SameOutside (slots_in store) (memory_in store) (memory_in now)
-    → GivesTo (λ s made. mint s made to from word payload) call (slots_in store) (slots_in now) result
-    → OnErr result (now ≡ store)
+pub mint-made : {A S : Type 0} {slots_in : S → Slots} {memory_in : S → List ℕ} {o : Tables} {store : S} {call : Call} → IsLent slots_in memory_in o store call
+    → (now : S) (to from : SlotName) (word payload : ℕ) (result : Result A KError) → SameOutside (slots_in store) (memory_in store) (memory_in now)
+    → GivesTo (λ s made. mint s made to from word payload) call (slots_in store) (slots_in now) result → OnErr result (now ≡ store)
     → GivesState (mint (state_of o (slots_in store) (memory_in store)) call to from word payload) result (state_of o (slots_in now) (memory_in now))
     × Whole slots_in memory_in o now
-mint-made slots_in memory_in o store now call to from word payload result whole is_call same gives unchanged =
-    called slots_in memory_in o store now (λ s made. mint s made to from word payload) call result whole same
-    (mint-left o (slots_in store) (slots_in now) (memory_in store) (memory_in now) call to from whole.sound (whole.agrees, whole.stands) same is_call word
-    payload) gives unchanged
+mint-made {slots_in = slots_in} {memory_in} {o} {store} {call} lent now to from word payload result same gives unchanged =
+    called slots_in memory_in o store now (λ s made. mint s made to from word payload) call result lent.whole same
+    (mint-left o (slots_in store) (slots_in now) (memory_in store) (memory_in now) call to from lent.whole.sound (lent.whole.agrees, lent.whole.stands)
+    same lent.is_call word payload) gives unchanged
 
-pub move-made : {A S : Type 0} (slots_in : S → Slots) (memory_in : S → List ℕ) (o : Tables) (store now : S) (call : Call) (to from : SlotName)
-    (result : Result A KError) → Whole slots_in memory_in o store → IsCall (state_of o (slots_in store) (memory_in store)) call
-    → SameOutside (slots_in store) (memory_in store) (memory_in now)
-    → GivesTo (λ s made. move s made to from) call (slots_in store) (slots_in now) result
-    → OnErr result (now ≡ store)
+pub move-made : {A S : Type 0} {slots_in : S → Slots} {memory_in : S → List ℕ} {o : Tables} {store : S} {call : Call} → IsLent slots_in memory_in o store call
+    → (now : S) (to from : SlotName) (result : Result A KError) → SameOutside (slots_in store) (memory_in store) (memory_in now)
+    → GivesTo (λ s made. move s made to from) call (slots_in store) (slots_in now) result → OnErr result (now ≡ store)
     → GivesState (move (state_of o (slots_in store) (memory_in store)) call to from) result (state_of o (slots_in now) (memory_in now))
     × Whole slots_in memory_in o now
-move-made slots_in memory_in o store now call to from result whole is_call same gives unchanged =
-    called slots_in memory_in o store now (λ s made. move s made to from) call result whole same
-    (move-left o (slots_in store) (slots_in now) (memory_in store) (memory_in now) call to from whole.sound (whole.agrees, whole.stands) same is_call)
-    gives unchanged
+move-made {slots_in = slots_in} {memory_in} {o} {store} {call} lent now to from result same gives unchanged =
+    called slots_in memory_in o store now (λ s made. move s made to from) call result lent.whole same
+    (move-left o (slots_in store) (slots_in now) (memory_in store) (memory_in now) call to from lent.whole.sound (lent.whole.agrees, lent.whole.stands)
+    same lent.is_call) gives unchanged
 
-pub mutate-made : {A S : Type 0} (slots_in : S → Slots) (memory_in : S → List ℕ) (o : Tables) (store now : S) (call : Call) (to from : SlotName)
-    (payload : ℕ)
-    (result : Result A KError) → Whole slots_in memory_in o store → IsCall (state_of o (slots_in store) (memory_in store)) call
-    → SameOutside (slots_in store) (memory_in store) (memory_in now)
-    → GivesTo (λ s made. mutate s made to from payload) call (slots_in store) (slots_in now) result
-    → OnErr result (now ≡ store)
+pub mutate-made : {A S : Type 0} {slots_in : S → Slots} {memory_in : S → List ℕ} {o : Tables} {store : S} {call : Call} → IsLent slots_in memory_in o store call
+    → (now : S) (to from : SlotName) (payload : ℕ) (result : Result A KError) → SameOutside (slots_in store) (memory_in store) (memory_in now)
+    → GivesTo (λ s made. mutate s made to from payload) call (slots_in store) (slots_in now) result → OnErr result (now ≡ store)
     → GivesState (mutate (state_of o (slots_in store) (memory_in store)) call to from payload) result (state_of o (slots_in now) (memory_in now))
     × Whole slots_in memory_in o now
-mutate-made slots_in memory_in o store now call to from payload result whole is_call same gives unchanged =
-    called slots_in memory_in o store now (λ s made. mutate s made to from payload) call result whole same
-    (mutate-left o (slots_in store) (slots_in now) (memory_in store) (memory_in now) call to from whole.sound (whole.agrees, whole.stands) same is_call payload)
-    gives unchanged
+mutate-made {slots_in = slots_in} {memory_in} {o} {store} {call} lent now to from payload result same gives unchanged =
+    called slots_in memory_in o store now (λ s made. mutate s made to from payload) call result lent.whole same
+    (mutate-left o (slots_in store) (slots_in now) (memory_in store) (memory_in now) call to from lent.whole.sound (lent.whole.agrees, lent.whole.stands)
+    same lent.is_call payload) gives unchanged

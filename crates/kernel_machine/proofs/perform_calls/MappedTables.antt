@@ -8,6 +8,7 @@ use Rattle.kernel_invariant.proofs.Laws.{Lessened, less-unmapped, put-closes, pu
 use Rattle.kernel_invariant.specs.Agreement.{Agrees}
 use Rattle.kernel_invariant.specs.Wholeness.{IsWhole}
 use Rattle.model.specs.Kernel.Outcomes.{Gives, GivesState}
+use Rattle.kernel_machine.proofs.perform_calls.Lent.{IsLent}
 use Rattle.kernel_machine.proofs.perform_calls.Roots.{held-at}
 use Rattle.kernel_machine.proofs.perform_calls.Standing.{Whole}
 use Rattle.model.proofs.Ancestors.{full-open}
@@ -156,18 +157,17 @@ mapped-at {A} {S} slots_in memory_in o store now call offset held mapping name a
 )
 
 -- what the call that maps a frame leaves
-pub frame-mapped : {A S : Type 0} (slots_in : S → Slots) (memory_in : S → List ℕ) (o : Tables) (store now : S) (call : Call) (slot offset : ℕ) (r held : Rights)
-    (mapping : Option FrameMapping)
-    (name : SlotName) (address word : ℕ) (result : Result A KError) → slot ≡ call.slot → r ≡ held → Whole slots_in memory_in o store →
-    IsCall (state_of o (slots_in store) (memory_in store)) call
-    → call.capability ≡ Frame offset r mapping → SameBesideTables (slots_in store) (memory_in store) (memory_in now) →
+pub frame-mapped : {A S : Type 0} {slots_in : S → Slots} {memory_in : S → List ℕ} {o : Tables} {store : S} {call : Call}
+    → IsLent slots_in memory_in o store call
+    → (now : S) (slot offset : ℕ) (r held : Rights) (mapping : Option FrameMapping) (name : SlotName) (address word : ℕ) (result : Result A KError)
+    → slot ≡ call.slot → r ≡ held → call.capability ≡ Frame offset r mapping → SameBesideTables (slots_in store) (memory_in store) (memory_in now) →
     TablesAgree (slots_in now) (memory_in now)
     → OnErr result (now ≡ store) → GivesMapped (slots_in store) call.root slot offset r mapping name address word (slots_in now) result
     → GivesState (map_frame (state_of o (slots_in store) (memory_in store)) call held name address word) result (state_of o (slots_in now) (memory_in now))
     × Whole slots_in memory_in o now
-frame-mapped slots_in memory_in o store now call slot offset r held mapping name address word result at same_rights whole is_call is same tables unchanged
-    gives =
-    mapped-at slots_in memory_in o store now call offset held mapping name address word result whole is_call
+frame-mapped {slots_in = slots_in} {memory_in} {o} {store} {call} lent now slot offset r held mapping name address word result at same_rights is same tables
+    unchanged gives =
+    mapped-at slots_in memory_in o store now call offset held mapping name address word result lent.whole lent.is_call
     (is ∙ ap (λ (x : Rights). Frame offset x mapping) same_rights) same tables unchanged
     (subst (λ (x : Rights). GivesMapped (slots_in store) call.root call.slot offset x mapping name address word (slots_in now) result) same_rights
     (subst (λ (n : ℕ). GivesMapped (slots_in store) call.root n offset r mapping name address word (slots_in now) result) at gives))
@@ -188,13 +188,14 @@ frame-taken o slots now memory call offset held mapping at is removed =
     ∙ ap (λ (n : Slots). with_slots s n) (sym (removed ∙ ap (λ (c : Cap). slots_unmapped slots call.slot c) at))
 
 -- what the call that unmaps a frame leaves
-pub frame-unmapped : {S : Type 0} (slots_in : S → Slots) (memory_in : S → List ℕ) (o : Tables) (store now : S) (call : Call) (offset : ℕ) (held : Rights)
-    (mapping : Option FrameMapping)
-    → Whole slots_in memory_in o store → IsCall (state_of o (slots_in store) (memory_in store)) call → call.capability ≡ Frame offset held mapping
-    → slots_in now ≡ unmapped_at (slots_in store) call.slot
+pub frame-unmapped : {S : Type 0} {slots_in : S → Slots} {memory_in : S → List ℕ} {o : Tables} {store : S} {call : Call}
+    → IsLent slots_in memory_in o store call → (now : S) (offset : ℕ) (held : Rights) (mapping : Option FrameMapping)
+    → call.capability ≡ Frame offset held mapping → slots_in now ≡ unmapped_at (slots_in store) call.slot
     → SameBesideTables (slots_in store) (memory_in store) (memory_in now) → TablesAgree (slots_in now) (memory_in now)
     → (unmap_frame (state_of o (slots_in store) (memory_in store)) call ≡ state_of o (slots_in now) (memory_in now)) × Whole slots_in memory_in o now
-frame-unmapped slots_in memory_in o store now call offset held mapping whole is_call is removed same tables =
+frame-unmapped {slots_in = slots_in} {memory_in} {o} {store} {call} lent now offset held mapping is removed same tables =
+    let whole = lent.whole in
+    let is_call = lent.is_call in
     let s : State = state_of o (slots_in store) (memory_in store) in
     let at = held-at o (slots_in store) (memory_in store) call (Frame offset held mapping) is_call is refl in
     let state = unmapped-state o (slots_in store) (slots_in now) (memory_in store) (memory_in now) (whole.agrees, whole.stands) same in
@@ -280,16 +281,17 @@ module _ (o : Tables) (slots now : Slots) (old new : List ℕ) (call : Call) (of
       (gives before call.caller (all-near o slots old whole.sound))
 
 -- what the call that maps a page table leaves
-pub table-mapped : {A S : Type 0} (slots_in : S → Slots) (memory_in : S → List ℕ) (o : Tables) (store now : S) (call : Call) (slot offset : ℕ)
-    (mapping : Option TableMapping)
-    (name : SlotName) (address : ℕ) (result : Result A KError) → slot ≡ call.slot → Whole slots_in memory_in o store →
-    IsCall (state_of o (slots_in store) (memory_in store)) call
+pub table-mapped : {A S : Type 0} {slots_in : S → Slots} {memory_in : S → List ℕ} {o : Tables} {store : S} {call : Call}
+    → IsLent slots_in memory_in o store call
+    → (now : S) (slot offset : ℕ) (mapping : Option TableMapping) (name : SlotName) (address : ℕ) (result : Result A KError) → slot ≡ call.slot
     → call.capability ≡ PageTable offset mapping → SameBesideTables (slots_in store) (memory_in store) (memory_in now) →
     TablesAgree (slots_in now) (memory_in now)
     → OnErr result (now ≡ store) → GivesTableMapped (slots_in store) call.root slot offset mapping name address (slots_in now) result
     → GivesState (map_table (state_of o (slots_in store) (memory_in store)) call name address) result (state_of o (slots_in now) (memory_in now))
     × Whole slots_in memory_in o now
-table-mapped slots_in memory_in o store now call slot offset mapping name address (Ok x) at whole is_call is same tables unchanged gives =
+table-mapped {slots_in = slots_in} {memory_in} {o} {store} {call} lent now slot offset mapping name address (Ok x) at is same tables unchanged gives =
+    let whole = lent.whole in
+    let is_call = lent.is_call in
     let done = table-given o (slots_in store) (slots_in now) (memory_in store) (memory_in now) call offset mapping whole is_call is same tables name address
     (Ok x)
     (subst (λ (n : ℕ). GivesTableMapped (slots_in store) call.root n offset mapping name address (slots_in now) (Ok x)) at gives) in (
@@ -297,10 +299,11 @@ table-mapped slots_in memory_in o store now call slot offset mapping name addres
           (sym (unmapped-state o (slots_in store) (slots_in now) (memory_in store) (memory_in now) (whole.agrees, whole.stands) same)),
       table-whole o (slots_in store) (slots_in now) (memory_in store) (memory_in now) call offset mapping whole is_call is same tables name address done,
     )
-table-mapped {A} {S} slots_in memory_in o store now call slot offset mapping name address (Err e) at whole is_call is same tables unchanged gives = (
-  table-given o (slots_in store) (slots_in now) (memory_in store) (memory_in now) call offset mapping whole is_call is same tables {A = A} name address (Err e)
+table-mapped {A} {slots_in = slots_in} {memory_in} {o} {store} {call} lent now slot offset mapping name address (Err e) at is same tables unchanged gives = (
+  table-given o (slots_in store) (slots_in now) (memory_in store) (memory_in now) call offset mapping lent.whole lent.is_call is same tables {A = A} name
+      address (Err e)
       (subst (λ (n : ℕ). GivesTableMapped (slots_in store) call.root n offset mapping name address (slots_in now) (refused A e)) at gives),
-  subst (λ x. Whole slots_in memory_in o x) (sym unchanged) whole,
+  subst (λ x. Whole slots_in memory_in o x) (sym unchanged) lent.whole,
 )
 
 table-taken : (o : Tables) (slots now : Slots) (memory : List ℕ) (call : Call) (offset : ℕ) (mapping : Option TableMapping) →
@@ -318,13 +321,14 @@ table-taken o slots now memory call offset (Some m) at is removed =
     ∙ ap (λ (n : Slots). with_slots s n) (sym (removed ∙ ap (λ (c : Cap). slots_unmapped slots call.slot c) at))
 
 -- what the call that unmaps a page table leaves
-pub table-unmapped : {S : Type 0} (slots_in : S → Slots) (memory_in : S → List ℕ) (o : Tables) (store now : S) (call : Call) (offset : ℕ)
-    (mapping : Option TableMapping)
-    → Whole slots_in memory_in o store → IsCall (state_of o (slots_in store) (memory_in store)) call → call.capability ≡ PageTable offset mapping
+pub table-unmapped : {S : Type 0} {slots_in : S → Slots} {memory_in : S → List ℕ} {o : Tables} {store : S} {call : Call}
+    → IsLent slots_in memory_in o store call → (now : S) (offset : ℕ) (mapping : Option TableMapping) → call.capability ≡ PageTable offset mapping
     → slots_in now ≡ unmapped_at (slots_in store) call.slot
     → SameBesideTables (slots_in store) (memory_in store) (memory_in now) → TablesAgree (slots_in now) (memory_in now)
     → (unmap_table (state_of o (slots_in store) (memory_in store)) call ≡ state_of o (slots_in now) (memory_in now)) × Whole slots_in memory_in o now
-table-unmapped slots_in memory_in o store now call offset mapping whole is_call is removed same tables =
+table-unmapped {slots_in = slots_in} {memory_in} {o} {store} {call} lent now offset mapping is removed same tables =
+    let whole = lent.whole in
+    let is_call = lent.is_call in
     let s : State = state_of o (slots_in store) (memory_in store) in
     let at = held-at o (slots_in store) (memory_in store) call (PageTable offset mapping) is_call is refl in
     let state = unmapped-state o (slots_in store) (slots_in now) (memory_in store) (memory_in now) (whole.agrees, whole.stands) same in

@@ -4,7 +4,7 @@ use Rattle.kernel_invariant.specs.Wholeness.{IsWhole}
 use Rattle.cnode_ops.proofs.Laws.{root-open, root-valid, sound-nodes}
 use Rattle.cnode_ops.specs.Nodes.{CNodesAreOpen, HasOpenSlots}
 use Rattle.cnode_ops.specs.object_lifetimes.Kernels.{IsConsistent}
-use Rattle.kernel_machine.proofs.perform_calls.Lent.{asked}
+use Rattle.kernel_machine.proofs.perform_calls.Lent.{IsLent, asked}
 use Rattle.model.proofs.ConditionTests.{tested-met}
 use Rattle.model.specs.Capabilities.CapabilityFields.{is_capability}
 use Rattle.model.specs.Capabilities.CapabilityWords.{IsCapability}
@@ -29,29 +29,32 @@ pub record MayCall (slots : Slots) (call : Call) : Type 0 where
   pub node : HasOpenSlots slots call.capability
   pub nodes : CNodesAreOpen slots
 
-pub may-call : (o : Tables) (slots : Slots) (memory : List ℕ) (call : Call) → IsWhole o slots memory → IsCall (state_of o slots memory) call →
-    MayCall slots call
+pub may-call : {S : Type 0} {slots : S → Slots} {memory : S → List ℕ} {o : Tables} {store : S} {call : Call} → IsLent slots memory o store call
+    → MayCall (slots store) call
 unfolding state_of
-may-call o slots memory call whole is_call =
-    let s : State = state_of o slots memory in
-    let invoked = invoked-root s call is_call.invoked in
+may-call {slots = slots} {memory} {o} {store} {call} lent =
+    let s : State = state_of o (slots store) (memory store) in
+    let invoked = invoked-root s call lent.is_call.invoked in
     record {
-      root = root-valid s call.root whole.sound is_call.root;
-      invoked = root-valid s call.capability whole.sound invoked;
-      there = root-open s call.root whole.sound is_call.root;
-      node = root-open s call.capability whole.sound invoked;
-      nodes = sound-nodes s whole.sound;
+      root = root-valid s call.root lent.whole.sound lent.is_call.root;
+      invoked = root-valid s call.capability lent.whole.sound invoked;
+      there = root-open s call.root lent.whole.sound lent.is_call.root;
+      node = root-open s call.capability lent.whole.sound invoked;
+      nodes = sound-nodes s lent.whole.sound;
     }
 
 -- the capabilities of a call pass the test of one
 pub call-valid : {S : Type 0} (slots : S → Slots) (memory : S → List ℕ) (call : Call) {parts kernel : Parts S} → parts ≡ kernel
     → IsConsistent (state_in slots memory parts) (memory parts.store) → IsCall (state_in slots memory kernel) call
-    → (is_capability call.root ≡ true) × (is_capability call.capability ≡ true)
+    → record { root_valid : is_capability call.root ≡ true; node_valid : is_capability call.capability ≡ true }
 unfolding is_capability
 call-valid slots memory call {parts} is kept is_call =
     let s : State = state_in slots memory parts in
     let here = asked slots memory call is is_call in
-    (tested-met _ (root-valid s call.root kept.sound here.root), tested-met _ (root-valid s call.capability kept.sound (invoked-root s call here.invoked)))
+    record {
+      root_valid = tested-met _ (root-valid s call.root kept.sound here.root);
+      node_valid = tested-met _ (root-valid s call.capability kept.sound (invoked-root s call here.invoked));
+    }
 
 -- what is no CNode is in the slot of the call
 pub held-at : (o : Tables) (slots : Slots) (memory : List ℕ) (call : Call) (c : Cap) → IsCall (state_of o slots memory) call → call.capability ≡ c →
