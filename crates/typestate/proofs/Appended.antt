@@ -1,8 +1,8 @@
 -- Loops that append what each turn tells or finds, or look whether some of it passes.
-use Rattle.std.proofs.Common.{ℕ, ◌≡◌, ◌∙◌, ◌+◌, ◌<◌, ◌≤◌, ◌||◌, Bool, true, false, Option, Some, None, List, [], ◌∷◌, ◌++◌, length, map, take, get_or, refl}
-use Rattle.std.proofs.Common.{sym, ap, add-one, append-nil, take-suc, take_all}
-use Rattle.std.specs.List.{cons_option, filter_map, flat_map, list_any}
-use Rattle.std.specs.Option.{option_map_or, option_to_list}
+use Rattle.std.proofs.Common.{ℕ, ◌≡◌, ◌∙◌, ◌+◌, ◌<◌, ◌≤◌, ◌||◌, ◌&&◌, Bool, true, false, if◌then◌else◌, Option, Some, None, List, [], ◌∷◌, ◌++◌, length, map}
+use Rattle.std.proofs.Common.{take, get_or, refl, sym, ap, add-one, append-nil, take-suc, take_all}
+use Rattle.std.specs.List.{cons_option, filter, filter_map, flat_map, list_any}
+use Rattle.std.specs.Option.{option_to_list}
 use Rattle.std.proofs.lemmas.List.{flat_map_more}
 use Rattle.model.specs.Acceptance.NotedStates.{NotedSlot}
 use Rattle.typestate.specs.declared.log_entries.LogEntry.{LogEntry}
@@ -41,25 +41,76 @@ one-more-found X look x xs rest made after whole steps before is =
     first None l = refl
     first (Some s) l = refl
 
--- where what is found for the first thing does not pass, what is found for the rest decides
-pub later-passes : (X : Type 0) (look : X → Option NotedSlot) (test : NotedSlot → Bool) (x : X) (xs rest : List X) (whole : Bool) → xs ≡ x ∷ rest
-    → list_any test (filter_map look xs) ≡ whole → option_map_or test (look x) false ≡ false → list_any test (filter_map look rest) ≡ whole
-later-passes X look test x xs rest whole steps before off =
-    sym (first (look x) (filter_map look rest) off) ∙ sym (ap (λ (l : List X). list_any test (filter_map look l)) steps) ∙ before
+-- whether one of two lists passes
+any-joined : (test : NotedSlot → Bool) (xs ys : List NotedSlot) → list_any test (xs ++ ys) ≡ (list_any test xs || list_any test ys)
+any-joined test [] ys = refl
+any-joined test (x ∷ xs) ys = ap (λ b. test x || b) (any-joined test xs ys) ∙ or-again (test x) (list_any test xs) (list_any test ys)
   where
-    first : (o : Option NotedSlot) (l : List NotedSlot) → option_map_or test o false ≡ false → list_any test (cons_option o l) ≡ list_any test l
-    first None l off = refl
-    first (Some s) l off = ap (λ b. b || list_any test l) off
+    or-again : (a b c : Bool) → (a || (b || c)) ≡ ((a || b) || c)
+    or-again true b c = refl
+    or-again false b c = refl
 
--- where it passes, that is the answer
-pub first-passes : (X : Type 0) (look : X → Option NotedSlot) (test : NotedSlot → Bool) (x : X) (xs rest : List X) (whole : Bool) → xs ≡ x ∷ rest
-    → list_any test (filter_map look xs) ≡ whole → option_map_or test (look x) false ≡ true → whole ≡ true
-first-passes X look test x xs rest whole steps before on =
-    sym before ∙ ap (λ (l : List X). list_any test (filter_map look l)) steps ∙ first (look x) (filter_map look rest) on
+both-tests : (test other : NotedSlot → Bool) (x : NotedSlot) (rest : List NotedSlot) →
+    list_any other (filter test (x ∷ rest)) ≡ ((test x && other x) || list_any other (filter test rest))
+both-tests test other x rest = elim (test x) as (λ b. list_any other (if b then x ∷ filter test rest else filter test rest)
+    ≡ ((b && other x) || list_any other (filter test rest))) [ true ↦ refl | false ↦ refl ]
+
+-- what is listed for one thing more: with what is listed for the rest it is the whole
+pub one-more-listed : (X : Type 0) (tell : X → List NotedSlot) (x : X) (xs rest : List X) (made after whole : List NotedSlot) → xs ≡ x ∷ rest
+    → made ++ flat_map tell xs ≡ whole → after ≡ made ++ tell x → after ++ flat_map tell rest ≡ whole
+one-more-listed X tell x xs rest made after whole steps before is =
+    ap (λ (l : List NotedSlot). l ++ flat_map tell rest) is
+    ∙ append-again made (tell x) (flat_map tell rest)
+    ∙ sym (ap (λ (l : List X). made ++ flat_map tell l) steps) ∙ before
+
+-- where none of what is listed for the first thing passes, what is listed for the rest decides
+pub later-passes : (X : Type 0) (tell : X → List NotedSlot) (test : NotedSlot → Bool) (x : X) (xs rest : List X) (whole : Bool) → xs ≡ x ∷ rest
+    → list_any test (flat_map tell xs) ≡ whole → list_any test (tell x) ≡ false → list_any test (flat_map tell rest) ≡ whole
+later-passes X tell test x xs rest whole steps before off =
+    sym (any-joined test (tell x) (flat_map tell rest) ∙ ap (λ b. b || list_any test (flat_map tell rest)) off)
+    ∙ sym (ap (λ (l : List X). list_any test (flat_map tell l)) steps) ∙ before
+
+-- where some of it passes, that is the answer
+pub first-passes : (X : Type 0) (tell : X → List NotedSlot) (test : NotedSlot → Bool) (x : X) (xs rest : List X) (whole : Bool) → xs ≡ x ∷ rest
+    → list_any test (flat_map tell xs) ≡ whole → list_any test (tell x) ≡ true → whole ≡ true
+first-passes X tell test x xs rest whole steps before on =
+    sym before ∙ ap (λ (l : List X). list_any test (flat_map tell l)) steps
+    ∙ any-joined test (tell x) (flat_map tell rest) ∙ ap (λ b. b || list_any test (flat_map tell rest)) on
+
+-- ---- what passes a test, one after another
+
+-- one more that passes or not: with what passes of the rest it is the whole
+pub one-more-kept : (test : NotedSlot → Bool) (x : NotedSlot) (xs rest made after whole : List NotedSlot) → xs ≡ x ∷ rest → made ++ filter test xs ≡ whole
+    → after ≡ made ++ (if test x then x ∷ [] else []) → after ++ filter test rest ≡ whole
+one-more-kept test x xs rest made after whole steps before is =
+    ap (λ (l : List NotedSlot). l ++ filter test rest) is
+    ∙ append-again made (if test x then x ∷ [] else []) (filter test rest)
+    ∙ ap (λ (l : List NotedSlot). made ++ l) (first (test x))
+    ∙ sym (ap (λ (l : List NotedSlot). made ++ filter test l) steps) ∙ before
   where
-    first : (o : Option NotedSlot) (l : List NotedSlot) → option_map_or test o false ≡ true → list_any test (cons_option o l) ≡ true
-    first None l off = absurd (let clash : false ≡ true = off in cc)
-    first (Some s) l on = ap (λ b. b || list_any test l) on
+    first : (b : Bool) → (if b then x ∷ [] else []) ++ filter test rest ≡ (if b then x ∷ filter test rest else filter test rest)
+    first true = refl
+    first false = refl
+
+-- where the first one does not pass, the rest decides
+pub one-left-out : (test : NotedSlot → Bool) (x : NotedSlot) (xs rest whole : List NotedSlot) → xs ≡ x ∷ rest → filter test xs ≡ whole → test x ≡ false →
+    filter test rest ≡ whole
+one-left-out test x xs rest whole steps before off =
+    sym (ap (λ b. if b then x ∷ filter test rest else filter test rest) off) ∙ sym (ap (filter test) steps) ∙ before
+
+-- where the first one does not pass both tests, the rest decides
+pub later-passes-both : (test other : NotedSlot → Bool) (x : NotedSlot) (xs rest : List NotedSlot) (whole : Bool) → xs ≡ x ∷ rest
+    → list_any other (filter test xs) ≡ whole → (test x && other x) ≡ false → list_any other (filter test rest) ≡ whole
+later-passes-both test other x xs rest whole steps before off =
+    sym (both-tests test other x rest ∙ ap (λ b. b || list_any other (filter test rest)) off)
+    ∙ sym (ap (λ (l : List NotedSlot). list_any other (filter test l)) steps) ∙ before
+
+-- where it passes both, that is the answer
+pub first-passes-both : (test other : NotedSlot → Bool) (x : NotedSlot) (xs rest : List NotedSlot) (whole : Bool) → xs ≡ x ∷ rest
+    → list_any other (filter test xs) ≡ whole → (test x && other x) ≡ true → whole ≡ true
+first-passes-both test other x xs rest whole steps before on =
+    sym before ∙ ap (λ (l : List NotedSlot). list_any other (filter test l)) steps
+    ∙ both-tests test other x rest ∙ ap (λ b. b || list_any other (filter test rest)) on
 
 -- ---- entries of a log
 

@@ -1,6 +1,6 @@
 -- Links from a name, where none is from a later one.
-use Rattle.std.proofs.Common.{ℕ, suc, ◌≡◌, ◌∙◌, ◌==◌, ◌<◌, ◌≤◌, ◌||◌, ◌&&◌, Bool, true, false, if◌then◌else◌, Option, Some, None, List, [], ◌∷◌, refl, sym}
-use Rattle.std.proofs.Common.{ap, arith}
+use Rattle.std.proofs.Common.{ℕ, suc, ◌≡◌, ◌∙◌, ◌==◌, ◌*◌, ◌/◌, ◌<◌, ◌≤◌, ◌||◌, ◌&&◌, Bool, true, false, if◌then◌else◌, Option, Some, None, List, [], ◌∷◌}
+use Rattle.std.proofs.Common.{refl, sym, ap, arith}
 use Rattle.std.specs.List.{All, filter}
 use Rattle.std.specs.Option.{option_map_or}
 use Rattle.std.specs.Ordering.{is_eq, is_le, is_lt, nat_cmp, ordering_then}
@@ -67,16 +67,16 @@ module _ (m : ℕ) (test : NotedSlot → Bool) where
       other-name : (a b slot : ℕ) → (a == m) ≡ false → is_eq (ordering_then (nat_cmp m a) (nat_cmp slot b)) ≡ false
       other-name a b slot off = grind (arith, nat_tests)
 
-  -- where each that passes has its link, none passes
+  -- where each that passes has the link to its block, none passes
   pub none-passes : (links : List (ℕ × ℕ)) (changes : List NotedSlot) → Rise changes → filter (λ (q : ℕ × ℕ). q.0 == m) links ≡ []
-      → ((slot : ℕ) → option_map_or test (found changes slot) false ≡ true → has_link links m slot ≡ true) → filter test changes ≡ []
+      → ((slot : ℕ) → option_map_or test (found changes slot) false ≡ true → has_link links m (slot / 16 * 16) ≡ true) → filter test changes ≡ []
   none-passes links changes rises none linked =
       let first = from-first changes rises in
       looks-equal (filter test changes) [] 0 0 (filter-rises test changes 0 first) tt
       (λ key. filter-found test changes 0 (number_of key) first ∙ fails (number_of key) (found changes (number_of key)) refl)
     where
-      clash : (slot : ℕ) → has_link links m slot ≡ true → ⊥
-      clash slot has = let no : true ≡ false = sym has ∙ no-link links slot none in cc
+      clash : (slot : ℕ) → has_link links m (slot / 16 * 16) ≡ true → ⊥
+      clash slot has = let no : true ≡ false = sym has ∙ no-link links (slot / 16 * 16) none in cc
 
       fails : (slot : ℕ) (o : Option NotedSlot) → found changes slot ≡ o → kept test o ≡ None
       fails slot None is = refl

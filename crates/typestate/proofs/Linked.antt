@@ -1,15 +1,15 @@
 -- The children of a slot are found by their links.
-use Rattle.std.proofs.Common.{ℕ, ◌≡◌, ◌∙◌, ◌==◌, ◌+◌, ◌<◌, ◌≤◌, inl, inr, ◌||◌, ◌&&◌, Bool, true, false, not, is_some, if◌then◌else◌, Option, Some, None}
-use Rattle.std.proofs.Common.{option_and_then, List, [], ◌∷◌, ◌++◌, refl, sym, ap, subst, arith}
-use Rattle.std.specs.List.{AllByRecursion, filter, filter_map, list_any}
+use Rattle.std.proofs.Common.{ℕ, ◌≡◌, ◌∙◌, ◌==◌, ◌*◌, ◌+◌, ◌/◌, ◌<◌, ◌≤◌, inl, inr, ◌||◌, ◌&&◌, Bool, true, false, not, is_some, if◌then◌else◌, Option, Some}
+use Rattle.std.proofs.Common.{None, option_and_then, List, [], ◌∷◌, ◌++◌, refl, sym, ap, subst, arith}
+use Rattle.std.specs.List.{AllByRecursion, filter, flat_map, list_any}
 use Rattle.std.specs.List.Sorted.{IsStrictlySortedBy}
 use Rattle.std.specs.Option.{option_map_or}
 use Rattle.std.specs.Ordering.{is_eq, is_le, nat_cmp, ordering_then}
 use Rattle.std.specs.declared.cmp.Ordering.TheVariants.{Less}
-use Rattle.std.proofs.lemmas.Bool.{eq-eqb, eqb-true, ne_eqb}
+use Rattle.std.proofs.lemmas.Bool.{eqb-true}
 use Rattle.std.proofs.lemmas.Bool.Decides.{eqb_tells, nat_tests}
 use Rattle.model.specs.Acceptance.NotedStates.{NotedSlot, SlotKey, number_of}
-use Rattle.typestate.specs.Families.{child_at, children_of, found, has_link, has_parent, link_cmp}
+use Rattle.typestate.specs.Families.{children_in, children_of, found, has_link, has_parent, link_cmp}
 use Rattle.typestate.specs.Left.{left_by}
 use Rattle.typestate.specs.Orders.{Rise}
 use Rattle.typestate.proofs.Rising.{RiseFrom, from-first, looks-equal}
@@ -104,53 +104,93 @@ from-here m (q ∷ rest) n some = elim (eqb_tells q.0 m) [
     apart : (a b c d : ℕ) → (c ≡ a → ⊥) → is_eq (ordering_then (nat_cmp a c) (nat_cmp b d)) ≡ false
     apart a b c d other = grind (arith, nat_tests)
 
+abbrev or_else : Option NotedSlot → Option NotedSlot → Option NotedSlot
+or_else None other = other
+or_else (Some c) other = Some c
+
+found-joined : (xs ys : List NotedSlot) (n : ℕ) → found (xs ++ ys) n ≡ or_else (found xs n) (found ys n)
+found-joined [] ys n = refl
+found-joined (x ∷ xs) ys n = elim (number_of x.key == n) as (λ b. (if b then Some x else found (xs ++ ys) n)
+    ≡ or_else (if b then Some x else found xs n) (found ys n)) [ true ↦ refl | false ↦ found-joined xs ys n ]
+
+abbrev inside : ℕ → NotedSlot → Bool
+inside block c = number_of c.key / 16 * 16 == block
+
+abbrev AreInside : ℕ → List NotedSlot → Type 0
+AreInside block [] = Unit {0}
+AreInside block (c ∷ rest) = (number_of c.key / 16 * 16 ≡ block) × AreInside block rest
+
+-- where slots of a block come before those of later blocks, keys rise
+rises-on : (block low : ℕ) (xs ys : List NotedSlot) → low ≤ (block + 16) / 16 * 16 → RiseFrom low xs → AreInside block xs →
+    RiseFrom ((block + 16) / 16 * 16) ys → RiseFrom low (xs ++ ys)
+rises-on block low [] ys most rises in_block behind = lower ys ((block + 16) / 16 * 16) low most behind
+rises-on block low (x ∷ xs) ys most rises in_block behind =
+    (rises.0, rises-on block (number_of x.key + 1) xs ys (omega (arith, in_block.0)) rises.1 in_block.1 behind)
+
+from-block : (block least low : ℕ) (xs : List NotedSlot) → RiseFrom low xs → AreInside block xs → least ≤ block → RiseFrom ((least + 15) / 16 * 16) xs
+from-block block least low [] rises in_block most = tt
+from-block block least low (x ∷ xs) rises in_block most = (omega (arith, in_block.0, most), rises.1)
+
 module _ (changes : List NotedSlot) (parent : SlotKey) (m : ℕ) where
   abbrev test : NotedSlot → Bool
   test c = has_parent parent (left_by c)
 
-  abbrev child : ℕ × ℕ → Option NotedSlot
-  child q = child_at changes parent q.1
+  abbrev children : ℕ × ℕ → List NotedSlot
+  children q = children_in changes parent q.1
 
-  abbrev cons : Option NotedSlot → List NotedSlot → List NotedSlot
-  cons None l = l
-  cons (Some c) l = c ∷ l
+  all-inside : (block : ℕ) (cs : List NotedSlot) → AreInside block (filter test (filter (inside block) cs))
+  all-inside block [] = tt
+  all-inside block (c ∷ rest) =
+      let more = all-inside block rest in
+      elim (inside block c) as (λ b. inside block c ≡ b → AreInside block (filter test (if b then c ∷ filter (inside block) rest else
+      filter (inside block) rest))) [
+        | true ↦ λ is. elim (test c) as (λ t. AreInside block (if t then c ∷ filter test (filter (inside block) rest) else
+            filter test (filter (inside block) rest))) [ true ↦ (eqb-true (number_of c.key / 16 * 16) block is, more) | false ↦ more ]
+        | false ↦ λ _. more
+      ] refl
+
+  -- what is found among the children of a block
+  block-found : Rise changes → (block n : ℕ) → found (children_in changes parent block) n
+      ≡ (if block == n / 16 * 16 then kept test (found changes n) else None)
+  block-found rises block n =
+      let first = from-first changes rises in
+      filter-found test (filter (inside block) changes) 0 n (filter-rises (inside block) changes 0 first)
+      ∙ ap (kept test) (filter-found (inside block) changes 0 n first)
+      ∙ in-place (found changes n) refl
+    where
+      turn : (a b : ℕ) → (a == b) ≡ (b == a)
+      turn a b = grind (arith, nat_tests)
+
+      in-place : (o : Option NotedSlot) → found changes n ≡ o → kept test (kept (inside block) o) ≡ (if block == n / 16 * 16 then kept test o else None)
+      in-place None is = none-either (block == n / 16 * 16)
+        where
+          none-either : (b : Bool) → none-slot ≡ (if b then none-slot else none-slot)
+          none-either true = refl
+          none-either false = refl
+      in-place (Some c) is =
+          ap (λ b. kept test (if b then Some c else None)) (ap (λ k. k / 16 * 16 == block) (found-number changes n c is) ∙ turn (n / 16 * 16) block)
+          ∙ passes (block == n / 16 * 16)
+        where
+          passes : (b : Bool) → kept test (if b then Some c else None) ≡ (if b then kept test (Some c) else None)
+          passes true = refl
+          passes false = refl
 
   -- what is found among the children of some links
-  some-found : (links : List (ℕ × ℕ)) (n : ℕ) → found (filter_map child links) n ≡ (if list_any (has_number n) links then kept test (found changes n) else None)
-  some-found [] n = refl
-  some-found (q ∷ rest) n =
-      let more = some-found rest n in
-      elim (eqb_tells q.1 n) [
-        | inl same ↦
-            let here : child q ≡ kept test (found changes n) = ap (λ k. kept test (found changes k)) same.1 in
-            (elim (child q) as (λ o. child q ≡ o → found (cons o (filter_map child rest)) n ≡ kept test (found changes n)) [
-              | None ↦ λ none.
-                  let nothing : kept test (found changes n) ≡ None = sym here ∙ none in
-                  more ∙ ap (λ o. if list_any (has_number n) rest then o else None) nothing ∙ either-none (list_any (has_number n) rest) ∙ sym nothing
-              | Some c ↦ λ is.
-                  let number : number_of c.key ≡ n = found-number changes n c (passes (found changes n) c (sym here ∙ is)) in
-                  ap (λ b. if b then Some c else found (filter_map child rest) n) (eq-eqb (number_of c.key) n number) ∙ sym is ∙ here
-            ] refl)
-            ∙ sym (ap (λ b. if b || list_any (has_number n) rest then kept test (found changes n) else None) same.0)
-        | inr other ↦
-            (elim (child q) as (λ o. child q ≡ o → found (cons o (filter_map child rest)) n
-            ≡ (if list_any (has_number n) rest then kept test (found changes n) else None)) [
-              | None ↦ λ _. more
-              | Some c ↦ λ is.
-                  let number : number_of c.key ≡ q.1 = found-number changes q.1 c (passes (found changes q.1) c is) in
-                  ap (λ b. if b then Some c else found (filter_map child rest) n) (ne_eqb (number_of c.key) n (λ same. other.1 (sym number ∙ same))) ∙ more
-            ] refl)
-            ∙ sym (ap (λ b. if b || list_any (has_number n) rest then kept test (found changes n) else None) other.0)
-      ]
+  some-found : Rise changes → (links : List (ℕ × ℕ)) (n : ℕ) → found (flat_map children links) n
+      ≡ (if list_any (has_number (n / 16 * 16)) links then kept test (found changes n) else None)
+  some-found rises [] n = refl
+  some-found rises (q ∷ rest) n =
+      found-joined (children q) (flat_map children rest) n
+      ∙ ap (λ o. or_else o (found (flat_map children rest) n)) (block-found rises q.1 n)
+      ∙ ap (or_else (if q.1 == n / 16 * 16 then kept test (found changes n) else None)) (some-found rises rest n)
+      ∙ either (q.1 == n / 16 * 16) (list_any (has_number (n / 16 * 16)) rest) (kept test (found changes n))
     where
-      either-none : (b : Bool) → (if b then none-slot else none-slot) ≡ none-slot
-      either-none true = refl
-      either-none false = refl
-
-      passes : (o : Option NotedSlot) (c : NotedSlot) → kept test o ≡ Some c → o ≡ Some c
-      passes None c is = absurd (let clash : None ≡ Some c = is in cc)
-      passes (Some d) c is = elim (test d) as (λ b. (if b then Some d else None) ≡ Some c → Some d ≡ Some c)
-          [ true ↦ λ same. same | false ↦ λ clash. absurd (let no : None ≡ Some c = clash in cc) ] is
+      either : (a b : Bool) (o : Option NotedSlot) → or_else (if a then o else None) (if b then o else None) ≡ (if a || b then o else None)
+      either true true None = refl
+      either true true (Some c) = refl
+      either true false None = refl
+      either true false (Some c) = refl
+      either false b o = refl
 
   -- links rise from a number on
   abbrev AllFrom : ℕ → List (ℕ × ℕ) → Type 0
@@ -164,44 +204,38 @@ module _ (changes : List NotedSlot) (parent : SlotKey) (m : ℕ) where
       behind : (a b c d : ℕ) → a ≡ c → ordering_then (nat_cmp a c) (nat_cmp b d) ≡ Less → b + 1 ≤ d
       behind a b c d same less = grind (arith, nat_tests)
 
-  child-number : (q : ℕ × ℕ) (c : NotedSlot) → child q ≡ Some c → number_of c.key ≡ q.1
-  child-number q c is = found-number changes q.1 c (elim (found changes q.1) as (λ o. kept test o ≡ Some c → o ≡ Some c) [
-    | None ↦ λ clash. absurd (let no : None ≡ Some c = clash in cc)
-    | Some d ↦ elim (test d) as (λ b. (if b then Some d else None) ≡ Some c → Some d ≡ Some c)
-        [ true ↦ λ same. same | false ↦ λ clash. absurd (let no : None ≡ Some c = clash in cc) ]
-  ] is)
-
-  children-rise : (links : List (ℕ × ℕ)) (least : ℕ) → IsStrictlySortedBy link_cmp links → AllFrom least links →
-      RiseFrom least (filter_map child (filter (named m) links))
+  children-rise : Rise changes → (links : List (ℕ × ℕ)) (least : ℕ) → IsStrictlySortedBy link_cmp links → AllFrom least links →
+      RiseFrom ((least + 15) / 16 * 16) (flat_map children (filter (named m) links))
   unfolding IsStrictlySortedBy
-  children-rise [] least sorted from = tt
-  children-rise (q ∷ rest) least sorted from = elim (eqb_tells q.0 m) [
+  children-rise rises [] least sorted from = tt
+  children-rise rises (q ∷ rest) least sorted from = elim (eqb_tells q.0 m) [
     | inl same ↦
-        subst (λ b. RiseFrom least (filter_map child (if b then q ∷ filter (named m) rest else filter (named m) rest))) (sym same.0)
-        (elim (child q) as (λ o. child q ≡ o → RiseFrom least (cons o (filter_map child (filter (named m) rest)))) [
-          | None ↦ λ _. children-rise rest least sorted.1 from.1
-          | Some c ↦ λ is.
-              let number = child-number q c is in (
-                omega (arith, number, from.0 same.1),
-                subst (λ k. RiseFrom (k + 1) (filter_map child (filter (named m) rest))) (sym number)
-                    (children-rise rest (q.1 + 1) sorted.1 (all-behind q rest same.1 sorted.0)),
-              )
-        ] refl)
-    | inr other ↦ subst (λ b. RiseFrom least (filter_map child (if b then q ∷ filter (named m) rest else filter (named m) rest))) (sym other.0)
-        (children-rise rest least sorted.1 from.1)
+        let first = from-first changes rises in
+        let ours : AreInside q.1 (children q) = all-inside q.1 changes in
+        let most : least ≤ q.1 = from.0 same.1 in
+        let up : q.1 + 1 + 15 ≡ q.1 + 16 = omega arith in
+        subst (λ b. RiseFrom ((least + 15) / 16 * 16) (flat_map children (if b then q ∷ filter (named m) rest else filter (named m) rest))) (sym same.0)
+        (rises-on q.1 ((least + 15) / 16 * 16) (children q) (flat_map children (filter (named m) rest)) (omega (arith, most))
+        (from-block q.1 least 0 (children q) (filter-rises test (filter (inside q.1) changes) 0 (filter-rises (inside q.1) changes 0 first)) ours most) ours
+        (subst (λ k. RiseFrom (k / 16 * 16) (flat_map children (filter (named m) rest))) up
+        (children-rise rises rest (q.1 + 1) sorted.1 (all-behind q rest same.1 sorted.0))))
+    | inr other ↦
+        subst (λ b. RiseFrom ((least + 15) / 16 * 16) (flat_map children (if b then q ∷ filter (named m) rest else filter (named m) rest))) (sym other.0)
+        (children-rise rises rest least sorted.1 from.1)
   ]
 
   all-from-zero : (links : List (ℕ × ℕ)) → AllFrom 0 links
   all-from-zero [] = tt
   all-from-zero (q ∷ rest) = (λ _. omega arith, all-from-zero rest)
 
-  -- the children by their links, of which each has one from a number, are the changes that leave children
+  -- the children by their links, of which each has one from a number to its block, are the changes that leave children
   pub linked-children : (links : List (ℕ × ℕ)) → Rise changes →
-      ((slot : ℕ) → option_map_or test (found changes slot) false ≡ true → has_link links m slot ≡ true) → IsStrictlySortedBy link_cmp links →
-      filter_map child (filter (named m) links) ≡ children_of changes parent
+      ((slot : ℕ) → option_map_or test (found changes slot) false ≡ true → has_link links m (slot / 16 * 16) ≡ true) → IsStrictlySortedBy link_cmp links →
+      flat_map children (filter (named m) links) ≡ children_of changes parent
   linked-children links rises linked sorted =
       let first = from-first changes rises in
-      looks-equal (filter_map child (filter (named m) links)) (children_of changes parent) 0 0 (children-rise links 0 sorted (all-from-zero links))
+      looks-equal (flat_map children (filter (named m) links)) (children_of changes parent) ((0 + 15) / 16 * 16) 0
+      (children-rise rises links 0 sorted (all-from-zero links))
       (filter-rises test changes 0 first)
       (λ key. same-at (number_of key) ∙ sym (filter-found test changes 0 (number_of key) first))
     where
@@ -214,9 +248,11 @@ module _ (changes : List NotedSlot) (parent : SlotKey) (m : ℕ) where
       passes-child None is = is
       passes-child (Some c) is = elim (test c) as (λ b. is_some (if b then Some c else None) ≡ true → b ≡ true) [ true ↦ λ _. refl | false ↦ λ clash. clash ] is
 
-      same-at : (n : ℕ) → found (filter_map child (filter (named m) links)) n ≡ kept test (found changes n)
-      same-at n = some-found (filter (named m) links) n ∙ all-or (list_any (has_number n) (filter (named m) links)) (kept test (found changes n))
-          (λ some. from-here m links n (linked n (passes-child (found changes n) some)))
+      same-at : (n : ℕ) → found (flat_map children (filter (named m) links)) n ≡ kept test (found changes n)
+      same-at n =
+          some-found rises (filter (named m) links) n
+          ∙ all-or (list_any (has_number (n / 16 * 16)) (filter (named m) links)) (kept test (found changes n))
+          (λ some. from-here m links (n / 16 * 16) (linked n (passes-child (found changes n) some)))
 
 pub append-none : (cs : List NotedSlot) → cs ++ [] ≡ cs
 append-none [] = refl

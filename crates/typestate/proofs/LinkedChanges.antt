@@ -1,12 +1,13 @@
--- Links are kept where a change is put among others.
-use Rattle.std.proofs.Common.{ℕ, ◌≡◌, ◌∙◌, ◌==◌, Bool, true, false, if◌then◌else◌, Option, Some, None, List, refl, sym, ap, subst, arith}
+-- Links are kept where a change is put among others, or one of them goes.
+use Rattle.std.proofs.Common.{ℕ, ◌≡◌, ◌∙◌, ◌==◌, ◌*◌, ◌/◌, inl, inr, Bool, true, false, if◌then◌else◌, Some, List, refl, sym, ap, subst, arith}
 use Rattle.std.specs.Option.{option_map_or}
 use Rattle.std.specs.Ordering.{is_eq, nat_cmp, ordering_then}
 use Rattle.std.proofs.lemmas.Bool.{eq-eqb, eqb-true}
-use Rattle.std.proofs.lemmas.Bool.Decides.{nat_tests}
+use Rattle.std.proofs.lemmas.Bool.Decides.{eqb_tells, nat_tests}
 use Rattle.model.specs.Acceptance.NotedStates.{NotedSlot, SlotKey, is_same_key, number_of, slot_at}
 use Rattle.typestate.specs.Families.{AreNamed, KeepsLinks, found, has_link}
-use Rattle.typestate.specs.PackedChanges.{has_name}
+use Rattle.typestate.specs.PackedChanges.{AreLinked, is_named, packed_at}
+use Rattle.typestate.specs.declared.packed_change.PackedChange.{PackedChange}
 
 module _ (test : ℕ → NotedSlot → Bool) (old new : List NotedSlot) (change : NotedSlot)
     (put : (key : SlotKey) → slot_at new key ≡ (if is_same_key change.key key then Some change else slot_at old key)) where
@@ -52,9 +53,16 @@ other-child x y a b n same off = grind (arith, nat_tests)
 pub other-parent : (x y a b n : ℕ) → x ≡ n → (n == a) ≡ false → is_eq (ordering_then (nat_cmp x a) (nat_cmp y b)) ≡ false
 other-parent x y a b n same off = grind (arith, nat_tests)
 
-pub names-apart : (was : ℕ) (parent : Option ℕ) (name : ℕ) → has_name was parent ≡ false → has_name name parent ≡ true → (was == name) ≡ false
-names-apart was None name other is = absurd (let no : false ≡ true = is in cc)
-names-apart was (Some p) name other is = apart-from p was name other is
-  where
-    apart-from : (p a b : ℕ) → (p == a) ≡ false → (p == b) ≡ true → (a == b) ≡ false
-    apart-from p a b off is = grind (arith, nat_tests)
+-- a link goes from which no slot of its block has the name
+pub others-linked : (es : List (ℕ × PackedChange)) (before after : List (ℕ × ℕ)) (name block : ℕ)
+    → ((a b : ℕ) → is_eq (ordering_then (nat_cmp name a) (nat_cmp block b)) ≡ false → has_link after a b ≡ has_link before a b)
+    → ((slot : ℕ) → slot / 16 * 16 ≡ block → is_named name (packed_at es slot) ≡ false) → AreLinked es before → AreLinked es after
+others-linked es before after name block same none linked other slot is = elim (eqb_tells name other) [
+  | inl here ↦ elim (eqb_tells (slot / 16 * 16) block) [
+    | inl ours ↦
+        let off : is_named other (packed_at es slot) ≡ false = subst (λ n. is_named n (packed_at es slot) ≡ false) here.1 (none slot ours.1) in
+        absurd (let clash : false ≡ true = sym off ∙ is in cc)
+    | inr apart ↦ same other (slot / 16 * 16) (other-child name block other (slot / 16 * 16) block refl apart.0) ∙ linked other slot is
+  ]
+  | inr apart ↦ same other (slot / 16 * 16) (other-parent name block other (slot / 16 * 16) name refl apart.0) ∙ linked other slot is
+]

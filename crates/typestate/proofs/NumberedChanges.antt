@@ -1,21 +1,22 @@
 -- A map from numbers to packed changes, as the list of its changes.
-use Rattle.std.proofs.Common.{ℕ, ◌≡◌, ◌∙◌, ◌==◌, ◌*◌, ◌+◌, ◌/◌, ◌%◌, ◌<◌, ◌≤◌, ◌^◌, inl, inr, ◌&&◌, Bool, true, false, not, cond, if◌then◌else◌, nat_lt, Option}
-use Rattle.std.proofs.Common.{Some}
-use Rattle.std.proofs.Common.{None, option_map, List, [], ◌∷◌, map, refl, sym, ap, subst, arith}
-use Rattle.std.specs.List.{filter, list_all}
+use Rattle.std.proofs.Common.{ℕ, ◌≡◌, ◌∙◌, ◌==◌, ◌*◌, ◌+◌, ◌/◌, ◌%◌, ◌<◌, ◌≤◌, ◌^◌, inl, inr, ◌||◌, ◌&&◌, Bool, true, false, not, cond, if◌then◌else◌, nat_lt}
+use Rattle.std.proofs.Common.{Option, Some, None, option_map, List, [], ◌∷◌, map, refl, sym, ap, subst, arith}
+use Rattle.std.specs.List.{filter, list_all, list_any}
+use Rattle.std.specs.List.Sorted.{IsStrictlySortedBy}
 use Rattle.std.specs.Map.{keys_of}
 use Rattle.std.specs.Option.{option_map_or}
 use Rattle.std.specs.Ordering.{is_eq, is_le, nat_cmp}
-use Rattle.std.proofs.lemmas.Bool.{eq-eqb, eqb-true}
+use Rattle.std.specs.declared.cmp.Ordering.TheVariants.{Less}
+use Rattle.std.proofs.lemmas.Bool.{eq-eqb, eqb-true, ne_eqb}
 use Rattle.std.proofs.lemmas.Bool.Decides.{eqb_tells, nat_tests}
 use Rattle.model.specs.Acceptance.NotedStates.{NotedSlot, SlotKey, number_of}
 use Rattle.model.specs.Capabilities.Slots.{is_empty}
 use Rattle.model.specs.declared.capabilities.Cap.{Cap}
-use Rattle.typestate.specs.Families.{found, has_link, has_parent}
+use Rattle.typestate.specs.Families.{KeepsLinks, found, has_link, has_parent, in_block}
 use Rattle.typestate.specs.Left.{left_by}
 use Rattle.typestate.specs.Names.{AreInverse, renamed, turned_number}
 use Rattle.typestate.specs.Orders.{is_narrow}
-use Rattle.typestate.specs.PackedChanges.{AreLinked, cap_of, has_name, is_named, numbered_key, packed_at, unpacked_change, unpacked_entry}
+use Rattle.typestate.specs.PackedChanges.{AreLinked, begin_in, cap_of, has_name, is_named, numbered_key, packed_at, unpacked_change, unpacked_entry}
 use Rattle.typestate.specs.Replays.{exchanged, turned}
 use Rattle.typestate.specs.declared.packed_change.PackedChange.{PackedChange}
 
@@ -165,11 +166,11 @@ module _ (old new : List (ℕ × ℕ)) (one other : SlotKey) (first : nat_lt one
 
 -- ---- links
 
--- each child of a slot has its link from the slot's name
+-- each child of a slot has the link to its block from the slot's name
 pub child-linked : (slots names : List (ℕ × ℕ)) (es : List (ℕ × PackedChange)) (links : List (ℕ × ℕ)) (parent : SlotKey) → AreInverse slots names →
     AreLinked es links
     → (slot : ℕ) → option_map_or (λ c. has_parent parent (left_by c)) (found (map (unpacked_entry slots) es) slot) false ≡ true →
-    has_link links (renamed names (number_of parent)) slot ≡ true
+    has_link links (renamed names (number_of parent)) (slot / 16 * 16) ≡ true
 child-linked slots names es links parent inverse linked slot is =
     linked (renamed names (number_of parent)) slot
     (of-packed (packed_at es slot) (sym (ap (λ o. option_map_or (λ c. has_parent parent (left_by c)) o false) (unpacked-found slots es slot)) ∙ is))
@@ -195,16 +196,127 @@ child-linked slots names es links parent inverse linked slot is =
 
 -- links are kept where a change is put, and its own is there
 pub put-linked : (es new : List (ℕ × PackedChange)) (n : ℕ) (packed : PackedChange) (before after : List (ℕ × ℕ))
-    → ((m : ℕ) → packed_at new m ≡ cond (is_eq (nat_cmp n m)) (Some packed) (packed_at es m)) → AreLinked es before
-    → ((name child : ℕ) → (child == n) ≡ false → has_link before name child ≡ true → has_link after name child ≡ true)
-    → ((name : ℕ) → has_name name packed.parent ≡ true → has_link after name n ≡ true) → AreLinked new after
-put-linked es new n packed before after put linked others own name slot is = elim (eqb_tells slot n) [
+    → ((m : ℕ) → packed_at new m ≡ cond (is_eq (nat_cmp n m)) (Some packed) (packed_at es m)) → AreLinked es before → KeepsLinks before after
+    → ((name : ℕ) → has_name name packed.parent ≡ true → has_link after name (n / 16 * 16) ≡ true) → AreLinked new after
+put-linked es new n packed before after put linked kept own name slot is = elim (eqb_tells slot n) [
   | inl same ↦
       let here : is_named name (Some packed) ≡ true = sym (ap (λ b. is_named name (cond b (Some packed) (packed_at es slot))) (eq-test n slot ∙ same.0))
       ∙ sym (ap (is_named name) (put slot)) ∙ is in
-      subst (λ k. has_link after name k ≡ true) (sym same.1) (own name here)
+      subst (λ k. has_link after name (k / 16 * 16) ≡ true) (sym same.1) (own name here)
   | inr other ↦
       let there : is_named name (packed_at es slot) ≡ true = sym (ap (λ b. is_named name (cond b (Some packed) (packed_at es slot))) (eq-test n slot ∙ other.0))
       ∙ sym (ap (is_named name) (put slot)) ∙ is in
-      others name slot other.0 (linked name slot there)
+      kept name (slot / 16 * 16) (linked name slot there)
 ]
+
+-- ---- the changes to slots of a block
+
+abbrev are_in : ℕ → ℕ × PackedChange → Bool
+are_in block e = e.0 / 16 * 16 == block
+
+-- a number, and none before it
+abbrev AllAfter : ℕ → List (ℕ × PackedChange) → Type 0
+AllAfter least [] = Unit {0}
+AllAfter least (e ∷ rest) = (least ≤ e.0) × AllAfter (e.0 + 1) rest
+
+all-behind : (first : ℕ) (rest : List (ℕ × PackedChange)) → IsStrictlySortedBy nat_cmp (first ∷ keys_of rest) → AllAfter (first + 1) rest
+unfolding IsStrictlySortedBy
+all-behind first [] sorted = tt
+all-behind first (e ∷ rest) sorted = (next first e.0 sorted.0.0, all-behind e.0 rest sorted.1)
+  where
+    next : (a b : ℕ) → nat_cmp a b ≡ Less → a + 1 ≤ b
+    next a b less = grind (arith, nat_tests)
+
+all-after : (es : List (ℕ × PackedChange)) → IsStrictlySortedBy nat_cmp (keys_of es) → AllAfter 0 es
+all-after [] sorted = tt
+all-after (e ∷ rest) sorted = (omega arith, all-behind e.0 rest sorted)
+
+-- behind the block there is none
+none-left : (block past least : ℕ) (es : List (ℕ × PackedChange)) → AllAfter least es → block ≤ past → past < least → (past / 16 * 16 == block) ≡ false →
+    filter (are_in block) es ≡ []
+none-left block past least [] after from less out = refl
+none-left block past least (e ∷ rest) after from less out =
+    ap (λ b. if b then e ∷ filter (are_in block) rest else filter (are_in block) rest)
+    (ne_eqb (e.0 / 16 * 16) block (λ same. ne-past block past e.0 same from (omega (arith, less, after.0)) out))
+    ∙ none-left block past (e.0 + 1) rest after.1 from (omega (arith, less, after.0)) out
+  where
+    ne-past : (block past n : ℕ) → n / 16 * 16 ≡ block → block ≤ past → past < n → (past / 16 * 16 == block) ≡ false → ⊥
+    ne-past block past n same from less out =
+        let here : past / 16 * 16 ≡ block = omega (arith, same, from, less) in
+        let clash : false ≡ true = sym out ∙ eq-eqb (past / 16 * 16) block here in cc
+
+abbrev from_block : ℕ → List (ℕ × PackedChange) → List (ℕ × PackedChange)
+from_block block es = filter (λ (e : ℕ × PackedChange). is_le (nat_cmp block e.0) && true) es
+
+begin-after : (block least : ℕ) (es : List (ℕ × PackedChange)) → AllAfter least es → begin_in block (from_block block es) ≡ filter (are_in block) es
+begin-after block least [] after = refl
+begin-after block least (e ∷ rest) after =
+    let more = begin-after block (e.0 + 1) rest after.1 in
+    elim (is_le (nat_cmp block e.0)) as (λ b. is_le (nat_cmp block e.0) ≡ b
+    → begin_in block (if b && true then e ∷ from_block block rest else from_block block rest) ≡ filter (are_in block) (e ∷ rest)) [
+      | true ↦ λ from. elim (are_in block e) as (λ b. are_in block e ≡ b
+          → (if b then e ∷ begin_in block (from_block block rest) else []) ≡ (if b then e ∷ filter (are_in block) rest else filter (are_in block) rest)) [
+            | true ↦ λ _. ap (λ (l : List (ℕ × PackedChange)). e ∷ l) more
+            | false ↦ λ out. sym (none-left block e.0 (e.0 + 1) rest after.1 (at-least block e.0 from) (omega arith) out)
+          ] refl
+      | false ↦ λ low.
+          more ∙ sym (ap (λ b. if b then e ∷ filter (are_in block) rest else filter (are_in block) rest)
+          (ne_eqb (e.0 / 16 * 16) block (λ same. ne-below block e.0 low same)))
+    ] refl
+  where
+    at-least : (a b : ℕ) → is_le (nat_cmp a b) ≡ true → a ≤ b
+    at-least a b is = grind (arith, nat_tests)
+
+    above : (a b : ℕ) → is_le (nat_cmp a b) ≡ false → b < a
+    above a b is = grind (arith, nat_tests)
+
+    ne-below : (block n : ℕ) → is_le (nat_cmp block n) ≡ false → n / 16 * 16 ≡ block → ⊥
+    ne-below block n low same = omega (arith, above block n low, same)
+
+-- the first ones of those from a block on are all of the block
+pub begin-block : (block : ℕ) (es : List (ℕ × PackedChange)) → IsStrictlySortedBy nat_cmp (keys_of es) →
+    begin_in block (from_block block es) ≡ filter (are_in block) es
+begin-block block es sorted = begin-after block 0 es (all-after es sorted)
+
+pub block-changes : (slots : List (ℕ × ℕ)) (block : ℕ) (es : List (ℕ × PackedChange)) →
+    map (unpacked_entry slots) (filter (are_in block) es) ≡ in_block (map (unpacked_entry slots) es) block
+block-changes slots block [] = refl
+block-changes slots block (e ∷ rest) =
+    let more = block-changes slots block rest in
+    (elim (are_in block e) as (λ b. map (unpacked_entry slots) (if b then e ∷ filter (are_in block) rest else filter (are_in block) rest)
+    ≡ (if b then unpacked_entry slots e ∷ in_block (map (unpacked_entry slots) rest) block else in_block (map (unpacked_entry slots) rest) block)) [
+      | true ↦ ap (λ (l : List NotedSlot). unpacked_entry slots e ∷ l) more
+      | false ↦ more
+    ])
+    ∙ sym (ap (λ n. if n / 16 * 16 == block then unpacked_entry slots e ∷ in_block (map (unpacked_entry slots) rest) block
+    else in_block (map (unpacked_entry slots) rest) block) (number-back e.0))
+
+-- where no change to a slot of a block has a name, none of its slots has it
+pub none-named : (name block : ℕ) (es : List (ℕ × PackedChange)) → list_any (λ (e : ℕ × PackedChange). has_name name e.1.parent) (filter (are_in block) es)
+    ≡ false
+    → (slot : ℕ) → slot / 16 * 16 ≡ block → is_named name (packed_at es slot) ≡ false
+none-named name block [] none slot inside = refl
+none-named name block (e ∷ rest) none slot inside =
+    let any : List (ℕ × PackedChange) → Bool = list_any (λ (e : ℕ × PackedChange). has_name name e.1.parent) in
+    elim (eqb_tells e.0 slot) [
+      | inl same ↦
+          let ours : are_in block e ≡ true = eq-eqb (e.0 / 16 * 16) block (ap (λ k. k / 16 * 16) same.1 ∙ inside) in
+          ap (λ b. is_named name (cond b (Some e.1) (packed_at rest slot))) (eq-test slot e.0 ∙ same.0)
+          ∙ first-off (has_name name e.1.parent) (any (filter (are_in block) rest))
+          (sym (ap (λ b. any (if b then e ∷ filter (are_in block) rest else filter (are_in block) rest)) ours) ∙ none)
+      | inr other ↦
+          ap (λ b. is_named name (cond b (Some e.1) (packed_at rest slot))) (eq-test slot e.0 ∙ other.0)
+          ∙ none-named name block rest (elim (are_in block e) as (λ b. any (if b then e ∷ filter (are_in block) rest else filter (are_in block) rest) ≡ false →
+          any (filter (are_in block) rest) ≡ false) [
+            | true ↦ λ off. rest-off (has_name name e.1.parent) (any (filter (are_in block) rest)) off
+            | false ↦ λ off. off
+          ] none) slot inside
+    ]
+  where
+    first-off : (a b : Bool) → (a || b) ≡ false → a ≡ false
+    first-off true b off = off
+    first-off false b off = refl
+
+    rest-off : (a b : Bool) → (a || b) ≡ false → b ≡ false
+    rest-off true b off = absurd (let clash : true ≡ false = off in cc)
+    rest-off false b off = off

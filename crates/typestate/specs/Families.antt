@@ -1,5 +1,5 @@
 -- Changes by what their slots were derived from.
-use Rattle.std.specs.Prelude.{ℕ, ◌≡◌, ◌==◌, Bool, true, false, if◌then◌else◌, Option, Some, None, option_and_then, List}
+use Rattle.std.specs.Prelude.{ℕ, ◌≡◌, ◌==◌, ◌*◌, ◌/◌, Bool, true, false, Option, List}
 use Rattle.std.specs.List.{filter, find, list_any}
 use Rattle.std.specs.Option.{option_map_or}
 use Rattle.std.specs.Ordering.{nat_cmp, ordering_then, is_eq}
@@ -22,9 +22,13 @@ has_parent key held = is_child_of (number_of key) held
 abbrev pub children_of : List NotedSlot → SlotKey → List NotedSlot
 children_of changes parent = filter (λ c. has_parent parent (left_by c)) changes
 
--- the change to the slot of a number, if that was derived from the slot of a key
-abbrev pub child_at : List NotedSlot → SlotKey → ℕ → Option NotedSlot
-child_at changes parent number = option_and_then (λ c. if has_parent parent (left_by c) then Some c else None) (found changes number)
+-- the changes to slots of a block of sixteen, by the number of the first one
+abbrev pub in_block : List NotedSlot → ℕ → List NotedSlot
+in_block changes block = filter (λ c. number_of c.key / 16 * 16 == block) changes
+
+-- those of a block whose slots were derived from the slot of a key
+abbrev pub children_in : List NotedSlot → SlotKey → ℕ → List NotedSlot
+children_in changes parent block = filter (λ c. has_parent parent (left_by c)) (in_block changes block)
 
 -- links in the order of the parents, and then of the children
 abbrev pub link_cmp : ℕ × ℕ → ℕ × ℕ → Ordering
@@ -40,3 +44,7 @@ AreNamed test changes links =
 
 abbrev pub KeepsLinks : List (ℕ × ℕ) → List (ℕ × ℕ) → Type 0
 KeepsLinks old new = (parent child : ℕ) → has_link old parent child ≡ true → has_link new parent child ≡ true
+
+-- the link that was added last is there, if any was
+abbrev pub LastIsLinked : List (ℕ × ℕ) → Option (ℕ × ℕ) → Type 0
+LastIsLinked links last = option_map_or (λ (q : ℕ × ℕ). has_link links q.0 q.1) last true ≡ true

@@ -1,5 +1,5 @@
 -- Changes as they are kept: the number of the slot, the words of the capability, and the name of what the slot was derived from.
-use Rattle.std.specs.Prelude.{ℕ, ◌≡◌, ◌==◌, ◌/◌, ◌%◌, Bool, true, false, Option, List, option_map}
+use Rattle.std.specs.Prelude.{ℕ, ◌≡◌, ◌==◌, ◌*◌, ◌/◌, ◌%◌, Bool, true, false, if◌then◌else◌, Option, List, [], ◌∷◌, option_map}
 use Rattle.std.specs.Map.{lookup}
 use Rattle.std.specs.Option.{option_map_or}
 use Rattle.std.specs.Ordering.{is_eq, nat_cmp}
@@ -40,6 +40,11 @@ has_name name parent = option_map_or (λ p. p == name) parent false
 abbrev pub is_named : ℕ → Option PackedChange → Bool
 is_named name packed = option_map_or (λ p. has_name name p.parent) packed false
 
--- each change that names what its slot was derived from has its link from there
+-- each change that names what its slot was derived from has a link from there to the slot's block
 abbrev pub AreLinked : List (ℕ × PackedChange) → List (ℕ × ℕ) → Type 0
-AreLinked entries links = (name slot : ℕ) → is_named name (packed_at entries slot) ≡ true → has_link links name slot ≡ true
+AreLinked entries links = (name slot : ℕ) → is_named name (packed_at entries slot) ≡ true → has_link links name (slot / 16 * 16) ≡ true
+
+-- the changes that come first, and are to slots of a block
+abbrev pub begin_in : ℕ → List (ℕ × PackedChange) → List (ℕ × PackedChange)
+begin_in block [] = []
+begin_in block (e ∷ rest) = if e.0 / 16 * 16 == block then e ∷ begin_in block rest else []

@@ -1,14 +1,14 @@
 //! Changes to slots, each found by the number of its slot, and by what that was derived from.
 
-ghost use Rattle.std.specs.Prelude.{ℕ, ◌≡◌, ◌≤◌, ◌+◌, [], IfErr, IfOk, None, Some, filter_map, if◌then◌else◌, length, map, option_and_then, true, ◌<◌, ◌^◌};
+ghost use Rattle.std.specs.Prelude.{ℕ, ◌≡◌, ◌≤◌, ◌+◌, [], IfErr, IfOk, None, Some, flat_map, if◌then◌else◌, length, map, option_and_then, true, ◌<◌, ◌^◌};
 ghost use Rattle.std.specs.Iterator.{YieldsFirst, item_count};
 ghost use Rattle.model.specs.Acceptance.NotedStates.{NotedSlot, SlotKey, is_same_key, number_of, slot_at};
-ghost use Rattle.typestate.specs.Families.{child_at, children_of, found};
+ghost use Rattle.typestate.specs.Families.{children_in, children_of, found, in_block};
 ghost use Rattle.typestate.specs.Left.{parent_left};
 ghost use Rattle.typestate.specs.Orders.{AreNarrow, Rise};
 ghost use Rattle.typestate.specs.Replays.{exchanged};
 
-use crate::families::Families;
+use crate::families::{Families, block_of};
 use crate::names::Names;
 use crate::packed_change::PackedChange;
 use crate::packed_changes::low;
@@ -16,8 +16,8 @@ use crate::packed_slot::PackedSlot;
 use crate::slot_runs::SlotRun;
 use crate::{NotedSlot, SlotKey};
 use std::alloc::{AllocError, Global};
-use std::collections::btree_map::{BTreeMap, Iter};
-use std::collections::btree_set::Range;
+use std::collections::btree_map::{BTreeMap, Iter, Range};
+use std::collections::btree_set::Range as Links;
 use std::marker::Model;
 
 /// Changes to slots, one to each. A clause sees their list, whose keys rise.
@@ -31,6 +31,7 @@ pub struct Changes {
 impl Model for Changes {
     ghost use Rattle.std.specs.Prelude.{List, map};
     ghost use Rattle.model.specs.Acceptance.NotedStates.{NotedSlot};
+    ghost use Rattle.typestate.specs.Families.{LastIsLinked};
     ghost use Rattle.typestate.specs.Names.{AreInverse};
     ghost use Rattle.typestate.specs.PackedChanges.{AreLinked, unpacked_entry};
 
@@ -38,7 +39,7 @@ impl Model for Changes {
 
     ghost view = { λ changes. map (unpacked_entry changes.names.slots.entries) changes.packed.entries };
 
-    ghost invariant = { λ changes. AreInverse changes.names.slots.entries changes.names.names.entries × AreLinked changes.packed.entries changes.families.links.keys };
+    ghost invariant = { λ changes. AreInverse changes.names.slots.entries changes.names.names.entries × AreLinked changes.packed.entries changes.families.links.keys × LastIsLinked changes.families.links.keys changes.families.last };
 }
 
 /// Changes in the order of their keys. A clause sees their list.
@@ -69,6 +70,46 @@ impl<'c> Iterator for ChangesLeft<'c> {
         match self.left.next() {
             Some((number, packed)) => Some(packed.at(*number, self.names)),
             None => None,
+        }
+    }
+}
+
+/// The changes to slots of a block, in the order of their keys. A clause sees their list.
+#[derive(Drop)]
+pub(crate) struct BlockChanges<'c> {
+    left: Range<'c, u64, PackedChange>,
+    block: u64,
+    has_ended: bool,
+    names: &'c Names,
+}
+
+impl<'c> Model for BlockChanges<'c> {
+    ghost use Rattle.std.specs.Prelude.{List, [], if◌then◌else◌, map};
+    ghost use Rattle.model.specs.Acceptance.NotedStates.{NotedSlot};
+    ghost use Rattle.typestate.specs.PackedChanges.{begin_in, unpacked_entry};
+
+    ghost Value = { List NotedSlot };
+
+    ghost view = { λ changes. if changes.has_ended then [] else map (unpacked_entry changes.names.now.slots.entries) (begin_in changes.block changes.left) };
+}
+
+impl<'c> Iterator for BlockChanges<'c> {
+    type Item = PackedSlot;
+
+    ghost next_gives = { YieldsFirst (λ s. s) };
+
+    ghost remaining = { item_count (λ s. s) };
+
+    fn next(&mut self) -> Option<PackedSlot> {
+        if self.has_ended {
+            return None;
+        }
+        let (number, packed) = self.left.next()?;
+        if block_of(*number) == self.block {
+            Some(packed.packed_at(*number, self.names))
+        } else {
+            self.has_ended = true;
+            None
         }
     }
 }
@@ -153,12 +194,24 @@ impl Changes {
         }
     }
 
-    /// Links to the changes whose slots were derived from the slot of this key, in the order of their keys.
-    pub(crate) fn links(&self, parent: SlotKey) -> Range<'_, (u64, u64)>
+    /// Links to the blocks in which changes leave slots that were derived from the slot of this key, in their order.
+    pub(crate) fn links(&self, parent: SlotKey) -> Links<'_, (u64, u64)>
         requires { Rise self.now }
-        ensures { filter_map (λ q. child_at self.now parent q.1) result ≡ children_of self.now parent }
+        ensures { flat_map (λ q. children_in self.now parent q.1) result ≡ children_of self.now parent }
     {
         self.families.named(self.names.name(parent.number()))
+    }
+
+    /// The changes to slots of a block.
+    pub(crate) fn block(&self, block: u64) -> BlockChanges<'_>
+        ensures { result ≡ in_block self.now block }
+    {
+        BlockChanges {
+            left: self.packed.range(block..),
+            block,
+            has_ended: false,
+            names: &self.names,
+        }
     }
 
     /// Whether no slot was derived from the slot of this key, where the last of all links shows that.
@@ -181,7 +234,8 @@ impl Changes {
         self.families.add(&packed, number)?;
         match self.packed.insert(number, packed)? {
             Some(before) => {
-                self.families.replace(before.parent_name(), &packed, number);
+                self.families
+                    .replace(&self.packed, before.parent_name(), &packed, number);
                 Ok(Some(before.packed_at(number, &self.names)))
             }
             None => Ok(None),

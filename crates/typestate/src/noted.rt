@@ -1,12 +1,12 @@
 //! Look-ups in the slots at a point.
 
-ghost use Rattle.std.specs.Prelude.{◌≡◌, [], ◌++◌, IfOk, false, flat_map, is_some, true};
+ghost use Rattle.std.specs.Prelude.{◌≡◌, [], ◌∷◌, ◌++◌, IfOk, false, flat_map, if◌then◌else◌, true};
 ghost use Rattle.model.specs.Acceptance.NotedStates.{slot_at};
 ghost use Rattle.model.specs.Capabilities.CapabilityWords.{IsCapability};
 ghost use Rattle.model.specs.declared.capabilities.Cap.TheVariants.{Empty};
 ghost use Rattle.std.specs.Option.{option_map_or, option_to_list};
 ghost use Rattle.typestate.specs.Differences.{left_by, slots_of};
-ghost use Rattle.typestate.specs.Families.{child_at, children_of, found, has_parent};
+ghost use Rattle.typestate.specs.Families.{children_in, children_of, found, has_parent};
 ghost use Rattle.typestate.specs.Orders.{Rise};
 
 use crate::change_lists::is_parent;
@@ -39,7 +39,7 @@ pub(crate) fn note_found(
 }
 
 /// Whether the slot that a change leaves was derived from the slot of this key.
-fn leaves_child(key: SlotKey, change: &PackedSlot) -> bool
+pub(crate) fn leaves_child(key: SlotKey, change: &PackedSlot) -> bool
     ensures { result ≡ has_parent key (left_by change.now) }
 {
     if change.is_empty() {
@@ -49,27 +49,35 @@ fn leaves_child(key: SlotKey, change: &PackedSlot) -> bool
     }
 }
 
-impl NotedSlots<'_> {
-    /// The change of a slot's number, if its slot was derived from the slot of this key.
-    pub(crate) fn child(&self, parent: SlotKey, number: u64) -> Option<PackedSlot>
-        ensures { result ≡ child_at self.now.changes.now parent number }
-    {
-        let change = self.changes.packed_at(number)?;
-        if leaves_child(parent, &change) {
-            Some(change)
-        } else {
-            None
-        }
+/// Appends a change, if the slot that it leaves was derived from the slot of this key. Memory may be refused.
+fn note_child(
+    parent: SlotKey,
+    change: PackedSlot,
+    list: &mut Vec<PackedSlot>,
+) -> Result<(), AllocError>
+    ensures { IfOk result (λ _. list.new.items ≡ list.old.items ++ (if has_parent parent (left_by change) then change ∷ [] else [])) }
+{
+    if leaves_child(parent, &change) {
+        list.push(change)?;
     }
+    Ok(())
+}
 
-    /// Whether there is a change of a slot's number, and its slot was derived from the slot of this key.
-    fn is_child(&self, parent: SlotKey, number: u64) -> bool
-        ensures { result ≡ is_some (child_at self.now.changes.now parent number) }
+impl NotedSlots<'_> {
+    /// Appends the changes of a block whose slots were derived from the slot of this key, in the order of their keys. Memory may be
+    /// refused.
+    fn note_children_in(
+        &self,
+        parent: SlotKey,
+        block: u64,
+        found: &mut Vec<PackedSlot>,
+    ) -> Result<(), AllocError>
+        ensures { IfOk result (λ _. found.new.items ≡ found.old.items ++ children_in self.now.changes.now parent block) }
     {
-        match self.child(parent, number) {
-            Some(_) => true,
-            None => false,
+        for change in self.changes.block(block) {
+            note_child(parent, change, found)?;
         }
+        Ok(())
     }
 
     /// Appends the changes whose slots were derived from the slot of this key, in the order of their keys. Memory may be refused.
@@ -84,10 +92,21 @@ impl NotedSlots<'_> {
             return Ok(());
         }
         for link in self.changes.links(parent) {
-            let change = self.child(parent, link.1);
-            note_found(change, found)?;
+            self.note_children_in(parent, link.1, found)?;
         }
         Ok(())
+    }
+
+    /// Whether a change of a block leaves a slot that was derived from the slot of this key.
+    fn has_child_in(&self, parent: SlotKey, block: u64) -> bool
+        ensures { result ≡ false → children_in self.now.changes.now parent block ≡ [] }
+    {
+        for change in self.changes.block(block) {
+            if leaves_child(parent, &change) {
+                return true;
+            }
+        }
+        false
     }
 
     /// Whether a change leaves a slot that was derived from the slot of this key.
@@ -98,7 +117,7 @@ impl NotedSlots<'_> {
             return false;
         }
         for link in self.changes.links(parent) {
-            if self.is_child(parent, link.1) {
+            if self.has_child_in(parent, link.1) {
                 return true;
             }
         }

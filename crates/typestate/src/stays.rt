@@ -9,13 +9,13 @@ ghost use Rattle.model.specs.Capabilities.CapabilityKinds.{is_untyped};
 ghost use Rattle.model.specs.Capabilities.CapabilityWords.{IsCapability};
 ghost use Rattle.typestate.specs.ChangeLists.{kept_child, named_by, removal_change, removal_changes, told_at, told_of};
 ghost use Rattle.typestate.specs.Differences.{left_by, slots_of};
-ghost use Rattle.typestate.specs.Families.{child_at, children_of};
+ghost use Rattle.typestate.specs.Families.{children_in, children_of, has_parent};
 ghost use Rattle.typestate.specs.Removals.{emptied_by, gone_by, is_root, may_lose};
 ghost use Rattle.typestate.specs.SlotChanges.{cap_left, emptied, is_parent, loses_children, noted_outside, slot_left};
 ghost use Rattle.typestate.specs.declared.slot_changes.Removed.TheVariants.{One};
 
 use crate::change_lists::{emptied, is_parent};
-use crate::noted::left;
+use crate::noted::{leaves_child, left};
 use crate::packed_slot::PackedSlot;
 use crate::removal::Removal;
 use crate::staying::Staying;
@@ -115,14 +115,23 @@ impl Removal<'_, '_> {
             .any(|change| self.stays_below(left(change.unpacked()), key))
     }
 
-    /// Whether what a change of this number leaves was derived from the slot of a key, stays, and is then still a child of it.
-    fn child_stays(&self, key: SlotKey, number: u64) -> bool
-        ensures { result ≡ option_map_or (λ c. option_map_or (kept_child (slots_of self.now.slots) self.now.which key) (left_by c) false) (child_at self.now.slots.changes.now key number) false }
+    /// Whether what a change leaves was derived from the slot of a key, stays, and is then still a child of it.
+    fn child_stays(&self, key: SlotKey, change: &PackedSlot) -> bool
+        ensures { result ≡ (has_parent key (left_by change.now) && option_map_or (kept_child (slots_of self.now.slots) self.now.which key) (left_by change.now) false) }
     {
-        match self.slots.child(key, number) {
-            Some(change) => self.stays_below(left(change.unpacked()), key),
-            None => false,
+        leaves_child(key, change) && self.stays_below(left(change.unpacked()), key)
+    }
+
+    /// Whether one of the slots of a block that were derived from the slot of this key stays, and is then still a child of it.
+    fn child_in_stays(&self, key: SlotKey, block: u64) -> bool
+        ensures { result ≡ list_any (λ c. option_map_or (kept_child (slots_of self.now.slots) self.now.which key) (left_by c) false) (children_in self.now.slots.changes.now key block) }
+    {
+        for change in self.slots.changes.block(block) {
+            if self.child_stays(key, &change) {
+                return true;
+            }
         }
+        false
     }
 
     /// Whether one of the slots that were derived from the slot of this key stays, and is then still a child of it.
@@ -130,7 +139,7 @@ impl Removal<'_, '_> {
         ensures { result ≡ list_any (λ c. option_map_or (kept_child (slots_of self.now.slots) self.now.which key) (left_by c) false) (children_of self.now.slots.changes.now key) }
     {
         for link in self.slots.changes.links(key) {
-            if self.child_stays(key, link.1) {
+            if self.child_in_stays(key, link.1) {
                 return true;
             }
         }

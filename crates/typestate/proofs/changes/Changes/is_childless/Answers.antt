@@ -1,5 +1,5 @@
--- Each child has its link from the name of the slot's family.
-use Rattle.std.proofs.Common.{ℕ, ◌≡◌, ◌∙◌, ◌==◌, true, false, List, sym, ap, subst}
+-- Each child has the link to its block from the name of the slot's family.
+use Rattle.std.proofs.Common.{ℕ, ◌≡◌, ◌∙◌, ◌==◌, ◌*◌, ◌/◌, true, false, List, sym, ap, subst}
 use Rattle.std.specs.List.{filter}
 use Rattle.std.specs.Option.{option_map_or}
 use Rattle.model.specs.Acceptance.NotedStates.{NotedSlot, number_of}
@@ -21,5 +21,5 @@ returns c = λ rises none.
     none-passes name (λ s. has_parent parent (left_by s)) links c.args.self.now rises
     (ap (λ (m : ℕ). filter (λ (q : ℕ × ℕ). q.0 == m) links) (sym is) ∙ c.has_none.ensures none)
     (subst (λ (l : List NotedSlot). (slot : ℕ) → option_map_or (λ s. has_parent parent (left_by s)) (found l slot) false ≡ true →
-    has_link links name slot ≡ true) c.self.view_is
+    has_link links name (slot / 16 * 16) ≡ true) c.self.view_is
     (child-linked names.slots.entries names.names.entries es links parent c.self.invariant.0 c.self.invariant.1))

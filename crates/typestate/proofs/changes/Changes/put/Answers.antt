@@ -10,23 +10,21 @@ use Rattle.typestate.proofs.NumberedChanges.{all-narrow, numbers-are, put-found,
 use Rattle.typestate.proofs.changes.Changes.put.Goals as goal
 
 pub invariant_of-self-in-Some : goal.invariant_of-self-in-Some
-invariant_of-self-in-Some c =
-    let links = c.self.inside.families.links.keys in (
-      c.self.invariant.0,
-      put-linked c.self.inside.packed.entries c.insert.new.self.entries c.number-number.result c.of-packed.result links c.replace.new.self.links.keys
-          c.in_ok-before.ensures.updates.0 c.self.invariant.1
-          (λ name child off is. c.replace.ensures.others name child off (c.add.ensures.kept name child is))
-          (λ name has. c.replace.ensures.own name has (c.in_ok-add.ensures.added name has)),
-    )
+invariant_of-self-in-Some c = (
+  c.self.invariant.0,
+  c.replace.ensures.linked
+      (put-linked c.self.inside.packed.entries c.insert.new.self.entries c.number-number.result c.of-packed.result c.self.inside.families.links.keys
+      c.add.new.self.links.keys c.in_ok-before.ensures.updates.0 c.self.invariant.1 c.add.ensures.kept (c.in_ok-add.ensures.added c.self.invariant.2)),
+  c.replace.ensures.there (c.add.ensures.there c.self.invariant.2),
+)
 
 pub invariant_of-self-in-None : goal.invariant_of-self-in-None
-invariant_of-self-in-None c =
-    let links = c.self.inside.families.links.keys in (
-      c.self.invariant.0,
-      put-linked c.self.inside.packed.entries c.insert.new.self.entries c.number-number.result c.of-packed.result links c.add.new.self.links.keys
-          c.in_ok-before.ensures.updates.0 c.self.invariant.1
-          (λ name child off is. c.add.ensures.kept name child is) c.in_ok-add.ensures.added,
-    )
+invariant_of-self-in-None c = (
+  c.self.invariant.0,
+  put-linked c.self.inside.packed.entries c.insert.new.self.entries c.number-number.result c.of-packed.result c.self.inside.families.links.keys
+      c.add.new.self.links.keys c.in_ok-before.ensures.updates.0 c.self.invariant.1 c.add.ensures.kept (c.in_ok-add.ensures.added c.self.invariant.2),
+  c.add.ensures.there c.self.invariant.2,
+)
 
 pub returns-in-Some-clause-before : goal.returns-in-Some-clause-before
 returns-in-Some-clause-before c =

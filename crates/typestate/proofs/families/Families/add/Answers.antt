@@ -6,5 +6,5 @@ with-one : (b x : Bool) → x ≡ true → cond b true x ≡ true
 with-one true x is = refl
 with-one false x is = is
 
-pub returns-in_ok-insert-clause-kept : goal.returns-in_ok-insert-clause-kept
-returns-in_ok-insert-clause-kept c = λ parent child is. c.in_ok-insert.ensures.updates.0 (parent, child) ∙ with-one _ _ is
+pub returns-clause-kept : goal.returns-clause-kept
+returns-clause-kept c = λ parent child is. c.in_ok-insert.ensures.updates.0 (parent, child) ∙ with-one _ _ is

@@ -1,13 +1,9 @@
--- The link that goes is another one.
-use Rattle.std.proofs.Common.{◌∙◌, refl, sym}
-use Rattle.typestate.proofs.LinkedChanges.{names-apart, other-child, other-parent}
+-- No slot of the block has the name any more.
+use Rattle.typestate.proofs.LinkedChanges.{others-linked}
 use Rattle.typestate.proofs.families.Families.replace.Goals as goal
 
-pub returns-clause-others : goal.returns-clause-others
-returns-clause-others c = λ name child off is. c.remove.ensures.updates.2 (name, child) (other-child _ _ name child c.args.slot refl off) ∙ is
-
-pub returns-clause-own : goal.returns-clause-own
-returns-clause-own c = λ name here is.
-    c.remove.ensures.updates.2 (name, c.args.slot)
-    (other-parent _ _ name c.args.slot _ c.number.ensures
-    (names-apart c.in-Some.before c.args.change.now.parent name (sym c.is_name.ensures ∙ c.if-is_name.false) here)) ∙ is
+pub returns-clause-linked : goal.returns-clause-linked
+returns-clause-linked c = λ linked.
+    let es = c.args.changes.now.entries in
+    others-linked es c.args.self.now.links.keys c.remove.new.self.keys c.number-name.result c.block_of-block.result
+    (λ a b off. c.remove.ensures.updates.2 (a, b) off) (c.is_any_named.ensures c.if-is_any_named.false) linked

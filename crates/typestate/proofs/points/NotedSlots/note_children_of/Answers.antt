@@ -1,10 +1,9 @@
--- Child by child.
-use Rattle.std.proofs.Common.{ℕ, ◌∙◌, ◌++◌, Option, List, sym, ap}
-use Rattle.std.specs.List.{filter_map}
-use Rattle.std.specs.Option.{option_to_list}
+-- Block by block.
+use Rattle.std.proofs.Common.{ℕ, ◌∙◌, ◌++◌, List, sym, ap}
+use Rattle.std.specs.List.{flat_map}
 use Rattle.model.specs.Acceptance.NotedStates.{NotedSlot}
-use Rattle.typestate.specs.Families.{child_at, children_of}
-use Rattle.typestate.proofs.Appended.{one-more-found}
+use Rattle.typestate.specs.Families.{children_in, children_of}
+use Rattle.typestate.proofs.Appended.{one-more-listed}
 use Rattle.typestate.proofs.Linked.{append-none}
 use Rattle.typestate.proofs.points.NotedSlots.note_children_of.Goals as goal
 
@@ -16,15 +15,13 @@ returns-then-is_childless c =
 pub loop-link-init : goal.loop-link-init
 loop-link-init c =
     let changes = c.args.self.now.changes.now in
-    ap (λ (l : List (ℕ × ℕ)). c.args.found.now.items ++ filter_map (λ (q : ℕ × ℕ). child_at changes c.args.parent q.1) l)
+    ap (λ (l : List (ℕ × ℕ)). c.args.found.now.items ++ flat_map (λ (q : ℕ × ℕ). children_in changes c.args.parent q.1) l)
     c.into_iter-link-iterator.ensures.into_iter_gives
     ∙ ap (λ (l : List NotedSlot). c.args.found.now.items ++ l) c.links-link-items.ensures
 
 pub loop-link-preserved : goal.loop-link-preserved
 loop-link-preserved c =
     let changes = c.args.self.now.changes.now in
-    let look : ℕ × ℕ → Option NotedSlot = λ (q : ℕ × ℕ). child_at changes c.args.parent q.1 in
-    one-more-found (ℕ × ℕ) look c.in-Some.link.now c.loop-link.link-iterator c.next.new.self c.loop-link.found.items c.note_found.new.list.items
-    (c.args.found.now.items ++ children_of changes c.args.parent)
-    c.in-Some.ensures.steps c.loop-link.invariant (c.in_ok-note_found.ensures
-    ∙ ap (λ (o : Option NotedSlot). c.loop-link.found.items ++ option_to_list o) c.child-change.ensures)
+    one-more-listed (ℕ × ℕ) (λ (q : ℕ × ℕ). children_in changes c.args.parent q.1) c.in-Some.link.now c.loop-link.link-iterator c.next.new.self
+    c.loop-link.found.items c.note_children_in.new.found.items (c.args.found.now.items ++ children_of changes c.args.parent)
+    c.in-Some.ensures.steps c.loop-link.invariant c.in_ok-note_children_in.ensures
