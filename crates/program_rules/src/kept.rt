@@ -36,6 +36,14 @@ impl AtPoint<Known> {
         }
     }
 
+    /// Whether its state has a part of which one that is shown has more than another one.
+    pub(crate) fn is_more_of(&self, one: &ShownPart, other: &ShownPart) -> bool {
+        match self {
+            AtPoint::Known(known) => one.has_more_of(known.part, other),
+            AtPoint::Missing | AtPoint::Unmeasured => false,
+        }
+    }
+
     /// Shows the part of its state, if it has one, in place of another one of this log. Memory may be refused.
     pub(crate) fn show(&self, log: &SlotLog, shown: &mut ShownPart) -> Result<(), AllocError>
         requires held { HasPart log.now self.now }

@@ -91,9 +91,11 @@ impl<'a> Points<'a> {
         Ok(())
     }
 
-    /// The points of a program: each has the state of its record, or what the point before leaves. Memory may be refused.
-    pub(crate) fn of(program: &Program<'a, '_>) -> Result<Self, AllocError>
-        ensures { IfOk result (λ all. IsRead program.now.given.space.image.now (thread_of program.now) program.now.given.slots.now all.log all.kept) }
+    /// The points of a program: each has the state of its record, or what the point before leaves. What is shown of the slots in the
+    /// end is left for who goes over the points again. Memory may be refused.
+    pub(crate) fn of(program: &Program<'a, '_>, left: &mut ShownPart) -> Result<Self, AllocError>
+        ensures read { IfOk result (λ all. IsRead program.now.given.space.image.now (thread_of program.now) program.now.given.slots.now all.log all.kept) }
+        ensures shown { IfOk result (λ all. ShowsSome all.log left.new) }
     {
         let mut records = RecordsLeft::of(program);
         let mut points = Points {
@@ -115,6 +117,7 @@ impl<'a> Points<'a> {
             };
             points.note(&visit, &mut last, &mut derived, &mut shown)?;
         }
+        *left = shown;
         Ok(points)
     }
 }

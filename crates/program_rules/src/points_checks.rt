@@ -7,7 +7,7 @@ ghost use Rattle.model.specs.Acceptance.PointRules.{entry_rules, point_rules, ru
 ghost use Rattle.model.specs.Acceptance.PointStates.{noted};
 ghost use Rattle.model.specs.Acceptance.Rules.{first_broken};
 ghost use Rattle.program_rules.specs.FoundPages.{AreFound};
-ghost use Rattle.program_rules.specs.Kept.{IsKeptAt, IsRead, state_by};
+ghost use Rattle.program_rules.specs.Kept.{AreShown, IsKeptAt, IsRead, state_by};
 ghost use Rattle.program_rules.specs.Programs.{thread_of};
 ghost use Rattle.program_rules.specs.SameParts.{AreSame};
 ghost use Rattle.program_rules.specs.declared.at_points.AtPoint.TheVariants as kept;
@@ -149,9 +149,10 @@ fn turn(is_asked: bool, shown: &mut ShownPart, aside: &mut ShownPart)
 
 impl<'a> Program<'a, '_> {
     /// The rules on all points, in their order. What is shown of the slots is set aside where a point has an empty part, and is gone
-    /// on from after it.
-    fn points_rules(&self, points: &mut Points<'a>) -> Result<(), Refusal>
-        requires { IsRead self.now.given.space.image.now (thread_of self.now) self.now.given.slots.now points.old.log points.old.kept }
+    /// on from after it; and what was left of showing the points before is taken where a part begins with it, so that it is not shown
+    /// again.
+    fn points_rules(&self, points: &mut Points<'a>, left: &mut ShownPart) -> Result<(), Refusal>
+        requires { AreShown self.now.given.space.image.now (thread_of self.now) self.now.given.slots.now points.old.log points.old.kept left.old }
         ensures { Answers (first_broken (flat_map (point_rules self.now.given.space.image.now (thread_of self.now)) (range_with_len 0 self.now.given.space.thread.now.header.words))) result }
     {
         let mut records = RecordsLeft::of(self);
@@ -178,6 +179,7 @@ impl<'a> Program<'a, '_> {
             let is_empty = kept.has_empty_part();
             turn(is_empty != was_empty, &mut shown, &mut aside);
             was_empty = is_empty;
+            turn(kept.is_more_of(left, &shown), &mut shown, left);
             visit.point_rules(points, &mut shown, &kept, &mut same, &mut found)?;
             let still_read = ReadPoints {
                 program: self,
@@ -204,12 +206,13 @@ impl<'a> Program<'a, '_> {
     pub(crate) fn check(&self) -> Result<(), Refusal>
         ensures { Answers (first_broken (rules_of_program self.now.given.space.image.now (thread_of self.now))) result }
     {
-        let mut points = Points::of(self)?;
+        let mut left = ShownPart::new(self.alloc);
+        let mut points = Points::of(self, &mut left)?;
         let read = ReadPoints {
             program: self,
             points: &points,
         };
         read.entry_rules()?;
-        self.points_rules(&mut points)
+        self.points_rules(&mut points, &mut left)
     }
 }

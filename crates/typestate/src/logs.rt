@@ -66,6 +66,11 @@ impl ShownPart {
         self.part.first == part.first && self.part.end <= part.end
     }
 
+    /// Whether a part begins with this one, and this one has more of it than another one has.
+    pub fn has_more_of(&self, part: Part, other: &ShownPart) -> bool {
+        self.begins(part) && (!other.begins(part) || other.part.end < self.part.end)
+    }
+
     /// The slots with the changes made to those of the image.
     pub fn slots<'s>(&'s self, image: &'s [NotedSlot]) -> NotedSlots<'s>
         requires shown { Rise self.now.changes }

@@ -23,6 +23,9 @@ returns-in_err-entry_rules c =
     passed-on _ c.from_residual-in_err-entry_rules.result refusal c.from_residual-in_err-entry_rules.ensures.1
     (subst (λ (x : Option Refusal). Answers x (Err refusal)) (sym (program-first image t)) (refused-first entry points refusal c.in_err-entry_rules.ensures))
 
+pub points_rules-requires : goal.points_rules-requires
+points_rules-requires c = record { read = c.in_ok-points.ensures.read; shown = c.in_ok-points.ensures.shown }
+
 pub returns : goal.returns
 returns c =
     let image = c.args.self.now.given.space.image.now in

@@ -15,18 +15,21 @@ use Rattle.program_rules.specs.Programs.{thread_of}
 pub rules-init : goal.rules-init
 rules-init c =
     let own = c.args.self.now.given.space.thread.now in (
-      c.requires,
+      c.requires.read,
       subst (λ (rs : List StateRecord). AreLeft own 0 rs) (sym c.of-records.ensures) (all-left own c.args.self.now.fits),
       refl,
       c.new-shown.ensures.shown c.args.points.now.log,
       c.new-aside.ensures.shown c.args.points.now.log,
+      c.requires.shown,
       c.new-same.ensures c.args.self.now.given.slots.now c.args.points.now.log,
       c.new-found.ensures c.args.self.now.given.space.image.now own c.args.self.now.given.slots.now c.args.points.now.log,
       λ less. c.at-kept.ensures,
     )
 
 pub point_rules-requires-clause-some : goal.point_rules-requires-clause-some
-point_rules-requires-clause-some c = c.turn.ensures.shown c.rules.points.log c.rules.invariant.3 c.rules.invariant.4
+point_rules-requires-clause-some c =
+    let log = c.rules.points.log in
+    c.turn-in-rules.ensures.shown log (c.turn.ensures.shown log c.rules.invariant.3 c.rules.invariant.4) c.rules.invariant.5
 
 pub at-kept-requires : goal.at-kept-requires
 at-kept-requires c = let entry = c.args.self.now.entry in omega (arith, entry)
@@ -35,7 +38,7 @@ pub point_rules-requires-clause-kept : goal.point_rules-requires-clause-kept
 point_rules-requires-clause-kept c =
     let least = c.rules-test.true in
     let count = c.word_count-point-end.ensures.value in
-    c.rules.invariant.7 (omega (arith, least, count))
+    c.rules.invariant.8 (omega (arith, least, count))
 
 pub pass-requires : goal.pass-requires
 pass-requires c =
@@ -44,7 +47,7 @@ pass-requires c =
     grown-at c.args.self.now.given.space.image.now (thread_of c.args.self.now) c.args.self.now.given.slots.now c.rules.points.log
     c.point_rules.new.points.log c.rules.point
     c.rules.kept
-    c.in_ok-point_rules.ensures.others (c.rules.invariant.7 (omega (arith, least, count)))
+    c.in_ok-point_rules.ensures.others (c.rules.invariant.8 (omega (arith, least, count)))
 
 pub invariant_of-visit : goal.invariant_of-visit
 invariant_of-visit c =
@@ -73,14 +76,17 @@ pub rules-preserved : goal.rules-preserved
 rules-preserved c =
     let image = c.args.self.now.given.space.image.now in
     let t = thread_of c.args.self.now in
-    let own = c.args.self.now.given.space.thread.now in (
+    let own = c.args.self.now.given.space.thread.now in
+    let log = c.rules.points.log in (
       c.in_ok-point_rules.ensures.read,
       subst (λ (rs : List StateRecord). AreLeft own (c.rules.point + 1) rs) (sym c.take-noted.ensures.left)
           (next-record own c.rules.point c.rules.records c.rules.invariant.1).1,
       one-more-kept (point_rules image t) c.rules.point c.rules.invariant.2 c.in_ok-point_rules.ensures.broken,
       c.in_ok-point_rules.ensures.shown,
-      some-grown c.rules.points.log c.point_rules.new.points.log c.turn.new.aside c.in_ok-point_rules.ensures.others
-          (c.turn.ensures.aside c.rules.points.log c.rules.invariant.3 c.rules.invariant.4),
+      some-grown log c.point_rules.new.points.log c.turn.new.aside c.in_ok-point_rules.ensures.others
+          (c.turn.ensures.aside log c.rules.invariant.3 c.rules.invariant.4),
+      some-grown log c.point_rules.new.points.log c.turn-in-rules.new.aside c.in_ok-point_rules.ensures.others
+          (c.turn-in-rules.ensures.aside log (c.turn.ensures.shown log c.rules.invariant.3 c.rules.invariant.4) c.rules.invariant.5),
       c.in_ok-point_rules.ensures.same,
       c.in_ok-point_rules.ensures.found,
       c.pass.ensures,

@@ -19,6 +19,7 @@ invariant-rules l =
     IsRead image t l.fn.self.given.slots.now l.points.log l.points.kept × AreLeft l.fn.self.given.space.thread.now l.point l.records
     × (first_broken (flat_map (point_rules image t) (range_with_len 0 l.point)) ≡ None) × ShowsSome l.points.log l.shown
     × ShowsSome l.points.log l.aside
+    × ShowsSome l.points.log l.left
     × AreSame l.fn.self.given.slots.now l.points.log l.same
     × AreFound image t.thread l.fn.self.given.slots.now l.points.log l.found
     × (l.point < t.thread.header.words → IsKeptAt image t l.fn.self.given.slots.now l.points.log l.point l.kept)
