@@ -1,6 +1,6 @@
 -- The tables, and the state that they represent together with the slots and the bytes of memory.
 -- seL4 Reference Manual, "Kernel Services and Objects".
-use Rattle.std.specs.Prelude.{ℕ, ◌≡◌, ◌==◌, ◌+◌, ◌*◌, ◌/◌, ◌%◌, ◌^◌, ◌≤◌, Bool, if◌then◌else◌, Option, Some, None, option_and_then, List, length}
+use Rattle.std.specs.Prelude.{ℕ, ◌≡◌, ◌==◌, ◌+◌, ◌*◌, ◌/◌, ◌%◌, ◌^◌, ◌<◌, ◌≤◌, Bool, if◌then◌else◌, Option, Some, None, option_and_then, List, length}
 use Rattle.std.specs.Prelude.{slice_index_or}
 use Rattle.model.specs.Capabilities.Slots.{Slots}
 use Rattle.model.specs.Kernel.Retype.{NewObject, NewThread, NewEndpoint, NewNotification, NewCNode, NewFrame, NewPageTable, NewRootTable}
@@ -35,6 +35,11 @@ pub record Tables : Type 0 where
 -- what starts at an offset in memory
 abbrev pub entry_in : List Entry → ℕ → Entry
 entry_in table offset = if offset % 16 == 0 then slice_index_or table (offset / 16) entries.Nothing else entries.Nothing
+
+-- the table has an entry for an offset
+pub record HasEntry (table : List Entry) (offset : ℕ) : Type 0 where
+  pub aligned : offset % 16 ≡ 0
+  pub within : offset / 16 < length table
 
 abbrev pub kind_of_entry : Entry → Option NewObject
 kind_of_entry entries.Nothing = None

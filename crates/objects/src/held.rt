@@ -1,8 +1,8 @@
 //! What is where in memory: existence and kind are in no byte, since a new object is all zero.
 
-ghost use Rattle.std.specs.Prelude.{ℕ, ◌≡◌, ◌^◌, ◌/◌, ◌%◌, ◌<◌, ◌≤◌, IfOk, length, replicate};
+ghost use Rattle.std.specs.Prelude.{ℕ, ◌≡◌, ◌^◌, ◌/◌, ◌≤◌, IfOk, length, replicate};
 ghost use Rattle.model.specs.Kernel.State.{put};
-ghost use Rattle.objects.specs.Tables.{entry_in, entry_of, kinds_by};
+ghost use Rattle.objects.specs.Tables.{HasEntry, entry_in, entry_of, kinds_by};
 ghost use Rattle.objects.specs.Contents.{is_thread_kind, places_by};
 ghost use Rattle.objects.specs.declared.records.Entry.{Entry};
 ghost use Rattle.objects.specs.declared.records.Entry.TheVariants.{Nothing};
@@ -53,8 +53,7 @@ impl Held {
 
     /// Something starts at an offset that the table has an entry for.
     pub(crate) fn put(&mut self, offset: u32, entry: Entry)
-        requires aligned { offset % 16 ≡ 0 }
-        requires within { offset / 16 < length self.old }
+        requires { HasEntry self.old offset }
         ensures entries { (other : ℕ) → entry_in self.new other ≡ put (entry_in self.old) offset entry other }
         ensures long { length self.new ≡ length self.old }
     {
@@ -122,8 +121,7 @@ fn entry_at(entries: &[Entry], offset: u32) -> Entry
 
 /// Something starts at an offset that the table has an entry for.
 fn put_entry(entries: &mut [Entry], offset: u32, entry: Entry)
-    requires aligned { offset % 16 ≡ 0 }
-    requires within { offset / 16 < length entries.old }
+    requires { HasEntry entries.old offset }
     ensures entries { (other : ℕ) → entry_in entries.new other ≡ put (entry_in entries.old) offset entry other }
     ensures long { length entries.new ≡ length entries.old }
 {

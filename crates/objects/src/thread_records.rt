@@ -12,6 +12,6 @@ pub use reads::ThreadRecord;
 pub use record_laws::{a_record_stays, zero_is_a_new_thread};
 pub use records::{Fault, Sending, Sent, Status, Thread};
 pub use writes::{
-    begin_thread, set_caller, set_fault_address, set_priority, set_registers, set_sending,
-    set_slice, set_status,
+    begin_thread, set_caller, set_fault_address, set_pc, set_priority, set_register, set_registers,
+    set_sending, set_slice, set_status,
 };

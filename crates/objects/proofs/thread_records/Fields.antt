@@ -1,13 +1,19 @@
 -- What a thread's fields are after a change of some bytes of its record.
 use Rattle.std.proofs.Common.{ℕ, zero, suc, ◌≡◌, ◌∙◌, ◌+◌, ◌*◌, ◌<◌, ◌≤◌, ◌⊎◌, inl, inr, Bool, true, false, Option, Some, None, List, [], ◌∷◌, length}
-use Rattle.std.proofs.Common.{slice_index, replicate, refl, ap, arith}
+use Rattle.std.proofs.Common.{slice_index, replicate, refl, sym, ap, subst, arith, ne_eqb, if◌then◌else◌}
+use Rattle.std.specs.Prelude.{◌==◌, slice_set}
+use Rattle.std.proofs.lemmas.List.{get_or-replicate}
 use Rattle.std.proofs.lemmas.Bool.{cases_lt}
 use Rattle.model.proofs.BytesLemmas.{word_at-same}
+use Rattle.model.specs.Kernel.State.{new_thread}
 use Rattle.model.specs.Machine.Effects.{access_number}
+use Rattle.model.specs.Machine.Instructions.{IsRegister}
+use Rattle.model.specs.Machine.ProgramMemory.{read, write}
 use Rattle.model.specs.Shared.Bytes.{word_at}
 use Rattle.model.specs.declared.instructions.Access.{Access}
 use Rattle.model.specs.declared.instructions.Access.TheVariants as accesses
 use Rattle.model.specs.declared.instructions.Cause.TheVariants as causes
+use Rattle.model.specs.declared.instructions.Register.{Register}
 use Rattle.model.specs.declared.lookup_failures.LookupFailure.TheVariants as failures
 use Rattle.objects.specs.thread_records.Laws.{RecordStays}
 use Rattle.pmem.specs.Words.{words_at}
@@ -21,7 +27,7 @@ use Rattle.objects.specs.declared.thread_records.records.Sent.TheVariants as sen
 use Rattle.objects.specs.declared.thread_records.records.Status.{Status}
 use Rattle.objects.specs.declared.thread_records.records.Status.TheVariants as statuses
 use Rattle.pmem.proofs.Laws.{words-same}
-use Rattle.objects.proofs.thread_records.WordLists.{word-stays, words-stay}
+use Rattle.objects.proofs.thread_records.WordLists.{word-changed, word-of, word-stays, words-stay}
 
 -- ---- what is spelled so is read
 
@@ -199,6 +205,55 @@ words-set m n t file same is = λ i. record {
   caller = caller_from (word m n t 64 192 same 200 (inr (omega arith)) i) (word m n t 64 192 same 204 (inr (omega arith)) i);
   sending = sending_from (words m n t 64 192 same 208 9 (inr (omega arith)) i);
 }
+
+-- one of the 32 words of registers
+module _ (m n : List ℕ) (t from : ℕ) (file : List ℕ) (same : SameBeside (t + (64 + from)) (t + (64 + from + 4)) m n) (inside : from + 4 ≤ 128)
+    (is : words_at n (t + 64) 32 ≡ file) where
+  pub one-word-set : thread_at n t ≡ record (thread_at m t) { registers = record { pc = (thread_at m t).registers.pc; words = file } }
+  unfolding thread_at
+  one-word-set =
+      let before : (k : ℕ) → k + 4 ≤ 64 → word_at n (t + k) ≡ word_at m (t + k) =
+      λ k less. word m n t (64 + from) (64 + from + 4) same k (inl (omega (arith, less))) in
+      let behind : (k : ℕ) → 192 ≤ k → word_at n (t + k) ≡ word_at m (t + k) =
+      λ k least. word m n t (64 + from) (64 + from + 4) same k (inr (omega (arith, least, inside))) in
+      λ i. record {
+        registers = record { pc = before 48 (omega arith) i; words = is i };
+        priority = byte m n t (64 + from) (64 + from + 4) same 52 (inl (omega arith)) i;
+        slice = byte m n t (64 + from) (64 + from + 4) same 56 (inl (omega arith)) i;
+        fault_address = before 60 (omega arith) i;
+        status = status_from (behind 192 (omega arith) i) (behind 196 (omega arith) i);
+        caller = caller_from (behind 200 (omega arith) i) (behind 204 (omega arith) i);
+        sending = sending_from (words m n t (64 + from) (64 + from + 4) same 208 9 (inr (omega (arith, inside))) i);
+      }
+
+-- registers, of which that of number 0 stays zero
+module _ (m n : List ℕ) (t : ℕ) (x : Register) (value : ℕ) where
+  pub register-set : IsRegister x → (x.0 ≡ 0 → ⊥) → SameBeside (t + (64 + 4 * x.0)) (t + (64 + 4 * x.0 + 4)) m n
+      → word_at n (t + (64 + 4 * x.0)) ≡ value → thread_at n t ≡ record (thread_at m t) { registers = write (thread_at m t).registers x value }
+  unfolding thread_at
+  register-set named some same is =
+      let place = t + (64 + 4 * x.0) in
+      let at : t + (64 + 4 * x.0 + 4) ≡ place + 4 = omega arith in
+      one-word-set m n t (4 * x.0) (slice_set (words_at m (t + 64) 32) x.0 value) same (omega (arith, named))
+      (word-changed m n place value (subst (λ (to : ℕ). SameBeside place to m n) at same) is (t + 64) 32 x.0 (omega (arith, named)) (omega arith))
+      ∙ ap (λ (b : Bool). record (thread_at m t) {
+        registers = if b then (thread_at m t).registers else record (thread_at m t).registers { words = slice_set (words_at m (t + 64) 32) x.0 value };
+      }) (sym (ne_eqb x.0 0 some))
+
+pub register-read : (m : List ℕ) (t : ℕ) (x : Register) → IsRegister x → (x.0 ≡ 0 → ⊥) → word_at m (t + (64 + 4 * x.0)) ≡ read (thread_at m t).registers x
+unfolding thread_at
+register-read m t x named some =
+    let words : List ℕ = words_at m (t + 64) 32 in
+    let at : t + (64 + 4 * x.0) ≡ t + 64 + 4 * x.0 = omega arith in
+    ap (word_at m) at ∙ sym (word-of m (t + 64) 32 x.0 (omega (arith, named)))
+    ∙ ap (λ (b : Bool). if b then 0 else slice_index words x.0) (sym (ne_eqb x.0 0 some))
+
+either-zero : (b : Bool) (word : ℕ) → word ≡ 0 → 0 ≡ (if b then 0 else word)
+either-zero true word is = refl
+either-zero false word is = sym is
+
+pub new-read : (x : Register) → IsRegister x → 0 ≡ read new_thread.registers x
+new-read x named = either-zero (x.0 == 0) (slice_index (replicate 32 0) x.0) (get_or-replicate 32 x.0 0 0 (omega (arith, named)))
 
 pub priority-set : (m n : List ℕ) (t priority : ℕ) → SameBeside (t + 52) (t + 53) m n → slice_index n (t + 52) ≡ priority
     → thread_at n t ≡ record (thread_at m t) { priority = priority }

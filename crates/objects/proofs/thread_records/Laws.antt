@@ -1,2 +1,2 @@
 -- What the crates above use of these proofs.
-pub use Rattle.objects.proofs.thread_records.Fields.{record_stays}
+pub use Rattle.objects.proofs.thread_records.Fields.{new-read, record_stays}

@@ -1,5 +1,6 @@
 -- Which words and bytes writes of a record leave as they are.
-use Rattle.std.proofs.Common.{ℕ, ◌≡◌, ◌∙◌, ◌+◌, ◌*◌, ◌≤◌, ◌⊎◌, inl, inr, List, length, refl, ap, arith}
+use Rattle.std.proofs.Common.{ℕ, zero, suc, ◌≡◌, ◌∙◌, ◌+◌, ◌*◌, ◌<◌, ◌≤◌, ◌⊎◌, inl, inr, List, ◌∷◌, length, refl, ap, arith}
+use Rattle.std.specs.Prelude.{slice_index, slice_set}
 use Rattle.model.proofs.BytesLemmas.{length-written, slice_index-written_before, slice_index-written_behind, word_at-same}
 use Rattle.model.specs.Shared.Bytes.{word_at, written}
 use Rattle.pmem.proofs.Laws.{length-words_bytes, words-same}
@@ -38,3 +39,21 @@ beside-words m at words to is inside =
 
 pub same-size : (m n : List ℕ) (at : ℕ) (words : List ℕ) → n ≡ written m at (words_bytes words) → at + 4 * length words ≤ length m → length n ≡ length m
 same-size m n at words is inside = ap length is ∙ (beside-words m at words (at + 4 * length words) refl inside).size
+
+-- ---- one of several words
+
+pub word-of : (m : List ℕ) (at count i : ℕ) → i < count → slice_index (words_at m at count) i ≡ word_at m (at + 4 * i)
+word-of m at zero i less = absurd (omega (arith, less))
+word-of m at (suc count) zero less = ap (word_at m) (omega arith)
+word-of m at (suc count) (suc i) less = word-of m (at + 4) count i (omega (arith, less)) ∙ ap (word_at m) (omega arith)
+
+-- it is written
+pub word-changed : (m n : List ℕ) (place word : ℕ) → SameBeside place (place + 4) m n → word_at n place ≡ word → (at count i : ℕ) → i < count →
+    at + 4 * i ≡ place → words_at n at count ≡ slice_set (words_at m at count) i word
+word-changed m n place word same is at zero i less here = absurd (omega (arith, less))
+word-changed m n place word same is at (suc count) zero less here =
+    let own : at ≡ place = omega (arith, here) in
+    λ j. (ap (word_at n) own ∙ is) j ∷ words-stay place (place + 4) m n (at + 4) count same (inr (omega (arith, here))) j
+word-changed m n place word same is at (suc count) (suc i) less here =
+    λ j. word-stays place (place + 4) m n at same (inl (omega (arith, here))) j
+    ∷ word-changed m n place word same is (at + 4) count i (omega (arith, less)) (omega (arith, here)) j

@@ -5,12 +5,14 @@ use Rattle.std.specs.Prelude.{slice_index}
 use Rattle.model.specs.Capabilities.LookupNumbers.{failure_number}
 use Rattle.model.specs.Capabilities.Slots.{OutsideSlots, Slots}
 use Rattle.model.specs.Machine.Effects.{access_number, cause_number}
+use Rattle.model.specs.Machine.Instructions.{IsRegister}
 use Rattle.model.specs.Machine.ProgramMemory.{RegisterFile}
 use Rattle.model.specs.Shared.Bytes.{word_at}
 use Rattle.model.specs.declared.instructions.Access.{Access}
 use Rattle.model.specs.declared.instructions.Access.TheVariants as accesses
 use Rattle.model.specs.declared.instructions.Cause.{Cause}
 use Rattle.model.specs.declared.instructions.Cause.TheVariants as causes
+use Rattle.model.specs.declared.instructions.Register.{Register}
 use Rattle.model.specs.declared.lookup_failures.LookupFailure.{LookupFailure}
 use Rattle.model.specs.declared.lookup_failures.LookupFailure.TheVariants as failures
 use Rattle.pmem.specs.Words.{words_at}
@@ -165,6 +167,17 @@ pub record IsRecordAt (slots : Slots) (size thread : ℕ) : Type 0 where
   pub few : size ≤ 2 ^ 24
   pub within : thread + 512 ≤ size
   pub outside : OutsideSlots slots (thread + 48) 196
+
+-- so many bytes of a record, from a place in it on
+pub record IsPartAt (slots : Slots) (size thread place bytes : ℕ) : Type 0 where
+  pub there : IsRecordAt slots size thread
+  pub first : 48 ≤ place
+  pub inside : place + bytes ≤ 244
+
+-- a register that a record has
+pub record IsRegisterAt (slots : Slots) (size thread : ℕ) (x : Register) : Type 0 where
+  pub there : IsRecordAt slots size thread
+  pub named : IsRegister x
 
 -- all bytes are the same but those of a thread's record
 pub record SameBesideRecord (thread : ℕ) (old new : List ℕ) : Type 0 where

@@ -7,13 +7,17 @@ ghost use Rattle.model.specs.Kernel.Messages.{with_caller, with_registers};
 ghost use Rattle.model.specs.Kernel.Retype.{NewThread};
 ghost use Rattle.model.specs.Kernel.Scheduling.{block, wake};
 ghost use Rattle.model.specs.Kernel.State.{new_thread, thread_at, with_thread};
+ghost use Rattle.model.specs.Machine.Instructions.{IsRegister};
+ghost use Rattle.model.specs.Machine.ProgramMemory.{read, write};
 ghost use Rattle.objects.specs.Lives.{Beside, state};
+ghost use Rattle.objects.specs.Premises.{HasRegister};
 ghost use Rattle.objects.specs.thread_records.Threads.{record_state, status_of};
 
 use crate::lives::Live;
 use crate::rights::note;
 use crate::thread_records;
 use crate::thread_records::{Status, ThreadRecord};
+use model::Register;
 use rv32_exec::Regs;
 use slots::SlotStore;
 
@@ -36,6 +40,17 @@ impl<S: SlotStore> Live<S> {
         match self.record_of(thread) {
             Some(found) => found.registers(),
             None => Regs::new(),
+        }
+    }
+
+    /// A register of a thread: 0, where none is.
+    pub fn register(&self, thread: u32, register: Register) -> u32
+        requires { IsRegister register }
+        ensures { result ≡ read (thread_at (state S.SlotStore self.now) thread).registers register }
+    {
+        match self.record_of(thread) {
+            Some(found) => found.register(register),
+            None => 0,
         }
     }
 
@@ -97,6 +112,26 @@ impl<S: SlotStore> Live<S> {
         ensures beside { Beside S.SlotStore self.old self.new }
     {
         thread_records::set_registers(&mut self.store, thread, registers);
+    }
+
+    /// Sets a register of a thread. Register 0 stays zero.
+    pub fn set_register(&mut self, thread: u32, register: Register, value: u32)
+        requires { HasRegister (state S.SlotStore self.old) thread register }
+        ensures state { state S.SlotStore self.new
+            ≡ with_registers (state S.SlotStore self.old) thread (write (thread_at (state S.SlotStore self.old) thread).registers register value) }
+        ensures beside { Beside S.SlotStore self.old self.new }
+    {
+        thread_records::set_register(&mut self.store, thread, register, value);
+    }
+
+    /// Sets the program counter of a thread.
+    pub fn set_pc(&mut self, thread: u32, pc: u32)
+        requires there { kind_at (state S.SlotStore self.old) thread ≡ Some NewThread }
+        ensures state { state S.SlotStore self.new
+            ≡ with_registers (state S.SlotStore self.old) thread (record (thread_at (state S.SlotStore self.old) thread).registers { pc = pc }) }
+        ensures beside { Beside S.SlotStore self.old self.new }
+    {
+        thread_records::set_pc(&mut self.store, thread, pc);
     }
 
     /// A thread has the right to reply to this one, which is there, or no such right.

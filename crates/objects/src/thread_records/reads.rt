@@ -1,6 +1,8 @@
 //! What a thread's bytes say of it.
 
 ghost use Rattle.std.specs.Prelude.{◌≡◌, ◌+◌, ◌*◌, ◌<◌, ◌≤◌, length, slice_index};
+ghost use Rattle.model.specs.Machine.Instructions.{IsRegister};
+ghost use Rattle.model.specs.Machine.ProgramMemory.{read};
 ghost use Rattle.model.specs.Shared.Bytes.{word_at};
 ghost use Rattle.pmem.specs.Words.{words_at};
 ghost use Rattle.objects.specs.thread_records.Records.{thread_at};
@@ -10,6 +12,7 @@ use crate::thread_records::places::{
     CALLER, FAULT_ADDRESS, PC, PRIORITY, REGISTERS, SENDING, SLICE, STATUS,
 };
 use crate::thread_records::records::{Sending, Status};
+use model::Register;
 use pmem::Mem;
 use rv32_exec::Regs;
 use slots::SlotStore;
@@ -70,6 +73,18 @@ impl<'a> ThreadRecord<'a> {
         let mut words = [0; 32];
         self.fill_words(REGISTERS, &mut words);
         Regs::from_words(pc, words)
+    }
+
+    /// One of the thread's registers.
+    pub fn register(&self, register: Register) -> u32
+        requires { IsRegister register }
+        ensures { result ≡ read (thread_at self.now.memory.now self.now.thread).registers register }
+    {
+        if register.0 == 0 {
+            0
+        } else {
+            self.word(REGISTERS + 4 * u32::from(register.0))
+        }
     }
 
     /// The address of the instruction that the thread runs next.

@@ -9,17 +9,12 @@ use Rattle.objects.specs.declared.records.Entry.{Entry}
 use Rattle.objects.specs.contracts.tables.Objects.{the_view}
 use Rattle.objects.proofs.tables.Objects.begin.Goals as goal
 
-pub put-requires-clause-aligned : goal.put-requires-clause-aligned
-put-requires-clause-aligned g c =
+pub put-requires : goal.put-requires
+put-requires g c =
     let fits = rw (← c.self.view_is) at c.requires.fits in
-    (has-entry (the_view c.self.inside) (g.S.SlotMap.slots c.args.store.now) (g.S.SlotStore.memory c.args.store.now) c.args.kind c.args.offset c.self.invariant
-    fits).0
-
-pub put-requires-clause-within : goal.put-requires-clause-within
-put-requires-clause-within g c =
-    let fits = rw (← c.self.view_is) at c.requires.fits in
-    (has-entry (the_view c.self.inside) (g.S.SlotMap.slots c.args.store.now) (g.S.SlotStore.memory c.args.store.now) c.args.kind c.args.offset c.self.invariant
-    fits).1
+    let has = has-entry (the_view c.self.inside) (g.S.SlotMap.slots c.args.store.now) (g.S.SlotStore.memory c.args.store.now) c.args.kind c.args.offset
+    c.self.invariant fits in
+    record { aligned = has.0; within = has.1 }
 
 pub begin_bytes-requires : goal.begin_bytes-requires
 begin_bytes-requires g c =
