@@ -3,13 +3,15 @@
 ghost use Rattle.std.specs.Prelude.{ℕ, ◌≡◌, Some};
 ghost use Rattle.ipc.specs.Buffers.{MayHandOver};
 ghost use Rattle.model.specs.Kernel.Kinds.{kind_at};
-ghost use Rattle.model.specs.Kernel.Messages.{bytes_between, deliver, deliver_sent, deliver_with, deliver_word, passes, passes_with};
+ghost use Rattle.model.specs.Kernel.Messages.{bytes_between, deliver, deliver_sent, deliver_with, deliver_word, passes, passes_with, word_registers, write_words};
 ghost use Rattle.model.specs.Kernel.Retype.{NewThread};
+ghost use Rattle.model.specs.Kernel.State.{thread_at};
 ghost use Rattle.objects.specs.Lives.{Beside, state};
 ghost use Rattle.objects.specs.thread_records.Threads.{sender_of};
 
 use crate::buffers::{copy_between, message_between};
-use crate::registers::{Message, advanced, delivered, with_word};
+use crate::registers::{Message, word_register};
+use model::Register;
 use objects::{Live, Sent, WaitingSender};
 use rv32_exec::Regs;
 use slots::SlotStore;
@@ -21,8 +23,8 @@ pub fn pass<S: SlotStore>(live: &mut Live<S>, thread: u32)
         ≡ passes (state S.SlotStore live.old) thread }
     ensures beside { Beside S.SlotStore live.old live.new }
 {
-    let registers = live.registers(thread);
-    live.set_registers(thread, advanced(registers));
+    let pc = live.pc(thread);
+    live.set_pc(thread, pc.wrapping_add(4));
 }
 
 /// A thread goes on after its call with these registers.
@@ -36,6 +38,21 @@ pub fn pass_with<S: SlotStore>(live: &mut Live<S>, thread: u32, registers: Regs)
     pass(live, thread);
 }
 
+/// A thread goes on after its call with the words of a message in the registers that hold words.
+fn pass_with_words<S: SlotStore>(live: &mut Live<S>, thread: u32, message: &Message)
+    requires there { kind_at (state S.SlotStore live.old) thread ≡ Some NewThread }
+    ensures state { state S.SlotStore live.new
+        ≡ passes_with (state S.SlotStore live.old) thread
+        (write_words (thread_at (state S.SlotStore live.old) thread).registers word_registers message.now.words) }
+    ensures beside { Beside S.SlotStore live.old live.new }
+{
+    let words = message.held();
+    'words: for index in 0..words.len() {
+        live.set_register(thread, word_register(index), words[index]);
+    }
+    pass(live, thread);
+}
+
 /// A thread gets a message in its registers, and goes on.
 fn deliver<S: SlotStore>(live: &mut Live<S>, thread: u32, badge: u32, message: &Message)
     requires there { kind_at (state S.SlotStore live.old) thread ≡ Some NewThread }
@@ -43,8 +60,9 @@ fn deliver<S: SlotStore>(live: &mut Live<S>, thread: u32, badge: u32, message: &
         ≡ deliver (state S.SlotStore live.old) thread badge message.now }
     ensures beside { Beside S.SlotStore live.old live.new }
 {
-    let registers = live.registers(thread);
-    pass_with(live, thread, delivered(registers, badge, message));
+    live.set_register(thread, Register::A0, badge);
+    live.set_register(thread, Register::A1, message.info());
+    pass_with_words(live, thread, message);
 }
 
 /// A thread gets a word in a0 alone, and goes on.
@@ -54,8 +72,8 @@ pub fn deliver_word<S: SlotStore>(live: &mut Live<S>, thread: u32, word: u32)
         ≡ deliver_word (state S.SlotStore live.old) thread word }
     ensures beside { Beside S.SlotStore live.old live.new }
 {
-    let registers = live.registers(thread);
-    pass_with(live, thread, with_word(registers, word));
+    live.set_register(thread, Register::A0, word);
+    pass(live, thread);
 }
 
 /// A thread gets a message of another one in its registers and its buffer, and goes on.

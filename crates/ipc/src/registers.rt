@@ -2,10 +2,9 @@
 
 ghost use Rattle.std.specs.Prelude.{ℕ, ◌≡◌, ◌==◌, ◌+◌, ◌%◌, ◌<◌, ◌≤◌, ◌^◌, min, length, slice_index_or};
 ghost use Rattle.ipc.specs.Registers.{message_for, message_in};
-ghost use Rattle.model.specs.Kernel.Messages.{a1, delivered, length_of, register, register_words, resumption, word_registers, write_words};
-ghost use Rattle.model.specs.Machine.Effects.{advanced};
+ghost use Rattle.model.specs.Kernel.Messages.{a1, info_word, length_of, register, register_words, resumption, word_registers};
 ghost use Rattle.model.specs.Machine.Instructions.{IsRegister};
-ghost use Rattle.model.specs.Machine.ProgramMemory.{read, write};
+ghost use Rattle.model.specs.Machine.ProgramMemory.{read};
 
 use model::{FaultKind, Register};
 use objects::Fault;
@@ -134,9 +133,24 @@ impl Message {
         self.count
     }
 
+    /// Its info word.
+    pub(crate) fn info(&self) -> u32
+        ensures { result ≡ info_word self.now.label self.now.count }
+    {
+        0x1000 * self.label + self.count
+    }
+
     /// Its words that registers hold, at most 8.
     pub fn words(&self) -> &[u32]
         ensures { result.now ≡ self.now.words }
+    {
+        self.held()
+    }
+
+    /// The same, for those that ask how many they are.
+    pub(crate) fn held(&self) -> &[u32]
+        ensures value { result.now ≡ self.now.words }
+        ensures most { length result.now ≤ 8 }
     {
         &self.words[..self.count.min(REGISTER_WORDS) as usize]
     }
@@ -178,7 +192,7 @@ pub(crate) fn length_named(registers: &Regs) -> u32
 
 /// The register that holds a word of a message: a2 to a5, then s2 to s5.
 #[tactic(auto, unfolding(model::specs::Kernel::Messages::word_registers))]
-fn word_register(index: usize) -> Register
+pub(crate) fn word_register(index: usize) -> Register
     requires { index < 8 }
     ensures register { result ≡ slice_index_or word_registers index (register 0) }
     ensures named { IsRegister result }
@@ -188,43 +202,4 @@ fn word_register(index: usize) -> Register
     } else {
         Register(14 + index as u8)
     }
-}
-
-/// Writes words into the registers that hold them.
-fn write_words(registers: &mut Regs, words: &[u32])
-    requires { length words.now ≤ 8 }
-    ensures { registers.new ≡ write_words registers.old word_registers words.now }
-{
-    'words: for index in 0..words.len() {
-        registers.write(word_register(index), words[index]);
-    }
-}
-
-/// The registers of a thread that is delivered a message: badge, info and words, and no other.
-pub(crate) fn delivered(registers: Regs, badge: u32, message: &Message) -> Regs
-    ensures { result ≡ delivered registers badge message.now }
-{
-    let mut now = registers;
-    now.write(Register::A0, badge);
-    now.write(Register::A1, 0x1000 * message.label + message.count);
-    write_words(&mut now, message.words());
-    now
-}
-
-/// The registers of a thread that gets a word in a0 alone.
-pub fn with_word(registers: Regs, word: u32) -> Regs
-    ensures { result ≡ write registers (register 10) word }
-{
-    let mut now = registers;
-    now.write(Register::A0, word);
-    now
-}
-
-/// The registers of a thread that goes on after its call.
-pub fn advanced(registers: Regs) -> Regs
-    ensures { result ≡ advanced registers }
-{
-    let mut now = registers;
-    now.set_pc(registers.pc().wrapping_add(4));
-    now
 }
