@@ -17,7 +17,7 @@ step() {
     echo $(((long - short) / 100000))
 }
 
-for case in yield calls; do
+for case in count memory yield calls; do
     for others in "0 ready" "64 ready" "1024 ready" "1024 blocked"; do
         for bits in 22 24; do
             echo "$case beside $others, memory of 2^$bits bytes: $(step $case "$others" $bits) instructions a step"
