@@ -5,7 +5,8 @@ ghost use Rattle.ipc.specs.Buffers.{MayHandOver, buffers_of};
 ghost use Rattle.model.specs.Kernel.Messages.{bytes_between, greatest_length, message_between};
 ghost use Rattle.objects.specs.Lives.{Beside, state};
 
-use crate::registers::{Message, REGISTER_WORDS, length_named};
+use crate::registers::{Message, REGISTER_WORDS, length_in};
+use model::Register;
 use objects::Live;
 use slots::SlotStore;
 
@@ -52,9 +53,9 @@ pub(crate) fn message_between<S: SlotStore>(live: &Live<S>, from: u32, to: u32) 
     requires { MayHandOver (state S.SlotStore live.now) from to }
     ensures { result ≡ message_between (state S.SlotStore live.now) from to }
 {
-    let registers = live.registers(from);
-    let count = length_between(live, from, to, length_named(&registers));
-    Message::of_length(&registers, count)
+    let info = live.register(from, Register::A1);
+    let count = length_between(live, from, to, length_in(info));
+    Message::sent(live, from, count)
 }
 
 /// What no register holds of a message of so many words goes from one thread's buffer to another's, if both have one.

@@ -1,14 +1,17 @@
 //! Messages in registers: what a sender's hold, and what a receiver's become.
 
-ghost use Rattle.std.specs.Prelude.{ℕ, ◌≡◌, ◌==◌, ◌+◌, ◌%◌, ◌<◌, ◌≤◌, ◌^◌, min, length, slice_index_or};
+ghost use Rattle.std.specs.Prelude.{ℕ, ◌≡◌, ◌==◌, ◌+◌, ◌%◌, ◌<◌, ◌≤◌, ◌^◌, min, length, map, replicate, slice_index_or, take};
 ghost use Rattle.ipc.specs.Registers.{message_for, message_in};
-ghost use Rattle.model.specs.Kernel.Messages.{a1, info_word, length_of, register, register_words, resumption, word_registers};
+ghost use Rattle.model.specs.Kernel.Messages.{a1, info_word, length_of, message_of, register, register_words, resumption, word_registers};
+ghost use Rattle.model.specs.Kernel.State.{thread_at};
 ghost use Rattle.model.specs.Machine.Instructions.{IsRegister};
 ghost use Rattle.model.specs.Machine.ProgramMemory.{read};
+ghost use Rattle.objects.specs.Lives.{state};
 
 use model::{FaultKind, Register};
-use objects::Fault;
+use objects::{Fault, Live};
 use rv32_exec::Regs;
+use slots::SlotStore;
 use std::marker::Model;
 
 /// How many words of a message registers hold at most.
@@ -39,19 +42,10 @@ impl Message {
     pub fn of(registers: &Regs) -> Self
         ensures { result ≡ message_in registers.now }
     {
-        Message::of_length(registers, length_named(registers).min(REGISTER_WORDS))
-    }
-
-    /// The message in a sender's registers, of so many words: the length that they name, or fewer, but all that registers hold.
-    #[tactic(auto, unfolding(model::specs::Kernel::Messages::word_registers))]
-    pub(crate) fn of_length(registers: &Regs, count: u32) -> Self
-        requires few { count ≤ 120 }
-        requires held { min register_words count ≡ length_of (read registers.now a1) }
-        ensures { result ≡ record (message_in registers.now) { count = count } }
-    {
+        let info = registers.read(Register::A1);
         Message {
-            label: registers.read(Register::A1) / 0x1000,
-            count,
+            label: info / 0x1000,
+            count: length_in(info).min(REGISTER_WORDS),
             words: [
                 registers.read(Register(12)),
                 registers.read(Register(13)),
@@ -62,6 +56,20 @@ impl Message {
                 registers.read(Register(20)),
                 registers.read(Register(21)),
             ],
+        }
+    }
+
+    /// The message in the registers of a thread, of so many words: the length that they name, or fewer, but all that registers
+    /// hold.
+    pub(crate) fn sent<S: SlotStore>(live: &Live<S>, thread: u32, count: u32) -> Self
+        requires few { count ≤ 120 }
+        requires held { min register_words count ≡ length_of (read (thread_at (state S.SlotStore live.now) thread).registers a1) }
+        ensures { result ≡ record (message_of (thread_at (state S.SlotStore live.now) thread)) { count = count } }
+    {
+        Message {
+            label: live.register(thread, Register::A1) / 0x1000,
+            count,
+            words: words_of(live, thread, count),
         }
     }
 
@@ -183,11 +191,31 @@ impl Message {
     }
 }
 
-/// How many words a sender's registers say that the message has: 0 to 127.
-pub(crate) fn length_named(registers: &Regs) -> u32
-    ensures { result ≡ read registers.now a1 % 2 ^ 7 }
+/// How many words an info word says that its message has: 0 to 127.
+pub(crate) fn length_in(info: u32) -> u32
+    ensures { result ≡ info % 2 ^ 7 }
 {
-    registers.read(Register::A1) % 0x80
+    info % 0x80
+}
+
+/// No words.
+fn no_words() -> [u32; 8]
+    ensures { result ≡ replicate 8 0 }
+{
+    [0; 8]
+}
+
+/// The words of a message of so many words in the registers of a thread, and zeros behind them.
+fn words_of<S: SlotStore>(live: &Live<S>, thread: u32, count: u32) -> [u32; 8]
+    ensures { take (min register_words count) result
+        ≡ map (read (thread_at (state S.SlotStore live.now) thread).registers) (take (min register_words count) word_registers) }
+{
+    let mut words = no_words();
+    let held = count.min(REGISTER_WORDS) as usize;
+    'words: for index in 0..held {
+        words[index] = live.register(thread, word_register(index));
+    }
+    words
 }
 
 /// The register that holds a word of a message: a2 to a5, then s2 to s5.
