@@ -1,7 +1,10 @@
 //! All system calls.
 
 ghost use Rattle.std.specs.Prelude.{ℕ, ◌≡◌};
+ghost use Rattle.model.specs.Kernel.Messages.{a7};
+ghost use Rattle.model.specs.Kernel.State.{thread_at};
 ghost use Rattle.model.specs.Kernel.Steps.{calls, system_call};
+ghost use Rattle.model.specs.Machine.ProgramMemory.{read};
 ghost use Rattle.objects.specs.Lives.{state_in};
 ghost use Rattle.soundness.specs.Running.{IsRunning};
 
@@ -44,6 +47,13 @@ fn call<S: SlotStore>(kernel: &mut Kernel<S>, thread: u32, call: SystemCall) -> 
     }
 }
 
+/// What a thread has in a7: the number of the call that it makes.
+fn call_number<S: SlotStore>(kernel: &Kernel<S>, thread: u32) -> u32
+    ensures { result ≡ read (thread_at (state_in S.slots S.memory kernel.now) thread).registers a7 }
+{
+    kernel.live.register(thread, Register::A7)
+}
+
 /// The thread that runs makes the system call whose number is in a7, with the capability (or the byte) in a0, the
 /// info word in a1, and the words in a2 to a5 and s2 to s5. Another number is a fault.
 ///
@@ -55,7 +65,7 @@ pub fn system_call<S: SlotStore>(kernel: &mut Kernel<S>, thread: u32) -> Outcome
         ≡ (system_call (state_in S.slots S.memory kernel.old) thread).0 }
     ensures outcome { result ≡ (system_call (state_in S.slots S.memory kernel.old) thread).1 }
 {
-    let number = kernel.registers(thread).read(Register::A7);
+    let number = call_number(kernel, thread);
     match SystemCall::of_number(number) {
         Some(known) => call(kernel, thread, known),
         None => unknown_call(kernel, thread, number),

@@ -5,9 +5,11 @@ ghost use Rattle.model.specs.Capabilities.CapabilityWords.{IsCapability};
 ghost use Rattle.model.specs.Capabilities.LookupNumbers.{bits_left_of};
 ghost use Rattle.model.specs.Capabilities.Slots.{IsFull};
 ghost use Rattle.model.specs.Kernel.Kinds.{kind_at};
+ghost use Rattle.model.specs.Kernel.Messages.{a0};
 ghost use Rattle.model.specs.Kernel.Retype.{NewThread};
-ghost use Rattle.model.specs.Kernel.State.{cspace_slot};
+ghost use Rattle.model.specs.Kernel.State.{cspace_slot, thread_at};
 ghost use Rattle.model.specs.Kernel.Steps.{cspace_of, named_slot};
+ghost use Rattle.model.specs.Machine.ProgramMemory.{read};
 ghost use Rattle.objects.specs.Lives.{state_in};
 
 use cnode_ops::Kernel;
@@ -26,6 +28,13 @@ pub(crate) fn cspace_of<S: SlotStore>(kernel: &Kernel<S>, thread: u32) -> Cap
     live.store.capability(Slot::new(thread / 16))
 }
 
+/// What a thread has in a0: the name of the capability that it calls.
+fn called_name<S: SlotStore>(kernel: &Kernel<S>, thread: u32) -> u32
+    ensures { result ≡ read (thread_at (state_in S.slots S.memory kernel.now) thread).registers a0 }
+{
+    kernel.live.register(thread, Register::A0)
+}
+
 /// The slot that a thread's a0 names, which holds a capability.
 #[tactic(auto, unfolding(objects::specs::Tables::state_of))]
 pub(crate) fn named_slot<S: SlotStore>(
@@ -38,9 +47,5 @@ pub(crate) fn named_slot<S: SlotStore>(
     ensures few { IfErr result (λ failure. bits_left_of failure ≤ 32) }
 {
     let root = cspace_of(kernel, thread);
-    called_slot(
-        kernel.live.store(),
-        root,
-        kernel.registers(thread).read(Register::A0),
-    )
+    called_slot(kernel.live.store(), root, called_name(kernel, thread))
 }
