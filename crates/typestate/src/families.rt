@@ -119,11 +119,27 @@ impl Families {
         if is_name(name, change.parent) {
             return;
         }
+        if is_next_named(changes, name, slot) {
+            return;
+        }
         if is_any_named(changes, name, block) {
             return;
         }
         self.last = None;
         self.links.remove(&(name, block));
+    }
+}
+
+/// Whether the slot after this one is in its block, and was derived from what a name stands for. Where slots are emptied one after
+/// another, it answers in place of the whole block.
+fn is_next_named(changes: &BTreeMap<u64, PackedChange>, name: u64, slot: u64) -> bool {
+    let next = slot.saturating_add(1);
+    if block_of(next) != block_of(slot) {
+        return false;
+    }
+    match changes.get(&next) {
+        Some(change) => is_name(name, change.parent),
+        None => false,
     }
 }
 
