@@ -3,6 +3,7 @@
 ghost use Rattle.std.specs.Prelude.{◌≡◌, ◌==◌, if◌then◌else◌, IfSome, Some, None};
 ghost use Rattle.model.specs.Machine.Instructions.{IsRegister};
 ghost use Rattle.model.specs.Acceptance.Edges.{branch_ranges, equal_sides, have_one_sign, if_one_sign, intersection, is_empty_range, joined, lesser_sides, narrowed, not_lesser_sides, unequal_side, unequal_sides, with_sides, without_value};
+ghost use Rattle.ranges.specs.Edges.{only_if};
 ghost use Rattle.ranges.specs.Orders.{IsOrdered};
 
 use crate::Bounds;
@@ -197,20 +198,38 @@ fn joined(is_one: bool, sides: (Side, Side)) -> (Side, Side)
     }
 }
 
-/// The ranges with those of two registers, or none where one of the two is empty.
-fn with_sides(bounds: &Bounds, rs1: Register, rs2: Register, sides: (Side, Side)) -> Option<Bounds>
-    requires first { IsRegister rs1 }
-    requires second { IsRegister rs2 }
-    ensures { result ≡ with_sides bounds.now rs1 rs2 sides }
-{
-    match (sides.0.range(), sides.1.range()) {
-        (Some(first), Some(second)) => {
-            let mut bounds = *bounds;
-            bounds.set(rs1, first);
-            bounds.set(rs2, second);
-            Some(bounds)
+/// What a branch compares: two registers.
+#[derive(Clone, Copy)]
+pub(crate) struct Compared {
+    pub(crate) op: BranchOp,
+    pub(crate) rs1: Register,
+    pub(crate) rs2: Register,
+    ghost first: { IsRegister rs1 },
+    ghost second: { IsRegister rs2 },
+}
+
+impl Compared {
+    /// Gives its registers these ranges, unless one of the two is empty: whether it did.
+    fn set_sides(self, bounds: &mut Bounds, sides: (Side, Side)) -> bool
+        ensures { only_if result bounds.new ≡ with_sides bounds.old self.rs1 self.rs2 sides }
+    {
+        match (sides.0.range(), sides.1.range()) {
+            (Some(first), Some(second)) => {
+                bounds.set(self.rs1, first);
+                bounds.set(self.rs2, second);
+                true
+            }
+            _ => false,
         }
-        _ => None,
+    }
+
+    /// Makes of the ranges those that the branch leaves possible where its comparison holds (`taken`) or not, unless it cannot go
+    /// that way: whether it can. Register 0 stays 0.
+    pub(crate) fn narrow(self, taken: bool, bounds: &mut Bounds) -> bool
+        ensures { only_if result bounds.new ≡ branch_ranges self.op taken self.rs1 self.rs2 bounds.old }
+    {
+        let sides = narrowed(self.op, taken, bounds.get(self.rs1), bounds.get(self.rs2));
+        self.set_sides(bounds, joined(self.rs1 == self.rs2, sides))
     }
 }
 
@@ -227,6 +246,11 @@ pub fn refine(
     requires second { IsRegister rs2 }
     ensures { result ≡ branch_ranges op taken rs1 rs2 bounds.now }
 {
-    let sides = narrowed(op, taken, bounds.get(rs1), bounds.get(rs2));
-    with_sides(bounds, rs1, rs2, joined(rs1 == rs2, sides))
+    let mut left = *bounds;
+    let compared = Compared { op, rs1, rs2 };
+    if compared.narrow(taken, &mut left) {
+        Some(left)
+    } else {
+        None
+    }
 }

@@ -8,11 +8,11 @@ ghost use Rattle.model.specs.Machine.Effects.{effect};
 ghost use Rattle.model.specs.Machine.ProgramMemory.{Content, RegisterFile};
 ghost use Rattle.model.specs.Machine.Instructions.{IsInstr};
 ghost use Rattle.model.specs.Acceptance.RangeRules.{ranges_after};
-ghost use Rattle.ranges.specs.Edges.{way_of, ways_of};
+ghost use Rattle.ranges.specs.Edges.{only_if, ranges_behind, way_of, ways_of};
 ghost use Rattle.ranges.specs.Standing.{AreWords, TakesWay, is_computed_jump};
 
 use crate::Bounds;
-use crate::branches::refine;
+use crate::branches::{Compared, refine};
 use crate::results::{load_range, result_of_immediate, result_of_registers, result_of_shift};
 use model::{ImmediateOp, Instr, Range};
 use rv32_exec::upper_result;
@@ -101,12 +101,22 @@ fn branch_edge(target: u32, bounds: Option<Bounds>) -> Option<Edge>
     Some(Edge { target, bounds })
 }
 
-/// The ranges after the instruction at `pc`, which is not a branch: the register that it writes gets the range of its
-/// result.
-#[tactic(auto, unfolding(model::specs::Acceptance::RangeRules::ranges_after))]
+/// The ranges after the instruction at `pc`, which is not a branch.
 fn ranges_after(pc: u32, instr: Instr, bounds: &Bounds) -> Bounds
     requires { IsInstr instr }
     ensures { result ≡ ranges_after pc instr bounds.now }
+{
+    let mut bounds = *bounds;
+    write_result(pc, instr, &mut bounds);
+    bounds
+}
+
+/// Makes of the ranges those after the instruction at `pc`, which is not a branch: the register that it writes gets the
+/// range of its result.
+#[tactic(auto, unfolding(model::specs::Acceptance::RangeRules::ranges_after))]
+fn write_result(pc: u32, instr: Instr, bounds: &mut Bounds)
+    requires { IsInstr instr }
+    ensures { bounds.new ≡ ranges_after pc instr bounds.old }
 {
     let (rd, range) = match instr {
         Instr::Upper { op, rd, immediate } => (rd, Range::single(upper_result(op, pc, immediate))),
@@ -130,10 +140,31 @@ fn ranges_after(pc: u32, instr: Instr, bounds: &Bounds) -> Bounds
         ),
         Instr::Branch { .. } | Instr::Store { .. } | Instr::Fence | Instr::Ecall | Instr::Ebreak =>
             {
-                return *bounds;
+                return;
             }
     };
-    let mut bounds = *bounds;
     bounds.set(rd, range);
-    bounds
+}
+
+/// Makes of the ranges those on the way to the next instruction, if the instruction at `pc` has such a way: whether it
+/// has. It makes no other copy of them.
+#[tactic(auto, unfolding(model::specs::Acceptance::Edges::after))]
+pub fn pass(pc: u32, instr: Instr, bounds: &mut Bounds) -> bool
+    requires { IsInstr instr }
+    ensures { only_if result bounds.new ≡ ranges_behind (after pc instr bounds.old) }
+{
+    match instr {
+        Instr::Branch { op, rs1, rs2, .. } => Compared { op, rs1, rs2 }.narrow(false, bounds),
+        Instr::Jal { .. } | Instr::Jalr { .. } | Instr::Ecall | Instr::Ebreak => false,
+        Instr::Upper { .. }
+        | Instr::Load { .. }
+        | Instr::Store { .. }
+        | Instr::Immediate { .. }
+        | Instr::Shift { .. }
+        | Instr::Registers { .. }
+        | Instr::Fence => {
+            write_result(pc, instr, bounds);
+            true
+        }
+    }
 }

@@ -8,5 +8,5 @@ mod results;
 
 pub use bounds::Bounds;
 pub use branches::refine;
-pub use edges::{Edge, Edges, after};
+pub use edges::{Edge, Edges, after, pass};
 pub use model::Range;
