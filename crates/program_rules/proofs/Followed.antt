@@ -1,6 +1,6 @@
 -- What follows from a point, as it is kept.
-use Rattle.std.proofs.Common.{ℕ, ℤ, pos, negsuc, ◌≡◌, ◌+◌, ◌^◌, ◌-ℤ◌, if◌then◌else◌, Bool, true, false, Option, Some, None, List, refl}
-use Rattle.std.specs.Prelude.{◌≤ℤ◌}
+use Rattle.std.proofs.Common.{ℕ, ℤ, pos, negsuc, ◌≡◌, ◌+◌, ◌^◌, ◌-ℤ◌, if◌then◌else◌, Bool, true, false, Option, Some, None, List, refl, sym, ap, ◌∙◌}
+use Rattle.std.specs.Prelude.{◌≤ℤ◌, option_map}
 use Rattle.std.specs.List.{list_any}
 use Rattle.std.specs.Option.{option_map_or}
 use Rattle.std.proofs.lemmas.Int.{ints}
@@ -13,11 +13,13 @@ use Rattle.model.specs.Acceptance.PointStates.{Noted, Known, Missing, Unmeasured
 use Rattle.model.specs.Acceptance.RangeRules.{destination}
 use Rattle.model.specs.Images.Image.{Image, Thread}
 use Rattle.model.specs.declared.instructions.Instr.{Instr}
+use Rattle.model.specs.declared.ranges.Range.{Range}
 use Rattle.program_rules.specs.point_rules.Points.{left_with}
 use Rattle.program_rules.specs.declared.at_points.AtPoint.TheVariants as kept
 use Rattle.program_rules.specs.declared.at_points.AtPoint.{AtPoint}
 use Rattle.program_rules.specs.declared.point_rules.following.Left.{Left}
 use Rattle.program_rules.specs.Kept.{IsCleanIn, IsSound, kept_as, noted_by}
+use Rattle.ranges.specs.Edges.{only_if}
 use Rattle.typestate.specs.Logs.{Holds, part_of}
 use Rattle.typestate.specs.Strays.{NoneStray}
 use Rattle.typestate.specs.declared.logs.Part.{Part}
@@ -49,9 +51,42 @@ kept-clean image t slots log (kept.Known left) part clean none = none
 kept-clean image t slots log kept.Missing part clean none = tt
 kept-clean image t slots log kept.Unmeasured part clean none = tt
 
+-- ---- the ranges on the way to the next point
+
+-- what follows, by these ranges
+abbrev follows_ranges : Instr → PointState → Option (List Range) → Noted
+follows_ranges instr s None = Missing
+follows_ranges instr s (Some ranges) =
+    if option_map_or (λ rd. has_term s.measure rd.0) (destination instr) false then Unmeasured
+    else Known (record { ranges = ranges; slots = s.slots; measure = lowered s.measure (pos 1) })
+
+edge-ranges : (instr : Instr) (s : PointState) (edge : Option Edge) → follows_ranges instr s (option_map (λ e. e.ranges) edge) ≡ follows_edge instr s edge
+edge-ranges instr s None = refl
+edge-ranges instr s (Some edge) = refl
+
+pub not-passed : (instr : Instr) (s : PointState) (edge : Option Edge) (ranges : List Range) (is : Bool) →
+    only_if is ranges ≡ option_map (λ e. e.ranges) edge → is ≡ false → Missing ≡ follows_edge instr s edge
+not-passed instr s edge ranges is same stays =
+    ap (λ (b : Bool). follows_ranges instr s (only_if b ranges)) (sym stays) ∙ ap (follows_ranges instr s) same ∙ edge-ranges instr s edge
+
+pub passed-unmeasured : (instr : Instr) (s : PointState) (edge : Option Edge) (ranges : List Range) (is : Bool) →
+    only_if is ranges ≡ option_map (λ e. e.ranges) edge → is ≡ true → option_map_or (λ rd. has_term s.measure rd.0) (destination instr) false ≡ true →
+    Unmeasured ≡ follows_edge instr s edge
+passed-unmeasured instr s edge ranges is same goes writes =
+    ap (λ (b : Bool). if b then Unmeasured else Known (record { ranges = ranges; slots = s.slots; measure = lowered s.measure (pos 1) })) (sym writes)
+    ∙ ap (λ (b : Bool). follows_ranges instr s (only_if b ranges)) (sym goes) ∙ ap (follows_ranges instr s) same ∙ edge-ranges instr s edge
+
+pub passed-known : (instr : Instr) (s : PointState) (edge : Option Edge) (ranges : List Range) (is : Bool) (m : Measure) →
+    only_if is ranges ≡ option_map (λ e. e.ranges) edge → is ≡ true → option_map_or (λ rd. has_term s.measure rd.0) (destination instr) false ≡ false →
+    m ≡ lowered s.measure (pos 1) → Known (record { ranges = ranges; slots = s.slots; measure = m }) ≡ follows_edge instr s edge
+passed-known instr s edge ranges is m same goes writes low =
+    ap (λ (n : Measure). Known (record { ranges = ranges; slots = s.slots; measure = n })) low
+    ∙ ap (λ (b : Bool). if b then Unmeasured else Known (record { ranges = ranges; slots = s.slots; measure = lowered s.measure (pos 1) })) (sym writes)
+    ∙ ap (λ (b : Bool). follows_ranges instr s (only_if b ranges)) (sym goes) ∙ ap (follows_ranges instr s) same ∙ edge-ranges instr s edge
+
 -- ---- one less
 
-one-less : (point : ℕ) (c : ℤ) → negsuc (2 ^ 62 + point) ≤ℤ c → negsuc (2 ^ 62 + (point + 1)) ≤ℤ (c -ℤ pos 1)
+pub one-less : (point : ℕ) (c : ℤ) → negsuc (2 ^ 62 + point) ≤ℤ c → negsuc (2 ^ 62 + (point + 1)) ≤ℤ (c -ℤ pos 1)
 one-less point (pos n) low = grind (arith, ints)
 one-less point (negsuc n) low = grind (arith, ints, low)
 

@@ -17,11 +17,12 @@ ghost use Rattle.typestate.specs.declared.log_entries.LogEntry.{LogEntry};
 
 use crate::at_points::AtPoint;
 use crate::kept::Known;
-use crate::point_rules::{Left, follows, follows_call};
+use crate::point_rules::{Left, follows_call, writes_term};
 use crate::programs::Program;
 use crate::space_rules::Called;
 use crate::visits::{Visit, VisitedSlots};
 use model::Instr;
+use ranges::pass;
 use rv32_isa::decode;
 use std::alloc::AllocError;
 use typestate::{Part, ShownPart, SlotLog, points_without_stray_slots_have_none};
@@ -52,15 +53,14 @@ impl Known {
         ensures sound { (log : List LogEntry) (point : ℕ) → IsSound log point (kept.Known self.old) → IsSound log (point + 1) (passed_as self.new result) }
         ensures clean { (image : Image) (t : Thread) (slots : List NotedSlot) (log : List LogEntry) → IsCleanIn image t slots log (kept.Known self.old) → IsCleanIn image t slots log (passed_as self.new result) }
     {
-        match follows(pc, instr, &self.bounds, &self.measure) {
-            AtPoint::Known(left) => {
-                self.bounds = left.bounds;
-                self.measure = left.measure;
-                AtPoint::Known(())
-            }
-            AtPoint::Missing => AtPoint::Missing,
-            AtPoint::Unmeasured => AtPoint::Unmeasured,
+        if !pass(pc, instr, &mut self.bounds) {
+            return AtPoint::Missing;
         }
+        if writes_term(instr, &self.measure) {
+            return AtPoint::Unmeasured;
+        }
+        self.measure = self.measure.lowered();
+        AtPoint::Known(())
     }
 }
 

@@ -14,6 +14,7 @@ mod ways;
 
 pub use calls::{follows_call, registers_of};
 pub(crate) use entries::entered;
+pub(crate) use following::writes_term;
 pub use following::{Left, follows};
 pub use found_pages::FoundPages;
 pub use found_runs::FoundRuns;

@@ -25,7 +25,7 @@ pub struct Left {
 }
 
 /// Whether an instruction writes a register of a measure.
-fn writes_term(instr: Instr, measure: &Measure) -> bool
+pub(crate) fn writes_term(instr: Instr, measure: &Measure) -> bool
     ensures { result ≡ option_map_or (λ rd. has_term (measure_of measure.now) rd.0) (destination instr) false }
 {
     match destination(instr) {
