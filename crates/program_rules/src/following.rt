@@ -19,11 +19,11 @@ use crate::at_points::AtPoint;
 use crate::kept::Known;
 use crate::point_rules::{Left, follows_call, writes_term};
 use crate::programs::Program;
+use crate::read_points::ReadPoint;
 use crate::space_rules::Called;
 use crate::visits::{Visit, VisitedSlots};
 use model::Instr;
 use ranges::pass;
-use rv32_isa::decode;
 use std::alloc::AllocError;
 use typestate::{Part, ShownPart, SlotLog, points_without_stray_slots_have_none};
 
@@ -85,24 +85,25 @@ impl Program<'_, '_> {
     {
         self.given.space.thread.header().base + 4 * point
     }
+}
 
-    /// Makes of what is kept of a point that has no system call what is kept of the one after it, where no record notes that.
-    pub(crate) fn pass_plain(&self, point: u32, kept: &mut AtPoint<Known>, log: &SlotLog)
-        requires within { point < self.now.given.space.thread.now.header.words }
-        requires plain { instruction_at self.now.given.space.thread.now point ≢ Some Ecall }
-        requires kept { IsKeptAt self.now.given.space.image.now (thread_of self.now) self.now.given.slots.now log.now point kept.old }
-        ensures same { noted_by self.now.given.slots.now log.now kept.new ≡ follows self.now.given.space.image.now (thread_of self.now) point (noted_by self.now.given.slots.now log.now kept.old) }
-        ensures sound { IsSound log.now (point + 1) kept.new }
-        ensures clean { IsCleanIn self.now.given.space.image.now self.now.given.space.thread.now self.now.given.slots.now log.now kept.new }
+impl ReadPoint<'_, '_, '_, '_> {
+    /// Makes of what is kept of the point, which has no system call, what is kept of the one after it, where no record notes that.
+    pub(crate) fn pass_plain(&self, kept: &mut AtPoint<Known>)
+        requires plain { instruction_at self.now.read.program.now.given.space.thread.now self.now.point ≢ Some Ecall }
+        requires kept { IsKeptAt self.now.read.program.now.given.space.image.now (thread_of self.now.read.program.now) self.now.read.program.now.given.slots.now self.now.read.points.now.log self.now.point kept.old }
+        ensures same { noted_by self.now.read.program.now.given.slots.now self.now.read.points.now.log kept.new ≡ follows self.now.read.program.now.given.space.image.now (thread_of self.now.read.program.now) self.now.point (noted_by self.now.read.program.now.given.slots.now self.now.read.points.now.log kept.old) }
+        ensures sound { IsSound self.now.read.points.now.log (self.now.point + 1) kept.new }
+        ensures clean { IsCleanIn self.now.read.program.now.given.space.image.now self.now.read.program.now.given.space.thread.now self.now.read.program.now.given.slots.now self.now.read.points.now.log kept.new }
     {
         let AtPoint::Known(known) = kept else {
             *kept = AtPoint::Missing;
             return;
         };
-        match decode(self.given.space.thread.word(point)) {
+        match self.instr {
             None | Some(Instr::Ecall) => *kept = AtPoint::Missing,
             Some(instr) => {
-                let passed = known.pass(self.address(point), instr);
+                let passed = known.pass(self.read.program.address(self.point), instr);
                 kept.leave(passed);
             }
         }

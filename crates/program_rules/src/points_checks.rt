@@ -22,7 +22,7 @@ use crate::notes::RecordsLeft;
 use crate::point_rules::{FoundPages, entered};
 use crate::points::Points;
 use crate::programs::Program;
-use crate::read_points::ReadPoints;
+use crate::read_points::{ReadPoint, ReadPoints};
 use crate::same_parts::SameParts;
 use crate::visits::{PlainPoint, Visit, VisitedSlots};
 use model::{Instr, Refusal};
@@ -169,10 +169,11 @@ impl<'a> Program<'a, '_> {
         'rules: for point in 0..self.given.space.thread.word_count() {
             let noted = records.take(point);
             let is_next_noted = records.is_next(point + 1);
+            let instr = decode(self.given.space.thread.word(point));
             let visit = Visit {
                 program: self,
                 point,
-                instr: decode(self.given.space.thread.word(point)),
+                instr,
                 noted: noted.as_ref(),
                 is_next_noted,
             };
@@ -185,7 +186,12 @@ impl<'a> Program<'a, '_> {
                 program: self,
                 points: &*points,
             };
-            still_read.pass(point, &mut kept);
+            let here = ReadPoint {
+                read: still_read,
+                point,
+                instr,
+            };
+            here.pass(&mut kept);
         }
         Ok(())
     }

@@ -49,6 +49,16 @@ pass-requires c =
     c.rules.kept
     c.in_ok-point_rules.ensures.others (c.rules.invariant.8 (omega (arith, least, count)))
 
+pub invariant_of-here : goal.invariant_of-here
+invariant_of-here c =
+    let least = c.rules-test.true in
+    let count = c.word_count-point-end.ensures.value in
+    record {
+      within = omega (arith, least, count);
+      is = ap decoded (sym c.word.ensures) ∙ sym c.decode-instr.ensures.value;
+      valid = valid-instr c.word.result c.decode-instr.result c.decode-instr.ensures.some;
+    }
+
 pub invariant_of-visit : goal.invariant_of-visit
 invariant_of-visit c =
     let own = c.args.self.now.given.space.thread.now in
@@ -56,8 +66,8 @@ invariant_of-visit c =
     let count = c.word_count-point-end.ensures.value in
     record {
       within = omega (arith, least, count);
-      is = ap decoded (sym c.word.ensures) ∙ sym c.decode.ensures.value;
-      valid = valid-instr c.word.result c.decode.result c.decode.ensures.some;
+      is = ap decoded (sym c.word.ensures) ∙ sym c.decode-instr.ensures.value;
+      valid = valid-instr c.word.result c.decode-instr.result c.decode-instr.ensures.some;
       listed = c.as_ref.ensures.value ∙ c.take-noted.ensures.record ∙ sym (next-record own c.rules.point c.rules.records c.rules.invariant.1).0;
       next = is-next own c.rules.point c.rules.records c.take-noted.new.self c.is_next-is_next_noted.result c.rules.invariant.1
           c.take-noted.ensures.left

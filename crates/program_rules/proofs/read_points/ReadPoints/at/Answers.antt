@@ -1,5 +1,7 @@
 -- From the last point that does not follow from the one before it on, each follows.
-use Rattle.std.proofs.Common.{ℕ, ◌≡◌, ◌<◌, length, subst, arith}
+use Rattle.std.proofs.Common.{ℕ, ◌≡◌, ◌∙◌, ◌<◌, length, sym, ap, subst, arith}
+use Rattle.model.specs.Machine.Decoding.{decoded}
+use Rattle.program_rules.proofs.Spelled.{valid-instr}
 use Rattle.program_rules.proofs.read_points.ReadPoints.at.Goals as goal
 use Rattle.program_rules.specs.Kept.{IsKeptAt}
 use Rattle.program_rules.specs.Programs.{thread_of}
@@ -15,6 +17,22 @@ steps-init c =
           c.first_of-first.ensures.first,
       near,
     )
+
+pub word-requires : goal.word-requires
+word-requires c =
+    let within = c.requires in
+    let near = c.steps-test.true in
+    omega (arith, within, near)
+
+pub invariant_of-here : goal.invariant_of-here
+invariant_of-here c =
+    let within = c.requires in
+    let near = c.steps-test.true in
+    record {
+      within = omega (arith, within, near);
+      is = ap decoded (sym c.word.ensures) ∙ sym c.decode.ensures.value;
+      valid = valid-instr c.word.result c.decode.result c.decode.ensures.some;
+    }
 
 pub pass-requires : goal.pass-requires
 pass-requires c = c.steps.invariant.0
