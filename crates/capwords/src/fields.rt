@@ -1,4 +1,4 @@
-//! Reading fields out of words, before it is known that they are a capability's.
+//! Reading fields out of words, whether these are a capability's or not.
 
 ghost use Rattle.std.specs.Prelude.{◌≡◌, ◌<◌};
 ghost use Rattle.model.specs.Capabilities.CapabilityFields.{fields_of, fields_of_kind, frame_mapping_of, table_mapping_of};
@@ -77,8 +77,9 @@ fn of_kind(kind: u32, detail: u8, rights: u8, offset: u32, word: u32) -> Cap
     }
 }
 
-/// The fields that are in two words.
-pub(crate) fn read_fields(head: u32, word: u32) -> Cap
+/// The capability whose fields are in two words. Where they are the words of none, its fields may be out of their ranges, and
+/// [`unpack`](crate::unpack) refuses them; who knows that they are some capability's needs no other look.
+pub fn read_fields(head: u32, word: u32) -> Cap
     ensures { result ≡ fields_of head word }
 {
     let detail = (head / 0x10 % 0x20) as u8;

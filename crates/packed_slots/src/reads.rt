@@ -14,7 +14,7 @@ ghost use Rattle.slots.specs.preorder.Chains.{back_above, if_deeper};
 use crate::PackedSlots;
 use crate::links::back_above;
 use crate::words::{depth, next, previous, word};
-use capwords::unpack;
+use capwords::read_fields;
 use model::{Cap, Slot};
 use slots::SlotMap;
 
@@ -68,10 +68,7 @@ impl PackedSlots {
         ensures valid { IsCapability result }
         ensures packed { IsPacked self.now }
     {
-        match unpack([word(&self.memory, slot, 0), word(&self.memory, slot, 1)]) {
-            Some(capability) => capability,
-            None => unreachable!(),
-        }
+        read_fields(word(&self.memory, slot, 0), word(&self.memory, slot, 1))
     }
 
     /// The slot that an open one was derived from: the first one back that is less deep.
