@@ -1,14 +1,14 @@
 //! Those that are ready to run. Each thread keeps the priority at which it is ready, the next and the previous thread
 //! at 256, 260 and 264 of its own bytes.
 
-ghost use Rattle.std.specs.Prelude.{ℕ, ◌≡◌, ◌≢◌, ◌==◌, ◌<◌, ◌*◌, ◌+◌, [], ◌∷◌, ◌++◌, List, Some, true, false, is_some, length, replicate, slice_set};
+ghost use Rattle.std.specs.Prelude.{ℕ, ◌≡◌, ◌≢◌, ◌==◌, ◌<◌, ◌*◌, ◌+◌, [], ◌∷◌, ◌++◌, IfSome, List, None, Option, Some, true, false, is_some, length, replicate, slice_set};
 ghost use Rattle.std.specs.Int.{bit_at};
 ghost use Rattle.std.specs.Option.{ForSome};
 ghost use Rattle.model.specs.Kernel.Scheduling.{first_below};
 ghost use Rattle.model.specs.Kernel.State.{put};
 ghost use Rattle.model.specs.Shared.Lists.{times_in, without};
 ghost use Rattle.queues.specs.Layout.{AreLaidOut, Places};
-ghost use Rattle.queues.specs.Ready.{IsHighest, ReadyStands, SameBesideReady, ends_of, is_marked, nobody, ready_of};
+ghost use Rattle.queues.specs.Ready.{IsHighest, IsTop, ReadyStands, SameBesideReady, ends_of, is_marked, nobody, ready_of};
 
 use crate::layout::Layout;
 use crate::linking::{link_last, queue_of_thread, unlink};
@@ -157,27 +157,32 @@ fn mark(marks: &mut [u64; 4], priority: u32, value: bool)
     marks[at] = with_bit(marks[at], priority % WORD_MARKS, value);
 }
 
-/// The highest priority whose mark is set among those of a word, or what was found below these, if none is.
-fn higher(marks: &[u64; 4], number: u32, below: Option<u32>) -> Option<u32>
-    requires few { number < 4 }
-    requires below { IsHighest (64 * number) marks.now below }
-    ensures { IsHighest (64 * (number + 1)) marks.now result }
+/// The highest priority whose mark is set among those of a word. If none is, the highest below these is the highest.
+fn highest_of(marks: &[u64; 4], number: u32) -> Option<u32>
+    requires { number < 4 }
+    ensures found { IfSome result (IsTop (64 * (number + 1)) marks.now) }
+    ensures none { result ≡ None → (below : Option ℕ) → IsHighest (64 * number) marks.now below
+        → IsHighest (64 * (number + 1)) marks.now below }
 {
     let word = marks[number as usize];
     if word == 0 {
-        below
+        None
     } else {
         Some(WORD_MARKS * number + word.ilog2())
     }
 }
 
-/// The highest priority whose mark is set.
+/// The highest priority whose mark is set: words are looked at from the greatest priorities on.
 fn highest(marks: &[u64; 4]) -> Option<u32>
     ensures { IsHighest 256 marks.now result }
 {
-    let mut best = None;
-    'words: for number in 0..4 {
-        best = higher(marks, number, best);
+    let mut number = 4;
+    'words: while number > 0 {
+        number -= 1;
+        let found = highest_of(marks, number);
+        if found.is_some() {
+            return found;
+        }
     }
-    best
+    None
 }
