@@ -1,13 +1,15 @@
 //! The slots that a call names.
 //! seL4 Reference Manual, "Capability Space Addressing".
 
-ghost use Rattle.std.specs.Prelude.{◌≡◌, IfOk};
+ghost use Rattle.std.specs.Prelude.{◌≡◌, not, IfOk};
+ghost use Rattle.std.specs.Result.{result_map_both};
 ghost use Rattle.model.specs.Kernel.Arguments.{argument_slot, destination_slot, source_slot};
 ghost use Rattle.model.specs.Capabilities.CapabilityWords.{IsCapability};
 ghost use Rattle.model.specs.Capabilities.Lookup.{called_slot};
-ghost use Rattle.model.specs.Capabilities.Slots.{IsFull};
+ghost use Rattle.model.specs.Capabilities.Slots.{IsFull, capability_at, is_empty};
 
 use crate::lookup;
+use crate::lookups::find;
 use model::{Cap, KError, LookupFailure, Slot, SlotName};
 use slots::{SlotMap, is_taken};
 
@@ -64,19 +66,48 @@ pub fn destination_slot<S: SlotMap>(slots: &S, root: Cap, name: SlotName) -> Res
     }
 }
 
-/// The slot that a system call names, with all 32 bits of the address to be used; bits that are left over are ignored.
+/// Whether a capability is another than the empty one.
+fn is_some(capability: Cap) -> bool
+    ensures { result ≡ not (is_empty capability) }
+{
+    !matches!(capability, Cap::Empty)
+}
+
+/// The slot that a system call names, with all 32 bits of the address to be used, and the capability in it; bits that
+/// are left over are ignored.
 ///
 /// # Errors
 ///
 /// That of the lookup; then, the slot is empty (a missing capability).
+pub fn called_capability<S: SlotMap>(
+    slots: &S,
+    root: Cap,
+    address: u32,
+) -> Result<(Slot, Cap), LookupFailure>
+    requires { IsCapability root }
+    ensures slot { result_map_both (λ called. called.0) (λ failure. failure) result ≡ called_slot (S.slots slots.now) root address }
+    ensures held { IfOk result (λ called. capability_at (S.slots slots.now) called.0 ≡ called.1) }
+    ensures full { IfOk result (λ called. IsFull (S.slots slots.now) called.0) }
+{
+    match find(slots, root, address, 32) {
+        Err(failure) => Err(failure),
+        Ok(found) if is_some(found.capability) => Ok((found.slot, found.capability)),
+        Ok(_) => Err(LookupFailure::MissingCapability),
+    }
+}
+
+/// The same slot alone.
+///
+/// # Errors
+///
+/// Those of [`called_capability`].
 pub fn called_slot<S: SlotMap>(slots: &S, root: Cap, address: u32) -> Result<Slot, LookupFailure>
     requires { IsCapability root }
     ensures value { result ≡ called_slot (S.slots slots.now) root address }
     ensures full { IfOk result (IsFull (S.slots slots.now)) }
 {
-    match lookup(slots, root, address, 32) {
+    match called_capability(slots, root, address) {
+        Ok((slot, _)) => Ok(slot),
         Err(failure) => Err(failure),
-        Ok((slot, _)) if is_taken(slots, slot) => Ok(slot),
-        Ok(_) => Err(LookupFailure::MissingCapability),
     }
 }

@@ -5,6 +5,6 @@
 mod arguments;
 mod lookups;
 
-pub use arguments::{argument_slot, called_slot, destination_slot, source_slot};
+pub use arguments::{argument_slot, called_capability, called_slot, destination_slot, source_slot};
 pub use lookups::lookup;
 pub use model::{LookupFailure, SlotName};

@@ -1,8 +1,10 @@
 //! From a capability address to a slot.
 
 ghost use Rattle.std.specs.Prelude.{ℕ, ◌≡◌, ◌+◌, ◌/◌, ◌^◌, ◌%◌, ◌<◌, ◌≤◌, ◌==◌, ◌||◌, not, IfOk};
+ghost use Rattle.std.specs.Result.{result_map_both};
 ghost use Rattle.model.specs.Capabilities.CapabilityWords.{IsCapability, IsGuardWord, IsPlace};
 ghost use Rattle.model.specs.Capabilities.Lookup.{is_cnode, lookup, resolve};
+ghost use Rattle.model.specs.Capabilities.Slots.{capability_at};
 
 use model::{Cap, LookupFailure, Slot};
 use slots::SlotMap;
@@ -12,6 +14,14 @@ use slots::SlotMap;
 struct Node {
     radix: u8,
     guard: u32,
+}
+
+/// The slot that a lookup ends at, how many bits are left after it, and the capability in it.
+#[derive(Clone, Copy)]
+pub(crate) struct Found {
+    pub(crate) slot: Slot,
+    pub(crate) rest: u32,
+    pub(crate) capability: Cap,
 }
 
 /// Whether a lookup ends at a slot: no bits are left, or the slot holds no CNode.
@@ -31,12 +41,10 @@ fn bits_of(address: u32, rest: u32, count: u32) -> u32
 
 /// The index of the slot that a CNode resolves, with the bits that are left after it.
 fn resolve(node: Node, address: u32, left: u32) -> Result<(u32, u32), LookupFailure>
-    requires radix { node.radix ≤ 14 }
-    requires least { 1 ≤ node.radix }
-    requires depth { left ≤ 32 }
+    requires { left ≤ 32 }
     ensures value { result ≡ resolve node.radix node.guard address left }
     ensures index { IfOk result (λ place. place.0 < 2 ^ node.radix) }
-    ensures fewer { IfOk result (λ place. place.1 < left) }
+    ensures fewer { IfOk result (λ place. place.1 + node.radix ≤ left) }
 {
     let size = node.guard % 0x20;
     let taken = size + u32::from(node.radix);
@@ -50,22 +58,21 @@ fn resolve(node: Node, address: u32, left: u32) -> Result<(u32, u32), LookupFail
     Ok((bits_of(address, rest, u32::from(node.radix)), rest))
 }
 
-/// The slot that the low `depth` bits of an address name in the capability space of a root, and how many bits are left after
-/// it. The address is read from its high end; the lookup ends where no bits are left, or in front of a slot that holds no
-/// CNode.
+/// The slot that [`lookup`] finds, with what it holds: it is read to see whether the lookup ends there.
 ///
 /// # Errors
 ///
-/// Where the lookup fails and why, with how many bits were left there ([`LookupFailure`]).
-pub fn lookup<S: SlotMap>(
+/// Those of [`lookup`].
+pub(crate) fn find<S: SlotMap>(
     slots: &S,
     root: Cap,
     address: u32,
     depth: u32,
-) -> Result<(Slot, u32), LookupFailure>
-    requires valid { IsCapability root }
-    requires bits { depth ≤ 32 }
-    ensures value { result ≡ lookup (S.slots slots.now) root address depth }
+) -> Result<Found, LookupFailure>
+    requires { IsCapability root × (depth ≤ 32) }
+    ensures value { result_map_both (λ found. (found.slot, found.rest)) (λ failure. failure) result
+        ≡ lookup (S.slots slots.now) root address depth }
+    ensures held { IfOk result (λ found. capability_at (S.slots slots.now) found.slot ≡ found.capability) }
 {
     let mut held = root;
     let mut left = depth;
@@ -86,9 +93,36 @@ pub fn lookup<S: SlotMap>(
         let slot = Slot::new(offset / 16 + index);
         let next = slots.capability(slot);
         if ends_at(rest, next) {
-            return Ok((slot, rest));
+            return Ok(Found {
+                slot,
+                rest,
+                capability: next,
+            });
         }
         held = next;
         left = rest;
+    }
+}
+
+/// The slot that the low `depth` bits of an address name in the capability space of a root, and how many bits are left after
+/// it. The address is read from its high end; the lookup ends where no bits are left, or in front of a slot that holds no
+/// CNode.
+///
+/// # Errors
+///
+/// Where the lookup fails and why, with how many bits were left there ([`LookupFailure`]).
+pub fn lookup<S: SlotMap>(
+    slots: &S,
+    root: Cap,
+    address: u32,
+    depth: u32,
+) -> Result<(Slot, u32), LookupFailure>
+    requires valid { IsCapability root }
+    requires bits { depth ≤ 32 }
+    ensures value { result ≡ lookup (S.slots slots.now) root address depth }
+{
+    match find(slots, root, address, depth) {
+        Ok(found) => Ok((found.slot, found.rest)),
+        Err(failure) => Err(failure),
     }
 }

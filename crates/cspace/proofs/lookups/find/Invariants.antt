@@ -2,7 +2,7 @@
 use Rattle.std.proofs.Common.{ℕ, ◌≡◌, ◌<◌, ◌≤◌}
 use Rattle.model.specs.Capabilities.CapabilityWords.{IsCapability}
 use Rattle.model.specs.Capabilities.Lookup.{lookup, lookup_within}
-use Rattle.cspace.proofs.lookups.lookup.Given as goal
+use Rattle.cspace.proofs.lookups.find.Given as goal
 
 abbrev pub invariant-nodes : goal.invariant-nodes
 invariant-nodes g l =
