@@ -9,7 +9,7 @@ ghost use Rattle.model.specs.Kernel.Faults.{handler, handler_in, handler_of};
 ghost use Rattle.model.specs.Kernel.State.{State, cspace_slot};
 ghost use Rattle.objects.specs.Lives.{state};
 
-use cspace::called_slot;
+use cspace::called_capability;
 use model::{Cap, Rights, Slot};
 use objects::Live;
 use slots::SlotStore;
@@ -57,8 +57,8 @@ fn handler_at<S: SlotStore>(store: &S, thread: u32, address: u32) -> Option<Hand
         ≡ handler_in s (called_slot s.slots (capability_at s.slots (cspace_slot thread)) address) }
 {
     let root = store.capability(Slot::new(thread / 16));
-    match called_slot(store, root, address) {
-        Ok(slot) => handler_of(store.capability(slot)),
+    match called_capability(store, root, address) {
+        Ok((_, capability)) => handler_of(capability),
         Err(_) => None,
     }
 }
