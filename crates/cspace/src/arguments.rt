@@ -8,10 +8,31 @@ ghost use Rattle.model.specs.Capabilities.CapabilityWords.{IsCapability};
 ghost use Rattle.model.specs.Capabilities.Lookup.{called_slot};
 ghost use Rattle.model.specs.Capabilities.Slots.{IsFull, capability_at, is_empty};
 
-use crate::lookup;
-use crate::lookups::find;
+use crate::lookups::{Found, Start, find};
 use model::{Cap, KError, LookupFailure, Slot, SlotName};
-use slots::{SlotMap, is_taken};
+use slots::SlotMap;
+
+/// Whether a slot that holds this is full.
+fn is_some(capability: Cap) -> bool
+    ensures { result ≡ not (is_empty capability) }
+{
+    !matches!(capability, Cap::Empty)
+}
+
+/// The slot of this name in the capability space of a root, with the capability in it.
+fn find_argument<S: SlotMap>(slots: &S, root: Cap, name: SlotName) -> Result<Found, KError>
+    requires { IsCapability root }
+    ensures slot { result_map_both (λ found. found.slot) (λ error. error) result ≡ argument_slot (S.slots slots.now) root name }
+    ensures held { IfOk result (λ found. capability_at (S.slots slots.now) found.slot ≡ found.capability) }
+{
+    if name.depth == 0 || name.depth > 32 {
+        return Err(KError::RangeError);
+    }
+    match find(slots, &Start { root, name }) {
+        Ok(found) if found.rest == 0 => Ok(found),
+        _ => Err(KError::FailedLookup),
+    }
+}
 
 /// The slot of this name in the capability space of a root.
 ///
@@ -22,12 +43,9 @@ pub fn argument_slot<S: SlotMap>(slots: &S, root: Cap, name: SlotName) -> Result
     requires { IsCapability root }
     ensures { result ≡ argument_slot (S.slots slots.now) root name }
 {
-    if name.depth == 0 || name.depth > 32 {
-        return Err(KError::RangeError);
-    }
-    match lookup(slots, root, name.address, name.depth) {
-        Ok((slot, 0)) => Ok(slot),
-        _ => Err(KError::FailedLookup),
+    match find_argument(slots, root, name) {
+        Ok(found) => Ok(found.slot),
+        Err(error) => Err(error),
     }
 }
 
@@ -41,11 +59,10 @@ pub fn source_slot<S: SlotMap>(slots: &S, root: Cap, name: SlotName) -> Result<S
     ensures value { result ≡ source_slot (S.slots slots.now) root name }
     ensures full { IfOk result (IsFull (S.slots slots.now)) }
 {
-    let slot = argument_slot(slots, root, name)?;
-    if is_taken(slots, slot) {
-        Ok(slot)
-    } else {
-        Err(KError::FailedLookup)
+    match find_argument(slots, root, name) {
+        Err(error) => Err(error),
+        Ok(found) if is_some(found.capability) => Ok(found.slot),
+        Ok(_) => Err(KError::FailedLookup),
     }
 }
 
@@ -58,19 +75,11 @@ pub fn destination_slot<S: SlotMap>(slots: &S, root: Cap, name: SlotName) -> Res
     requires { IsCapability root }
     ensures { result ≡ destination_slot (S.slots slots.now) root name }
 {
-    let slot = argument_slot(slots, root, name)?;
-    if is_taken(slots, slot) {
-        Err(KError::DeleteFirst)
-    } else {
-        Ok(slot)
+    match find_argument(slots, root, name) {
+        Err(error) => Err(error),
+        Ok(found) if is_some(found.capability) => Err(KError::DeleteFirst),
+        Ok(found) => Ok(found.slot),
     }
-}
-
-/// Whether a capability is another than the empty one.
-fn is_some(capability: Cap) -> bool
-    ensures { result ≡ not (is_empty capability) }
-{
-    !matches!(capability, Cap::Empty)
 }
 
 /// The slot that a system call names, with all 32 bits of the address to be used, and the capability in it; bits that
@@ -89,7 +98,8 @@ pub fn called_capability<S: SlotMap>(
     ensures held { IfOk result (λ called. capability_at (S.slots slots.now) called.0 ≡ called.1) }
     ensures full { IfOk result (λ called. IsFull (S.slots slots.now) called.0) }
 {
-    match find(slots, root, address, 32) {
+    let name = SlotName { address, depth: 32 };
+    match find(slots, &Start { root, name }) {
         Err(failure) => Err(failure),
         Ok(found) if is_some(found.capability) => Ok((found.slot, found.capability)),
         Ok(_) => Err(LookupFailure::MissingCapability),

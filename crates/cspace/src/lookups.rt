@@ -6,14 +6,35 @@ ghost use Rattle.model.specs.Capabilities.CapabilityWords.{IsCapability, IsGuard
 ghost use Rattle.model.specs.Capabilities.Lookup.{is_cnode, lookup, resolve};
 ghost use Rattle.model.specs.Capabilities.Slots.{capability_at};
 
-use model::{Cap, LookupFailure, Slot};
+use model::{Cap, LookupFailure, Slot, SlotName};
 use slots::SlotMap;
+use std::marker::Model;
 
 /// A CNode as a capability names it.
 #[derive(Clone, Copy)]
 struct Node {
     radix: u8,
     guard: u32,
+}
+
+/// Where a lookup begins: the root of a capability space, and a name of at most 32 bits.
+#[derive(Drop)]
+pub(crate) struct Start {
+    pub(crate) root: Cap,
+    pub(crate) name: SlotName,
+}
+
+impl Model for Start {
+    ghost use Rattle.std.specs.Prelude.{ℕ, ◌≤◌};
+    ghost use Rattle.model.specs.Capabilities.CapabilityWords.{IsCapability};
+    ghost use Rattle.model.specs.declared.capabilities.Cap.{Cap};
+    ghost use Rattle.model.specs.declared.invocations.SlotName.{SlotName};
+
+    ghost Value = { Cap × SlotName };
+
+    ghost view = { λ start. (start.root, start.name) };
+
+    ghost invariant = { λ start. IsCapability start.root × (start.name.depth ≤ 32) };
 }
 
 /// The slot that a lookup ends at, how many bits are left after it, and the capability in it.
@@ -63,19 +84,14 @@ fn resolve(node: Node, address: u32, left: u32) -> Result<(u32, u32), LookupFail
 /// # Errors
 ///
 /// Those of [`lookup`].
-pub(crate) fn find<S: SlotMap>(
-    slots: &S,
-    root: Cap,
-    address: u32,
-    depth: u32,
-) -> Result<Found, LookupFailure>
-    requires { IsCapability root × (depth ≤ 32) }
+pub(crate) fn find<S: SlotMap>(slots: &S, start: &Start) -> Result<Found, LookupFailure>
     ensures value { result_map_both (λ found. (found.slot, found.rest)) (λ failure. failure) result
-        ≡ lookup (S.slots slots.now) root address depth }
+        ≡ lookup (S.slots slots.now) start.now.0 start.now.1.address start.now.1.depth }
     ensures held { IfOk result (λ found. capability_at (S.slots slots.now) found.slot ≡ found.capability) }
 {
-    let mut held = root;
-    let mut left = depth;
+    let name = start.name;
+    let mut held = start.root;
+    let mut left = name.depth;
     'nodes: loop {
         let Cap::CNode {
             offset,
@@ -86,7 +102,7 @@ pub(crate) fn find<S: SlotMap>(
             return Err(LookupFailure::InvalidRoot);
         };
         let node = Node { radix, guard };
-        let (index, rest) = match resolve(node, address, left) {
+        let (index, rest) = match resolve(node, name.address, left) {
             Ok(place) => place,
             Err(failure) => return Err(failure),
         };
@@ -121,7 +137,11 @@ pub fn lookup<S: SlotMap>(
     requires bits { depth ≤ 32 }
     ensures value { result ≡ lookup (S.slots slots.now) root address depth }
 {
-    match find(slots, root, address, depth) {
+    let start = Start {
+        root,
+        name: SlotName { address, depth },
+    };
+    match find(slots, &start) {
         Ok(found) => Ok((found.slot, found.rest)),
         Err(failure) => Err(failure),
     }

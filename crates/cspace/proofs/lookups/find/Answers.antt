@@ -16,9 +16,11 @@ pub returns-in-Err : goal.returns-in-Err
 returns-in-Err g c =
     let rest = c.nodes.invariant.rest in
     let slots = g.S.SlotMap.slots c.args.slots.now in
-    let node : lookup_within rest.0 slots (CNode c.in-CNode.offset c.in-CNode.radix c.in-CNode.guard) c.args.address c.nodes.left ≡ lookup slots c.args.root
-    c.args.address c.args.depth =
-    ap (λ held. lookup_within rest.0 slots held c.args.address c.nodes.left) (sym c.in-CNode.is) ∙ rest.2 in
+    let address = c.start.inside.name.address in
+    let start = c.args.start.now in
+    let node : lookup_within rest.0 slots (CNode c.in-CNode.offset c.in-CNode.radix c.in-CNode.guard) address c.nodes.left
+    ≡ lookup slots start.0 start.1.address start.1.depth =
+    ap (λ held. lookup_within rest.0 slots held address c.nodes.left) (sym c.in-CNode.is) ∙ rest.2 in
     record { value = sym (lookup-fails rest.0 slots _ _ _ _ _ _ _ rest.1 node (sym c.resolve.ensures.value ∙ c.in-Err.is)); held = tt }
 
 pub new-slot-requires : goal.new-slot-requires
@@ -30,9 +32,11 @@ pub returns-then-ends_at : goal.returns-then-ends_at
 returns-then-ends_at g c =
     let rest = c.nodes.invariant.rest in
     let slots = g.S.SlotMap.slots c.args.slots.now in
-    let node : lookup_within rest.0 slots (CNode c.in-CNode.offset c.in-CNode.radix c.in-CNode.guard) c.args.address c.nodes.left ≡ lookup slots c.args.root
-    c.args.address c.args.depth =
-    ap (λ held. lookup_within rest.0 slots held c.args.address c.nodes.left) (sym c.in-CNode.is) ∙ rest.2 in
+    let address = c.start.inside.name.address in
+    let start = c.args.start.now in
+    let node : lookup_within rest.0 slots (CNode c.in-CNode.offset c.in-CNode.radix c.in-CNode.guard) address c.nodes.left
+    ≡ lookup slots start.0 start.1.address start.1.depth =
+    ap (λ held. lookup_within rest.0 slots held address c.nodes.left) (sym c.in-CNode.is) ∙ rest.2 in
     let here : capability_at slots (c.in-CNode.offset / 16 + c.in-Ok.place.0) ≡ c.capability-next.result = ap (capability_at slots) (sym c.new-slot.ensures)
     ∙ sym c.capability-next.ensures.value in
     let ends : (c.in-Ok.place.1 == 0 || not (is_cnode (capability_at slots (c.in-CNode.offset / 16 + c.in-Ok.place.0)))) ≡ true =
@@ -47,9 +51,11 @@ pub nodes-preserved : goal.nodes-preserved
 nodes-preserved g c =
     let rest = c.nodes.invariant.rest in
     let slots = g.S.SlotMap.slots c.args.slots.now in
-    let node : lookup_within rest.0 slots (CNode c.in-CNode.offset c.in-CNode.radix c.in-CNode.guard) c.args.address c.nodes.left ≡ lookup slots c.args.root
-    c.args.address c.args.depth =
-    ap (λ held. lookup_within rest.0 slots held c.args.address c.nodes.left) (sym c.in-CNode.is) ∙ rest.2 in
+    let address = c.start.inside.name.address in
+    let start = c.args.start.now in
+    let node : lookup_within rest.0 slots (CNode c.in-CNode.offset c.in-CNode.radix c.in-CNode.guard) address c.nodes.left
+    ≡ lookup slots start.0 start.1.address start.1.depth =
+    ap (λ held. lookup_within rest.0 slots held address c.nodes.left) (sym c.in-CNode.is) ∙ rest.2 in
     let here : capability_at slots (c.in-CNode.offset / 16 + c.in-Ok.place.0) ≡ c.capability-next.result = ap (capability_at slots) (sym c.new-slot.ensures)
     ∙ sym c.capability-next.ensures.value in
     let more : (c.in-Ok.place.1 == 0 || not (is_cnode (capability_at slots (c.in-CNode.offset / 16 + c.in-Ok.place.0)))) ≡ false =
@@ -58,7 +64,7 @@ nodes-preserved g c =
     let fewer : c.in-Ok.place.1 < c.nodes.left = omega (arith, c.in-Ok.ensures.fewer, valid.1) in
     let step = lookup-goes_on rest.0 slots _ _ _ _ _ _ _ _ rest.1 fewer node (sym c.resolve.ensures.value ∙ c.in-Ok.is) more in
     record {
-      rest = (step.0, step.1, ap (λ next. lookup_within step.0 slots next c.args.address c.in-Ok.place.1) (sym here) ∙ step.2);
+      rest = (step.0, step.1, ap (λ next. lookup_within step.0 slots next address c.in-Ok.place.1) (sym here) ∙ step.2);
       valid = c.capability-next.ensures.valid;
       few = omega (arith, fewer);
     }

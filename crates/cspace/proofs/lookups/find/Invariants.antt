@@ -8,7 +8,8 @@ abbrev pub invariant-nodes : goal.invariant-nodes
 invariant-nodes g l =
     let slots = g.S.SlotMap.slots l.slots in
     record {
-      rest : (n : ℕ) × (l.left < n) × (lookup_within n slots l.held l.address l.left ≡ lookup slots l.fn.root l.address l.fn.depth);
+      rest : (n : ℕ) × (l.left < n) × (lookup_within n slots l.held l.name.address l.left
+          ≡ lookup slots l.fn.start.0 l.fn.start.1.address l.fn.start.1.depth);
       valid : IsCapability l.held;
       few : l.left ≤ 32;
     }
