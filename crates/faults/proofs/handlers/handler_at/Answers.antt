@@ -8,8 +8,8 @@ use Rattle.model.specs.Kernel.Faults.{handler_of}
 pub returns-in-Ok : goal.returns-in-Ok
 returns-in-Ok g c = λ s same.
     c.handler_of.ensures ∙ ap handler_of (sym c.in-Ok.ensures.held ∙ ap (λ (slots : Slots). capability_at slots c.in-Ok.field-0-0) (sym same))
-    ∙ found-in s (g.S.SlotMap.slots c.args.store.now) c.args.thread c.args.address c.new.result c.capability-root.result (Ok c.in-Ok.field-0-0) same c.new.ensures
-    c.capability-root.ensures.value (rw c.in-Ok.is at c.called_capability.ensures.slot)
+    ∙ found-in s (g.S.SlotMap.slots c.args.store.now) c.args.thread c.args.address c.new.result c.capability-root.result (Ok c.in-Ok.field-0-0) same
+    c.new.ensures c.capability-root.ensures.value (rw c.in-Ok.is at c.called_capability.ensures.slot)
 
 pub returns-in-Err : goal.returns-in-Err
 returns-in-Err g c = λ s same.
