@@ -7,8 +7,11 @@ mod registers;
 mod results;
 mod view;
 
-pub use execution::exec;
+pub use execution::{advance, exec, plus, write_register};
 pub use model::{Access, AccessSize, Cause, Exec, Instr, MemoryFault, Register};
-pub use registers::Regs;
-pub use results::{immediate_result, register_result, shift_result, upper_result};
+pub use registers::{Registers, Regs};
+pub use results::{
+    immediate_result, load_result, load_size, register_result, shift_result, store_size,
+    upper_result,
+};
 pub use view::View;
