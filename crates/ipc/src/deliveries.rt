@@ -3,9 +3,10 @@
 ghost use Rattle.std.specs.Prelude.{ℕ, ◌≡◌, Some};
 ghost use Rattle.ipc.specs.Buffers.{MayHandOver};
 ghost use Rattle.model.specs.Kernel.Kinds.{kind_at};
-ghost use Rattle.model.specs.Kernel.Messages.{bytes_between, deliver, deliver_sent, deliver_with, deliver_word, passes, passes_with, word_registers, write_words};
+ghost use Rattle.model.specs.Kernel.Messages.{a0, a1, bytes_between, deliver, deliver_sent, deliver_with, deliver_word, passes, passes_with, word_registers, write_words};
 ghost use Rattle.model.specs.Kernel.Retype.{NewThread};
 ghost use Rattle.model.specs.Kernel.State.{thread_at};
+ghost use Rattle.model.specs.Machine.ProgramMemory.{write};
 ghost use Rattle.objects.specs.Lives.{Beside, state};
 ghost use Rattle.objects.specs.thread_records.Threads.{sender_of};
 
@@ -13,7 +14,6 @@ use crate::buffers::{copy_between, message_between};
 use crate::registers::{Message, word_register};
 use model::Register;
 use objects::{Live, Sent, WaitingSender};
-use rv32_exec::Regs;
 use slots::SlotStore;
 
 /// A thread goes on after its call.
@@ -25,17 +25,6 @@ pub fn pass<S: SlotStore>(live: &mut Live<S>, thread: u32)
 {
     let pc = live.pc(thread);
     live.set_pc(thread, pc.wrapping_add(4));
-}
-
-/// A thread goes on after its call with these registers.
-pub fn pass_with<S: SlotStore>(live: &mut Live<S>, thread: u32, registers: Regs)
-    requires there { kind_at (state S.SlotStore live.old) thread ≡ Some NewThread }
-    ensures state { state S.SlotStore live.new
-        ≡ passes_with (state S.SlotStore live.old) thread registers }
-    ensures beside { Beside S.SlotStore live.old live.new }
-{
-    live.set_registers(thread, registers);
-    pass(live, thread);
 }
 
 /// A thread goes on after its call with the words of a message in the registers that hold words.
@@ -73,6 +62,19 @@ pub fn deliver_word<S: SlotStore>(live: &mut Live<S>, thread: u32, word: u32)
     ensures beside { Beside S.SlotStore live.old live.new }
 {
     live.set_register(thread, Register::A0, word);
+    pass(live, thread);
+}
+
+/// A thread gets 0 in a0 and an info word in a1, as a message without words has them, and goes on.
+pub fn deliver_info<S: SlotStore>(live: &mut Live<S>, thread: u32, info: u32)
+    requires there { kind_at (state S.SlotStore live.old) thread ≡ Some NewThread }
+    ensures state { state S.SlotStore live.new
+        ≡ passes_with (state S.SlotStore live.old) thread
+        (write (write (thread_at (state S.SlotStore live.old) thread).registers a0 0) a1 info) }
+    ensures beside { Beside S.SlotStore live.old live.new }
+{
+    live.set_register(thread, Register::A0, 0);
+    live.set_register(thread, Register::A1, info);
     pass(live, thread);
 }
 

@@ -1,7 +1,7 @@
 //! Messages in registers: what a sender's hold, and what a receiver's become.
 
 ghost use Rattle.std.specs.Prelude.{ℕ, ◌≡◌, ◌==◌, ◌+◌, ◌%◌, ◌<◌, ◌≤◌, ◌^◌, min, length, map, replicate, slice_index_or, take};
-ghost use Rattle.ipc.specs.Registers.{message_for, message_in};
+ghost use Rattle.ipc.specs.Registers.{message_for};
 ghost use Rattle.model.specs.Kernel.Messages.{a1, info_word, length_of, message_of, register, register_words, resumption, word_registers};
 ghost use Rattle.model.specs.Kernel.State.{thread_at};
 ghost use Rattle.model.specs.Machine.Instructions.{IsRegister};
@@ -10,7 +10,6 @@ ghost use Rattle.objects.specs.Lives.{state};
 
 use model::{FaultKind, Register};
 use objects::{Fault, Live};
-use rv32_exec::Regs;
 use slots::SlotStore;
 use std::marker::Model;
 
@@ -39,24 +38,11 @@ impl Model for Message {
 
 impl Message {
     /// The message in a sender's registers. A length above 8 counts as 8.
-    pub fn of(registers: &Regs) -> Self
-        ensures { result ≡ message_in registers.now }
+    pub fn of<S: SlotStore>(live: &Live<S>, thread: u32) -> Self
+        ensures { result ≡ message_of (thread_at (state S.SlotStore live.now) thread) }
     {
-        let info = registers.read(Register::A1);
-        Message {
-            label: info / 0x1000,
-            count: length_in(info).min(REGISTER_WORDS),
-            words: [
-                registers.read(Register(12)),
-                registers.read(Register(13)),
-                registers.read(Register(14)),
-                registers.read(Register(15)),
-                registers.read(Register(18)),
-                registers.read(Register(19)),
-                registers.read(Register(20)),
-                registers.read(Register(21)),
-            ],
-        }
+        let length = length_in(live.register(thread, Register::A1));
+        Message::sent(live, thread, length.min(REGISTER_WORDS))
     }
 
     /// The message in the registers of a thread, of so many words: the length that they name, or fewer, but all that registers
@@ -171,7 +157,7 @@ impl Message {
     }
 
     /// Where a thread goes on that its handler resumes: at word 0 with its low two bits cleared, or where it was.
-    fn resumption(&self, pc: u32) -> u32
+    pub(crate) fn resumption(&self, pc: u32) -> u32
         ensures { result ≡ resumption pc self.now.words }
     {
         if self.count == 0 {
@@ -179,15 +165,6 @@ impl Message {
         } else {
             self.words[0] - self.words[0] % 4
         }
-    }
-
-    /// The registers of a thread that its handler resumes.
-    pub(crate) fn resumed(&self, registers: Regs) -> Regs
-        ensures { result ≡ record registers { pc = resumption registers.pc self.now.words } }
-    {
-        let mut now = registers;
-        now.set_pc(self.resumption(registers.pc()));
-        now
     }
 }
 

@@ -35,8 +35,8 @@ fn reply_to_fault<S: SlotStore>(live: &mut Live<S>, thread: u32, message: &Messa
     ensures beside { Beside S.SlotStore live.old live.new }
 {
     if message.resumes() {
-        let registers = live.registers(thread);
-        live.set_registers(thread, message.resumed(registers));
+        let pc = live.pc(thread);
+        live.set_pc(thread, message.resumption(pc));
         live.wake(thread);
     } else {
         live.block(thread, Status::Inactive);

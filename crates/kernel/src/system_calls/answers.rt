@@ -9,10 +9,11 @@ ghost use Rattle.model.specs.Kernel.Steps.{answered, calls_known, completed, lac
 ghost use Rattle.objects.specs.Lives.{state_in};
 ghost use Rattle.soundness.specs.Running.{IsRunning};
 
+use crate::system_calls::names::argument;
 use cnode_ops::Kernel;
 use faults::raise_fault;
-use ipc::pass_with;
-use model::{FaultKind, KError, LookupFailure, Outcome, Register, SendCall};
+use ipc::deliver_info;
+use model::{FaultKind, KError, LookupFailure, Outcome, SendCall};
 use objects::{Fault, Status};
 use slots::SlotStore;
 
@@ -38,10 +39,9 @@ pub(crate) fn lacks_capability<S: SlotStore>(
         ≡ (lacks_capability (state_in S.slots S.memory kernel.old) thread (if in_receive then 1 else 0) failure).0 }
     ensures outcome { result ≡ (lacks_capability (state_in S.slots S.memory kernel.old) thread (if in_receive then 1 else 0) failure).1 }
 {
-    let registers = kernel.registers(thread);
     let fault = Fault::Capability {
-        pc: registers.pc(),
-        address: registers.read(Register::A0),
+        pc: kernel.pc(thread),
+        address: argument(kernel, thread),
         in_receive,
         failure,
     };
@@ -73,12 +73,7 @@ pub(crate) fn answer<S: SlotStore>(kernel: &mut Kernel<S>, thread: u32, kind: Se
         ≡ answered (state_in S.slots S.memory kernel.old) thread kind number }
 {
     match kind {
-        SendCall::Calling => {
-            let mut registers = kernel.registers(thread);
-            registers.write(Register::A0, 0);
-            registers.write(Register::A1, 0x1000 * number);
-            pass_with(&mut kernel.live, thread, registers);
-        }
+        SendCall::Calling => deliver_info(&mut kernel.live, thread, 0x1000 * number),
         SendCall::Sending | SendCall::Trying => pass(kernel, thread),
     }
 }

@@ -9,6 +9,7 @@ ghost use Rattle.objects.specs.Lives.{state_in};
 ghost use Rattle.soundness.specs.Running.{IsRunning};
 
 use crate::system_calls::answers::{pass, unknown_call};
+use crate::system_calls::names::argument;
 use crate::system_calls::receives::receive_call;
 use crate::system_calls::replies::{give_way, reply};
 use crate::system_calls::send_calls::send_call;
@@ -40,7 +41,7 @@ fn call<S: SlotStore>(kernel: &mut Kernel<S>, thread: u32, call: SystemCall) -> 
             Outcome::Plain
         }
         SystemCall::PutsCharacter => {
-            let byte = (kernel.registers(thread).read(Register::A0) % 0x100) as u8;
+            let byte = (argument(kernel, thread) % 0x100) as u8;
             pass(kernel, thread);
             Outcome::Put(byte)
         }

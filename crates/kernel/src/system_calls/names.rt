@@ -1,9 +1,10 @@
 //! The capability that a call names.
 
 ghost use Rattle.std.specs.Prelude.{◌≡◌, ◌≤◌, IfErr, IfOk, Some};
+ghost use Rattle.std.specs.Result.{result_map_both};
+ghost use Rattle.kernel.specs.Named.{IsHeld};
 ghost use Rattle.model.specs.Capabilities.CapabilityWords.{IsCapability};
 ghost use Rattle.model.specs.Capabilities.LookupNumbers.{bits_left_of};
-ghost use Rattle.model.specs.Capabilities.Slots.{IsFull};
 ghost use Rattle.model.specs.Kernel.Kinds.{kind_at};
 ghost use Rattle.model.specs.Kernel.Messages.{a0};
 ghost use Rattle.model.specs.Kernel.Retype.{NewThread};
@@ -13,7 +14,7 @@ ghost use Rattle.model.specs.Machine.ProgramMemory.{read};
 ghost use Rattle.objects.specs.Lives.{state_in};
 
 use cnode_ops::Kernel;
-use cspace::called_slot;
+use cspace::called_capability;
 use model::{Cap, LookupFailure, Register, Slot};
 use slots::SlotStore;
 
@@ -28,24 +29,26 @@ pub(crate) fn cspace_of<S: SlotStore>(kernel: &Kernel<S>, thread: u32) -> Cap
     live.store.capability(Slot::new(thread / 16))
 }
 
-/// What a thread has in a0: the name of the capability that it calls.
-fn called_name<S: SlotStore>(kernel: &Kernel<S>, thread: u32) -> u32
+/// What a thread has in a0: the name of the capability that it calls, or a character.
+pub(crate) fn argument<S: SlotStore>(kernel: &Kernel<S>, thread: u32) -> u32
     ensures { result ≡ read (thread_at (state_in S.slots S.memory kernel.now) thread).registers a0 }
 {
     kernel.live.register(thread, Register::A0)
 }
 
-/// The slot that a thread's a0 names, which holds a capability.
+/// The slot that a thread's a0 names, with the capability in it.
 #[tactic(auto, unfolding(objects::specs::Tables::state_of))]
-pub(crate) fn named_slot<S: SlotStore>(
+pub(crate) fn named_capability<S: SlotStore>(
     kernel: &Kernel<S>,
     thread: u32,
-) -> Result<Slot, LookupFailure>
+) -> Result<(Slot, Cap), LookupFailure>
     requires { kind_at (state_in S.slots S.memory kernel.now) thread ≡ Some NewThread }
-    ensures value { result ≡ named_slot (state_in S.slots S.memory kernel.now) thread }
-    ensures full { IfOk result (IsFull (S.slots kernel.now.store)) }
+    ensures slot { result_map_both (λ named. named.0) (λ failure. failure) result ≡ named_slot (state_in S.slots S.memory kernel.now) thread }
+    ensures held { IfOk result (λ named. IsHeld (state_in S.slots S.memory kernel.now) named.0 named.1) }
     ensures few { IfErr result (λ failure. bits_left_of failure ≤ 32) }
 {
     let root = cspace_of(kernel, thread);
-    called_slot(kernel.live.store(), root, called_name(kernel, thread))
+    let name = argument(kernel, thread);
+    let live = &kernel.live;
+    called_capability(&live.store, root, name)
 }

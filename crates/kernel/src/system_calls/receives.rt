@@ -1,7 +1,7 @@
 //! Recv and NBRecv.
 
 ghost use Rattle.std.specs.Prelude.{ℕ, ◌≡◌, Some};
-ghost use Rattle.model.specs.Capabilities.Slots.{capability_at};
+ghost use Rattle.kernel.specs.Named.{IsThere};
 ghost use Rattle.model.specs.Kernel.Kinds.{kind_at};
 ghost use Rattle.model.specs.Kernel.Retype.{NewEndpoint, NewNotification};
 ghost use Rattle.model.specs.Kernel.Steps.{receive_by, receive_call, receive_on_endpoint, receive_on_notification};
@@ -9,10 +9,10 @@ ghost use Rattle.objects.specs.Lives.{state_in};
 ghost use Rattle.soundness.specs.Running.{IsRunning};
 
 use crate::system_calls::answers::lacks_capability;
-use crate::system_calls::names::named_slot;
+use crate::system_calls::names::named_capability;
 use cnode_ops::Kernel;
 use ipc::{receive, try_to_receive};
-use model::{Cap, LookupFailure, Outcome, ReceiveCall, Slot};
+use model::{Cap, LookupFailure, Outcome, ReceiveCall};
 use notify::{poll, wait};
 use slots::SlotStore;
 
@@ -66,20 +66,20 @@ fn receive_signal<S: SlotStore>(
     }
 }
 
-/// A thread receives by what a slot holds. Another capability, or one that may not read, is as good as none.
+/// A thread receives by a capability. One of another kind, or one that may not read, is as good as none.
 fn receive_by<S: SlotStore>(
     kernel: &mut Kernel<S>,
     thread: u32,
     kind: ReceiveCall,
-    slot: Slot,
+    capability: Cap,
 ) -> Outcome
     requires runs { IsRunning (state_in S.slots S.memory kernel.old) thread }
+    requires there { IsThere (state_in S.slots S.memory kernel.old) capability }
     ensures state { state_in S.slots S.memory kernel.new
-        ≡ (receive_by (state_in S.slots S.memory kernel.old) thread kind (capability_at (S.slots kernel.old.store) slot)).0 }
-    ensures outcome { result ≡ (receive_by (state_in S.slots S.memory kernel.old) thread kind (capability_at (S.slots kernel.old.store) slot)).1 }
+        ≡ (receive_by (state_in S.slots S.memory kernel.old) thread kind capability).0 }
+    ensures outcome { result ≡ (receive_by (state_in S.slots S.memory kernel.old) thread kind capability).1 }
 {
-    let live = &kernel.live;
-    match live.store.capability(slot) {
+    match capability {
         Cap::Endpoint { offset, rights, .. } if rights.may_read() => {
             receive_message(kernel, thread, kind, offset)
         }
@@ -91,7 +91,6 @@ fn receive_by<S: SlotStore>(
 }
 
 /// Recv or NBRecv by the capability that a0 names.
-#[tactic(auto, unfolding(objects::specs::Tables::state_of))]
 pub(crate) fn receive_call<S: SlotStore>(
     kernel: &mut Kernel<S>,
     thread: u32,
@@ -102,8 +101,8 @@ pub(crate) fn receive_call<S: SlotStore>(
         ≡ (receive_call (state_in S.slots S.memory kernel.old) thread kind).0 }
     ensures outcome { result ≡ (receive_call (state_in S.slots S.memory kernel.old) thread kind).1 }
 {
-    match named_slot(kernel, thread) {
-        Ok(slot) => receive_by(kernel, thread, kind, slot),
+    match named_capability(kernel, thread) {
+        Ok((_, capability)) => receive_by(kernel, thread, kind, capability),
         Err(failure) => lacks_capability(kernel, thread, true, failure),
     }
 }

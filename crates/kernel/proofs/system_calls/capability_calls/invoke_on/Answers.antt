@@ -1,11 +1,13 @@
 -- The caller's capability space is what its own slot holds.
 use Rattle.model.specs.Kernel.State.{cspace_slot}
-use Rattle.objects.specs.Tables.{state_of}
 use Rattle.soundness.specs.Calls.{held, of_slot}
 use Rattle.std.proofs.Common.{sym}
 use Rattle.kernel.proofs.system_calls.capability_calls.invoke_on.Goals as goal
 
 pub invoke-answer-requires : goal.invoke-answer-requires
-unfolding state_of
-invoke-answer-requires g c =
-    record { call = record { root = of_slot (cspace_slot c.args.thread) (sym c.cspace_of.ensures.value); invoked = held c.requires.held c.requires.full } }
+invoke-answer-requires g c = record {
+  call = record {
+    root = of_slot (cspace_slot c.args.thread) (sym c.cspace_of.ensures.value);
+    invoked = held c.requires.held.held c.requires.held.full;
+  };
+}

@@ -1,24 +1,11 @@
 -- What a capability names is there.
-use Rattle.objects.specs.Lives.{state_in}
-use Rattle.model.specs.Kernel.Kinds.{kind_at, object_named}
+use Rattle.model.specs.Kernel.Kinds.{object_named}
 use Rattle.model.specs.Kernel.Retype.{NewEndpoint, NewNotification}
-use Rattle.objects.specs.Tables.{state_of}
-use Rattle.std.proofs.Common.{◌≡◌, ◌∙◌, Some, ap, subst, sym}
+use Rattle.std.proofs.Common.{ap}
 use Rattle.kernel.proofs.system_calls.receives.receive_by.Goals as goal
-use Rattle.cnode_ops.proofs.Laws.{whole-of}
 
 pub receive_message-requires-clause-endpoint : goal.receive_message-requires-clause-endpoint
-unfolding state_of
-receive_message-requires-clause-endpoint g c =
-    let whole = whole-of g.S.SlotMap.slots g.S.SlotStore.memory c.live.inside.objects c.live.inside.store c.kernel.invariant c.live.view_is c.live.invariant in
-    let of_kernel = c.live.view_is ∙ c.kernel.view_is in
-    subst (λ k. kind_at (state_in g.S.SlotMap.slots g.S.SlotStore.memory k) c.in-Endpoint.offset ≡ Some NewEndpoint) of_kernel
-    (whole.sound.memory.named c.args.slot NewEndpoint c.in-Endpoint.offset (ap object_named (sym c.capability.ensures.value ∙ c.in-Endpoint.is)))
+receive_message-requires-clause-endpoint g c = c.requires.there.named NewEndpoint c.in-Endpoint.offset (ap object_named c.in-Endpoint.is)
 
 pub receive_signal-requires-clause-notification : goal.receive_signal-requires-clause-notification
-unfolding state_of
-receive_signal-requires-clause-notification g c =
-    let whole = whole-of g.S.SlotMap.slots g.S.SlotStore.memory c.live.inside.objects c.live.inside.store c.kernel.invariant c.live.view_is c.live.invariant in
-    let of_kernel = c.live.view_is ∙ c.kernel.view_is in
-    subst (λ k. kind_at (state_in g.S.SlotMap.slots g.S.SlotStore.memory k) c.in-Notification.offset ≡ Some NewNotification) of_kernel
-    (whole.sound.memory.named c.args.slot NewNotification c.in-Notification.offset (ap object_named (sym c.capability.ensures.value ∙ c.in-Notification.is)))
+receive_signal-requires-clause-notification g c = c.requires.there.named NewNotification c.in-Notification.offset (ap object_named c.in-Notification.is)
