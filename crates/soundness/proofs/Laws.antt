@@ -24,7 +24,7 @@ pub use Rattle.soundness.proofs.NewPlaces.{IsLaid, laid, next-within, some-place
 pub use Rattle.soundness.proofs.Pieces.{named-piece, slots-fit}
 pub use Rattle.soundness.proofs.Places.{line-open, object-inside, of_boot_cnode, own-slot_open, plain-open, slot-near, slot-stands, thread-slot}
 pub use Rattle.soundness.proofs.Rebound.{Binds, bind-sound, line-empty, room-still, source-same}
-pub use Rattle.soundness.proofs.Registers.{registers-of}
+pub use Rattle.soundness.proofs.Registers.{registers-of, with-pc, written-sound}
 pub use Rattle.soundness.proofs.Removed.{deleted-leaves, deleted-sound, revoked-sound}
 pub use Rattle.soundness.proofs.Rest.{endpoint-kind, notification-kind, thread-kind}
 pub use Rattle.soundness.proofs.RetypeCalls.{retype-whole}
