@@ -3,11 +3,13 @@ pub mod BytesMore
 pub mod Executed
 pub mod Filled
 pub mod FilledFrames
+pub mod InPlace
 pub mod Iterated
 pub mod KeptSteps
 pub mod Laws
 pub mod Leaves
 pub mod Named
+pub mod OwnRegisters
 pub mod PagePlaces
 pub mod Reading
 pub mod Running

@@ -1,3 +1,4 @@
+pub mod BesideRegisters
 pub mod CodePages
 pub mod Fills
 pub mod Propositions

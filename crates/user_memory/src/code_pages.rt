@@ -8,7 +8,7 @@ ghost use Rattle.model.specs.declared.instructions.AccessSize.TheVariants.{Word}
 ghost use Rattle.objects.specs.Lives.{state_in};
 ghost use Rattle.user_memory.specs.CodePages.{IsCode, IsPage};
 
-use crate::execution::fetch_at;
+use crate::execution::word_at;
 use crate::keeping::{KeptPages, NO_PAGE};
 use crate::known_words::KnownWords;
 use crate::roots::root_of;
@@ -114,11 +114,11 @@ fn fetch_elsewhere<S: WalkStore>(
 {
     let root = code.root;
     let Some(base) = base_of(kernel, thread, root, address) else {
-        return fetch_at(kernel, thread, root, address);
+        return word_at(kernel, thread, root, address, Access::Fetch);
     };
     code.number = address / PAGE_SIZE;
     code.base = base;
-    fetch_at(kernel, thread, root, address)
+    word_at(kernel, thread, root, address, Access::Fetch)
 }
 
 /// The word that a thread runs next, by the page that is kept.

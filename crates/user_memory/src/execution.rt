@@ -1,6 +1,6 @@
 //! The next instruction of a thread, and what it does.
 
-ghost use Rattle.std.specs.Prelude.{ℕ, ◌≡◌, ◌≢◌, Some, Ok};
+ghost use Rattle.std.specs.Prelude.{ℕ, ◌≡◌, ◌≢◌, Some, Ok, Err, IfOk, MatchResult};
 ghost use Rattle.model.specs.Kernel.AddressSpaces.{content_of, vspace_of, with_content};
 ghost use Rattle.model.specs.Kernel.Kinds.{kind_at};
 ghost use Rattle.model.specs.Kernel.Messages.{with_registers};
@@ -8,20 +8,24 @@ ghost use Rattle.model.specs.Kernel.Retype.{NewThread};
 ghost use Rattle.model.specs.Kernel.Steps.{registers_of};
 ghost use Rattle.model.specs.Machine.Effects.{effect};
 ghost use Rattle.model.specs.Machine.Instructions.{IsInstr};
-ghost use Rattle.model.specs.Machine.ProgramMemory.{loaded};
-ghost use Rattle.model.specs.declared.instructions.Access.TheVariants.{Fetch};
+ghost use Rattle.model.specs.Machine.ProgramMemory.{FitsSize, loaded, stored};
+ghost use Rattle.model.specs.declared.instructions.Access.TheVariants.{Fetch, Load};
 ghost use Rattle.model.specs.declared.instructions.AccessSize.TheVariants.{Word};
 ghost use Rattle.objects.specs.Lives.{state_in};
+ghost use Rattle.user_memory.specs.Views.{content_under};
 
-use crate::keeping::{KeptPages, NO_PAGE, keep_page, keep_reached};
+use crate::keeping::{KeptPages, keep_page, keep_reached};
 use crate::known_words::ValidInstr;
 use crate::one_byte::{OneByte, reaches};
 use crate::spaces::Space;
+use crate::thread_registers::ThreadRegisters;
 use crate::view::UserMemory;
 use cnode_ops::Kernel;
-use model::{Access, Exec, Instr, MemoryFault};
+use model::{Access, AccessSize, Exec, Instr, MemoryFault};
 use packed_slots::WalkStore;
-use rv32_exec::{Regs, exec};
+use rv32_exec::{
+    Regs, View, advance, exec, load_result, load_size, plus, store_size, write_register,
+};
 
 /// The word that a thread runs next, at its program counter. The leaf of its page is kept, which changes nothing else. Asks
 /// for the thread's root table.
@@ -40,36 +44,38 @@ pub fn fetch<S: WalkStore>(
     ensures unchanged { kernel.new ≡ kernel.old }
 {
     let address = kernel.pc(thread);
-    fetch_at(kernel, thread, root, address)
+    word_at(kernel, thread, root, address, Access::Fetch)
 }
 
-/// The same of any address: at first as it is kept.
-pub(crate) fn fetch_at<S: WalkStore>(
+/// The word at any address, for an access of a thread: at first as it is kept.
+pub(crate) fn word_at<S: WalkStore>(
     kernel: &mut Kernel<S>,
     thread: u32,
     root: Option<u32>,
     address: u32,
+    access: Access,
 ) -> Result<u32, MemoryFault>
     requires root { root ≡ vspace_of (state_in S.slots S.memory kernel.old) thread }
-    ensures value { result ≡ loaded (content_of (state_in S.slots S.memory kernel.old) thread) Fetch Word address }
+    ensures value { result ≡ loaded (content_of (state_in S.slots S.memory kernel.old) thread) access Word address }
     ensures unchanged { kernel.new ≡ kernel.old }
 {
-    match kept_word(kernel, thread, root, address) {
+    match kept_word(kernel, thread, root, address, access) {
         Some(word) => Ok(word),
-        None => walked_word(kernel, thread, root, address),
+        None => walked_word(kernel, thread, root, address, access),
     }
 }
 
-/// The word at an address that a thread may run, where the leaf of its page is kept.
+/// The word at an address for an access that the thread may make, where the leaf of its page is kept.
 fn kept_word<S: WalkStore>(
     kernel: &Kernel<S>,
     thread: u32,
     root: Option<u32>,
     address: u32,
+    access: Access,
 ) -> Option<u32>
     requires root { root ≡ vspace_of (state_in S.slots S.memory kernel.now) thread }
     ensures { (word : ℕ) → result ≡ Some word
-        → Ok word ≡ loaded (content_of (state_in S.slots S.memory kernel.now) thread) Fetch Word address }
+        → Ok word ≡ loaded (content_of (state_in S.slots S.memory kernel.now) thread) access Word address }
 {
     if address % 4 != 0 {
         return None;
@@ -78,31 +84,28 @@ fn kept_word<S: WalkStore>(
         return None;
     };
     let live = &kernel.live;
-    match live.store.kept_place(table, address, Access::Fetch) {
+    match live.store.kept_place(table, address, access) {
         Some(place) => Some(live.store.mem().read32(place)),
         None => None,
     }
 }
 
-/// The word at an address that a thread may run, by walks. The leaf of its page is kept.
+/// The word at an address for an access that the thread may make, by walks. The leaf of its page is kept.
 fn walked_word<S: WalkStore>(
     kernel: &mut Kernel<S>,
     thread: u32,
     root: Option<u32>,
     address: u32,
+    access: Access,
 ) -> Result<u32, MemoryFault>
     requires root { root ≡ vspace_of (state_in S.slots S.memory kernel.old) thread }
-    ensures value { result ≡ loaded (content_of (state_in S.slots S.memory kernel.old) thread) Fetch Word address }
+    ensures value { result ≡ loaded (content_of (state_in S.slots S.memory kernel.old) thread) access Word address }
     ensures unchanged { kernel.new ≡ kernel.old }
 {
     let live = &mut kernel.live;
-    keep_page(&mut live.store, root, address);
+    keep_page(&mut live.store, root, address, access);
     let space = Space { kernel, root };
-    if address % 4 == 0 {
-        space.aligned_word(address, Access::Fetch)
-    } else {
-        space.word(address, Access::Fetch)
-    }
+    space.word(address, access)
 }
 
 /// Runs an instruction over the memory of a thread.
@@ -170,10 +173,99 @@ pub fn execute<S: WalkStore>(
         state_in S.slots S.memory kernel.new ≡ with_content (with_registers s thread after.registers) after.content }
     ensures unchanged { result ≢ Exec.Next → state_in S.slots S.memory kernel.new ≡ state_in S.slots S.memory kernel.old }
 {
-    let mut registers = kernel.live.registers(thread);
-    let known = ValidInstr { instruction };
-    let mut kept = [NO_PAGE; 4];
-    let outcome = reach(kernel, thread, root, &mut registers, known, &mut kept);
-    kernel.live.set_registers(thread, registers);
-    outcome
+    match instruction {
+        Instr::Load {
+            op,
+            rd,
+            rs1,
+            offset,
+        } => {
+            let address = plus(kernel.live.register(thread, rs1), offset);
+            match load(kernel, thread, root, address, load_size(op)) {
+                Ok(number) => {
+                    let mut registers = ThreadRegisters { kernel, thread };
+                    write_register(&mut registers, rd, load_result(op, number))
+                }
+                Err(fault) => Exec::Memory(fault.address, fault.access),
+            }
+        }
+        Instr::Store {
+            op,
+            rs1,
+            rs2,
+            offset,
+        } => {
+            let address = plus(kernel.live.register(thread, rs1), offset);
+            let value = kernel.live.register(thread, rs2);
+            match store(kernel, thread, root, address, store_size(op), value) {
+                Ok(()) => {
+                    let mut registers = ThreadRegisters { kernel, thread };
+                    advance(&mut registers)
+                }
+                Err(fault) => Exec::Memory(fault.address, fault.access),
+            }
+        }
+        _ => {
+            let mut registers = ThreadRegisters { kernel, thread };
+            exec(&mut registers, instruction, &mut OneByte::new())
+        }
+    }
+}
+
+/// The number at an address, for an instruction of a thread that loads it. The leaf of its page is kept, which changes
+/// nothing else.
+///
+/// # Errors
+///
+/// The fault at the first byte of it that the thread may not read.
+fn load<S: WalkStore>(
+    kernel: &mut Kernel<S>,
+    thread: u32,
+    root: Option<u32>,
+    address: u32,
+    size: AccessSize,
+) -> Result<u32, MemoryFault>
+    requires root { root ≡ vspace_of (state_in S.slots S.memory kernel.old) thread }
+    ensures value { result ≡ loaded (content_of (state_in S.slots S.memory kernel.old) thread) Load size address }
+    ensures range { IfOk result (FitsSize size) }
+    ensures unchanged { kernel.new ≡ kernel.old }
+{
+    match size {
+        AccessSize::Word => word_at(kernel, thread, root, address, Access::Load),
+        _ => {
+            let live = &mut kernel.live;
+            keep_page(&mut live.store, root, address, Access::Load);
+            let memory = UserMemory { kernel, root };
+            memory.load(address, size)
+        }
+    }
+}
+
+/// Stores the low bytes of a number at an address, for an instruction of a thread.
+///
+/// # Errors
+///
+/// The fault at the first byte of it that the thread may not write. Nothing changes then.
+fn store<S: WalkStore>(
+    kernel: &mut Kernel<S>,
+    thread: u32,
+    root: Option<u32>,
+    address: u32,
+    size: AccessSize,
+    value: u32,
+) -> Result<(), MemoryFault>
+    requires root { root ≡ vspace_of (state_in S.slots S.memory kernel.old) thread }
+    ensures content { MatchResult
+        result
+        (λ _. stored (content_under (state_in S.slots S.memory kernel.old) root) size address value
+        ≡ Ok (content_under (state_in S.slots S.memory kernel.new) root))
+        (λ fault. (stored (content_under (state_in S.slots S.memory kernel.old) root) size address value ≡ Err fault)
+        × (content_under (state_in S.slots S.memory kernel.new) root ≡ content_under (state_in S.slots S.memory kernel.old) root)) }
+    ensures state { state_in S.slots S.memory kernel.new
+        ≡ with_content (state_in S.slots S.memory kernel.old) (content_under (state_in S.slots S.memory kernel.new) root) }
+{
+    let live = &mut kernel.live;
+    keep_page(&mut live.store, root, address, Access::Store);
+    let mut memory = UserMemory { kernel, root };
+    memory.store(address, size, value)
 }

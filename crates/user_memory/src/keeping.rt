@@ -5,7 +5,7 @@ ghost use Rattle.std.specs.Option.{ForSome};
 ghost use Rattle.packed_slots.specs.cached_slots.Mappings.{LeavesAgree};
 
 use crate::known_words::ValidInstr;
-use model::Instr;
+use model::{Access, Instr};
 use packed_slots::WalkStore;
 use rv32_exec::Regs;
 
@@ -15,14 +15,22 @@ const PAGE_SIZE: u32 = 0x1000;
 /// No page has this number.
 pub(crate) const NO_PAGE: u32 = 0x10_0000;
 
-/// Keeps the leaf of the page of an address under a root table, if there is one.
-#[cold]
+/// Keeps the leaf of the page of an address under a root table, if there is one, unless it is kept and allows such an
+/// access.
 #[inline(never)]
-pub(crate) fn keep_page<S: WalkStore>(store: &mut S, root: Option<u32>, address: u32)
+pub(crate) fn keep_page<S: WalkStore>(
+    store: &mut S,
+    root: Option<u32>,
+    address: u32,
+    access: Access,
+)
     requires { ForSome root (LeavesAgree (S.slots store.old) (S.memory store.old)) }
     ensures { store.new ≡ store.old }
 {
-    if let Some(root) = root {
+    let Some(root) = root else {
+        return;
+    };
+    if store.kept_place(root, address, access).is_none() {
         store.keep_leaf(root, address);
     }
 }
@@ -65,5 +73,5 @@ pub(crate) fn keep_reached<S: WalkStore>(
         return;
     }
     kept[place] = number;
-    keep_page(store, root, address);
+    keep_page(store, root, address, Access::Load);
 }

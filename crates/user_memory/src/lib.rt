@@ -13,6 +13,7 @@ mod one_byte;
 mod plain_runs;
 mod roots;
 mod spaces;
+mod thread_registers;
 mod view;
 
 pub use execution::{execute, fetch};

@@ -1,6 +1,6 @@
 //! Address spaces, for reading.
 
-ghost use Rattle.std.specs.Prelude.{ℕ, ◌≡◌, ◌%◌, Some, Ok};
+ghost use Rattle.std.specs.Prelude.{ℕ, ◌≡◌, Some, Ok};
 ghost use Rattle.model.specs.declared.instructions.AccessSize.TheVariants.{Word};
 ghost use Rattle.model.specs.Machine.ProgramMemory.{IsNamed, loaded, place_at};
 ghost use Rattle.objects.specs.Lives.{state_in};
@@ -70,11 +70,13 @@ impl<S: WalkStore> Space<'_, S> {
         live.store.mem().read8(place)
     }
 
-    /// The word at a multiple of 4, by a walk.
+    /// The word at an address, by a walk at a multiple of 4, where it lies in one page.
     fn walked_word(&self, address: u32, access: Access) -> Result<u32, MemoryFault>
-        requires { address % 4 ≡ 0 }
         ensures { result ≡ loaded (content_under (state_in S.slots S.memory self.now.kernel.now) self.now.root) access Word address }
     {
+        if address % 4 != 0 {
+            return self.split_word(address, access);
+        }
         let kernel = self.kernel;
         let live = &kernel.live;
         match self.walked_place(address, access) {
@@ -83,11 +85,13 @@ impl<S: WalkStore> Space<'_, S> {
         }
     }
 
-    /// The word at a multiple of 4, which lies in one page.
-    pub(crate) fn aligned_word(&self, address: u32, access: Access) -> Result<u32, MemoryFault>
-        requires { address % 4 ≡ 0 }
+    /// The word at an address, at a multiple of 4 as its page is kept.
+    pub(crate) fn word(&self, address: u32, access: Access) -> Result<u32, MemoryFault>
         ensures { result ≡ loaded (content_under (state_in S.slots S.memory self.now.kernel.now) self.now.root) access Word address }
     {
+        if address % 4 != 0 {
+            return self.split_word(address, access);
+        }
         let kernel = self.kernel;
         let live = &kernel.live;
         match self.kept_place(address, access) {
@@ -97,7 +101,7 @@ impl<S: WalkStore> Space<'_, S> {
     }
 
     /// The word at an address, whose bytes may lie in two pages.
-    pub(crate) fn word(&self, address: u32, access: Access) -> Result<u32, MemoryFault>
+    fn split_word(&self, address: u32, access: Access) -> Result<u32, MemoryFault>
         ensures { result ≡ loaded (content_under (state_in S.slots S.memory self.now.kernel.now) self.now.root) access Word address }
     {
         let first = self.place(address, access)?;

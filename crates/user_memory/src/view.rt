@@ -71,9 +71,7 @@ impl<S: WalkStore> View for UserMemory<'_, S> {
 
     fn load(&self, address: u32, size: AccessSize) -> Result<u32, MemoryFault> {
         match size {
-            AccessSize::Word if address % 4 == 0 => {
-                self.space().aligned_word(address, Access::Load)
-            }
+            AccessSize::Word => self.space().word(address, Access::Load),
             _ => self.number(address, size, Access::Load),
         }
     }

@@ -1,7 +1,6 @@
 -- A kernel has usable memory, and to keep a leaf changes nothing.
 use Rattle.std.proofs.Common.{◌∙◌, ap}
 use Rattle.model.specs.Machine.ProgramMemory.{loaded}
-use Rattle.model.specs.declared.instructions.Access.TheVariants.{Fetch}
 use Rattle.model.specs.declared.instructions.AccessSize.TheVariants.{Word}
 use Rattle.objects.specs.Lives.{state_in}
 use Rattle.user_memory.proofs.Leaves.{kernel-leaves}
@@ -30,31 +29,12 @@ invariant_of-space g c =
           (root-inside g.S.SlotMap.slots g.S.SlotStore.memory c.args.thread c.args.root of_kernel c.requires.root);
     }
 
-pub invariant_of-space-else-address-eq0 : goal.invariant_of-space-else-address-eq0
-invariant_of-space-else-address-eq0 g c =
-    let whole = whole-of g.S.SlotMap.slots g.S.SlotStore.memory c.live.inside.objects c.live.inside.store c.kernel.invariant c.live.view_is c.live.invariant in
-    let of_kernel = c.live.view_is ∙ c.kernel.view_is in
-    record {
-      usable = usable-kept g.S.SlotMap.slots g.S.SlotStore.memory c.args.thread c.args.root c.keep_page.ensures whole
-          (root-inside g.S.SlotMap.slots g.S.SlotStore.memory c.args.thread c.args.root of_kernel c.requires.root);
-    }
-
-pub returns-then-address-eq0-clause-value : goal.returns-then-address-eq0-clause-value
-returns-then-address-eq0-clause-value g c =
-    let of_kernel = c.live.view_is ∙ c.kernel.view_is in
-    let s = state_in g.S.SlotMap.slots g.S.SlotStore.memory c.args.kernel.now in
-    let own = c.requires.root in
-    c.aligned_word.ensures
-    ∙ ap (λ k. loaded (content_under (state_in g.S.SlotMap.slots g.S.SlotStore.memory k) c.args.root) Fetch Word c.args.address)
-    (kept-parts c.keep_page.ensures of_kernel)
-    ∙ ap (λ root. loaded (content_under s root) Fetch Word c.args.address) own
-
-pub returns-else-address-eq0-clause-value : goal.returns-else-address-eq0-clause-value
-returns-else-address-eq0-clause-value g c =
+pub returns-clause-value : goal.returns-clause-value
+returns-clause-value g c =
     let of_kernel = c.live.view_is ∙ c.kernel.view_is in
     let s = state_in g.S.SlotMap.slots g.S.SlotStore.memory c.args.kernel.now in
     let own = c.requires.root in
     c.word.ensures
-    ∙ ap (λ k. loaded (content_under (state_in g.S.SlotMap.slots g.S.SlotStore.memory k) c.args.root) Fetch Word c.args.address)
+    ∙ ap (λ k. loaded (content_under (state_in g.S.SlotMap.slots g.S.SlotStore.memory k) c.args.root) c.args.access Word c.args.address)
     (kept-parts c.keep_page.ensures of_kernel)
-    ∙ ap (λ root. loaded (content_under s root) Fetch Word c.args.address) own
+    ∙ ap (λ root. loaded (content_under s root) c.args.access Word c.args.address) own

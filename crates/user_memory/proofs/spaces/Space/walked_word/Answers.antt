@@ -12,7 +12,7 @@ read32-requires g c =
     let bytes = c.mem.ensures ∙ ap (λ k. g.S.SlotStore.memory k.store) of_kernel in
     subst (λ (memory : List ℕ). c.in-Ok.place + 4 ≤ length memory) (sym bytes)
     (word-inside (state_in g.S.SlotMap.slots g.S.SlotStore.memory space.kernel.now) (g.S.SlotStore.memory space.kernel.now.store)
-    space.root space.usable c.args.access c.args.address c.in-Ok.place c.requires (omega (arith, c.ranges.address.fits))
+    space.root space.usable c.args.access c.args.address c.in-Ok.place c.if-address-ne0.false (omega (arith, c.ranges.address.fits))
     (sym c.walked_place.ensures ∙ c.in-Ok.is))
 
 pub returns-in-Ok : goal.returns-in-Ok
@@ -22,5 +22,5 @@ returns-in-Ok g c =
     let bytes = c.mem.ensures ∙ ap (λ k. g.S.SlotStore.memory k.store) of_kernel in
     ap Ok (c.read32.ensures ∙ ap (λ (memory : List ℕ). word_at memory c.in-Ok.place) bytes)
     ∙ word-loaded space.kernel.now.tables (g.S.SlotMap.slots space.kernel.now.store) (g.S.SlotStore.memory space.kernel.now.store)
-    space.root c.args.access c.args.address c.in-Ok.place space.usable c.requires (omega (arith, c.ranges.address.fits))
+    space.root c.args.access c.args.address c.in-Ok.place space.usable c.if-address-ne0.false (omega (arith, c.ranges.address.fits))
     (sym c.walked_place.ensures ∙ c.in-Ok.is)

@@ -3,7 +3,7 @@ use Rattle.std.proofs.Common.{ℕ, ◌∙◌, ◌+◌, ◌≤◌, List, Ok, leng
 use Rattle.model.specs.Shared.Bytes.{word_at}
 use Rattle.objects.specs.Lives.{state_in}
 use Rattle.user_memory.proofs.Words.{word-inside, word-loaded}
-use Rattle.user_memory.proofs.spaces.Space.aligned_word.Goals as goal
+use Rattle.user_memory.proofs.spaces.Space.word.Goals as goal
 
 pub read32-requires : goal.read32-requires
 read32-requires g c =
@@ -12,7 +12,7 @@ read32-requires g c =
     let bytes = c.mem.ensures ∙ ap (λ k. g.S.SlotStore.memory k.store) of_kernel in
     subst (λ (memory : List ℕ). c.in-Some.place + 4 ≤ length memory) (sym bytes)
     (word-inside (state_in g.S.SlotMap.slots g.S.SlotStore.memory space.kernel.now) (g.S.SlotStore.memory space.kernel.now.store)
-    space.root space.usable c.args.access c.args.address c.in-Some.place c.requires (omega (arith, c.ranges.address.fits))
+    space.root space.usable c.args.access c.args.address c.in-Some.place c.if-address-ne0.false (omega (arith, c.ranges.address.fits))
     (sym (c.kept_place.ensures c.in-Some.place c.in-Some.is)))
 
 pub returns-in-Some : goal.returns-in-Some
@@ -22,5 +22,5 @@ returns-in-Some g c =
     let bytes = c.mem.ensures ∙ ap (λ k. g.S.SlotStore.memory k.store) of_kernel in
     ap Ok (c.read32.ensures ∙ ap (λ (memory : List ℕ). word_at memory c.in-Some.place) bytes)
     ∙ word-loaded space.kernel.now.tables (g.S.SlotMap.slots space.kernel.now.store) (g.S.SlotStore.memory space.kernel.now.store)
-    space.root c.args.access c.args.address c.in-Some.place space.usable c.requires (omega (arith, c.ranges.address.fits))
+    space.root c.args.access c.args.address c.in-Some.place space.usable c.if-address-ne0.false (omega (arith, c.ranges.address.fits))
     (sym (c.kept_place.ensures c.in-Some.place c.in-Some.is))
