@@ -186,6 +186,13 @@ pub(crate) fn double_between(
     }
 }
 
+/// Whether a number may be the constant of a measure.
+fn is_constant(number: i64) -> bool
+    ensures { result ≡ is_constant number }
+{
+    -(1 << 62) <= number && number <= 1 << 62
+}
+
 /// The 8 bytes at `at` as the constant of a measure, and the offset after them.
 pub(crate) fn constant(bytes: &[u8], at: usize) -> Result<(i64, usize), Refusal>
     ensures { result ≡ (signed_number w64 is_constant).reads bytes.now at }
@@ -194,7 +201,7 @@ pub(crate) fn constant(bytes: &[u8], at: usize) -> Result<(i64, usize), Refusal>
         return Err(Refusal::Truncated { offset: at as u64 });
     }
     let number = LittleEndian::read_u64(&bytes[at..]).cast_signed();
-    if -(1 << 62) <= number && number <= 1 << 62 {
+    if is_constant(number) {
         Ok((number, at + 8))
     } else {
         Err(Refusal::Limit { offset: at as u64 })
