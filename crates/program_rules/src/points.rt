@@ -91,11 +91,11 @@ impl<'a> Points<'a> {
         Ok(())
     }
 
-    /// The points of a program: each has the state of its record, or what the point before leaves. What is shown of the slots in the
-    /// end is left for who goes over the points again. Memory may be refused.
-    pub(crate) fn of(program: &Program<'a, '_>, left: &mut ShownPart) -> Result<Self, AllocError>
-        ensures read { IfOk result (λ all. IsRead program.now.given.space.image.now (thread_of program.now) program.now.given.slots.now all.log all.kept) }
-        ensures shown { IfOk result (λ all. ShowsSome all.log left.new) }
+    /// The points of a program: each has the state of its record, or what the point before leaves. With them comes what is shown of the
+    /// slots in the end, for who goes over the points again. Memory may be refused.
+    pub(crate) fn of(program: &Program<'a, '_>) -> Result<(Self, ShownPart), AllocError>
+        ensures read { IfOk result (λ all. IsRead program.now.given.space.image.now (thread_of program.now) program.now.given.slots.now all.0.log all.0.kept) }
+        ensures shown { IfOk result (λ all. ShowsSome all.0.log all.1) }
     {
         let mut records = RecordsLeft::of(program);
         let mut points = Points {
@@ -117,7 +117,6 @@ impl<'a> Points<'a> {
             };
             points.note(&visit, &mut last, &mut derived, &mut shown)?;
         }
-        *left = shown;
-        Ok(points)
+        Ok((points, shown))
     }
 }

@@ -212,8 +212,7 @@ impl<'a> Program<'a, '_> {
     pub(crate) fn check(&self) -> Result<(), Refusal>
         ensures { Answers (first_broken (rules_of_program self.now.given.space.image.now (thread_of self.now))) result }
     {
-        let mut left = ShownPart::new(self.alloc);
-        let mut points = Points::of(self, &mut left)?;
+        let (mut points, mut left) = Points::of(self)?;
         let read = ReadPoints {
             program: self,
             points: &points,

@@ -106,7 +106,9 @@ impl Seen<'_, '_, '_, '_, '_> {
         let there = points.log.shown(other)?;
         let mine = self.shown.slots(program.given.slots);
         let theirs = there.slots(program.given.slots);
-        if !mine.is_same(&theirs) {
+        let is_same = mine.is_same(&theirs);
+        drop(there);
+        if !is_same {
             return Ok(false);
         }
         same.note(self.part, other)?;

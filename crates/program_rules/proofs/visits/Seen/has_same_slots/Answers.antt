@@ -26,7 +26,7 @@ returns-then-not-is_same-clause-is c =
     let log = c.args.self.now.points.now.log in
     let mine-is = c.slots-mine.ensures.slots ∙ c.args.self.now.shows.same slots program.given.sorted program.given.unlinked in
     let theirs-is = c.slots-theirs.ensures.slots ∙ c.in_ok-there.ensures.same slots program.given.sorted program.given.unlinked in
-    sym c.if-not-is_same.true ∙ c.is_same-2.ensures
+    sym c.if-not-is_same.true ∙ c.is_same-is_same.ensures
     ∙ ap (λ (l : List NotedSlot). are_same_slots l (slots_of c.slots-theirs.result)) mine-is
     ∙ ap (are_same_slots (replayed slots (part_of log c.args.self.now.part))) theirs-is
 
@@ -37,7 +37,7 @@ returns-clause-is c =
     let log = c.args.self.now.points.now.log in
     let mine-is = c.slots-mine.ensures.slots ∙ c.args.self.now.shows.same slots program.given.sorted program.given.unlinked in
     let theirs-is = c.slots-theirs.ensures.slots ∙ c.in_ok-there.ensures.same slots program.given.sorted program.given.unlinked in
-    sym c.if-not-is_same.false ∙ c.is_same-2.ensures
+    sym c.if-not-is_same.false ∙ c.is_same-is_same.ensures
     ∙ ap (λ (l : List NotedSlot). are_same_slots l (slots_of c.slots-theirs.result)) mine-is
     ∙ ap (are_same_slots (replayed slots (part_of log c.args.self.now.part))) theirs-is
 
@@ -52,5 +52,5 @@ returns-clause-same c =
       first = c.args.self.now.shows.held;
       second = c.requires.held;
       same = ap (λ (l : List NotedSlot). are_same_slots l (replayed slots (part_of log c.args.other))) (sym mine-is)
-          ∙ ap (are_same_slots (slots_of c.slots-mine.result)) (sym theirs-is) ∙ sym c.is_same-2.ensures ∙ c.if-not-is_same.false;
+          ∙ ap (are_same_slots (slots_of c.slots-mine.result)) (sym theirs-is) ∙ sym c.is_same-is_same.ensures ∙ c.if-not-is_same.false;
     })
