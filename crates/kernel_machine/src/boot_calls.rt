@@ -12,7 +12,7 @@ ghost use Rattle.soundness.specs.Calls.{IsCall};
 
 use crate::perform_calls::{KernelCall, configure_with_guard, invoke};
 use cnode_ops::Kernel;
-use cspace::called_slot;
+use cspace::called_capability;
 use invoke::Method;
 use model::{Cap, KError, Slot};
 use slots::SlotStore;
@@ -52,12 +52,12 @@ fn called<S: SlotStore>(kernel: &Kernel<S>, address: u32) -> Result<KernelCall, 
         });
     }
     let live = &kernel.live;
-    match called_slot(&live.store, root, address) {
-        Ok(slot) => Ok(KernelCall {
+    match called_capability(&live.store, root, address) {
+        Ok(called) => Ok(KernelCall {
             root,
             caller: None,
-            slot,
-            capability: live.store.capability(slot),
+            slot: called.0,
+            capability: called.1,
         }),
         Err(_) => Err(KError::FailedLookup),
     }
