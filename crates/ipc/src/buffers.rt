@@ -55,7 +55,7 @@ pub(crate) fn message_between<S: SlotStore>(live: &Live<S>, from: u32, to: u32) 
 {
     let info = live.register(from, Register::A1);
     let count = length_between(live, from, to, length_in(info));
-    Message::sent(live, from, count)
+    Message::sent(live, from, info, count)
 }
 
 /// What no register holds of a message of so many words goes from one thread's buffer to another's, if both have one.

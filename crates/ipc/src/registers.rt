@@ -41,19 +41,19 @@ impl Message {
     pub fn of<S: SlotStore>(live: &Live<S>, thread: u32) -> Self
         ensures { result ≡ message_of (thread_at (state S.SlotStore live.now) thread) }
     {
-        let length = length_in(live.register(thread, Register::A1));
-        Message::sent(live, thread, length.min(REGISTER_WORDS))
+        let info = live.register(thread, Register::A1);
+        Message::sent(live, thread, info, length_in(info).min(REGISTER_WORDS))
     }
 
-    /// The message in the registers of a thread, of so many words: the length that they name, or fewer, but all that registers
-    /// hold.
-    pub(crate) fn sent<S: SlotStore>(live: &Live<S>, thread: u32, count: u32) -> Self
+    /// The message in the registers of a thread with this info word, of so many words: the length that it names, or fewer, but
+    /// all that registers hold.
+    pub(crate) fn sent<S: SlotStore>(live: &Live<S>, thread: u32, info: u32, count: u32) -> Self
         requires few { count ≤ 120 }
-        requires held { min register_words count ≡ length_of (read (thread_at (state S.SlotStore live.now) thread).registers a1) }
+        requires held { (info ≡ read (thread_at (state S.SlotStore live.now) thread).registers a1) × (min register_words count ≡ length_of info) }
         ensures { result ≡ record (message_of (thread_at (state S.SlotStore live.now) thread)) { count = count } }
     {
         Message {
-            label: live.register(thread, Register::A1) / 0x1000,
+            label: info / 0x1000,
             count,
             words: words_of(live, thread, count),
         }

@@ -10,5 +10,5 @@ pub returns : goal.returns
 returns g c =
     let t = thread_at (state_in g.S.SlotMap.slots g.S.SlotStore.memory c.args.live.now) c.args.thread in
     let count : c.min.result ≡ length_of (read t.registers a1) =
-    c.min.ensures ∙ ap (λ (n : ℕ). min n 8) (c.length_in-length.ensures ∙ ap (λ (n : ℕ). n % 2 ^ 7) c.register.ensures) ∙ omega arith in
+    c.min.ensures ∙ ap (λ (n : ℕ). min n 8) (c.length_in.ensures ∙ ap (λ (n : ℕ). n % 2 ^ 7) c.register-info.ensures) ∙ omega arith in
     c.sent.ensures ∙ ap (λ (n : ℕ). record (message_of t) { count = n }) count
