@@ -24,6 +24,11 @@ use Rattle.asm_line.specs.declared.faults.LineFault.TheVariants as fault
 
 -- ---- keywords
 
+-- what is beside the first of these names that a word is
+abbrev pub beside_name : {A : Type 0} → Text → List (Text × A) → Option A
+beside_name word [] = None
+beside_name word (entry ∷ entries) = if bytes_eq word entry.0 then Some entry.1 else beside_name word entries
+
 unfoldable pub thread_keyword_of : Text → Option Keyword
 thread_keyword_of word =
     if bytes_eq word (codes "buffer") then Some keyword.Buffer else

@@ -70,6 +70,10 @@ magnitude radix (byte ∷ bytes) = value_on radix 0 (byte ∷ bytes)
 abbrev pub unsigned_of : ℕ → Text → Result ℤ LineFault
 unsigned_of radix digits = magnitude radix digits >>= λ n. Ok (pos n)
 
+-- the number that decimal digits spell after a minus sign
+abbrev pub negative_of : Text → Result ℤ LineFault
+negative_of digits = magnitude 10 digits >>= λ n. Ok (neg_ℤ (pos n))
+
 abbrev pub is_minus : Text → Bool
 is_minus word = slice_index_or word 0 0 == 45
 
@@ -79,7 +83,7 @@ is_hexadecimal word = (slice_index_or word 0 0 == 48) && (slice_index_or word 1 
 -- a minus sign and decimal digits, `0x` and hexadecimal digits, or decimal digits
 unfoldable pub number_of : Text → Result ℤ LineFault
 number_of word =
-    if is_minus word then (magnitude 10 (drop 1 word) >>= λ n. Ok (neg_ℤ (pos n))) else
+    if is_minus word then negative_of (drop 1 word) else
     if is_hexadecimal word then unsigned_of 16 (drop 2 word) else
     unsigned_of 10 word
 

@@ -1,8 +1,8 @@
 //! The words with which lines begin, and those that name the kinds of objects.
 
-ghost use Rattle.std.specs.Prelude.{◌≡◌};
+ghost use Rattle.std.specs.Prelude.{◌≡◌, map};
 ghost use Rattle.std.specs.Str.{bytes_eq};
-ghost use Rattle.asm_line.specs.Lines.{keyword_of, kind_of, thread_keyword_of};
+ghost use Rattle.asm_line.specs.Lines.{beside_name, keyword_of, kind_of};
 
 use crate::faults::LineFault;
 
@@ -35,58 +35,45 @@ pub(crate) fn is(word: &[u8], text: &str) -> bool
     word == text.as_bytes()
 }
 
+/// What is beside the first of these names that a word is.
+pub(crate) fn beside_name<T: Copy>(word: &[u8], names: &[(&str, T)]) -> Option<T>
+    ensures { result ≡ beside_name word.now (map (λ e. (e.0.now, e.1)) names.now) }
+{
+    'names: for entry in names {
+        if is(word, entry.0) {
+            return Some(entry.1);
+        }
+    }
+    None
+}
+
 /// The keyword that a word is, if it is one.
-#[tactic(auto, unfolding(crate::specs::Lines::keyword_of))]
+#[tactic(auto, unfolding(crate::specs::Lines::keyword_of, crate::specs::Lines::thread_keyword_of))]
 pub(crate) fn keyword_in(word: &[u8]) -> Option<Keyword>
     ensures { result ≡ keyword_of word.now }
 {
-    if is(word, "memory") {
-        Some(Keyword::Memory)
-    } else if is(word, "untyped") {
-        Some(Keyword::Untyped)
-    } else if is(word, "object") {
-        Some(Keyword::Object)
-    } else if is(word, "irq") {
-        Some(Keyword::Interrupt)
-    } else if is(word, "cap") {
-        Some(Keyword::Capability)
-    } else if is(word, "table") {
-        Some(Keyword::Table)
-    } else if is(word, "map") {
-        Some(Keyword::Frame)
-    } else if is(word, "data") {
-        Some(Keyword::Content)
-    } else if is(word, "promise") {
-        Some(Keyword::Promise)
-    } else if is(word, "thread") {
-        Some(Keyword::Thread)
-    } else {
-        thread_keyword(word)
-    }
-}
-
-/// The keyword of a line inside a thread.
-#[tactic(auto, unfolding(crate::specs::Lines::thread_keyword_of))]
-fn thread_keyword(word: &[u8]) -> Option<Keyword>
-    ensures { result ≡ thread_keyword_of word.now }
-{
-    if is(word, "buffer") {
-        Some(Keyword::Buffer)
-    } else if is(word, "reg") {
-        Some(Keyword::Register)
-    } else if is(word, "measure") {
-        Some(Keyword::Measure)
-    } else if is(word, "range") {
-        Some(Keyword::Range)
-    } else if is(word, "slot") {
-        Some(Keyword::Slot)
-    } else if is(word, "word") {
-        Some(Keyword::Word)
-    } else if is(word, "end") {
-        Some(Keyword::End)
-    } else {
-        None
-    }
+    beside_name(
+        word,
+        &[
+            ("memory", Keyword::Memory),
+            ("untyped", Keyword::Untyped),
+            ("object", Keyword::Object),
+            ("irq", Keyword::Interrupt),
+            ("cap", Keyword::Capability),
+            ("table", Keyword::Table),
+            ("map", Keyword::Frame),
+            ("data", Keyword::Content),
+            ("promise", Keyword::Promise),
+            ("thread", Keyword::Thread),
+            ("buffer", Keyword::Buffer),
+            ("reg", Keyword::Register),
+            ("measure", Keyword::Measure),
+            ("range", Keyword::Range),
+            ("slot", Keyword::Slot),
+            ("word", Keyword::Word),
+            ("end", Keyword::End),
+        ],
+    )
 }
 
 /// The number of a kind of objects, by its name.

@@ -1,7 +1,7 @@
 //! Numbers: decimal, with a minus sign before them, or hexadecimal after `0x`.
 
 ghost use Rattle.std.specs.Prelude.{◌≡◌, ◌≤◌, ◌-◌, ◌^◌, IfOk};
-ghost use Rattle.asm_line.specs.Words.{digit_in, magnitude, number_of, unsigned_of, within};
+ghost use Rattle.asm_line.specs.Words.{digit_in, magnitude, negative_of, number_of, unsigned_of, within};
 
 use crate::faults::LineFault;
 
@@ -52,13 +52,20 @@ fn whole(digits: &[u8], radix: u64) -> Result<i64, LineFault>
     Ok(digits_value(digits, radix)? as i64)
 }
 
+/// The number that decimal digits spell after a minus sign.
+fn negative(digits: &[u8]) -> Result<i64, LineFault>
+    ensures { result ≡ negative_of digits.now }
+{
+    Ok(-(digits_value(digits, 10)? as i64))
+}
+
 /// The number that a word is. A number of 2^63 or more counts as the greatest of 63 bits.
 #[tactic(auto, unfolding(crate::specs::Words::number_of))]
 pub(crate) fn number_in(word: &[u8]) -> Result<i64, LineFault>
     ensures { result ≡ number_of word.now }
 {
     match word {
-        [b'-', digits @ ..] => Ok(-(digits_value(digits, 10)? as i64)),
+        [b'-', digits @ ..] => negative(digits),
         [b'0', b'x', digits @ ..] => whole(digits, 16),
         digits => whole(digits, 10),
     }
