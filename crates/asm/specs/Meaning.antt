@@ -278,6 +278,10 @@ abbrev pub label_first_on : FoundLabels → Option Text → ℕ → Result (Unit
 label_first_on labels None number = Ok tt
 label_first_on labels (Some name) number = first_on labels name number
 
+-- a word of the program, with a label before it or none
+abbrev pub labelled_with : FoundLabels → ℕ → OpenDraft → Option Text → Code → Result OpenDraft ℕ
+labelled_with labels number o label said = label_first_on labels label number >>= λ single. coded_with labels o said
+
 -- a line that is not the last one
 unfoldable pub inside : FoundLabels → ℕ → KnownNames → OpenDraft → Line → Result OpenDraft ℕ
 inside labels number names o (line.Buffer frame) = buffered_with names o frame
@@ -286,7 +290,7 @@ inside labels number names o (line.Measure constant terms) = measured_with o con
 inside labels number names o (line.Range entry) = noting (ranges_with entry) o
 inside labels number names o (line.Slot cnode index word0 word1 parent) = noting (slots_with names cnode index word0 word1 parent) o
 inside labels number names o (line.Label name) = first_on labels name number >>= λ single. Ok o
-inside labels number names o (line.Code label said) = label_first_on labels label number >>= λ single. coded_with labels o said
+inside labels number names o (line.Code label said) = labelled_with labels number o label said
 inside labels number names o _ = Err 1
 
 -- the line `end`: a measure has its instruction, and there is one

@@ -2,7 +2,7 @@
 
 ghost use Rattle.std.specs.Prelude.{◌≡◌, [], length, IfOk, MatchResult, slice_index};
 ghost use Rattle.asm.specs.declared.faults.Fault.{Fault};
-ghost use Rattle.asm.specs.Meaning.{branch_word, buffered_with, coded_with, inside, jump_word, may_end, measured_with, noting, offset_between, parent_known, ranges_with, record_said, slots_with, sorted_terms, terms_said, thread_begins, with_registers, word_added, word_at};
+ghost use Rattle.asm.specs.Meaning.{branch_word, buffered_with, coded_with, inside, jump_word, labelled_with, may_end, measured_with, noting, offset_between, parent_known, ranges_with, record_said, slots_with, sorted_terms, terms_said, thread_begins, with_registers, word_added, word_at};
 ghost use Rattle.asm.specs.Outcomes.{Means};
 
 use crate::faults::Fault;
@@ -326,6 +326,22 @@ impl OpenThread {
         self.push_word(word)
     }
 
+    /// Adds a word of the program, with a label before it or none.
+    fn add_labelled<'a>(
+        &mut self,
+        label: Option<Name<'a>>,
+        code: &Code<'a>,
+        number: u64,
+        labels: &Labels<'a>,
+    ) -> Result<(), Fault>
+        ensures { Means result (λ _. self.new) (labelled_with labels.now number self.old label.entry code.now) }
+    {
+        if let Some(name) = label {
+            labels.check_first(&name, number)?;
+        }
+        self.add_code(code, labels)
+    }
+
     /// Adds what a line says that is not the thread's last one.
     #[tactic(auto, unfolding(crate::specs::Meaning::inside))]
     pub(crate) fn add<'a>(
@@ -351,12 +367,7 @@ impl OpenThread {
                 parent,
             } => self.add_slot(names, &cnode, index, [word0, word1], &parent),
             Line::Label(name) => labels.check_first(&name, number),
-            Line::Code { label, code } => {
-                if let Some(name) = label {
-                    labels.check_first(&name, number)?;
-                }
-                self.add_code(&code, labels)
-            }
+            Line::Code { label, code } => self.add_labelled(label, &code, number, labels),
             _ => Err(Fault::Syntax),
         }
     }
