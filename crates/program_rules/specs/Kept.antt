@@ -26,7 +26,7 @@ use Rattle.program_rules.specs.declared.space_rules.Called.TheVariants as called
 use Rattle.program_rules.specs.declared.space_rules.Called.{Called}
 use Rattle.program_rules.specs.declared.places.ShortPart.{ShortPart}
 use Rattle.typestate.specs.Calls.{behind_with}
-use Rattle.typestate.specs.Logs.{Holds, Shows, ShowsSome, part_of}
+use Rattle.typestate.specs.Logs.{Holds, Shows, part_of}
 use Rattle.typestate.specs.Strays.{NoneStray}
 use Rattle.typestate.specs.declared.behind.Written.TheVariants as written
 use Rattle.typestate.specs.declared.behind.Written.{Written}
@@ -247,11 +247,6 @@ pub record AreKept (image : Image) (t : Numbered) (slots : List NotedSlot) (log 
 pub record IsRead (image : Image) (t : Numbered) (slots : List NotedSlot) (log : List LogEntry) (kept : KeptPoints) : Type 0 where
   pub count : length kept.places.items ≡ t.thread.header.words
   pub noted : AreKept image t slots log kept
-
--- all points, with what was left of showing them
-pub record AreShown (image : Image) (t : Numbered) (slots : List NotedSlot) (log : List LogEntry) (kept : KeptPoints) (left : ShownPart) : Type 0 where
-  pub read : IsRead image t slots log kept
-  pub shown : ShowsSome log left
 
 -- what the point before leaves
 abbrev pub before : Image → Numbered → ℕ → Noted

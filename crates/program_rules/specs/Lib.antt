@@ -7,3 +7,4 @@ pub mod PointChecks
 pub mod point_rules
 pub mod Propositions
 pub mod Visits
+pub mod Walks

@@ -21,6 +21,7 @@ mod records;
 mod same_parts;
 mod space_rules;
 mod visits;
+mod walks;
 mod ways;
 
 pub use at_points::AtPoint;

@@ -1,19 +1,18 @@
 //! The rules on all points of a program, and on its entry.
 
-ghost use Rattle.std.specs.Prelude.{◌≡◌, IfOk, List, flat_map};
-ghost use Rattle.std.specs.List.{range_with_len};
+ghost use Rattle.std.specs.Prelude.{◌≡◌, IfOk};
 ghost use Rattle.model.specs.Acceptance.NotedStates.{are_same_slots, image_slots};
 ghost use Rattle.model.specs.Acceptance.PointRules.{entry_rules, point_rules, rules_of_program, state_rules};
 ghost use Rattle.model.specs.Acceptance.PointStates.{noted};
 ghost use Rattle.model.specs.Acceptance.Rules.{first_broken};
 ghost use Rattle.program_rules.specs.FoundPages.{AreFound};
-ghost use Rattle.program_rules.specs.Kept.{AreShown, IsKeptAt, IsRead, state_by};
+ghost use Rattle.program_rules.specs.Kept.{IsKeptAt, IsRead, state_by};
 ghost use Rattle.program_rules.specs.Programs.{thread_of};
 ghost use Rattle.program_rules.specs.SameParts.{AreSame};
+ghost use Rattle.program_rules.specs.Walks.{AreWalked};
 ghost use Rattle.program_rules.specs.declared.at_points.AtPoint.TheVariants as kept;
 ghost use Rattle.typestate.specs.Logs.{Holds, KeepsParts, Shows, ShowsSome, part_of};
 ghost use Rattle.typestate.specs.Replays.{replayed};
-ghost use Rattle.typestate.specs.declared.log_entries.LogEntry.{LogEntry};
 ghost use Rattle.wellformed.specs.Answering.{Answers};
 
 use crate::at_points::AtPoint;
@@ -25,10 +24,10 @@ use crate::programs::Program;
 use crate::read_points::{ReadPoint, ReadPoints};
 use crate::same_parts::SameParts;
 use crate::visits::{PlainPoint, Visit, VisitedSlots};
+use crate::walks::Walk;
 use model::{Instr, Refusal};
 use rv32_isa::decode;
 use std::alloc::AllocError;
-use std::mem::swap;
 use typestate::{Part, ShownPart, SlotLog};
 
 impl<'a> Visit<'_, '_, 'a, '_> {
@@ -137,34 +136,19 @@ impl ReadPoints<'_, '_, '_, '_> {
     }
 }
 
-/// Shows another part that was set aside, if it is asked for, and sets aside what was shown.
-fn turn(is_asked: bool, shown: &mut ShownPart, aside: &mut ShownPart)
-    ensures shown { (log : List LogEntry) → ShowsSome log shown.old → ShowsSome log aside.old → ShowsSome log shown.new }
-    ensures aside { (log : List LogEntry) → ShowsSome log shown.old → ShowsSome log aside.old → ShowsSome log aside.new }
-{
-    if is_asked {
-        swap(shown, aside);
-    }
-}
-
 impl<'a> Program<'a, '_> {
-    /// The rules on all points, in their order. What is shown of the slots is set aside where a point has an empty part, and is gone
-    /// on from after it; and what was left of showing the points before is taken where a part begins with it, so that it is not shown
-    /// again.
-    fn points_rules(&self, points: &mut Points<'a>, left: &mut ShownPart) -> Result<(), Refusal>
-        requires { AreShown self.now.given.space.image.now (thread_of self.now) self.now.given.slots.now points.old.log points.old.kept left.old }
-        ensures { Answers (first_broken (flat_map (point_rules self.now.given.space.image.now (thread_of self.now)) (range_with_len 0 self.now.given.space.thread.now.header.words))) result }
+    /// The rules at the entry, and then on all points in their order.
+    #[tactic(auto, unfolding(model::specs::Acceptance::PointRules::rules_of_program))]
+    fn points_rules(&self, points: &mut Points<'a>, walk: &mut Walk) -> Result<(), Refusal>
+        requires { AreWalked self.now.given.space.image.now (thread_of self.now) self.now.given.slots.now points.old.log points.old.kept walk.old }
+        ensures { Answers (first_broken (rules_of_program self.now.given.space.image.now (thread_of self.now))) result }
     {
-        let mut records = RecordsLeft::of(self);
-        let mut shown = ShownPart::new(self.alloc);
-        let mut same = SameParts::new(self.alloc);
-        let mut found = FoundPages::new(self.alloc);
-        let mut aside = ShownPart::new(self.alloc);
-        let mut was_empty = false;
         let read = ReadPoints {
             program: self,
             points: &*points,
         };
+        read.entry_rules()?;
+        let mut records = RecordsLeft::of(self);
         let mut kept = read.at(0);
         'rules: for point in 0..self.given.space.thread.word_count() {
             let noted = records.take(point);
@@ -177,11 +161,14 @@ impl<'a> Program<'a, '_> {
                 noted: noted.as_ref(),
                 is_next_noted,
             };
-            let is_empty = kept.has_empty_part();
-            turn(is_empty != was_empty, &mut shown, &mut aside);
-            was_empty = is_empty;
-            turn(kept.is_more_of(left, &shown), &mut shown, left);
-            visit.point_rules(points, &mut shown, &kept, &mut same, &mut found)?;
+            walk.turn_to(&kept);
+            visit.point_rules(
+                points,
+                &mut walk.shown,
+                &kept,
+                &mut walk.same,
+                &mut walk.found,
+            )?;
             let still_read = ReadPoints {
                 program: self,
                 points: &*points,
@@ -208,16 +195,14 @@ impl<'a> Program<'a, '_> {
     }
 
     /// The rules on the program: at its entry, and then at its points in their order.
-    #[tactic(auto, unfolding(model::specs::Acceptance::PointRules::rules_of_program))]
     pub(crate) fn check(&self) -> Result<(), Refusal>
         ensures { Answers (first_broken (rules_of_program self.now.given.space.image.now (thread_of self.now))) result }
     {
-        let (mut points, mut left) = Points::of(self)?;
-        let read = ReadPoints {
-            program: self,
-            points: &points,
-        };
-        read.entry_rules()?;
-        self.points_rules(&mut points, &mut left)
+        let (mut points, left) = Points::of(self)?;
+        let mut walk = Walk::new(self.alloc, left);
+        let outcome = self.points_rules(&mut points, &mut walk);
+        // By one call, in place of one for each of its maps.
+        drop(walk);
+        outcome
     }
 }
