@@ -79,6 +79,7 @@ fn of_kind(kind: u32, detail: u8, rights: u8, offset: u32, word: u32) -> Cap
 
 /// The capability whose fields are in two words. Where they are the words of none, its fields may be out of their ranges, and
 /// [`unpack`](crate::unpack) refuses them; who knows that they are some capability's needs no other look.
+#[inline(always)]
 pub fn read_fields(head: u32, word: u32) -> Cap
     ensures { result ≡ fields_of head word }
 {

@@ -88,6 +88,7 @@ pub fn destination_slot<S: SlotMap>(slots: &S, root: Cap, name: SlotName) -> Res
 /// # Errors
 ///
 /// That of the lookup; then, the slot is empty (a missing capability).
+#[inline(always)]
 pub fn called_capability<S: SlotMap>(
     slots: &S,
     root: Cap,

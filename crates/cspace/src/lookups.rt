@@ -84,6 +84,8 @@ fn resolve(node: Node, address: u32, left: u32) -> Result<(u32, u32), LookupFail
 /// # Errors
 ///
 /// Those of [`lookup`].
+// (a capability has seven words: to hand one on in memory costs as much as to read it)
+#[inline(always)]
 pub(crate) fn find<S: SlotMap>(slots: &S, start: &Start) -> Result<Found, LookupFailure>
     ensures value { result_map_both (λ found. (found.slot, found.rest)) (λ failure. failure) result
         ≡ lookup (S.slots slots.now) start.now.0 start.now.1.address start.now.1.depth }

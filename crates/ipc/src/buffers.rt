@@ -49,6 +49,7 @@ fn length_between<S: SlotStore>(live: &Live<S>, from: u32, to: u32, length: u32)
 }
 
 /// The message of one thread to another.
+#[inline(always)]
 pub(crate) fn message_between<S: SlotStore>(live: &Live<S>, from: u32, to: u32) -> Message
     requires { MayHandOver (state S.SlotStore live.now) from to }
     ensures { result ≡ message_between (state S.SlotStore live.now) from to }

@@ -28,6 +28,7 @@ pub fn pass<S: SlotStore>(live: &mut Live<S>, thread: u32)
 }
 
 /// A thread goes on after its call with the words of a message in the registers that hold words.
+#[inline(always)]
 fn pass_with_words<S: SlotStore>(live: &mut Live<S>, thread: u32, message: &Message)
     requires there { kind_at (state S.SlotStore live.old) thread ≡ Some NewThread }
     ensures state { state S.SlotStore live.new
@@ -43,6 +44,7 @@ fn pass_with_words<S: SlotStore>(live: &mut Live<S>, thread: u32, message: &Mess
 }
 
 /// A thread gets a message in its registers, and goes on.
+#[inline(always)]
 fn deliver<S: SlotStore>(live: &mut Live<S>, thread: u32, badge: u32, message: &Message)
     requires there { kind_at (state S.SlotStore live.old) thread ≡ Some NewThread }
     ensures state { state S.SlotStore live.new
@@ -79,6 +81,7 @@ pub fn deliver_info<S: SlotStore>(live: &mut Live<S>, thread: u32, info: u32)
 }
 
 /// A thread gets a message of another one in its registers and its buffer, and goes on.
+#[inline(always)]
 pub(crate) fn hand_over<S: SlotStore>(
     live: &mut Live<S>,
     from: u32,
@@ -96,6 +99,7 @@ pub(crate) fn hand_over<S: SlotStore>(
 }
 
 /// A thread gets what a sender says, and goes on. A fault goes by registers alone.
+#[inline]
 pub(crate) fn deliver_sent<S: SlotStore>(live: &mut Live<S>, sender: &WaitingSender, receiver: u32)
     requires { MayHandOver (state S.SlotStore live.old) sender.now.thread receiver }
     ensures state { state S.SlotStore live.new

@@ -47,6 +47,7 @@ impl Message {
 
     /// The message in the registers of a thread with this info word, of so many words: the length that it names, or fewer, but
     /// all that registers hold.
+    #[inline(always)]
     pub(crate) fn sent<S: SlotStore>(live: &Live<S>, thread: u32, info: u32, count: u32) -> Self
         requires few { count ≤ 120 }
         requires held { (info ≡ read (thread_at (state S.SlotStore live.now) thread).registers a1) × (min register_words count ≡ length_of info) }
@@ -183,6 +184,7 @@ fn no_words() -> [u32; 8]
 }
 
 /// The words of a message of so many words in the registers of a thread, and zeros behind them.
+#[inline(always)]
 fn words_of<S: SlotStore>(live: &Live<S>, thread: u32, count: u32) -> [u32; 8]
     ensures { take (min register_words count) result
         ≡ map (read (thread_at (state S.SlotStore live.now) thread).registers) (take (min register_words count) word_registers) }

@@ -86,6 +86,7 @@ fn other_alike(store: &PackedSlots, capability: Cap, slot: Slot) -> Option<Slot>
 impl SlotMap for IndexedSlots {
     ghost slots = { packed_slots };
 
+    #[inline(always)]
     fn capability(&self, slot: Slot) -> Cap {
         self.store.capability(slot)
     }

@@ -62,6 +62,8 @@ impl PackedSlots {
     }
 
     /// The capability in an open slot.
+    // (a capability has seven words: to hand one on in memory costs as much as to read it)
+    #[inline(always)]
     pub(crate) fn held(&self, slot: Slot) -> Cap
         requires { IsOpen (packed_slots self.now) slot }
         ensures value { result ≡ capability_at (packed_slots self.now) slot }

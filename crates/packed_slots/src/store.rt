@@ -61,6 +61,7 @@ impl PackedSlots {
 impl SlotMap for PackedSlots {
     ghost slots = { packed_slots };
 
+    #[inline(always)]
     fn capability(&self, slot: Slot) -> Cap {
         if self.open_slots.contains(slot) {
             self.held(slot)

@@ -88,6 +88,7 @@ impl ReadyList {
     }
 
     /// Takes a thread out of the list, if it is ready.
+    #[inline(always)]
     pub fn leave<S: SlotStore, L: Layout>(&mut self, layout: &L, store: &mut S, thread: u32)
         requires laid { AreLaidOut (L.places layout.now) (S.slots store.old) (length (S.memory store.old)) }
         requires stands { ReadyStands (L.places layout.now) self.old (S.memory store.old) }

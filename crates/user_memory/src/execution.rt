@@ -48,6 +48,7 @@ pub fn fetch<S: WalkStore>(
 }
 
 /// The word at any address, for an access of a thread: at first as it is kept.
+#[inline]
 pub(crate) fn word_at<S: WalkStore>(
     kernel: &mut Kernel<S>,
     thread: u32,
@@ -66,6 +67,7 @@ pub(crate) fn word_at<S: WalkStore>(
 }
 
 /// The word at an address for an access that the thread may make, where the leaf of its page is kept.
+#[inline]
 fn kept_word<S: WalkStore>(
     kernel: &Kernel<S>,
     thread: u32,
@@ -91,6 +93,8 @@ fn kept_word<S: WalkStore>(
 }
 
 /// The word at an address for an access that the thread may make, by walks. The leaf of its page is kept.
+#[cold]
+#[inline(never)]
 fn walked_word<S: WalkStore>(
     kernel: &mut Kernel<S>,
     thread: u32,

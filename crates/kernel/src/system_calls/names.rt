@@ -19,6 +19,7 @@ use model::{Cap, LookupFailure, Register, Slot};
 use slots::SlotStore;
 
 /// The root of a thread's capability space, which is in its slot 0.
+#[inline(always)]
 #[tactic(auto, unfolding(objects::specs::Tables::state_of))]
 pub(crate) fn cspace_of<S: SlotStore>(kernel: &Kernel<S>, thread: u32) -> Cap
     requires { kind_at (state_in S.slots S.memory kernel.now) thread ≡ Some NewThread }
@@ -37,6 +38,7 @@ pub(crate) fn argument<S: SlotStore>(kernel: &Kernel<S>, thread: u32) -> u32
 }
 
 /// The slot that a thread's a0 names, with the capability in it.
+#[inline(always)]
 #[tactic(auto, unfolding(objects::specs::Tables::state_of))]
 pub(crate) fn named_capability<S: SlotStore>(
     kernel: &Kernel<S>,

@@ -43,6 +43,7 @@ impl<S: SlotStore> CachedSlots<S> {
 impl<S: SlotStore> SlotMap for CachedSlots<S> {
     ghost slots = { S.slots };
 
+    #[inline(always)]
     fn capability(&self, slot: Slot) -> Cap {
         self.store.capability(slot)
     }
