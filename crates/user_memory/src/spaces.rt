@@ -71,6 +71,8 @@ impl<S: WalkStore> Space<'_, S> {
     }
 
     /// The word at an address, by a walk at a multiple of 4, where it lies in one page.
+    #[cold]
+    #[inline(never)]
     fn walked_word(&self, address: u32, access: Access) -> Result<u32, MemoryFault>
         ensures { result ≡ loaded (content_under (state_in S.slots S.memory self.now.kernel.now) self.now.root) access Word address }
     {
@@ -86,6 +88,7 @@ impl<S: WalkStore> Space<'_, S> {
     }
 
     /// The word at an address, at a multiple of 4 as its page is kept.
+    #[inline(always)]
     pub(crate) fn word(&self, address: u32, access: Access) -> Result<u32, MemoryFault>
         ensures { result ≡ loaded (content_under (state_in S.slots S.memory self.now.kernel.now) self.now.root) access Word address }
     {
@@ -101,6 +104,8 @@ impl<S: WalkStore> Space<'_, S> {
     }
 
     /// The word at an address, whose bytes may lie in two pages.
+    #[cold]
+    #[inline(never)]
     fn split_word(&self, address: u32, access: Access) -> Result<u32, MemoryFault>
         ensures { result ≡ loaded (content_under (state_in S.slots S.memory self.now.kernel.now) self.now.root) access Word address }
     {

@@ -69,6 +69,7 @@ impl<S: WalkStore> View for UserMemory<'_, S> {
         self.space().byte(place)
     }
 
+    #[inline(always)]
     fn load(&self, address: u32, size: AccessSize) -> Result<u32, MemoryFault> {
         match size {
             AccessSize::Word => self.space().word(address, Access::Load),
@@ -82,6 +83,7 @@ impl<S: WalkStore> View for UserMemory<'_, S> {
         live.store.write8(place, value);
     }
 
+    #[inline(always)]
     fn store(&mut self, address: u32, size: AccessSize, value: u32) -> Result<(), MemoryFault> {
         match size {
             AccessSize::Word if address % 4 == 0 => {
