@@ -3,6 +3,7 @@ pub mod BytesMore
 pub mod Executed
 pub mod Filled
 pub mod FilledFrames
+pub mod Halves
 pub mod InPlace
 pub mod Iterated
 pub mod KeptSteps

@@ -22,18 +22,23 @@ next-in_page : (b : Bool) (at place k next : ℕ) → (if b then Some at else No
 next-in_page true at place k next is behind = let same : Some at ≡ Some place = is in let e : at ≡ place = cc in ap Some (behind ∙ ap (λ (n : ℕ). n + k) e)
 next-in_page false at place k next is behind = absurd (let clash : None ≡ Some place = is in cc)
 
-place-behind : (s : State) (root : Option ℕ) (access : Access) (address place k : ℕ) → address % 4 ≡ 0 → k < 4 →
-    (content_under s root).place access address ≡ Some place
+pub place-near : (s : State) (root : Option ℕ) (access : Access) (address place k : ℕ) → (address + k) / page_size ≡ address / page_size
+    → (address + k) % page_size ≡ address % page_size + k → (content_under s root).place access address ≡ Some place
     → (content_under s root).place access (address + k) ≡ Some (place + k)
-place-behind s root access address place k aligned few is =
+place-near s root access address place k page offset is =
     let table = and-then (λ (table : ℕ). place_under s table access address) root place is in
     let at = and-then (place_in access address) (mapped s table.0 (address / page_size)) place table.2 in
-    let page : (address + k) / page_size ≡ address / page_size = omega (arith, aligned, few) in
     ap (option_and_then (λ (table : ℕ). place_under s table access (address + k))) table.1
     ∙ ap (λ (n : ℕ). option_and_then (place_in access (address + k)) (mapped s table.0 n)) page
     ∙ ap (option_and_then (place_in access (address + k))) at.1
     ∙ next-in_page (allows access at.0.allowed) (at.0.frame + address % page_size) place k (at.0.frame + (address + k) % page_size) at.2
-    (omega (arith, aligned, few))
+    (ap (λ (n : ℕ). at.0.frame + n) offset ∙ omega arith)
+
+place-behind : (s : State) (root : Option ℕ) (access : Access) (address place k : ℕ) → address % 4 ≡ 0 → k < 4 →
+    (content_under s root).place access address ≡ Some place
+    → (content_under s root).place access (address + k) ≡ Some (place + k)
+place-behind s root access address place k aligned few =
+    place-near s root access address place k (omega (arith, aligned, few)) (omega (arith, aligned, few))
 
 -- ---- numbers
 

@@ -1,7 +1,7 @@
 //! Address spaces, for reading.
 
-ghost use Rattle.std.specs.Prelude.{ℕ, ◌≡◌, Some, Ok};
-ghost use Rattle.model.specs.declared.instructions.AccessSize.TheVariants.{Word};
+ghost use Rattle.std.specs.Prelude.{ℕ, ◌≡◌, ◌<◌, ◌^◌, IfSome, Some, Ok};
+ghost use Rattle.model.specs.declared.instructions.AccessSize.TheVariants.{Halfword, Word};
 ghost use Rattle.model.specs.Machine.ProgramMemory.{IsNamed, loaded, place_at};
 ghost use Rattle.objects.specs.Lives.{state_in};
 ghost use Rattle.user_memory.specs.Views.{IsUsable, content_under};
@@ -9,6 +9,9 @@ ghost use Rattle.user_memory.specs.Views.{IsUsable, content_under};
 use cnode_ops::Kernel;
 use model::{Access, MemoryFault};
 use packed_slots::WalkStore;
+
+/// No memory has more bytes.
+pub(crate) const MOST_MEMORY: u32 = 0x100_0000;
 
 /// The address space under a root table. Without one no address has a place.
 #[derive(Drop)]
@@ -100,6 +103,26 @@ impl<S: WalkStore> Space<'_, S> {
         match self.kept_place(address, access) {
             Some(place) => Ok(live.store.mem().read32(place)),
             None => self.walked_word(address, access),
+        }
+    }
+
+    /// The number of the two bytes at a multiple of 2, where the leaf of its page is kept and gives a place. Else there may
+    /// be one or not.
+    #[inline(always)]
+    pub(crate) fn kept_halfword(&self, address: u32, access: Access) -> Option<u32>
+        ensures value { (number : ℕ) → result ≡ Some number
+            → Ok number ≡ loaded (content_under (state_in S.slots S.memory self.now.kernel.now) self.now.root) access Halfword address }
+        ensures small { IfSome result (λ number. number < 2 ^ 16) }
+    {
+        if address % 2 != 0 {
+            return None;
+        }
+        match self.kept_place(address, access) {
+            Some(place) if place < MOST_MEMORY => {
+                let bytes = [self.byte(place), self.byte(place + 1)];
+                Some(u32::from(u16::from_le_bytes(bytes)))
+            }
+            _ => None,
         }
     }
 

@@ -1,20 +1,17 @@
 //! Memory as the instructions of a thread see it.
 
-ghost use Rattle.std.specs.Prelude.{◌≡◌, ◌%◌, ◌<◌, ◌^◌, Ok};
+ghost use Rattle.std.specs.Prelude.{◌≡◌, ◌%◌, ◌<◌, ◌^◌, MatchResult, Ok, Err};
 ghost use Rattle.model.specs.Machine.ProgramMemory.{place_at, stored};
 ghost use Rattle.model.specs.declared.instructions.Access.TheVariants.{Store};
-ghost use Rattle.model.specs.declared.instructions.AccessSize.TheVariants.{Word};
+ghost use Rattle.model.specs.declared.instructions.AccessSize.TheVariants.{Halfword, Word};
 ghost use Rattle.objects.specs.Lives.{state_in};
 ghost use Rattle.user_memory.specs.Views.{Beside, IsUsable, beside_of, content_under};
 
-use crate::spaces::Space;
+use crate::spaces::{MOST_MEMORY, Space};
 use cnode_ops::Kernel;
 use model::{Access, AccessSize, MemoryFault};
 use packed_slots::WalkStore;
 use rv32_exec::View;
-
-/// No memory has more bytes.
-const MOST_MEMORY: u32 = 0x100_0000;
 
 /// Memory under a root table, or none, with the kernel that its bytes are in.
 #[derive(Drop)]
@@ -54,6 +51,34 @@ impl<S: WalkStore> UserMemory<'_, S> {
     }
 }
 
+impl<S: WalkStore> UserMemory<'_, S> {
+    /// Stores the low two bytes of a number, at a multiple of 2 whose page is kept by one look.
+    fn store_halfword(&mut self, address: u32, value: u32) -> Result<(), MemoryFault>
+        ensures content { MatchResult
+            result
+            (λ _. stored (content_under (state_in S.slots S.memory self.old.kernel.now) self.old.root) Halfword address value
+            ≡ Ok (content_under (state_in S.slots S.memory self.new.kernel.now) self.new.root))
+            (λ fault. (stored (content_under (state_in S.slots S.memory self.old.kernel.now) self.old.root) Halfword address value ≡ Err fault)
+            × (content_under (state_in S.slots S.memory self.new.kernel.now) self.new.root
+            ≡ content_under (state_in S.slots S.memory self.old.kernel.now) self.old.root)) }
+        ensures rest { beside_of self.new.kernel.now.tables (S.slots self.new.kernel.now.store) (S.memory self.new.kernel.now.store) self.new.root self.new.kernel.ghost_name
+            ≡ beside_of self.old.kernel.now.tables (S.slots self.old.kernel.now.store) (S.memory self.old.kernel.now.store) self.old.root self.old.kernel.ghost_name }
+    {
+        if address % 2 != 0 {
+            return self.set_number(address, AccessSize::Halfword, value);
+        }
+        match self.space().kept_place(address, Access::Store) {
+            Some(place) if place < MOST_MEMORY => {
+                let bytes = value.to_le_bytes();
+                self.set_byte(place, bytes[0]);
+                self.set_byte(place + 1, bytes[1]);
+                Ok(())
+            }
+            _ => self.set_number(address, AccessSize::Halfword, value),
+        }
+    }
+}
+
 impl<S: WalkStore> View for UserMemory<'_, S> {
     ghost content = { λ view. content_under (state_in S.slots S.memory view.kernel.now) view.root };
 
@@ -73,7 +98,11 @@ impl<S: WalkStore> View for UserMemory<'_, S> {
     fn load(&self, address: u32, size: AccessSize) -> Result<u32, MemoryFault> {
         match size {
             AccessSize::Word => self.space().word(address, Access::Load),
-            _ => self.number(address, size, Access::Load),
+            AccessSize::Halfword => match self.space().kept_halfword(address, Access::Load) {
+                Some(number) => Ok(number),
+                None => self.number(address, size, Access::Load),
+            },
+            AccessSize::Byte => self.number(address, size, Access::Load),
         }
     }
 
@@ -95,6 +124,7 @@ impl<S: WalkStore> View for UserMemory<'_, S> {
                     _ => self.set_number(address, size, value),
                 }
             }
+            AccessSize::Halfword => self.store_halfword(address, value),
             _ => self.set_number(address, size, value),
         }
     }
