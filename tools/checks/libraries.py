@@ -2,9 +2,9 @@
 """Builds the repository's libraries side by side: what stands above a library loads its statements alone, as in the gate. The gate
 also looks for contracts that no call can meet, which takes a twentieth more and proves nothing.
 
-A library that is built by several processes at once takes up to half as much time of processors again. So each has one process,
-but that with the longest chain of others after it has as many as there are processors, where that chain is longer than what all
-processors have left, or where fewer libraries than processors are under way, at the beginning and at the end.
+A library that is built by several processes at once takes a third more of the processors' time. So each has one process, but that
+with the longest chain of others after it: two where that chain is longer by a third than what all processors have left, and as many
+as there are processors where fewer libraries are under way, at the beginning and at the end.
 
   tools/checks/libraries.py NAME ..     at the top of the repository: these crates and all below them (none named: all)
   tools/checks/libraries.py rt WORD ..  in a crate's folder: the toolchain's command over libraries that were built so
@@ -40,9 +40,9 @@ def toolchain():
 RT = toolchain()
 SUMS = {}
 # What the toolchain takes for a crate before its first proof and after its last, in lines of code.
-CRATE_IN_LINES = 400
-# A crate's command gives way to those of crates with a longer chain of others after them.
-NICENESS = {}
+CRATE_IN_LINES = 200
+# What several processes take for a library, over what one takes.
+SEVERAL = 4 / 3
 
 
 def sum_of(crate):
@@ -67,7 +67,7 @@ def build(crate, flags, anew):
     shutil.rmtree(folder, ignore_errors=True)
     os.makedirs(folder)
     words = [*crate.words(flags, keeps=False), "--statements", "-o", crate.rlib]
-    status = crate.call("nice", "-n", str(NICENESS.get(crate.name, 0)), RT.rtlib.RATTLE, "build", *words)
+    status = crate.call(RT.rtlib.RATTLE, "build", *words)
     if status == 0:
         with open(f"{folder}/stamp", "w", encoding="utf-8") as kept:
             kept.write(sum_of(crate))
@@ -114,10 +114,9 @@ def build_all(names):
             for crate in ready[: lanes - len(running)]:
                 rest = sum(own[it.name] for it in left) + sum(own[name] for name in running.values())
                 left.remove(crate)
-                is_last = any(behind[name] > behind[crate.name] for name in running.values())
-                NICENESS[crate.name] = 10 if is_last else 0
-                has_longest = is_few or behind[crate.name] > rest / lanes
-                jobs = lanes if has_longest and not is_last else 1
+                has_longest = all(behind[name] <= behind[crate.name] for name in running.values())
+                is_longer = behind[crate.name] > SEVERAL * rest / lanes
+                jobs = 1 if not has_longest else lanes if is_few else 2 if is_longer else 1
                 running[pool.submit(build_logged, crate, jobs)] = crate.name
             if not running:
                 break
