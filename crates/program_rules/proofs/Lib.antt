@@ -4,7 +4,6 @@ mod NextRecords
 mod FirstBroken
 mod Called
 mod EachPoint
-mod LongRanges
 mod Placed
 mod EdgeRules
 mod PointLists

@@ -15,7 +15,6 @@ use Rattle.model.specs.Kernel.Messages.{a0, a1, word_registers}
 use Rattle.model.specs.declared.instructions.Instr.TheVariants.{Ecall}
 use Rattle.model.specs.declared.ranges.Range.{Range}
 use Rattle.program_rules.proofs.EachPoint.{noted-is}
-use Rattle.program_rules.proofs.LongRanges.{known-long, with-long, words-long}
 use Rattle.program_rules.specs.Kept.{AreKept, AreOne, IsAt, IsBehindCall, IsCalled, IsInRecord, IsKeptAt, IsNextAt, IsPlain, IsRecorded, IsSound, IsWhole, Kept}
 use Rattle.program_rules.specs.Kept.{KeepsAll, Leads, before as states_before, has_state, is_known_at, is_step, measure_behind, ranges_behind}
 use Rattle.program_rules.specs.Kept.{state_by, wide}
@@ -33,6 +32,12 @@ use Rattle.typestate.specs.declared.behind.Written.TheVariants as written
 use Rattle.typestate.specs.declared.behind.Written.{Written}
 use Rattle.typestate.specs.declared.log_entries.LogEntry.{LogEntry}
 use Rattle.typestate.specs.declared.logs.Part.{Part}
+use Rattle.thread_spaces.proofs.Laws.{known-noted, with-long, words-long}
+
+-- ---- ranges of 31 registers
+
+known-long : (image : Image) (t : Numbered) (point : ℕ) (state : PointState) → noted image t point ≡ Known state → length state.ranges ≡ 31
+known-long image t point state known = (known-noted (λ _. Unit {0}) image t (λ _. tt) (λ _ _ _. tt) point state known).long
 
 -- ---- lists that grow
 

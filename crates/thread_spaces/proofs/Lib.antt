@@ -18,6 +18,7 @@ mod RootRadix
 mod GivenRoots
 mod StandingApart
 mod PlacedThreads
+mod NotedStates
 mod NoStraySlots
 mod RootPlaces
 pub mod Laws

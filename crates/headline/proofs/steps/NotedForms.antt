@@ -1,26 +1,14 @@
--- What notes are made of has its form: parents with indices of 32 bits, and 31 ranges.
+-- What notes are made of has its form: parents with indices of 32 bits.
 use Rattle.std.proofs.Common.{ℕ, ◌≡◌, ◌∙◌, ◌==◌, ◌+◌, ◌-◌, ◌^◌, ◌≤◌, ◌&&◌, Bool, true, false, not, nat_le, nat_lt, if◌then◌else◌, find, filter, filter_map, map}
-use Rattle.std.proofs.Common.{Option, Some, None, option_map, option_and_then, List, [], ◌∷◌, length, refl, sym, ap, arith}
-use Rattle.std.specs.Prelude.{fold, slice_set}
+use Rattle.std.proofs.Common.{Option, Some, None, option_map, option_and_then, List, [], ◌∷◌, refl, sym, ap, arith}
 use Rattle.std.specs.Option.{option_map_or}
 use Rattle.std.specs.List.{cons_option, list_all}
 use Rattle.std.proofs.Math.Pow.{pow_mono}
 use Rattle.std.proofs.lemmas.Bool.{and_parts, lt-ltb, ltb-true}
-use Rattle.std.proofs.lemmas.List.{length-set}
 use Rattle.format_laws.specs.Fitting.{IsFitting}
 use Rattle.model.specs.declared.entries.CapabilityEntry.{CapabilityEntry}
-use Rattle.model.specs.declared.entries.PromisedWord.{PromisedWord}
-use Rattle.model.specs.declared.entries.RangeEntry.{RangeEntry}
-use Rattle.model.specs.declared.instructions.Instr.{Instr}
-use Rattle.model.specs.declared.instructions.Instr.TheVariants.{Upper, Jal, Jalr, Branch, Load, Store, Immediate, Shift, Registers, Fence, Ecall, Ebreak}
-use Rattle.model.specs.declared.instructions.Register.{Register}
-use Rattle.model.specs.declared.ranges.Range.{Range}
-use Rattle.model.specs.Acceptance.Promises.{range_promised, with_words}
-use Rattle.model.specs.Acceptance.Measures.{register_numbered}
 use Rattle.model.specs.Acceptance.NotedKernel.{key_of, keys_of, noted_after, noted_of, slot_of_key, slots_of_cnode, stands_in}
 use Rattle.model.specs.Acceptance.NotedStates.{NotedSlot, SlotKey, image_slots, listed_slot, number_of, put_in, with_noted, without_key}
-use Rattle.model.specs.Acceptance.RangeRules.{range, ranges_after}
-use Rattle.model.specs.Acceptance.Ranges.{full, with_range}
 use Rattle.model.specs.Acceptance.ThreadRules.{is_member, reached}
 use Rattle.model.specs.Acceptance.WellFormed.{radix_of}
 use Rattle.model.specs.Capabilities.Slots.{Slots, capability_at, is_empty, is_full, parent_at}
@@ -125,38 +113,3 @@ module _ (image : Image) (fitting : IsFitting image) (cnodes : List ℕ) (slots 
 pub after-low : (image : Image) (t : Thread) (slots : Slots) → IsFitting image → AreLow (noted_after image t slots)
 unfolding noted_after
 after-low image t slots fitting = left-low image fitting (reached image t) slots (keys_of image (reached image t))
-
--- ---- ranges
-
-pub with-long : (ranges : List Range) (x : Register) (r : Range) → length (with_range ranges x r) ≡ length ranges
-with-long ranges x r = elim (x.0 == 0) as (λ b. length (if b then ranges else slice_set ranges (x.0 - 1) r) ≡ length ranges) [
-  | true ↦ refl
-  | false ↦ length-set ranges (x.0 - 1) r
-]
-
-pub words-long : (xs : List Register) (ranges : List Range) (words : List PromisedWord) → length (with_words ranges xs words) ≡ length ranges
-words-long [] ranges words = refl
-words-long (x ∷ xs) ranges [] = words-long xs (with_range ranges x full) [] ∙ with-long ranges x full
-words-long (x ∷ xs) ranges (word ∷ words) =
-    words-long xs (with_range ranges x (range_promised word)) words ∙ with-long ranges x (range_promised word)
-
-pub entries-long : (es : List RangeEntry) (ranges : List Range) →
-    length (fold (λ known e. with_range known (register_numbered e.register) (range e.low e.high)) ranges es) ≡ length ranges
-entries-long [] ranges = refl
-entries-long (e ∷ es) ranges = entries-long es (with_range ranges (register_numbered e.register) (range e.low e.high))
-    ∙ with-long ranges (register_numbered e.register) (range e.low e.high)
-
-pub behind-long : (pc : ℕ) (instr : Instr) (ranges : List Range) → length (ranges_after pc instr ranges) ≡ length ranges
-unfolding ranges_after
-behind-long pc (Upper op rd immediate) ranges = with-long ranges rd _
-behind-long pc (Jal rd offset) ranges = with-long ranges rd _
-behind-long pc (Jalr rd rs1 offset) ranges = with-long ranges rd _
-behind-long pc (Branch op rs1 rs2 offset) ranges = refl
-behind-long pc (Load op rd rs1 offset) ranges = with-long ranges rd _
-behind-long pc (Store op rs1 rs2 offset) ranges = refl
-behind-long pc (Immediate op rd rs1 immediate) ranges = with-long ranges rd _
-behind-long pc (Shift op rd rs1 amount) ranges = with-long ranges rd _
-behind-long pc (Registers op rd rs1 rs2) ranges = with-long ranges rd _
-behind-long pc Fence ranges = refl
-behind-long pc Ecall ranges = refl
-behind-long pc Ebreak ranges = refl

@@ -1,5 +1,5 @@
 -- What the image gives the thread is of this image and this thread.
-use Rattle.std.proofs.Common.{◌≡◌, ◌∙◌, ℕ, ap, subst}
+use Rattle.std.proofs.Common.{◌∙◌, ℕ, ap, subst}
 use Rattle.model.specs.Acceptance.PointRules.{rules_of_program}
 use Rattle.model.specs.Acceptance.Rules.{first_broken}
 use Rattle.model.specs.Images.Image.{Image, Thread}

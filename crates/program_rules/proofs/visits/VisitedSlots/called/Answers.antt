@@ -1,5 +1,5 @@
 -- A slot that the thread may not have, or what the rule on calls says.
-use Rattle.std.proofs.Common.{ℕ, ◌≡◌, ◌∙◌, false, Some, [], pos, refl, sym, ap, subst}
+use Rattle.std.proofs.Common.{◌≡◌, ◌∙◌, false, Some, [], pos, refl, sym, ap, subst}
 use Rattle.model.specs.Acceptance.CallRules.{after_call}
 use Rattle.model.specs.Acceptance.Measures.{Measure}
 use Rattle.model.specs.Acceptance.NotedStates.{has_stray_slots}

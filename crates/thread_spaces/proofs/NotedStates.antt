@@ -1,4 +1,5 @@
--- A state that a certificate notes has the ranges of 31 registers.
+-- Each state that is noted of a point has the ranges of 31 registers, and slots of which holds what holds of those that each record
+-- names and of those that each call leaves.
 use Rattle.std.proofs.Common.{ℕ, zero, suc, ◌≡◌, ◌∙◌, ◌==◌, ◌-◌, Bool, true, false, not, if◌then◌else◌, Option, Some, None, Result, Ok, Err, option_map}
 use Rattle.std.proofs.Common.{List, [], ◌∷◌, take, length, refl, subst, pos}
 use Rattle.std.specs.Prelude.{fold, slice_set}
@@ -41,7 +42,7 @@ use Rattle.model.specs.Acceptance.RangeRules.{destination, range, ranges_after}
 use Rattle.model.specs.Acceptance.Ranges.{full, single, with_range}
 use Rattle.model.specs.Capabilities.Lookup.{called_slot}
 use Rattle.model.specs.Capabilities.Rights.{may_read, may_write}
-use Rattle.model.specs.Capabilities.Slots.{capability_at}
+use Rattle.model.specs.Capabilities.Slots.{Slots, capability_at}
 use Rattle.model.specs.Images.Described.{Numbered}
 use Rattle.model.specs.Images.Format.{◌>>=◌}
 use Rattle.model.specs.Images.Image.{Image, ImagePromise, StateRecord, Thread}
@@ -116,19 +117,25 @@ after-long pc Ebreak ranges long = tt
 
 -- ---- calls
 
-data AnswerIsLong : Result AfterCall Refusal → Type 0 where
-  answers_so : (a : AfterCall) → length a.ranges ≡ 31 → AnswerIsLong (Ok a)
-  refuses : (refusal : Refusal) → AnswerIsLong (Err refusal)
+record IsAfter (Holds : List NotedSlot → Type 0) (a : AfterCall) : Type 0 where
+  long : length a.ranges ≡ 31
+  slots : Holds a.slots
 
-bind-long : {A : Type 0} (r : Result A Refusal) (f : A → Result AfterCall Refusal) → ((x : A) → AnswerIsLong (f x)) → AnswerIsLong (r >>= f)
-bind-long (Ok x) f each = each x
-bind-long (Err refusal) f each = refuses refusal
+data IsAnswer (Holds : List NotedSlot → Type 0) : Result AfterCall Refusal → Type 0 where
+  answers_so : (a : AfterCall) → IsAfter Holds a → IsAnswer Holds (Ok a)
+  refuses : (refusal : Refusal) → IsAnswer Holds (Err refusal)
 
-so : (ranges : List Range) (slots : List NotedSlot) (is_wait : Bool) (written : List Register) → length ranges ≡ 31
-    → AnswerIsLong (Ok (record { ranges = ranges; slots = slots; is_wait = is_wait; written = written }))
-so ranges slots is_wait written long = answers_so (record { ranges = ranges; slots = slots; is_wait = is_wait; written = written }) long
+module _ (Holds : List NotedSlot → Type 0) (image : Image) (t : Thread) (leaves : (slots : Slots) → Holds (noted_after image t slots)) (at : Point)
+    (state : PointState) (long : length state.ranges ≡ 31) (holds : Holds state.slots) where
+  bind : {A : Type 0} (r : Result A Refusal) (f : A → Result AfterCall Refusal) → ((x : A) → IsAnswer Holds (f x)) → IsAnswer Holds (r >>= f)
+  bind (Ok x) f each = each x
+  bind (Err refusal) f each = refuses refusal
 
-module _ (image : Image) (t : Thread) (at : Point) (state : PointState) (long : length state.ranges ≡ 31) where
+  so : (ranges : List Range) (slots : List NotedSlot) (is_wait : Bool) (written : List Register) → length ranges ≡ 31 → Holds slots
+      → IsAnswer Holds (Ok (record { ranges = ranges; slots = slots; is_wait = is_wait; written = written }))
+  so ranges slots is_wait written long holds = answers_so (record { ranges = ranges; slots = slots; is_wait = is_wait; written = written })
+      (record { long = long; slots = holds })
+
   message-long : (badge : Range) (words : List PromisedWord) → length (with_message state.ranges badge words) ≡ 31
   message-long badge words = words-long word_registers (with_range (with_range state.ranges a0 badge) a1 full) words
       ∙ with-long (with_range state.ranges a0 badge) a1 full ∙ with-long state.ranges a0 badge ∙ long
@@ -140,12 +147,12 @@ module _ (image : Image) (t : Thread) (at : Point) (state : PointState) (long : 
   answer-long : length (with_answer state.ranges) ≡ 31
   answer-long = with-long (with_range state.ranges a0 (single 0)) a1 (single 0) ∙ with-long state.ranges a0 (single 0) ∙ long
 
-  receives : (is_wait : Bool) (capability : Cap) → AnswerIsLong (receive_rule image at state is_wait capability)
-  receives is_wait (Endpoint offset r badge) = bind-long (demand (may_read r) (CapNotThere at)) _
+  receives : (is_wait : Bool) (capability : Cap) → IsAnswer Holds (receive_rule image at state is_wait capability)
+  receives is_wait (Endpoint offset r badge) = bind (demand (may_read r) (CapNotThere at)) _
       (λ _. so (with_received state.ranges (promise_received image is_wait offset)) state.slots is_wait message_registers
-      (received-long (promise_received image is_wait offset)))
-  receives is_wait (Notification offset r badge) = bind-long (demand (may_read r) (CapNotThere at)) _
-      (λ _. so (with_range state.ranges a0 badges) state.slots is_wait (a0 ∷ []) (with-long state.ranges a0 badges ∙ long))
+      (received-long (promise_received image is_wait offset)) holds)
+  receives is_wait (Notification offset r badge) = bind (demand (may_read r) (CapNotThere at)) _
+      (λ _. so (with_range state.ranges a0 badges) state.slots is_wait (a0 ∷ []) (with-long state.ranges a0 badges ∙ long) holds)
   receives is_wait Empty = refuses _
   receives is_wait (Untyped _ _ _) = refuses _
   receives is_wait (CNode _ _ _) = refuses _
@@ -156,43 +163,43 @@ module _ (image : Image) (t : Thread) (at : Point) (state : PointState) (long : 
   receives is_wait InterruptControl = refuses _
   receives is_wait (InterruptHandler _) = refuses _
 
-  sent : (kind : SendCall) → AnswerIsLong (Ok (after_message state kind))
-  sent Calling = so (with_message state.ranges (single 0) []) state.slots true message_registers (message-long (single 0) [])
-  sent Sending = so state.ranges state.slots true [] long
-  sent Trying = so state.ranges state.slots false [] long
+  sent : (kind : SendCall) → IsAnswer Holds (Ok (after_message state kind))
+  sent Calling = so (with_message state.ranges (single 0) []) state.slots true message_registers (message-long (single 0) []) holds
+  sent Sending = so state.ranges state.slots true [] long holds
+  sent Trying = so state.ranges state.slots false [] long holds
 
-  messages : (kind : SendCall) (r : Rights) (badge : ℕ) (promise : Option ImagePromise) → AnswerIsLong (sends_message at state kind r badge promise)
+  messages : (kind : SendCall) (r : Rights) (badge : ℕ) (promise : Option ImagePromise) → IsAnswer Holds (sends_message at state kind r badge promise)
   messages kind r badge promise =
-      bind-long (demand (may_send kind r) (CapNotThere at)) _ (λ _. bind-long (promise_rule at state badge promise) _ (λ _. sent kind))
+      bind (demand (may_send kind r) (CapNotThere at)) _ (λ _. bind (promise_rule at state badge promise) _ (λ _. sent kind))
 
-  signals : (kind : SendCall) (r : Rights) → AnswerIsLong (sends_signal at state kind r)
-  signals Calling r = bind-long (demand (may_write r) (CapNotThere at)) _ (λ _. so (with_answer state.ranges) state.slots false (a0 ∷ a1 ∷ []) answer-long)
-  signals Sending r = bind-long (demand (may_write r) (CapNotThere at)) _ (λ _. so state.ranges state.slots false [] long)
-  signals Trying r = bind-long (demand (may_write r) (CapNotThere at)) _ (λ _. so state.ranges state.slots false [] long)
+  signals : (kind : SendCall) (r : Rights) → IsAnswer Holds (sends_signal at state kind r)
+  signals Calling r = bind (demand (may_write r) (CapNotThere at)) _ (λ _. so (with_answer state.ranges) state.slots false (a0 ∷ a1 ∷ []) answer-long holds)
+  signals Sending r = bind (demand (may_write r) (CapNotThere at)) _ (λ _. so state.ranges state.slots false [] long holds)
+  signals Trying r = bind (demand (may_write r) (CapNotThere at)) _ (λ _. so state.ranges state.slots false [] long holds)
 
   answered-long : (has : Bool) → length (if has then with_answer state.ranges else state.ranges) ≡ 31
   answered-long true = answer-long
   answered-long false = long
 
-  invokes : (call : Call) (c : Invocation) (has : Bool) → AnswerIsLong (invoked image t at state call c has)
+  invokes : (call : Call) (c : Invocation) (has : Bool) → IsAnswer Holds (invoked image t at state call c has)
   invokes call c has =
       let s = noted_kernel image t state.slots in
-      bind-long (kernel_allows at (perform s call c)) _ (λ after.
-      bind-long (demand (not (loses_pool s.slots call c)) (PoolLost at)) _ (λ _.
-      bind-long (demand (may_call s.slots call c) (CallRefused at IllegalOperation)) _ (λ _.
-      so (if has then with_answer state.ranges else state.ranges) (noted_after image t after.slots) false (if has then a0 ∷ a1 ∷ [] else [])
-      (answered-long has))))
+      bind (kernel_allows at (perform s call c)) _ (λ after.
+      bind (demand (not (loses_pool s.slots call c)) (PoolLost at)) _ (λ _.
+      bind (demand (may_call s.slots call c) (CallRefused at IllegalOperation)) _ (λ _.
+      so (if has then with_answer state.ranges else state.ranges) (noted_after image t after.slots) false (if has then a0 ∷ a1 ∷ [] else []) (answered-long has)
+      (leaves after.slots))))
 
-  invocations : (call : Call) (has : Bool) → AnswerIsLong (invocation image t at state call has)
+  invocations : (call : Call) (has : Bool) → IsAnswer Holds (invocation image t at state call has)
   invocations call has =
-      bind-long (known at state a1) _ (λ info.
-      bind-long (kernel_allows at (form_called call.capability (label_of info) (extra_capabilities_of info) (length_of info))) _ (λ form.
-      bind-long (all_known at state (take form.count word_registers)) _ (λ words. invokes call (form.call words) has)))
+      bind (known at state a1) _ (λ info.
+      bind (kernel_allows at (form_called call.capability (label_of info) (extra_capabilities_of info) (length_of info))) _ (λ form.
+      bind (all_known at state (take form.count word_registers)) _ (λ words. invokes call (form.call words) has)))
 
   call_of_slot : ℕ → Cap → Call
   call_of_slot slot capability = record { root = noted_root image t; caller = Some (offset_of image t.header.tcb); slot = slot; capability = capability }
 
-  sends : (kind : SendCall) (slot : ℕ) (capability : Cap) → AnswerIsLong (send_rule image t at state kind slot capability)
+  sends : (kind : SendCall) (slot : ℕ) (capability : Cap) → IsAnswer Holds (send_rule image t at state kind slot capability)
   unfolding call_of_slot
   sends kind slot (Endpoint offset r badge) = messages kind r badge (promise_at image offset)
   sends kind slot (Notification offset r badge) = signals kind r
@@ -206,110 +213,117 @@ module _ (image : Image) (t : Thread) (at : Point) (state : PointState) (long : 
   sends kind slot InterruptControl = invocations (call_of_slot slot InterruptControl) (answers kind)
   sends kind slot (InterruptHandler a) = invocations (call_of_slot slot (InterruptHandler a)) (answers kind)
 
-  capable : (rule : ℕ → Cap → Result AfterCall Refusal) → ((slot : ℕ) (capability : Cap) → AnswerIsLong (rule slot capability)) →
-      AnswerIsLong (by_capability image t at state rule)
+  capable : (rule : ℕ → Cap → Result AfterCall Refusal) → ((slot : ℕ) (capability : Cap) → IsAnswer Holds (rule slot capability)) →
+      IsAnswer Holds (by_capability image t at state rule)
   capable rule each =
       let slots = (noted_kernel image t state.slots).slots in
-      bind-long (known at state a0) _ (λ address.
-      bind-long (found_slot at (called_slot slots (noted_root image t) address)) _ (λ slot. each slot (capability_at slots slot)))
+      bind (known at state a0) _ (λ address.
+      bind (found_slot at (called_slot slots (noted_root image t) address)) _ (λ slot. each slot (capability_at slots slot)))
 
-  called : (call : SystemCall) → AnswerIsLong (by_call image t at state call)
+  called : (call : SystemCall) → IsAnswer Holds (by_call image t at state call)
   called (Sends kind) = capable (send_rule image t at state kind) (sends kind)
   called (Receives Receiving) = capable (λ slot. receive_rule image at state true) (λ slot. receives true)
   called (Receives Polling) = capable (λ slot. receive_rule image at state false) (λ slot. receives false)
   called RepliesAndReceives = capable (λ slot. receive_rule image at state true) (λ slot. receives true)
-  called Replies = so state.ranges state.slots false [] long
-  called Yields = so state.ranges state.slots false [] long
-  called PutsCharacter = so state.ranges state.slots false [] long
+  called Replies = so state.ranges state.slots false [] long holds
+  called Yields = so state.ranges state.slots false [] long holds
+  called PutsCharacter = so state.ranges state.slots false [] long holds
 
-  numbered : (call : Option SystemCall) → AnswerIsLong (by_number image t at state call)
+  numbered : (call : Option SystemCall) → IsAnswer Holds (by_number image t at state call)
   numbered None = refuses _
   numbered (Some call) = called call
 
-  answered : AnswerIsLong (after_call image t at state)
+  answered : IsAnswer Holds (after_call image t at state)
   unfolding after_call
-  answered = bind-long (known at state a7) _ (λ number. numbered (call_of number))
+  answered = bind (known at state a7) _ (λ number. numbered (call_of number))
 
 -- ---- after a point
 
-abbrev NotedIsLong : Noted → Type 0
-NotedIsLong (Known state) = length state.ranges ≡ 31
-NotedIsLong Missing = Unit {0}
-NotedIsLong Unmeasured = Unit {0}
+pub record IsNoted (Holds : List NotedSlot → Type 0) (state : PointState) : Type 0 where
+  pub long : length state.ranges ≡ 31
+  pub slots : Holds state.slots
 
-after-one : (state : PointState) (has : Bool) (a : AfterCall) → length a.ranges ≡ 31 →
-    NotedIsLong (if has then Unmeasured else with_measure a (lowered state.measure (pos 1)))
-after-one state true a long = tt
-after-one state false a long = long
+abbrev EachIsNoted : (Holds : List NotedSlot → Type 0) → Noted → Type 0
+EachIsNoted Holds (Known state) = IsNoted Holds state
+EachIsNoted Holds Missing = Unit {0}
+EachIsNoted Holds Unmeasured = Unit {0}
 
-call-long : (t : Thread) (state : PointState) (wait : Bool) (a : AfterCall) → length a.ranges ≡ 31
-    → NotedIsLong (if wait then with_measure a (whole_budget t) else if list_any (λ x. has_term state.measure x.0) a.written then Unmeasured else
-    with_measure a (lowered state.measure (pos 1)))
-call-long t state true a long = long
-call-long t state false a long = after-one state (list_any (λ x. has_term state.measure x.0) a.written) a long
+module _ (Holds : List NotedSlot → Type 0) where
+  after-one : (state : PointState) (has : Bool) (a : AfterCall) → IsAfter Holds a
+      → EachIsNoted Holds (if has then Unmeasured else with_measure a (lowered state.measure (pos 1)))
+  after-one state true a is = tt
+  after-one state false a is = record { long = IsAfter.long is; slots = IsAfter.slots is }
 
-outcome-long : (t : Thread) (state : PointState) (outcome : Result AfterCall Refusal) → AnswerIsLong outcome →
-    NotedIsLong (follows_call t state.measure (Some outcome))
-outcome-long t state outcome (answers_so a long) = call-long t state a.is_wait a long
-outcome-long t state outcome (refuses refusal) = tt
+  after-called : (t : Thread) (state : PointState) (wait : Bool) (a : AfterCall) → IsAfter Holds a
+      → EachIsNoted Holds (if wait then with_measure a (whole_budget t) else if list_any (λ x. has_term state.measure x.0) a.written then Unmeasured else
+      with_measure a (lowered state.measure (pos 1)))
+  after-called t state true a is = record { long = IsAfter.long is; slots = IsAfter.slots is }
+  after-called t state false a is = after-one state (list_any (λ x. has_term state.measure x.0) a.written) a is
 
-edge-long : (instr : Instr) (state : PointState) (edge : Option Edge) → EdgeIsLong edge → NotedIsLong (follows_edge instr state edge)
-edge-long instr state None long = tt
-edge-long instr state (Some edge) long = by-test (option_map_or (λ (rd : Register). has_term state.measure rd.0) (destination instr) false)
-  where
-    by-test : (has : Bool) → NotedIsLong (if has then Unmeasured else
-        Known (record { ranges = edge.ranges; slots = state.slots; measure = lowered state.measure (pos 1) }))
-    by-test true = tt
-    by-test false = long
+  after-answer : (t : Thread) (state : PointState) (answer : Result AfterCall Refusal) → IsAnswer Holds answer →
+      EachIsNoted Holds (follows_call t state.measure (Some answer))
+  after-answer t state answer (answers_so a is) = after-called t state a.is_wait a is
+  after-answer t state answer (refuses refusal) = tt
 
-module _ (image : Image) (t : Numbered) where
-  call-follows : (point : ℕ) (state : PointState) → length state.ranges ≡ 31 → NotedIsLong (follows_call t.thread state.measure (call_at image t point state))
+  after-edge : (instr : Instr) (state : PointState) (edge : Option Edge) → IsNoted Holds state → EdgeIsLong edge → EachIsNoted Holds (follows_edge instr state edge)
+  after-edge instr state None is long = tt
+  after-edge instr state (Some edge) is long = by-test (option_map_or (λ (rd : Register). has_term state.measure rd.0) (destination instr) false)
+    where
+      by-test : (has : Bool) → EachIsNoted Holds (if has then Unmeasured else
+          Known (record { ranges = edge.ranges; slots = state.slots; measure = lowered state.measure (pos 1) }))
+      by-test true = tt
+      by-test false = record { long = long; slots = is.slots }
+
+module _ (Holds : List NotedSlot → Type 0) (image : Image) (t : Numbered) (leaves : (slots : Slots) → Holds (noted_after image t.thread slots))
+    (recorded : (point : ℕ) (r : StateRecord) → record_of t.thread point ≡ Some r → Holds (record_state image t.thread r).slots) where
+  call-follows : (point : ℕ) (state : PointState) → IsNoted Holds state → EachIsNoted Holds (follows_call t.thread state.measure (call_at image t point state))
   unfolding call_at
-  call-follows point state long = by-test (has_stray_slots image t.thread point state)
+  call-follows point state is = by-test (has_stray_slots image t.thread point state)
     where
       by-test : (stray : Bool) →
-          NotedIsLong (follows_call t.thread state.measure (if stray then None else Some (after_call image t.thread (point_of t point) state)))
+          EachIsNoted Holds (follows_call t.thread state.measure (if stray then None else Some (after_call image t.thread (point_of t point) state)))
       by-test true = tt
-      by-test false = outcome-long t.thread state (after_call image t.thread (point_of t point) state) (answered image t.thread (point_of t point) state long)
+      by-test false = after-answer Holds t.thread state (after_call image t.thread (point_of t point) state)
+          (answered Holds image t.thread leaves (point_of t point) state is.long is.slots)
 
-  instr-follows : (point : ℕ) (state : PointState) (instr : Option Instr) → length state.ranges ≡ 31 →
-      NotedIsLong (follows_instruction image t point state instr)
-  instr-follows point state None long = tt
-  instr-follows point state (Some Ecall) long = call-follows point state long
-  instr-follows point state (Some (Upper op rd immediate)) long =
-      edge-long (Upper op rd immediate) state _ (after-long _ (Upper op rd immediate) state.ranges long)
-  instr-follows point state (Some (Jal rd offset)) long = edge-long (Jal rd offset) state _ (after-long _ (Jal rd offset) state.ranges long)
-  instr-follows point state (Some (Jalr rd rs1 offset)) long = edge-long (Jalr rd rs1 offset) state _ (after-long _ (Jalr rd rs1 offset) state.ranges long)
-  instr-follows point state (Some (Branch op rs1 rs2 offset)) long =
-      edge-long (Branch op rs1 rs2 offset) state _ (after-long _ (Branch op rs1 rs2 offset) state.ranges long)
-  instr-follows point state (Some (Load op rd rs1 offset)) long =
-      edge-long (Load op rd rs1 offset) state _ (after-long _ (Load op rd rs1 offset) state.ranges long)
-  instr-follows point state (Some (Store op rs1 rs2 offset)) long =
-      edge-long (Store op rs1 rs2 offset) state _ (after-long _ (Store op rs1 rs2 offset) state.ranges long)
-  instr-follows point state (Some (Immediate op rd rs1 immediate)) long =
-      edge-long (Immediate op rd rs1 immediate) state _ (after-long _ (Immediate op rd rs1 immediate) state.ranges long)
-  instr-follows point state (Some (Shift op rd rs1 amount)) long =
-      edge-long (Shift op rd rs1 amount) state _ (after-long _ (Shift op rd rs1 amount) state.ranges long)
-  instr-follows point state (Some (Registers op rd rs1 rs2)) long =
-      edge-long (Registers op rd rs1 rs2) state _ (after-long _ (Registers op rd rs1 rs2) state.ranges long)
-  instr-follows point state (Some Fence) long = edge-long Fence state _ (after-long _ Fence state.ranges long)
-  instr-follows point state (Some Ebreak) long = edge-long Ebreak state _ (after-long _ Ebreak state.ranges long)
+  instr-follows : (point : ℕ) (state : PointState) (instr : Option Instr) → IsNoted Holds state → EachIsNoted Holds (follows_instruction image t point state instr)
+  instr-follows point state None is = tt
+  instr-follows point state (Some Ecall) is = call-follows point state is
+  instr-follows point state (Some (Upper op rd immediate)) is =
+      after-edge Holds (Upper op rd immediate) state _ is (after-long _ (Upper op rd immediate) state.ranges is.long)
+  instr-follows point state (Some (Jal rd offset)) is = after-edge Holds (Jal rd offset) state _ is (after-long _ (Jal rd offset) state.ranges is.long)
+  instr-follows point state (Some (Jalr rd rs1 offset)) is = after-edge Holds (Jalr rd rs1 offset) state _ is (after-long _ (Jalr rd rs1 offset) state.ranges is.long)
+  instr-follows point state (Some (Branch op rs1 rs2 offset)) is =
+      after-edge Holds (Branch op rs1 rs2 offset) state _ is (after-long _ (Branch op rs1 rs2 offset) state.ranges is.long)
+  instr-follows point state (Some (Load op rd rs1 offset)) is =
+      after-edge Holds (Load op rd rs1 offset) state _ is (after-long _ (Load op rd rs1 offset) state.ranges is.long)
+  instr-follows point state (Some (Store op rs1 rs2 offset)) is =
+      after-edge Holds (Store op rs1 rs2 offset) state _ is (after-long _ (Store op rs1 rs2 offset) state.ranges is.long)
+  instr-follows point state (Some (Immediate op rd rs1 immediate)) is =
+      after-edge Holds (Immediate op rd rs1 immediate) state _ is (after-long _ (Immediate op rd rs1 immediate) state.ranges is.long)
+  instr-follows point state (Some (Shift op rd rs1 amount)) is =
+      after-edge Holds (Shift op rd rs1 amount) state _ is (after-long _ (Shift op rd rs1 amount) state.ranges is.long)
+  instr-follows point state (Some (Registers op rd rs1 rs2)) is =
+      after-edge Holds (Registers op rd rs1 rs2) state _ is (after-long _ (Registers op rd rs1 rs2) state.ranges is.long)
+  instr-follows point state (Some Fence) is = after-edge Holds Fence state _ is (after-long _ Fence state.ranges is.long)
+  instr-follows point state (Some Ebreak) is = after-edge Holds Ebreak state _ is (after-long _ Ebreak state.ranges is.long)
 
-  noted-follows : (point : ℕ) (n : Noted) → NotedIsLong n → NotedIsLong (follows image t point n)
-  noted-follows point (Known state) long = instr-follows point state (instruction_at t.thread point) long
-  noted-follows point Missing long = tt
-  noted-follows point Unmeasured long = tt
+  noted-follows : (point : ℕ) (n : Noted) → EachIsNoted Holds n → EachIsNoted Holds (follows image t point n)
+  noted-follows point (Known state) is = instr-follows point state (instruction_at t.thread point) is
+  noted-follows point Missing is = tt
+  noted-follows point Unmeasured is = tt
 
-  record-long : (r : Option StateRecord) (otherwise : Noted) → NotedIsLong otherwise → NotedIsLong (noted_or image t.thread r otherwise)
+  record-noted : (point : ℕ) (r : Option StateRecord) (otherwise : Noted) → record_of t.thread point ≡ r → EachIsNoted Holds otherwise →
+      EachIsNoted Holds (noted_or image t.thread r otherwise)
   unfolding record_state
-  record-long None otherwise long = long
-  record-long (Some r) otherwise long = entries-long r.ranges full_ranges
+  record-noted point None otherwise at is = is
+  record-noted point (Some r) otherwise at is = record { long = entries-long r.ranges full_ranges; slots = recorded point r at }
 
-  each-long : (point : ℕ) → NotedIsLong (noted image t point)
+  each-noted : (point : ℕ) → EachIsNoted Holds (noted image t point)
   unfolding noted
-  each-long zero = record-long (record_of t.thread 0) Missing tt
-  each-long (suc point) = record-long (record_of t.thread (suc point)) (follows image t point (noted image t point))
-      (noted-follows point (noted image t point) (each-long point))
+  each-noted zero = record-noted 0 (record_of t.thread 0) Missing refl tt
+  each-noted (suc point) = record-noted (suc point) (record_of t.thread (suc point)) (follows image t point (noted image t point)) refl
+      (noted-follows point (noted image t point) (each-noted point))
 
-  pub known-long : (point : ℕ) (state : PointState) → noted image t point ≡ Known state → length state.ranges ≡ 31
-  known-long point state known = subst NotedIsLong known (each-long point)
+  pub known-noted : (point : ℕ) (state : PointState) → noted image t point ≡ Known state → IsNoted Holds state
+  known-noted point state known = subst (EachIsNoted Holds) known (each-noted point)
