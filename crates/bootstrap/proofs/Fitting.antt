@@ -9,9 +9,8 @@ use Rattle.model.specs.Images.Format.{Format, field, many_fit, number, only_if}
 use Rattle.model.specs.Images.Image.{Image, ImageContent, Thread, anything, below, between, capability_format, content_format, frame_format, has_buffers}
 use Rattle.model.specs.Images.Image.{image_with, interrupt_format, no_buffer, object_format, pair_key, register_format, registers_format, sections_format}
 use Rattle.model.specs.Images.Image.{size_fits, slots_format, table_format, thread_format, thread_header_format, untyped_format, whole_image, words_format}
-use Rattle.format_laws.specs.Fitting.{HeaderFits}
 use Rattle.format_laws.proofs.Laws.{field-between, field-parts, is-fitting, many-length}
-use Rattle.bootstrap.specs.Limits.{ContentFits, IsLimited, IsSmall, ThreadFits}
+use Rattle.bootstrap.specs.Limits.{ContentFits, IsLimited, ThreadFits}
 
 -- ---- lists that are gone over
 
@@ -28,26 +27,6 @@ list-fits Holds format next each least (suc n) (x ∷ xs) fits =
 
 below-of : (limit n : ℕ) → (field (below limit)).fits n ≡ true → n < limit
 below-of limit n fits = ltb-true n limit (field-parts (below limit) n fits).1
-
--- ---- the header
-
-header-small : (h : ImageHeader) → HeaderFits h → IsSmall h
-header-small h fits =
-    record {
-      least_bits = fits.memory_low;
-      most_bits = fits.memory_high;
-      least_radix = fits.radix_low;
-      most_radix = fits.radix_high;
-      room = fits.radix_memory;
-      untypeds = fits.untypeds;
-      objects = fits.objects;
-      capabilities = fits.capabilities;
-      interrupts = fits.interrupts;
-      tables = fits.tables;
-      frames = fits.frames;
-      contents = fits.contents;
-      threads = fits.threads;
-    }
 
 -- ---- entries
 
@@ -133,7 +112,7 @@ limited image is =
     whole.1 in
     let fitting = is-fitting image is in
     record {
-      header = header-small h fitting.header;
+      header = fitting.header;
       untypeds = record { count = fitting.untypeds; entries = λ k u at. record { bits = (fitting.untyped k u at).high } };
       objects = record {
         count = fitting.objects;

@@ -9,22 +9,7 @@ use Rattle.model.specs.declared.entries.ObjectEntry.{ObjectEntry}
 use Rattle.model.specs.declared.entries.TableEntry.{TableEntry}
 use Rattle.model.specs.declared.entries.UntypedEntry.{UntypedEntry}
 use Rattle.model.specs.Images.Image.{Image, ImageContent, Thread, no_buffer, pair_key}
-
--- how many entries there are at most
-pub record IsSmall (h : ImageHeader) : Type 0 where
-  pub least_bits : 16 ≤ h.memory_bits
-  pub most_bits : h.memory_bits ≤ 24
-  pub least_radix : 1 ≤ h.boot_radix
-  pub most_radix : h.boot_radix ≤ 14
-  pub room : h.boot_radix + 5 ≤ h.memory_bits
-  pub untypeds : h.untypeds ≤ 64
-  pub objects : h.objects ≤ 4096
-  pub capabilities : h.capabilities ≤ 16384
-  pub interrupts : h.interrupts ≤ 64
-  pub tables : h.tables ≤ 1024
-  pub frames : h.frames ≤ 4096
-  pub contents : h.contents ≤ 4096
-  pub threads : h.threads ≤ 64
+use Rattle.format_laws.specs.Fitting.{HeaderFits}
 
 -- so many entries, of each of which this holds
 pub record HasSection {A : Type 0} (size : ℕ) (Holds : A → Type 0) (xs : List A) : Type 0 where
@@ -76,7 +61,7 @@ pub record ThreadFits (h : ImageHeader) (t : Thread) : Type 0 where
 -- ---- the whole
 
 pub record IsLimited (image : Image) : Type 0 where
-  pub header : IsSmall image.header
+  pub header : HeaderFits image.header
   pub untypeds : HasSection image.header.untypeds UntypedFits image.untypeds
   pub objects : HasSection image.header.objects (ObjectFits image.header) image.objects
   pub capabilities : HasSection image.header.capabilities (CapabilityFits image.header) image.capabilities

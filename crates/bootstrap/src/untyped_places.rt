@@ -1,10 +1,10 @@
 //! Where untyped memory may lie, and whether boot slots suffice: what is looked at before the first call.
 
 ghost use Rattle.std.specs.Prelude.{◌≡◌, ◌+◌, ◌^◌, ◌<◌, ◌≤◌, Some, None, if◌then◌else◌};
-ghost use Rattle.bootstrap.specs.Limits.{IsSmall};
 ghost use Rattle.model.specs.Acceptance.WellFormed.{end_before, overlaps, too_few_boot_slots, untyped_end};
 ghost use Rattle.model.specs.Images.Boot.{misplaced};
 ghost use Rattle.model.specs.Kernel.State.{boot_area_end};
+ghost use Rattle.format_laws.specs.Fitting.{HeaderFits};
 
 use crate::boot_images::BootImage;
 use crate::boot_slots::boot_slots;
@@ -67,7 +67,7 @@ fn untyped_end(entry: UntypedEntry) -> u64
 
 /// Where the boot area ends.
 fn boot_area_end(header: &ImageHeader) -> u64
-    requires { IsSmall header.now }
+    requires { HeaderFits header.now }
     ensures { result ≡ boot_area_end header.now.boot_radix }
 {
     16 * (power(header.boot_radix) + 64)

@@ -1,12 +1,9 @@
 -- The rules on the programs of the threads that are left.
-use Rattle.std.proofs.Common.{ℕ, suc, ◌≡◌, ◌∙◌, ◌+◌, inl, inr, Some, None, Option, Err, List, [], ◌∷◌, add-one, drop, drop-cons, get_or, length, map, sym, ap}
-use Rattle.std.proofs.Common.{subst, arith}
-use Rattle.std.specs.Prelude.{flat_map, slice_get}
+use Rattle.std.proofs.Common.{ℕ, ◌≡◌, ◌∙◌, ◌+◌, None, Option, Err, List, ◌∷◌, map, sym, ap}
+use Rattle.std.proofs.Common.{subst}
+use Rattle.std.specs.Prelude.{flat_map}
 use Rattle.std.specs.Option.{option_or}
 use Rattle.std.specs.List.{enumerate_from}
-use Rattle.std.proofs.lemmas.Bool.{cases_lt}
-use Rattle.std.proofs.lemmas.List.{drop_all}
-use Rattle.std.proofs.lemmas.Option.{slice_get-get_or}
 use Rattle.model.specs.Acceptance.PointRules.{rules_of_program}
 use Rattle.model.specs.Acceptance.Rules.{Rule, first_broken}
 use Rattle.model.specs.Images.Described.{Numbered}
@@ -36,19 +33,3 @@ module _ (image : Image) (n : ℕ) (t : Thread) (rest : List Thread) where
       first_broken (rules_from image n (t ∷ rest)) ≡ total → Answers total (Err refusal)
   one-refused total refusal answers so = subst (λ (o : Option Refusal). Answers o (Err refusal)) (parted total so)
       (refused-first (first_broken own) later refusal answers)
-
--- the thread at hand, and those behind it
-pub head-of : {A : Type 0} (n : ℕ) (xs ys : List A) (x : A) → drop n xs ≡ x ∷ ys → (slice_get xs n ≡ Some x) × (drop (n + 1) xs ≡ ys)
-head-of {A} n xs ys x is =
-    elim (cases_lt n (length xs)) [
-      | inl inside ↦
-          let first : drop n xs ≡ get_or xs n x ∷ drop (suc n) xs = drop-cons xs n x inside in
-          let same : get_or xs n x ∷ drop (suc n) xs ≡ x ∷ ys = sym first ∙ is in
-          let here : get_or xs n x ≡ x = ap (λ (l : List A). get_or l 0 x) same in
-          let rest : drop (suc n) xs ≡ ys = ap (λ (l : List A). drop 1 l) same in
-          let one : drop (n + 1) xs ≡ drop (suc n) xs = ap (λ (k : ℕ). drop k xs) (add-one n) in
-          (slice_get-get_or xs n x inside ∙ ap (λ (y : A). Some y) here, one ∙ rest)
-      | inr past ↦
-          let none : [] ≡ x ∷ ys = sym (drop_all n xs past) ∙ is in
-          absurd (let clash : 0 ≡ suc (length ys) = ap (λ (l : List A). length l) none in omega (arith, clash))
-    ]

@@ -1,5 +1,5 @@
--- Each state that is noted of a point has the ranges of 31 registers, and slots of which holds what holds of those that each record
--- names and of those that each call leaves.
+-- Each state that is noted of a point has the ranges of 31 registers, and slots of which holds what holds of those in each record and
+-- of those that each call leaves.
 use Rattle.std.proofs.Common.{ℕ, zero, suc, ◌≡◌, ◌∙◌, ◌==◌, ◌-◌, Bool, true, false, not, if◌then◌else◌, Option, Some, None, Result, Ok, Err, option_map}
 use Rattle.std.proofs.Common.{List, [], ◌∷◌, take, length, refl, subst, pos}
 use Rattle.std.specs.Prelude.{fold, slice_set}
@@ -173,7 +173,8 @@ module _ (Holds : List NotedSlot → Type 0) (image : Image) (t : Thread) (leave
       bind (demand (may_send kind r) (CapNotThere at)) _ (λ _. bind (promise_rule at state badge promise) _ (λ _. sent kind))
 
   signals : (kind : SendCall) (r : Rights) → IsAnswer Holds (sends_signal at state kind r)
-  signals Calling r = bind (demand (may_write r) (CapNotThere at)) _ (λ _. so (with_answer state.ranges) state.slots false (a0 ∷ a1 ∷ []) answer-long holds)
+  signals Calling r = bind (demand (may_write r) (CapNotThere at)) _
+      (λ _. so (with_answer state.ranges) state.slots false (a0 ∷ a1 ∷ []) answer-long holds)
   signals Sending r = bind (demand (may_write r) (CapNotThere at)) _ (λ _. so state.ranges state.slots false [] long holds)
   signals Trying r = bind (demand (may_write r) (CapNotThere at)) _ (λ _. so state.ranges state.slots false [] long holds)
 
@@ -187,8 +188,8 @@ module _ (Holds : List NotedSlot → Type 0) (image : Image) (t : Thread) (leave
       bind (kernel_allows at (perform s call c)) _ (λ after.
       bind (demand (not (loses_pool s.slots call c)) (PoolLost at)) _ (λ _.
       bind (demand (may_call s.slots call c) (CallRefused at IllegalOperation)) _ (λ _.
-      so (if has then with_answer state.ranges else state.ranges) (noted_after image t after.slots) false (if has then a0 ∷ a1 ∷ [] else []) (answered-long has)
-      (leaves after.slots))))
+      so (if has then with_answer state.ranges else state.ranges) (noted_after image t after.slots) false (if has then a0 ∷ a1 ∷ [] else [])
+      (answered-long has) (leaves after.slots))))
 
   invocations : (call : Call) (has : Bool) → IsAnswer Holds (invocation image t at state call has)
   invocations call has =
@@ -265,7 +266,8 @@ module _ (Holds : List NotedSlot → Type 0) where
   after-answer t state answer (answers_so a is) = after-called t state a.is_wait a is
   after-answer t state answer (refuses refusal) = tt
 
-  after-edge : (instr : Instr) (state : PointState) (edge : Option Edge) → IsNoted Holds state → EdgeIsLong edge → EachIsNoted Holds (follows_edge instr state edge)
+  after-edge : (instr : Instr) (state : PointState) (edge : Option Edge) → IsNoted Holds state → EdgeIsLong edge →
+      EachIsNoted Holds (follows_edge instr state edge)
   after-edge instr state None is long = tt
   after-edge instr state (Some edge) is long = by-test (option_map_or (λ (rd : Register). has_term state.measure rd.0) (destination instr) false)
     where
@@ -276,7 +278,8 @@ module _ (Holds : List NotedSlot → Type 0) where
 
 module _ (Holds : List NotedSlot → Type 0) (image : Image) (t : Numbered) (leaves : (slots : Slots) → Holds (noted_after image t.thread slots))
     (recorded : (point : ℕ) (r : StateRecord) → record_of t.thread point ≡ Some r → Holds (record_state image t.thread r).slots) where
-  call-follows : (point : ℕ) (state : PointState) → IsNoted Holds state → EachIsNoted Holds (follows_call t.thread state.measure (call_at image t point state))
+  call-follows : (point : ℕ) (state : PointState) → IsNoted Holds state →
+      EachIsNoted Holds (follows_call t.thread state.measure (call_at image t point state))
   unfolding call_at
   call-follows point state is = by-test (has_stray_slots image t.thread point state)
     where
@@ -286,13 +289,15 @@ module _ (Holds : List NotedSlot → Type 0) (image : Image) (t : Numbered) (lea
       by-test false = after-answer Holds t.thread state (after_call image t.thread (point_of t point) state)
           (answered Holds image t.thread leaves (point_of t point) state is.long is.slots)
 
-  instr-follows : (point : ℕ) (state : PointState) (instr : Option Instr) → IsNoted Holds state → EachIsNoted Holds (follows_instruction image t point state instr)
+  instr-follows : (point : ℕ) (state : PointState) (instr : Option Instr) → IsNoted Holds state →
+      EachIsNoted Holds (follows_instruction image t point state instr)
   instr-follows point state None is = tt
   instr-follows point state (Some Ecall) is = call-follows point state is
   instr-follows point state (Some (Upper op rd immediate)) is =
       after-edge Holds (Upper op rd immediate) state _ is (after-long _ (Upper op rd immediate) state.ranges is.long)
   instr-follows point state (Some (Jal rd offset)) is = after-edge Holds (Jal rd offset) state _ is (after-long _ (Jal rd offset) state.ranges is.long)
-  instr-follows point state (Some (Jalr rd rs1 offset)) is = after-edge Holds (Jalr rd rs1 offset) state _ is (after-long _ (Jalr rd rs1 offset) state.ranges is.long)
+  instr-follows point state (Some (Jalr rd rs1 offset)) is =
+      after-edge Holds (Jalr rd rs1 offset) state _ is (after-long _ (Jalr rd rs1 offset) state.ranges is.long)
   instr-follows point state (Some (Branch op rs1 rs2 offset)) is =
       after-edge Holds (Branch op rs1 rs2 offset) state _ is (after-long _ (Branch op rs1 rs2 offset) state.ranges is.long)
   instr-follows point state (Some (Load op rd rs1 offset)) is =

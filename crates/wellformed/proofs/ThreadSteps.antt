@@ -16,6 +16,7 @@ use Rattle.wellformed.specs.Answering.{AreBuffers, AreEarlier, with_buffer, with
 use Rattle.wellformed.proofs.Named.{member-with, named-next, named-none}
 use Rattle.wellformed.proofs.Reached.{any-members}
 
+-- the entry at hand, and those after it
 pub head-of : {A : Type 0} (n : ℕ) (xs ys : List A) (x : A) → drop n xs ≡ x ∷ ys → (slice_get xs n ≡ Some x) × (drop (n + 1) xs ≡ ys)
 head-of {A} n xs ys x is =
     elim (cases_lt n (length xs)) [

@@ -5,8 +5,9 @@ use Rattle.model.specs.Acceptance.PointRules.{program_rules}
 use Rattle.model.specs.Acceptance.Rules.{first_broken}
 use Rattle.model.specs.Images.Image.{Thread}
 use Rattle.program_rules.proofs.Outcomes.{passed-on}
-use Rattle.program_rules.proofs.ThreadsLeft.{head-of, next-kept, one-refused, rules_from}
+use Rattle.program_rules.proofs.ThreadsLeft.{next-kept, one-refused, rules_from}
 use Rattle.program_rules.proofs.checking.check_programs.Goals as goal
+use Rattle.wellformed.proofs.Laws.{head-of}
 
 pub threads-init : goal.threads-init
 unfolding program_rules
