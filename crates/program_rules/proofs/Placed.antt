@@ -32,7 +32,8 @@ use Rattle.typestate.specs.declared.behind.Written.TheVariants as written
 use Rattle.typestate.specs.declared.behind.Written.{Written}
 use Rattle.typestate.specs.declared.log_entries.LogEntry.{LogEntry}
 use Rattle.typestate.specs.declared.logs.Part.{Part}
-use Rattle.thread_spaces.proofs.Laws.{known-noted, with-long, words-long}
+use Rattle.ranges.proofs.Laws.{with-long}
+use Rattle.thread_spaces.proofs.Laws.{known-noted, words-long}
 
 -- ---- ranges of 31 registers
 

@@ -73,12 +73,11 @@ replaced_within r ranges x out long fits before value =
           (replaced_at r ranges x out k long fits some.1 less before value)
     ]
 
-still_long : (ranges : List Range) (x : Register) (out : Range) → length (with_range ranges x out) ≡ length ranges
-still_long ranges x out =
-    elim (eqb_tells x.0 0) [
-      | inl none ↦ ap (λ (b : Bool). length (if b then ranges else slice_set ranges (x.0 - 1) out)) none.0
-      | inr some ↦ ap (λ (b : Bool). length (if b then ranges else slice_set ranges (x.0 - 1) out)) some.0 ∙ length-set ranges (x.0 - 1) out
-    ]
+pub with-long : (ranges : List Range) (x : Register) (out : Range) → length (with_range ranges x out) ≡ length ranges
+with-long ranges x out = elim (x.0 == 0) as (λ b. length (if b then ranges else slice_set ranges (x.0 - 1) out) ≡ length ranges) [
+  | true ↦ refl
+  | false ↦ length-set ranges (x.0 - 1) out
+]
 
 -- ---- both sides
 
@@ -94,7 +93,7 @@ sides_kept r ranges rs1 rs2 sides long first second before inside =
     or_from (is_empty_range sides.0) (is_empty_range sides.1) (isnt_empty (read r rs1) sides.0 inside.0) (isnt_empty (read r rs2) sides.1 inside.1) in
     let there : with_sides ranges rs1 rs2 sides ≡ Some behind = ap (λ (b : Bool). if b then None else Some behind) possible in
     let one = replaced_within r ranges rs1 sides.0 long first before inside.0 in
-    (behind, there, replaced_within r (with_range ranges rs1 sides.0) rs2 sides.1 (still_long ranges rs1 sides.0 ∙ long) second one inside.1)
+    (behind, there, replaced_within r (with_range ranges rs1 sides.0) rs2 sides.1 (with-long ranges rs1 sides.0 ∙ long) second one inside.1)
 
 -- where both sides are one register, both hold of it
 both_kept : (a b : ℕ) (sides : Range × Range) (one : Bool) → (one ≡ true → a ≡ b) → AreInside a b sides → AreInside a b (joined one sides)

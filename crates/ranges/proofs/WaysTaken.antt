@@ -25,13 +25,13 @@ use Rattle.ranges.proofs.Written.{instruction-keeps, jump-keeps}
 
 -- ---- where the pc is
 
-behind-written : (r : RegisterFile) (x : Register) (value : ℕ) → ((write r x value).pc + 4) % 2 ^ 32 ≡ behind r.pc
+pub behind-written : (r : RegisterFile) (x : Register) (value : ℕ) → ((write r x value).pc + 4) % 2 ^ 32 ≡ behind r.pc
 behind-written r x value = elim (x.0 == 0) as (λ b. ((if b then r else record r { words = slice_set r.words x.0 value }).pc + 4) % 2 ^ 32 ≡ behind r.pc) [
   | true ↦ refl
   | false ↦ refl
 ]
 
-jump-leads : (r : RegisterFile) (content : Content) (written : RegisterFile) (target : ℕ) → (jumps r content written target).exec ≡ outcomes.Next
+pub jump-leads : (r : RegisterFile) (content : Content) (written : RegisterFile) (target : ℕ) → (jumps r content written target).exec ≡ outcomes.Next
     → (jumps r content written target).registers.pc ≡ target
 jump-leads r content written target goes =
     elim (target % 4 == 0) as (λ b. (if b then goes_on (record written { pc = target }) content else stays r content (outcomes.Trap Misaligned)).exec

@@ -7,7 +7,7 @@ pub use Rattle.thread_spaces.proofs.GivenRoots.{member-any, root-reached}
 pub use Rattle.thread_spaces.proofs.ListedCapabilities.{listed-handler, listed-object, original-plain}
 pub use Rattle.thread_spaces.proofs.ListedMappings.{find-at, mappings-listed}
 pub use Rattle.thread_spaces.proofs.ListedSlots.{slots-rise, slots_in}
-pub use Rattle.thread_spaces.proofs.NotedStates.{IsNoted, known-noted, with-long, words-long}
+pub use Rattle.thread_spaces.proofs.NotedStates.{IsNoted, known-noted, words-long}
 pub use Rattle.thread_spaces.proofs.OriginalNames.{object-held}
 pub use Rattle.thread_spaces.proofs.OwnPlaces.{block-not-own, boot-room, key-owned, or-second, own-cnode}
 pub use Rattle.thread_spaces.proofs.ParentsInBoot.{parent-in-boot}

@@ -52,14 +52,9 @@ use Rattle.model.specs.Kernel.CallForms.{form_called}
 use Rattle.model.specs.Kernel.Invocations.{perform}
 use Rattle.model.specs.Kernel.Messages.{a0, a1, a7, extra_capabilities_of, label_of, length_of, word_registers}
 use Rattle.model.specs.Kernel.Steps.{call_of}
+use Rattle.ranges.proofs.Laws.{with-long}
 
 -- ---- ranges that are set
-
-pub with-long : (ranges : List Range) (x : Register) (r : Range) → length (with_range ranges x r) ≡ length ranges
-with-long ranges x r = elim (x.0 == 0) as (λ b. length (if b then ranges else slice_set ranges (x.0 - 1) r) ≡ length ranges) [
-  | true ↦ refl
-  | false ↦ length-set ranges (x.0 - 1) r
-]
 
 pub words-long : (xs : List Register) (ranges : List Range) (words : List PromisedWord) → length (with_words ranges xs words) ≡ length ranges
 words-long [] ranges words = refl

@@ -19,26 +19,10 @@ use Rattle.model.specs.Machine.Effects.{advanced, branches, effect, goes_on, is_
 use Rattle.model.specs.Machine.Instructions.{IsInstr}
 use Rattle.model.specs.Machine.ProgramMemory.{Content, RegisterFile, loaded, read, stored, write}
 use Rattle.ranges.specs.Standing.{AreWords}
-use Rattle.ranges.proofs.Laws.{branch_kept, instruction-keeps, jump-keeps}
+use Rattle.ranges.proofs.Laws.{behind-written, branch_kept, instruction-keeps, jump-keeps, jump-leads}
 use Rattle.headline.specs.steps.Taken.{IsPlain, MayTake, Reaches, edges_among}
 
 -- ---- where the pc is
-
-behind-written : (r : RegisterFile) (x : Register) (value : ℕ) → ((write r x value).pc + 4) % 2 ^ 32 ≡ behind r.pc
-behind-written r x value = elim (x.0 == 0) as (λ b. ((if b then r else record r { words = slice_set r.words x.0 value }).pc + 4) % 2 ^ 32 ≡ behind r.pc) [
-  | true ↦ refl
-  | false ↦ refl
-]
-
-jump-leads : (r : RegisterFile) (content : Content) (written : RegisterFile) (target : ℕ) → (jumps r content written target).exec ≡ outcomes.Next
-    → (jumps r content written target).registers.pc ≡ target
-jump-leads r content written target goes =
-    elim (target % 4 == 0) as (λ b. (if b then goes_on (record written { pc = target }) content else stays r content (outcomes.Trap Misaligned)).exec
-    ≡ outcomes.Next
-    → (if b then goes_on (record written { pc = target }) content else stays r content (outcomes.Trap Misaligned)).registers.pc ≡ target) [
-      | true ↦ λ h. refl
-      | false ↦ λ h. absurd (let clash : ◌≡◌ {A = Exec} (outcomes.Trap Misaligned) outcomes.Next = h in cc)
-    ] goes
 
 jump-goes : (r : RegisterFile) (content : Content) (written : RegisterFile) (target : ℕ) → target % 4 ≡ 0 →
     (jumps r content written target).exec ≡ outcomes.Next
