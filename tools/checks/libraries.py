@@ -114,9 +114,9 @@ def build_all(names):
             for crate in ready[: lanes - len(running)]:
                 rest = sum(own[it.name] for it in left) + sum(own[name] for name in running.values())
                 left.remove(crate)
-                has_longest = all(behind[name] <= behind[crate.name] for name in running.values())
-                is_longer = behind[crate.name] > SEVERAL * rest / lanes
-                jobs = 1 if not has_longest else lanes if is_few else 2 if is_longer else 1
+                jobs = 1
+                if all(behind[name] <= behind[crate.name] for name in running.values()):
+                    jobs = lanes if is_few else 2 if behind[crate.name] > SEVERAL * rest / lanes else 1
                 running[pool.submit(build_logged, crate, jobs)] = crate.name
             if not running:
                 break
