@@ -2,9 +2,10 @@
 """Builds the repository's libraries side by side: what stands above a library loads its statements alone, as in the gate. The gate
 also looks for contracts that no call can meet, which takes a twentieth more and proves nothing.
 
-A library that is built by several processes at once takes a third more of the processors' time. So each has one process, but that
-with the longest chain of others after it: two where that chain is longer by a third than what all processors have left, and as many
-as there are processors where fewer libraries are under way, at the beginning and at the end.
+A library that is built by several processes at once takes more of the processors' time: some third, from a tenth to twice as much on
+machines that others share. So each has one process, but that with the longest chain of others after it: two where that chain is
+longer by a third than what all processors have left, and as many as there are processors where fewer libraries are under way, at the
+beginning and at the end.
 
   tools/checks/libraries.py NAME ..     at the top of the repository: these crates and all below them (none named: all)
   tools/checks/libraries.py rt WORD ..  in a crate's folder: the toolchain's command over libraries that were built so
@@ -41,7 +42,7 @@ RT = toolchain()
 SUMS = {}
 # What the toolchain takes for a crate before its first proof and after its last, in lines of code.
 CRATE_IN_LINES = 200
-# What several processes take for a library, over what one takes.
+# What several processes take for a library, over what one takes: roughly.
 SEVERAL = 4 / 3
 
 
