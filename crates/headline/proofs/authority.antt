@@ -17,6 +17,7 @@ mod NewMappings
 mod NotificationCalls
 mod OwnCalls
 mod OwnRegisters
+mod OwnSteps
 mod PlainStanding
 mod PlainSteps
 mod PoolsKept

@@ -9,6 +9,7 @@ use Rattle.model.specs.Images.Boot.{booted}
 use Rattle.model.specs.Images.Described.{described, Numbered, numbered_threads}
 use Rattle.model.specs.Images.Image.{Image, Thread}
 use Rattle.model.specs.Images.Places.{offset_of}
+use Rattle.model.specs.Kernel.Soundness.{IsSound}
 use Rattle.model.specs.Kernel.State.{State}
 use Rattle.model.specs.Kernel.Steps.{state_after, step, trace}
 use Rattle.model.specs.Kernel.Waits.{KeepsBudget, is_error, is_fault}
@@ -23,7 +24,8 @@ trace_of image events = trace (described image) events
 
 -- The bytes are an accepted image. It boots with no kernel error into the state that it describes, each object inside its untyped
 -- memory and no two on one another. Over the events no line of the kernel's trace is a fault or an error, no stretch of a thread is longer
--- than its budget, each event changes only what authority lets it, and each message that waits at an endpoint keeps what the image promises there.
+-- than its budget, each event changes only what authority lets it, each state is sound, and each message that waits at an endpoint keeps what the
+-- image promises there.
 pub record IsSafeRun (bytes : List ℕ) (image : Image) (events : List Event) : Type 0 where
   pub accepted : IsAccepted bytes image
   pub boots : booted image ≡ Ok (described image)
@@ -33,6 +35,7 @@ pub record IsSafeRun (bytes : List ℕ) (image : Image) (events : List Event) : 
   pub budgets : (t : Thread) → Contains image.threads t → KeepsBudget (offset_of image t.header.tcb) t.header.budget (trace_of image events)
   pub within : (before : List Event) (event : Event) (later : List Event) → events ≡ before ++ event ∷ later
       → StaysWithin image (state_after (described image) before) event (step (state_after (described image) before) event).0
+  pub sound : (before later : List Event) → events ≡ before ++ later → IsSound (state_after (described image) before)
   pub promises : (before later : List Event) → events ≡ before ++ later → KeepsPromises image (state_after (described image) before)
 
 -- ---- the laws

@@ -1,3 +1,4 @@
+pub mod Events
 pub mod HeldInside
 pub mod Laws
 pub mod OwnMaps

@@ -3,8 +3,7 @@
 use Rattle.std.proofs.Common.{ℕ, ◌≡◌, ◌≢◌, ◌⊎◌, Bool, true, false, if◌then◌else◌, Option, Some, None, List, [], ◌∷◌, refl, sym, ◌∙◌, ap, subst, inl, inr}
 use Rattle.std.specs.Option.{option_map_or}
 use Rattle.std.proofs.lemmas.Bool.Decides.{eqb_tells}
-use Rattle.model.specs.declared.capabilities.Cap.TheVariants.{InterruptHandler}
-use Rattle.model.specs.Acceptance.Authority.{CallNames, LineChange, opens, delivers, kept, same_slice, self_of}
+use Rattle.model.specs.Acceptance.Authority.{Acknowledges, CallNames, IsSignalled, LineChange, opens, delivers, kept, same_slice, self_of}
 use Rattle.model.specs.Images.Image.{Image, Thread}
 use Rattle.model.specs.Kernel.Deliveries.{Signals, by_line}
 use Rattle.model.specs.Kernel.Interrupts.{Signal, acknowledge, binding, interrupt, with_pending}
@@ -15,10 +14,10 @@ use Rattle.headline.proofs.moves.Laws.{put-here, put-there}
 use Rattle.headline.proofs.authority.Changes.{ChangesObjects, stays}
 use Rattle.headline.proofs.authority.Gains.{gains-none, nothing-ready}
 use Rattle.headline.proofs.authority.Interrupted.{bound-notification}
-use Rattle.headline.proofs.authority.Signalling.{at-notification, badge-joins, waiter-wakes}
+use Rattle.headline.proofs.authority.Signalling.{at-notification, badge-joins, joins-signalled, waiter-wakes, wakes-signalled}
 
 module _ (image : Image) (t : Thread) (s : State) (sound : IsSound s) (own : ThreadState) (is : s.objects (self_of image t) ≡ Some (ThreadObject own))
-    (runs : own.status ≡ Runnable) (number : ℕ) (names : CallNames image t s (λ capability. capability ≡ InterruptHandler number)) where
+    (runs : own.status ≡ Runnable) (number : ℕ) (names : CallNames image t s (Acknowledges number)) where
   abbrev self : ℕ
   self = self_of image t
 
@@ -32,10 +31,10 @@ module _ (image : Image) (t : Thread) (s : State) (sound : IsSound s) (own : Thr
   this-line : (masked pending : ℕ → Bool) → ((other : ℕ) → other ≢ number → masked other ≡ s.masked other)
       → ((other : ℕ) → other ≢ number → pending other ≡ s.pending other) → (after : State) → LineChange s after number → (line : ℕ)
       → (s.masked line ≢ masked line) ⊎ (s.pending line ≢ pending line)
-      → CallNames image t s (λ capability. capability ≡ InterruptHandler line) × LineChange s after line
+      → CallNames image t s (Acknowledges line) × LineChange s after line
   this-line masked pending same_masked same_pending after change line either = elim (eqb_tells line number) [
     | inl here ↦ (
-      subst (λ (n : ℕ). CallNames image t s (λ capability. capability ≡ InterruptHandler n)) (sym here.1) names,
+      subst (λ (n : ℕ). CallNames image t s (Acknowledges n)) (sym here.1) names,
       subst (λ (n : ℕ). LineChange s after n) (sym here.1) change,
     )
     | inr apart ↦ absurd (elim either [
@@ -44,8 +43,8 @@ module _ (image : Image) (t : Thread) (s : State) (sound : IsSound s) (own : Thr
     ])
   ]
 
-  opens-alone : ChangesObjects image t s open_again
-  opens-alone = record {
+  opens-alone : (s.pending number ≡ false) ⊎ (binding s number ≡ None) → ChangesObjects image t s open_again
+  opens-alone why = record {
     store = record { memory_bits = refl; boot_radix = refl; slots = λ slot. refl; bytes = λ place. inl refl };
     own = own;
     now = own;
@@ -54,7 +53,7 @@ module _ (image : Image) (t : Thread) (s : State) (sound : IsSound s) (own : Thr
     itself = record { priority = refl; fault_address = refl; slice = same_slice refl; right = kept refl (λ caller right. refl) };
     others = λ y not_self. stays refl;
     lines = this-line unmasked s.pending (λ other. put-there s.masked number false other) (λ other _. refl) open_again
-        (opens (put-here s.masked number false number refl) refl);
+        (opens why (put-here s.masked number false number refl) refl);
     ready = λ priority. nothing-ready s open_again self priority (gains-none self (s.ready priority));
   }
 
@@ -69,8 +68,9 @@ module _ (image : Image) (t : Thread) (s : State) (sound : IsSound s) (own : Thr
   masked-elsewhere : (other : ℕ) → other ≢ number → masked_again other ≡ s.masked other
   masked-elsewhere other apart = put-there unmasked number true other apart ∙ put-there s.masked number false other apart
 
-  delivered-line : (after : State) → s.pending number ≡ true → after.pending number ≡ false → after.masked number ≡ true → LineChange s after number
-  delivered-line after was none closed = delivers was none closed
+  delivered-line : (after : State) (bound : Signal) → binding s number ≡ Some bound → IsSignalled s after bound.notification bound.badge
+      → s.pending number ≡ true → after.pending number ≡ false → after.masked number ≡ true → LineChange s after number
+  delivered-line after bound is_bound told was none closed = delivers bound.notification bound.badge is_bound told was none closed
 
   module _ (pending : s.pending number ≡ true) (bound : Signal) (is_bound : binding s number ≡ Some bound) where
     abbrev n : ℕ
@@ -82,23 +82,36 @@ module _ (image : Image) (t : Thread) (s : State) (sound : IsSound s) (own : Thr
     word-is : notification_at s n ≡ word.0
     word-is = at-notification s n word.0 word.1
 
-    signals-by : CallNames image t s (Signals s n bound.badge)
-    signals-by = record { slot = names.slot; own = names.own; named = names.named; such = by_line number names.such is_bound pending }
+    signals-by : (after : State) → after.pending ≡ put s.pending number false → CallNames image t s (Signals s after n bound.badge)
+    signals-by after same = record {
+      call = names.call;
+      slot = names.slot;
+      asks = names.asks;
+      own = names.own;
+      named = names.named;
+      such =
+          by_line number names.such.0 names.such.1 is_bound pending
+          (ap (λ (p : ℕ → Bool). p number) same ∙ put-here s.pending number false number refl);
+    }
 
     delivers-pending : ChangesObjects image t s (interrupt (with_pending (record s { masked = put s.masked number false }) number false) number bound)
     delivers-pending =
         elim (notification_at s n).waiters as (λ (l : List ℕ). (notification_at s n).waiters ≡ l
         → ChangesObjects image t s (record (signals (with_pending open_again number false) n bound.badge (notification_at s n) l) { masked = masked_again })) [
           | [] ↦ λ none.
-              badge-joins image t s sound own is runs n word.0 word.1 bound.badge signals-by masked_again none_pending
+              badge-joins image t s sound own is runs n word.0 word.1 bound.badge masked_again none_pending signals-by
               (sym (ap (λ (q : NotificationState). q.waiters) word-is) ∙ none)
               (this-line masked_again none_pending masked-elsewhere (λ other. put-there s.pending number false other) _
-              (delivered-line _ pending (put-here s.pending number false number refl) (put-here unmasked number true number refl)))
+              (delivered-line _ bound is_bound (joins-signalled image t s sound own is runs n word.0 word.1 bound.badge masked_again none_pending signals-by
+              (sym (ap (λ (q : NotificationState). q.waiters) word-is) ∙ none)) pending (put-here s.pending number false number refl)
+              (put-here unmasked number true number refl)))
           | w ∷ others ↦ λ first.
-              waiter-wakes image t s sound own is runs n word.0 word.1 bound.badge signals-by masked_again none_pending w others
+              waiter-wakes image t s sound own is runs n word.0 word.1 bound.badge masked_again none_pending signals-by w others
               (sym (ap (λ (q : NotificationState). q.waiters) word-is) ∙ first)
               (this-line masked_again none_pending masked-elsewhere (λ other. put-there s.pending number false other) _
-              (delivered-line _ pending (put-here s.pending number false number refl) (put-here unmasked number true number refl)))
+              (delivered-line _ bound is_bound (wakes-signalled image t s sound own is runs n word.0 word.1 bound.badge masked_again none_pending signals-by w
+              others (sym (ap (λ (q : NotificationState). q.waiters) word-is) ∙ first)) pending (put-here s.pending number false number refl)
+              (put-here unmasked number true number refl)))
         ] refl
 
   pub acknowledge-changes : ChangesObjects image t s (acknowledge s number)
@@ -109,8 +122,8 @@ module _ (image : Image) (t : Thread) (s : State) (sound : IsSound s) (own : Thr
         | true ↦ λ pending.
             elim (binding s number) as (λ (o : Option Signal). binding s number ≡ o
             → ChangesObjects image t s (option_map_or (interrupt (with_pending open_again number false) number) o open_again)) [
-              | None ↦ λ _. opens-alone
+              | None ↦ λ unbound. opens-alone (inr unbound)
               | Some bound ↦ λ is_bound. delivers-pending pending bound is_bound
             ] refl
-        | false ↦ λ _. opens-alone
+        | false ↦ λ none. opens-alone (inl none)
       ] refl

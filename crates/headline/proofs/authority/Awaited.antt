@@ -11,8 +11,9 @@ use Rattle.model.specs.Kernel.Soundness.{IsSound, awaits_answer, waiting_at}
 use Rattle.model.specs.Kernel.State.{State, Runnable, Blocked, Sender, EndpointObject, EndpointState, ThreadObject}
 use Rattle.model.specs.Kernel.State.{ThreadState, as_thread}
 use Rattle.model.specs.Kernel.State.{thread_at}
-use Rattle.model.specs.Kernel.Steps.{call_of, calls_known, send_by, send_named, system_call}
+use Rattle.model.specs.Kernel.Steps.{call_of, calls_known, registers_of, send_by, send_named, system_call}
 use Rattle.model.specs.declared.system_calls.SendCall.TheVariants.{Sending}
+use Rattle.model.specs.declared.system_calls.SystemCall.{SystemCall}
 use Rattle.model.specs.Machine.ProgramMemory.{read}
 use Rattle.model.specs.Shared.Lists.{times_in}
 use Rattle.headline.proofs.authority.Interrupted.{Waits, one-more, rests-nowhere, waits-own}
@@ -25,6 +26,11 @@ use Rattle.headline.proofs.facts.Laws.{at-place}
 pub number-is : (s : State) (thread : ℕ) (own : ThreadState) (number : ℕ) → s.objects thread ≡ Some (ThreadObject own) → read own.registers a7 ≡ number
     → read (thread_at s thread).registers a7 ≡ number
 number-is s thread own number is calls = ap (λ (u : ThreadState). read u.registers a7) (at-place s thread own is) ∙ calls
+
+-- the call of that number is what it asks for
+pub asks-so : (image : Image) (t : Thread) (s : State) (number : ℕ) (capability : Cap) (call : CallsOn image t s number capability) (what : SystemCall)
+    → call_of number ≡ Some what → call_of (read (registers_of s (self_of image t)) a7) ≡ Some what
+asks-so image t s number capability call what is = ap call_of (number-is s (self_of image t) call.own number call.is call.calls) ∙ is
 
 pub sends-by : (image : Image) (t : Thread) (s : State) (capability : Cap) (call : CallsOn image t s 3 capability)
     → (system_call s (self_of image t)).0 ≡ (send_by s (self_of image t) Sending call.slot capability).0

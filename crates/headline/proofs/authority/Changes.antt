@@ -2,8 +2,7 @@
 use Rattle.std.proofs.Common.{ℕ, ◌≡◌, ◌≢◌, ◌⊎◌, Option, Some, option_map, sym, ◌∙◌, ap, subst, inl, inr}
 use Rattle.std.proofs.lemmas.Bool.Decides.{eqb_tells}
 use Rattle.model.specs.declared.slot_entries.Entry.{Entry}
-use Rattle.model.specs.declared.capabilities.Cap.TheVariants.{InterruptHandler}
-use Rattle.model.specs.Acceptance.Authority.{CallNames, EndpointChange, LineChange, NotificationChange, ReadyChange, RightChange, SliceChange}
+use Rattle.model.specs.Acceptance.Authority.{Acknowledges, CallNames, EndpointChange, LineChange, NotificationChange, ReadyChange, RightChange, SliceChange}
 use Rattle.model.specs.Acceptance.Authority.{WithinAuthority, self_of, without_use}
 use Rattle.model.specs.Capabilities.CapabilityKinds.{frame_mapping, table_mapping}
 use Rattle.model.specs.Capabilities.Slots.{capability_at}
@@ -52,7 +51,7 @@ pub record ChangesObjects (image : Image) (t : Thread) (s after : State) : Type 
   pub itself : OwnChange image t s after own now
   pub others : (offset : ℕ) → offset ≢ self_of image t → OtherChange image t s after offset
   pub lines : (number : ℕ) → (s.masked number ≢ after.masked number) ⊎ (s.pending number ≢ after.pending number)
-      → CallNames image t s (λ capability. capability ≡ InterruptHandler number) × LineChange s after number
+      → CallNames image t s (Acknowledges number) × LineChange s after number
   pub ready : (priority : ℕ) → ReadyChange s after (self_of image t) priority
 
 -- a change that keeps the thread's slice

@@ -1,6 +1,7 @@
 -- The bytes that deliveries change, and a message that is the same in two states.
-use Rattle.std.proofs.Common.{ℕ, ◌≡◌, ◌*◌, ◌%◌, ◌^◌, ◌<◌, ◌≤◌, ◌⊎◌, inl, inr, if◌then◌else◌, Option, sym, ◌∙◌, ap, subst, arith}
+use Rattle.std.proofs.Common.{ℕ, ◌≡◌, ◌+◌, ◌*◌, ◌%◌, ◌^◌, ◌<◌, ◌≤◌, ◌⊎◌, inl, inr, if◌then◌else◌, Option, sym, ◌∙◌, ap, subst, arith}
 use Rattle.std.specs.Prelude.{IsSome, is_some, map, min, take}
+use Rattle.model.specs.Kernel.Deliveries.{Arrives}
 use Rattle.model.specs.Acceptance.Authority.{ByteChange, Delivers}
 use Rattle.model.specs.Capabilities.CapabilityKinds.{frame_of}
 use Rattle.model.specs.Capabilities.Slots.{Slots, capability_at}
@@ -9,7 +10,7 @@ use Rattle.model.specs.Kernel.Messages.{Message, a1, bytes_between, label_of, le
 use Rattle.model.specs.Kernel.Soundness.{IsSound}
 use Rattle.model.specs.Kernel.State.{State, buffer_slot, thread_at}
 use Rattle.model.specs.Machine.ProgramMemory.{RegisterFile, read}
-use Rattle.headline.proofs.kept.Laws.{IsCopied, buffer-bytes, copied-at, length-few}
+use Rattle.headline.proofs.kept.Laws.{IsCopied, buffer-bytes, copied-at, copied-here, length-few}
 
 -- a delivery of the step changes the byte, which stays there
 pub record ByDelivery (image : Image) (t : Thread) (s after : State) (place : ℕ) : Type 0 where
@@ -55,6 +56,12 @@ module _ (image : Image) (t : Thread) (s after : State) where
   within-delivery place d =
       let c = d.copied in
       ByteChange.delivered d.there d.still d.from d.to c.index c.source c.target d.delivers c.of_sender c.of_receiver c.first c.last c.at c.is
+
+-- all bytes of the message come where the bytes are those after it
+pub arrives-so : (s after : State) (from to : ℕ) → after.bytes ≡ bytes_between s from to (length_between s from to) → Arrives s after from to
+arrives-so s after from to bytes source target index one other first last =
+    ap (λ (all : ℕ → Option ℕ). all (target + index)) bytes
+    ∙ copied-here s from to (length_between s from to) source target index one other first last
 
 -- ---- messages
 

@@ -7,13 +7,16 @@ use Rattle.model.specs.declared.events.Event.{Event}
 use Rattle.model.specs.declared.events.Event.TheVariants.{Step, Tick, Irq}
 use Rattle.model.specs.declared.slot_entries.Entry.{Entry}
 use Rattle.model.specs.Acceptance.Accepted.{IsAccepted}
-use Rattle.model.specs.Acceptance.Authority.{OwnStep, SameStore, StaysWithin, WithinAuthority}
+use Rattle.model.specs.Acceptance.Authority.{OwnStep, StaysWithin, WithinAuthority}
 use Rattle.model.specs.Acceptance.ThreadInvariants.{root_table_of}
 use Rattle.model.specs.Capabilities.CapabilityKinds.{frame_mapping}
-use Rattle.model.specs.Capabilities.Slots.{capability_at}
+use Rattle.model.specs.Capabilities.Slots.{Slots, capability_at}
+use Rattle.model.specs.Kernel.Interrupts.{raise}
+use Rattle.soundness.specs.Machines.{SameBase}
+use Rattle.soundness.proofs.Laws.{raise-machine, tick-machine}
 use Rattle.model.specs.Images.Described.{Numbered, numbered_threads}
 use Rattle.model.specs.Images.Image.{Image}
-use Rattle.model.specs.Kernel.Scheduling.{current}
+use Rattle.model.specs.Kernel.Scheduling.{current, tick}
 use Rattle.model.specs.Kernel.State.{State}
 use Rattle.headline.specs.authority.OwnMaps.{AllMapOwn}
 use Rattle.headline.proofs.authority.Stored.{capability_of}
@@ -39,9 +42,11 @@ module _ (bytes : List ℕ) (image : Image) (accepted : IsAccepted bytes image) 
       let there = listed-from 0 image.threads place.0 step.thread place.1 in
       within-maps (record { number = there.0; thread = step.thread }) there.1 step.within
 
-  same-store : SameStore s after → AllMapOwn image after
-  same-store store u among slot mapping own is =
-      before u among slot mapping own (ap (λ (o : Option Entry). frame_mapping (capability_of o)) (sym (store.slots slot)) ∙ is)
+  -- slots stay
+  same-slots : (x : State) → SameBase s x → after ≡ x → AllMapOwn image after
+  same-slots x base at u among slot mapping own is =
+      before u among slot mapping own
+      (ap (λ (slots : Slots). frame_mapping (capability_at slots slot)) (sym base.slots ∙ ap (λ (y : State). y.slots) (sym at)) ∙ is)
 
   idle-step : (current s ≡ None) × (after ≡ s) → AllMapOwn image after
   idle-step idle = subst (λ (x : State). AllMapOwn image x) (sym idle.1) before
@@ -49,5 +54,5 @@ module _ (bytes : List ℕ) (image : Image) (accepted : IsAccepted bytes image) 
   pub maps-own-kept : (event : Event) → StaysWithin image s event after → AllMapOwn image after
   maps-own-kept Step (inl idle) = idle-step idle
   maps-own-kept Step (inr step) = own-step step
-  maps-own-kept Tick within = same-store within.store
-  maps-own-kept (Irq line) within = same-store within.store
+  maps-own-kept Tick within = same-slots (tick s) (tick-machine s) within
+  maps-own-kept (Irq line) within = same-slots (raise s line) (raise-machine s line) within

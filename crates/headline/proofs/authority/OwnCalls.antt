@@ -19,7 +19,7 @@ use Rattle.headline.specs.authority.Scenarios.{CallsOn, RunsAt, asked}
 use Rattle.headline.proofs.authority.Acknowledging.{acknowledge-changes}
 use Rattle.headline.proofs.authority.CallsMade.{runs-apart}
 use Rattle.headline.proofs.authority.Changes.{changes-within}
-use Rattle.headline.proofs.authority.Awaited.{number-is}
+use Rattle.headline.proofs.authority.Awaited.{asks-so, number-is}
 use Rattle.headline.proofs.authority.Invoked.{invocation-within, invoked-as}
 use Rattle.headline.proofs.authority.OwnRegisters.{goes-on-within}
 use Rattle.headline.proofs.authority.Yielding.{nothing-changes, yields-on}
@@ -52,7 +52,14 @@ pub acknowledgement-within : (image : Image) (t : Thread) (s : State) (kind : Se
 acknowledgement-within image t s kind number line sound is call asks =
     let change =
     acknowledge-changes image t s sound call.own call.is call.runs line
-    (record { slot = call.slot; own = call.among; named = call.named; such = call.holds }) in
+    (record {
+      call = Sends kind;
+      slot = call.slot;
+      asks = asks-so image t s number (InterruptHandler line) call (Sends kind) is;
+      own = call.among;
+      named = call.named;
+      such = (refl, call.holds);
+    }) in
     invocation-within image t s number (InterruptHandler line) call sound kind is refl (acknowledge s line)
     (invoked-as image t s number (InterruptHandler line) call (OnHandler line Acknowledge) asks)
     (changes-within image t s (acknowledge s line) change) change.now change.is

@@ -10,6 +10,9 @@ use Rattle.model.specs.Acceptance.Authority.{opens, delivers, NewParent, emptied
 use Rattle.model.specs.Acceptance.Authority.{ObjectChange, appears, ends, RightChange, kept, dropped, of_sender, SliceChange, same_slice, new_slice}
 use Rattle.model.specs.Acceptance.Authority.{UsedChange, uses, freed, WithinAuthority, self_of}
 use Rattle.model.specs.Images.Image.{Image, Thread}
+use Rattle.model.specs.Kernel.Deliveries.{Signals, by_right, by_line}
+use Rattle.model.specs.declared.system_calls.SystemCall.{SystemCall}
+use Rattle.model.specs.Acceptance.Authority.{IsSignalled, joined}
 use Rattle.model.specs.Kernel.Deliveries.{MayReply, as_before, to_sender, Reason, receiver, sender, waiter, caller as answered, faulted, set_back}
 use Rattle.model.specs.Kernel.Kinds.{kind_at, kind_of}
 use Rattle.model.specs.Kernel.Messages.{passes, passes_with}
@@ -113,11 +116,25 @@ module _ (image : Image) (t : Thread) (s m : State) (apart : RunsApart image t s
   endpoint-on offset old new (takes_receiver badge first names list same goes) =
       takes_receiver badge first names list same (λ is. goes (sym (statuses first) ∙ is))
 
+  signals-on : (notification badge : ℕ) → CallNames image t s (Signals s m notification badge) → CallNames image t s (Signals s after notification badge)
+  signals-on notification badge names = record {
+    call = names.call;
+    slot = names.slot;
+    asks = names.asks;
+    own = names.own;
+    named = names.named;
+    such = such-on names.such;
+  }
+    where
+      such-on : {call : SystemCall} {c : Cap} → Signals s m notification badge call c → Signals s after notification badge call c
+      such-on (by_right allowed sends is_one writes) = by_right allowed sends is_one writes
+      such-on (by_line number sends is_one bound pending taken_so) = by_line number sends is_one bound pending taken_so
+
   notification-on : (offset : ℕ) (old new : NotificationState) → NotificationChange image t s m offset old new
       → NotificationChange image t s after offset old new
-  notification-on offset old new (joins badge names none is) = joins badge names none is
+  notification-on offset old new (joins badge names none is) = joins badge (signals-on offset badge names) none is
   notification-on offset old new (passes_on badge first names list same goes) =
-      passes_on badge first names list same (λ is. goes (sym (statuses first) ∙ is))
+      passes_on badge first (signals-on offset badge names) list same (λ is. goes (sym (statuses first) ∙ is))
   notification-on offset old new (taken names is) = taken names is
   notification-on offset old new (waits names is) = waits names is
 
@@ -141,9 +158,15 @@ module _ (image : Image) (t : Thread) (s m : State) (apart : RunsApart image t s
   right-on (of_sender endpoint first names list gives is) =
       of_sender endpoint first names (list ∙ ap (λ (e : EndpointState). first ∷ e.senders) (sym (endpoints endpoint))) gives is
 
+  told-on : (notification badge : ℕ) → IsSignalled s m notification badge → IsSignalled s after notification badge
+  told-on notification badge (joined none is) = joined none (ap (λ (n : NotificationState). n.word) (notifications notification) ∙ is)
+  told-on notification badge (IsSignalled.passed first list runs) =
+      IsSignalled.passed first (list ∙ ap (λ (n : NotificationState). first ∷ n.waiters) (sym (notifications notification))) (statuses first ∙ runs)
+
   line-on : (number : ℕ) → LineChange s m number → LineChange s after number
-  line-on number (opens unmasked same) = opens unmasked same
-  line-on number (delivers was none masked) = delivers was none masked
+  line-on number (opens why unmasked same) = opens why unmasked same
+  line-on number (delivers notification badge bound told was none masked) =
+      delivers notification badge bound (told-on notification badge told) was none masked
 
   reply-on : (endpoint badge : ℕ) (before caller : Option ℕ) → MayReply m self (CallNames image t s) endpoint badge before caller
       → MayReply after self (CallNames image t s) endpoint badge before caller
@@ -152,14 +175,15 @@ module _ (image : Image) (t : Thread) (s m : State) (apart : RunsApart image t s
 
   reason-on : (other : ℕ) (old new : ThreadState) → Reason s m self (CallNames image t s) other old new
       → Reason s after self (CallNames image t s) other old new
-  reason-on other old new (receiver endpoint badge caller list blocked names replies is) =
+  reason-on other old new (receiver endpoint badge caller list blocked names replies is comes) =
       receiver endpoint badge caller (list ∙ ap (λ (e : EndpointState). other ∷ e.receivers) (sym (endpoints endpoint))) blocked names
-      (reply-on endpoint badge old.caller caller replies) is
-  reason-on other old new (sender endpoint first list same blocked names is) =
-      sender endpoint first (list ∙ ap (λ (e : EndpointState). first ∷ e.senders) (sym (endpoints endpoint))) same blocked names is
+      (reply-on endpoint badge old.caller caller replies) is comes
+  reason-on other old new (sender endpoint first list same blocked names is comes) =
+      sender endpoint first (list ∙ ap (λ (e : EndpointState). first ∷ e.senders) (sym (endpoints endpoint))) same blocked names is comes
   reason-on other old new (waiter notification badge list blocked names is) =
-      waiter notification badge (list ∙ ap (λ (n : NotificationState). other ∷ n.waiters) (sym (notifications notification))) blocked names is
-  reason-on other old new (answered right awaits is) = answered right awaits is
+      waiter notification badge (list ∙ ap (λ (n : NotificationState). other ∷ n.waiters) (sym (notifications notification))) blocked
+      (signals-on notification badge names) is
+  reason-on other old new (answered right awaits is comes) = answered right awaits is comes
   reason-on other old new (faulted right awaits is) = faulted right awaits is
   reason-on other old new (set_back queue blocked some none is) =
       set_back queue blocked some (elsewhere queue (not-gone queue none) ∙ none) is

@@ -18,7 +18,8 @@ use Rattle.model.specs.declared.instructions.Instr.TheVariants.{Upper, Jal, Jalr
 use Rattle.model.specs.declared.instructions.MemoryFault.{MemoryFault}
 use Rattle.model.specs.declared.labels.Label.{Label}
 use Rattle.model.specs.Acceptance.Accepted.{IsAccepted}
-use Rattle.model.specs.Acceptance.Authority.{StaysWithin, WithinAuthority}
+use Rattle.headline.proofs.authority.OwnSteps.{own-step}
+use Rattle.model.specs.Acceptance.Authority.{ComputesAlone, StaysWithin, WithinAuthority}
 use Rattle.model.specs.Acceptance.ThreadInvariants.{tcb_of}
 use Rattle.model.specs.Images.Described.{Numbered, numbered_threads}
 use Rattle.model.specs.Images.Image.{Image}
@@ -29,9 +30,7 @@ use Rattle.model.specs.Kernel.Steps.{registers_of, step}
 use Rattle.model.specs.Machine.Effects.{effect, is_taken, load_size, next_pc, plus, store_size, stores}
 use Rattle.model.specs.Machine.ProgramMemory.{Content, RegisterFile, ◌>>=◌, loaded, next_address, place_or_fault, places_from, put_byte, put_bytes, read}
 use Rattle.model.specs.Machine.ProgramMemory.{width_of, write}
-use Rattle.headline.proofs.facts.Laws.{is-listed}
-use Rattle.headline.proofs.moves.Laws.{plain-leaves}
-use Rattle.headline.proofs.starts.Laws.{contains}
+use Rattle.headline.proofs.moves.Laws.{one-event, plain-leaves}
 use Rattle.headline.proofs.steps.Laws.{branch-content, jump-content, load-content}
 use Rattle.headline.proofs.authority.Awaited.{awaited-apart, runs-awaits}
 use Rattle.headline.proofs.authority.PlainSteps.{plain-within}
@@ -130,22 +129,26 @@ pub plain-stands : (laws : Laws) → PlainStepsKeepThreads → WritesWhereStores
     (labels : List Label) → IsAccepted bytes image → AllStand image s labels → Contains (numbered_threads image) t → current s ≡ Some (tcb_of image t)
     → ReachesNoCall s (tcb_of image t) → StaysWithin image s Step (step s Step).0
 plain-stands laws keeps writes touches bytes image t s labels accepted all listed now free =
-    inr (record {
-      thread = t.thread;
-      listed = let entry = is-listed image t listed in contains image.threads entry.number t.thread entry.listed;
-      runs = now;
-      within = plain-leaves laws keeps writes touches bytes image t s labels accepted all listed now free
-          (λ (after : State). WithinAuthority image t.thread s after)
-          (λ own there status instr.
-          let content = content_of s (tcb_of image t) in
-          let r = registers_of s (tcb_of image t) in
-          let left = effect r content instr in
-          plain-within image t.thread s own left.registers (λ place. option_map_or (λ (byte : ℕ). Some (left.content.byte place)) (s.bytes place) None) there
-          (λ right.
-          awaited-apart s all.sound (tcb_of image t) (tcb_of image t) own there right (tcb_of image t) (runs-awaits s (tcb_of image t) own there status) refl)
-          (record {
-            written = λ place differs.
-                let changed = byte-differs (s.bytes place) (left.content.byte place) differs in
-                elim (effect-wrote r content place instr) [ inl same ↦ absurd (changed.2 same) | inr where_to ↦ (changed.0, changed.1, where_to) ];
-          }));
-    })
+    inr (own-step image t s (step s Step).0 listed now all.sound (one-event laws.keeps s Step all.sound)
+    (plain-leaves laws keeps writes touches bytes image t s labels accepted all listed now free
+    (λ (after : State). WithinAuthority image t.thread s after)
+    (λ own there status instr.
+    let content = content_of s (tcb_of image t) in
+    let r = registers_of s (tcb_of image t) in
+    let left = effect r content instr in
+    plain-within image t.thread s own left.registers (λ place. option_map_or (λ (byte : ℕ). Some (left.content.byte place)) (s.bytes place) None) there
+    (λ right.
+    awaited-apart s all.sound (tcb_of image t) (tcb_of image t) own there right (tcb_of image t) (runs-awaits s (tcb_of image t) own there status) refl)
+    (record {
+      written = λ place differs.
+          let changed = byte-differs (s.bytes place) (left.content.byte place) differs in
+          elim (effect-wrote r content place instr) [ inl same ↦ absurd (changed.2 same) | inr where_to ↦ (changed.0, changed.1, where_to) ];
+    })))
+    (λ _. plain-leaves laws keeps writes touches bytes image t s labels accepted all listed now free (λ (after : State). ComputesAlone s after (tcb_of image t))
+    (λ own there status instr.
+    let left = effect (registers_of s (tcb_of image t)) (content_of s (tcb_of image t)) instr in
+    record {
+      registers = left.registers;
+      bytes = λ place. option_map_or (λ (byte : ℕ). Some (left.content.byte place)) (s.bytes place) None;
+      is = refl;
+    })))

@@ -14,7 +14,7 @@ times-gone thread threads =
     times-filter (λ other. not (other == thread)) threads thread
     ∙ ap (λ b. if not b then times_in threads thread else 0) (eq-eqb thread thread refl)
 
-times-kept : (thread : ℕ) (threads : List ℕ) (other : ℕ) → (other == thread) ≡ false → times_in (without thread threads) other ≡ times_in threads other
+pub times-kept : (thread : ℕ) (threads : List ℕ) (other : ℕ) → (other == thread) ≡ false → times_in (without thread threads) other ≡ times_in threads other
 times-kept thread threads other differs =
     times-filter (λ o. not (o == thread)) threads other
     ∙ ap (λ b. if not b then times_in threads other else 0) differs

@@ -1,13 +1,13 @@
 -- A thread receives from an endpoint: the first sender's message, or it waits, or goes on with nothing. What that changes stays within
 -- authority.
-use Rattle.std.proofs.Common.{ℕ, ◌≡◌, ◌≢◌, ◌++◌, true, Option, Some, None, List, [], ◌∷◌, refl, sym, ◌∙◌, ap, subst, inl, inr}
+use Rattle.std.proofs.Common.{ℕ, ◌≡◌, ◌≢◌, ◌++◌, true, false, Option, Some, None, List, [], ◌∷◌, refl, sym, ◌∙◌, ap, subst, inl, inr}
 use Rattle.std.specs.Option.{option_map_or}
 use Rattle.std.proofs.lemmas.Bool.Decides.{eqb_tells}
 use Rattle.model.specs.Acceptance.Authority.{CallNames, Delivers, dropped, gives_right, of_sender, same_slice, self_of, takes_sender}
 use Rattle.model.specs.Acceptance.Authority.{waits_to_receive}
 use Rattle.model.specs.Capabilities.Slots.{Slots}
 use Rattle.model.specs.Images.Image.{Image, Thread}
-use Rattle.model.specs.Kernel.Deliveries.{once_received, ReceivesFrom, sender as of_first, woken}
+use Rattle.model.specs.Kernel.Deliveries.{Arrives, is_message, once_received, ReceivesFrom, sender as of_first, woken}
 use Rattle.model.specs.Kernel.Messages.{Message, a0, bytes_between, bytes_sent, deliver, deliver_sent, deliver_word, delivered, length_between, message_to}
 use Rattle.model.specs.Kernel.Messages.{passes, waits_to_receive as waits_in_queue, with_caller}
 use Rattle.model.specs.Kernel.Scheduling.{block, wake}
@@ -20,7 +20,7 @@ use Rattle.headline.proofs.facts.Laws.{at-place}
 use Rattle.headline.proofs.moves.Laws.{at-endpoint, blocked, blocked-there, caller-here, caller-there, delivered-here, delivered-there, endpoint-here}
 use Rattle.headline.proofs.moves.Laws.{endpoint-there, passed, passed-there, went-here, went-there, woke, woke-there}
 use Rattle.headline.proofs.authority.Changes.{KeepsSlice, KeepsStore, OtherChange, stays, of_thread, of_endpoint}
-use Rattle.headline.proofs.authority.Deliveries.{StaysOrDelivered, bytes-delivered, length-same}
+use Rattle.headline.proofs.authority.Deliveries.{arrives-so, StaysOrDelivered, bytes-delivered, length-same}
 use Rattle.headline.proofs.authority.Gains.{block-gains, gains-none, nothing-ready, one-ready, rest-gains, wake-gains}
 use Rattle.headline.proofs.authority.Awaited.{resting-absent, resting-apart, sender-waits}
 use Rattle.headline.proofs.authority.Interrupted.{Waits}
@@ -197,6 +197,18 @@ module _ (image : Image) (t : Thread) (s : State) (sound : IsSound s) (own : Thr
         (bytes ∙ ap (bytes_between s from self) length-still)
     bytes-told (ByFault fault) is after queue bytes = λ place. inl (ap (λ (all : ℕ → Option ℕ). all place) bytes)
 
+    -- and it comes whole
+    arrives-told : (sent : Sent) → first.sent ≡ sent → (after : State) → after.bytes ≡ bytes_sent taken first sent self → is_message sent ≡ true
+        → Arrives s after from self
+    arrives-told BySend is after bytes some = arrives-so s after from self (bytes ∙ ap (bytes_between s from self) length-still)
+    arrives-told ByCall is after bytes some = arrives-so s after from self (bytes ∙ ap (bytes_between s from self) length-still)
+    arrives-told (ByFault fault) is after bytes some = absurd (let clash : false ≡ true = some in cc)
+
+    arrives-at : (after : State) → after.bytes ≡ bytes_sent taken first first.sent self → (y : ℕ) → y ≡ from → is_message first.sent ≡ true
+        → Arrives s after y self
+    arrives-at after bytes y here some =
+        subst (λ (x : ℕ). Arrives s after x self) (sym here) (arrives-told first.sent refl after bytes some)
+
     store-told : (after : State) → after.objects e ≡ Some (EndpointObject fewer) → after.memory_bits ≡ s.memory_bits → after.boot_radix ≡ s.boot_radix
         → after.slots ≡ s.slots → after.bytes ≡ bytes_sent taken first first.sent self → KeepsStore image t s after
     store-told after queue memory radix slots bytes = record {
@@ -254,7 +266,8 @@ module _ (image : Image) (t : Thread) (s : State) (sound : IsSound s) (own : Thr
           others = λ y not_self. elim (eqb_tells y from) [
             | inl here ↦
                 of_thread waits.own changed (ap s.objects here.1 ∙ waits.is) (ap last.objects here.1 ∙ last-from)
-                (of_first e first (shorter last last-queue) (sym here.1) waits.blocked names (ap (λ (x : Sent). once_received first x waits.own) (sym sent)))
+                (of_first e first (shorter last last-queue) (sym here.1) waits.blocked names (ap (λ (x : Sent). once_received first x waits.own) (sym sent))
+                (arrives-at last refl y here.1))
             | inr apart ↦ elim (eqb_tells y e) [
               | inl here ↦
                   of_endpoint old fewer (ap s.objects here.1 ∙ was) (ap last.objects here.1 ∙ last-queue)
@@ -304,11 +317,12 @@ module _ (image : Image) (t : Thread) (s : State) (sound : IsSound s) (own : Thr
 
       -- of each other object in a state afterwards
       afterwards : (after : State) → after.objects from ≡ Some (ThreadObject awaiting) → after.objects e ≡ Some (EndpointObject fewer)
+          → after.bytes ≡ bytes_sent taken first first.sent self
           → ((y : ℕ) → y ≢ self → y ≢ from → after.objects y ≡ got.objects y) → (y : ℕ) → y ≢ self → OtherChange image t s after y
-      afterwards after after-from after-queue after-there y not_self = elim (eqb_tells y from) [
+      afterwards after after-from after-queue after-bytes after-there y not_self = elim (eqb_tells y from) [
         | inl here ↦
             of_thread waits.own awaiting (ap s.objects here.1 ∙ waits.is) (ap after.objects here.1 ∙ after-from)
-            (of_first e first (shorter after after-queue) (sym here.1) waits.blocked names (sym becomes))
+            (of_first e first (shorter after after-queue) (sym here.1) waits.blocked names (sym becomes) (arrives-at after after-bytes y here.1))
         | inr apart ↦ elim (eqb_tells y e) [
           | inl here ↦
               of_endpoint old fewer (ap s.objects here.1 ∙ was) (ap after.objects here.1 ∙ after-queue)
@@ -330,7 +344,7 @@ module _ (image : Image) (t : Thread) (s : State) (sound : IsSound s) (own : Thr
           was = is;
           is = stopped-self;
           itself = record { priority = refl; fault_address = refl; slice = same_slice refl; right = dropped refl };
-          others = afterwards stopped stopped-from stopped-queue (λ y not_self not_from. stopped-there y not_from);
+          others = afterwards stopped stopped-from stopped-queue refl (λ y not_self not_from. stopped-there y not_from);
           lines = λ number either. elim either [ inl differs ↦ absurd (differs refl) | inr differs ↦ absurd (differs refl) ];
           ready = λ priority.
               nothing-ready s stopped self priority
@@ -376,7 +390,7 @@ module _ (image : Image) (t : Thread) (s : State) (sound : IsSound s) (own : Thr
               slice = same_slice refl;
               right = of_sender e first names (shorter final final-queue) gives refl;
             };
-            others = afterwards final final-from final-queue final-there;
+            others = afterwards final final-from final-queue refl final-there;
             lines = λ number either. elim either [ inl differs ↦ absurd (differs refl) | inr differs ↦ absurd (differs refl) ];
             ready = λ priority.
                 nothing-ready s final self priority

@@ -1,5 +1,5 @@
 -- Reply and ReplyRecv stay within authority where whom the thread may answer does not wait for its handler.
-use Rattle.std.proofs.Common.{ℕ, ◌≡◌, ◌≢◌, ◌⊎◌, ◌==◌, inl, inr, Bool, true, false, if◌then◌else◌, Option, Some, None, option_map, refl, sym, ◌∙◌, ap, subst}
+use Rattle.std.proofs.Common.{ℕ, ◌≡◌, ◌≢◌, Bool, true, false, if◌then◌else◌, Option, Some, None, option_map, refl, sym, ◌∙◌, ap, subst}
 use Rattle.std.specs.Prelude.{IsTrue}
 use Rattle.std.specs.Option.{option_map_or}
 use Rattle.model.specs.declared.capabilities.Cap.{Cap}
@@ -13,15 +13,15 @@ use Rattle.model.specs.Acceptance.Authority.{WithinAuthority, self_of}
 use Rattle.model.specs.Capabilities.Rights.{may_read}
 use Rattle.model.specs.Images.Image.{Image, Thread}
 use Rattle.model.specs.Kernel.Kinds.{kind_of}
-use Rattle.model.specs.Kernel.Messages.{a7, deliver_word, message_between, passes, replied, reply, reply_to_call, wait, waits_for_signal, with_caller}
+use Rattle.model.specs.Kernel.Messages.{a7, message_between, passes, replied, reply, reply_to_call, with_caller}
 use Rattle.model.specs.Kernel.Soundness.{IsSound, awaits_answer}
 use Rattle.model.specs.Kernel.State.{State, Status, Inactive, Runnable, Blocked, AwaitsReply, AwaitsHandler, ThreadObject, ThreadState, as_thread, new_thread}
-use Rattle.model.specs.Kernel.State.{notification_at, thread_at, with_notification}
+use Rattle.model.specs.Kernel.State.{thread_at}
 use Rattle.model.specs.Kernel.Steps.{Done, call_of, calls_known, lacks_capability, receive_by, receive_call, receive_named, receive_on_endpoint}
 use Rattle.model.specs.Kernel.Steps.{receive_on_notification, system_call}
 use Rattle.model.specs.Machine.ProgramMemory.{read}
 use Rattle.headline.proofs.facts.Laws.{at-place}
-use Rattle.headline.proofs.authority.Answering.{after-self, answer-changes, answered-then, bytes-left, bytes-then, named-same}
+use Rattle.headline.proofs.authority.Answering.{after-self, answer-changes, answered-then, bytes-then, named-same}
 use Rattle.headline.proofs.authority.CallsMade.{called-as, runs-apart}
 use Rattle.headline.proofs.authority.Changes.{ChangesObjects, KeepsSlice, changes-within}
 use Rattle.headline.proofs.authority.EndpointCalls.{receive-keeps}
@@ -90,11 +90,11 @@ module _ (image : Image) (t : Thread) (s : State) (sound : IsSound s) (own : Thr
 
   -- ---- and receives
 
-  -- either threads that are not stopped have no buffer in common, or the receive changes no byte
+  -- threads that are not stopped have no buffer in common
   module _ (number : ℕ) (capability : Cap) (call : CallsOn image t s number capability)
       (receives : (m : State) → IsSound m → CallsOn image t m number capability
       → KeepsSlice image t m (receive_by m (self_of image t) Receiving capability).0)
-      (bytes : HaveOwnBuffers s ⊎ ((m : State) (place : ℕ) → (receive_by m (self_of image t) Receiving capability).0.bytes place ≡ m.bytes place)) where
+      (own_buffers : HaveOwnBuffers s) where
     sound-replied : IsSound (reply s self)
     sound-replied = reply-whole s self sound (ap (option_map kind_of) is)
 
@@ -115,13 +115,8 @@ module _ (image : Image) (t : Thread) (s : State) (sound : IsSound s) (own : Thr
           among = call.among;
           holds = call.holds;
         }) in
-        answered-then image t s sound own is runs caller right u there awaits (receive_by m self Receiving capability).0 later.change later.slice
-        (elim bytes [
-          | inl own_buffers ↦
-              bytes-then image t s sound own is runs caller right u there awaits (receive_by m self Receiving capability).0 later.change own_buffers
-          | inr same ↦
-              bytes-left image t s sound own is runs caller right u there awaits (receive_by m self Receiving capability).0 later.change (same m)
-        ]))
+        answered-then image t s sound own is runs caller right u there awaits own_buffers (receive_by m self Receiving capability).0 later.change later.slice
+        (bytes-then image t s sound own is runs caller right u there awaits own_buffers (receive_by m self Receiving capability).0 later.change))
         sound-replied
 
     -- replying changes no slot, and not where the thread's capability is
@@ -140,13 +135,6 @@ module _ (image : Image) (t : Thread) (s : State) (sound : IsSound s) (own : Thr
         subst (λ (d : Done). WithinAuthority image t s d.0) (sym still-named) (changes-within image t s _ received)
 
 -- ---- the calls
-
--- who takes the word of a notification, or waits there, changes no byte
-wait-bytes : (s : State) (notification thread place : ℕ) → (wait s notification thread).bytes place ≡ s.bytes place
-wait-bytes s notification thread place =
-    let n = notification_at s notification in
-    elim (n.word == 0) as (λ (b : Bool). (if b then waits_for_signal s notification thread else
-    deliver_word (with_notification s notification (record n { word = 0 })) thread n.word).bytes place ≡ s.bytes place) [ true ↦ refl | false ↦ refl ]
 
 module _ (image : Image) (t : Thread) (s : State) (sound : IsSound s) where
   pub reply-within : (number : ℕ) → call_of number ≡ Some Replies → (own : ThreadState) → s.objects (self_of image t) ≡ Some (ThreadObject own)
@@ -170,19 +158,16 @@ module _ (image : Image) (t : Thread) (s : State) (sound : IsSound s) where
         (λ m whole at.
         subst (λ (b : Bool). KeepsSlice image t m (if b then receive_on_endpoint m (self_of image t) Receiving slotted else
         lacks_capability m (self_of image t) 1 MissingCapability).0) (sym reads)
-        (receive-keeps image t m whole number slotted badge allowed at reads)) (inl own_buffers))
+        (receive-keeps image t m whole number slotted badge allowed at reads RepliesAndReceives both refl)) own_buffers)
 
     pub reply-notification : (call : CallsOn image t s number (Notification slotted allowed badge))
-        → ((caller : ℕ) → call.own.caller ≡ Some caller → (thread_at s caller).status ≢ AwaitsHandler)
+        → ((caller : ℕ) → call.own.caller ≡ Some caller → (thread_at s caller).status ≢ AwaitsHandler) → HaveOwnBuffers s
         → WithinAuthority image t s (system_call s (self_of image t)).0
-    reply-notification call unhandled =
+    reply-notification call unhandled own_buffers =
         subst (λ (d : Done). WithinAuthority image t s d.0)
         (sym (called-as image t s number (Notification slotted allowed badge) call RepliesAndReceives both))
         (reply-receives image t s sound call.own call.is call.runs unhandled number (Notification slotted allowed badge) call
         (λ m whole at.
         subst (λ (b : Bool). KeepsSlice image t m (if b then receive_on_notification m (self_of image t) Receiving slotted else
         lacks_capability m (self_of image t) 1 MissingCapability).0) (sym reads)
-        (wait-keeps image t m whole number slotted badge allowed at reads))
-        (inr (λ m place.
-        ap (λ (b : Bool). (if b then receive_on_notification m (self_of image t) Receiving slotted else
-        lacks_capability m (self_of image t) 1 MissingCapability).0.bytes place) reads ∙ wait-bytes m slotted (self_of image t) place)))
+        (wait-keeps image t m whole number slotted badge allowed at reads RepliesAndReceives both refl)) own_buffers)

@@ -6,7 +6,7 @@ use Rattle.model.specs.Acceptance.Authority.{AsksAs, CallNames, Delivers, waits_
 use Rattle.model.specs.Acceptance.Authority.{self_of}
 use Rattle.model.specs.Capabilities.Slots.{Slots}
 use Rattle.model.specs.Images.Image.{Image, Thread}
-use Rattle.model.specs.Kernel.Deliveries.{as_before, CallsTo, receiver, SendsTo, to_sender, woken}
+use Rattle.model.specs.Kernel.Deliveries.{Arrives, as_before, CallsTo, receiver, SendsTo, to_sender, woken}
 use Rattle.model.specs.Kernel.Messages.{Message, bytes_between, deliver, deliver_with, delivered, length_between, message_between}
 use Rattle.model.specs.Kernel.Messages.{waits_to_send as waits_in_queue, with_caller}
 use Rattle.model.specs.Kernel.Scheduling.{block, wake}
@@ -20,7 +20,7 @@ use Rattle.headline.proofs.facts.Laws.{at-place}
 use Rattle.headline.proofs.moves.Laws.{at-endpoint, blocked, blocked-there, caller-here, caller-there, delivered-here, delivered-there, endpoint-here}
 use Rattle.headline.proofs.moves.Laws.{endpoint-there, woke, woke-there}
 use Rattle.headline.proofs.authority.Changes.{ChangesObjects, KeepsStore, stays, of_thread, of_endpoint}
-use Rattle.headline.proofs.authority.Deliveries.{bytes-delivered}
+use Rattle.headline.proofs.authority.Deliveries.{arrives-so, bytes-delivered}
 use Rattle.headline.proofs.authority.Gains.{Gains, block-gains, gains-both, nothing-ready, one-ready, wake-gains, woken_at}
 use Rattle.headline.proofs.authority.Awaited.{awaited-apart, blocked-awaits, receiver-waits, resting-absent, resting-apart, runs-awaits}
 use Rattle.headline.proofs.authority.Interrupted.{Waits}
@@ -169,6 +169,9 @@ module _ (image : Image) (t : Thread) (s : State) (sound : IsSound s) (own : Thr
     registers-are : (z : ℕ) → z ≡ r → changed ≡ woken waits.own (advanced (delivered waits.own.registers badge (message_between s self z)))
     registers-are z here = ap (λ (q : ℕ). woken waits.own (advanced (delivered waits.own.registers badge (message_between s self q)))) (sym here)
 
+    arrives-at : (after : State) → after.bytes ≡ bytes_between s self r (length_between s self r) → (z : ℕ) → z ≡ r → Arrives s after self z
+    arrives-at after bytes z here = subst (Arrives s after self) (sym here) (arrives-so s after self r bytes)
+
     -- who runs in a state afterwards waits no more
     runs-there : (after : State) (u : ThreadState) → after.objects r ≡ Some (ThreadObject u) → u.status ≡ Runnable →
         (thread_at after r).status ≢ Blocked e
@@ -207,7 +210,7 @@ module _ (image : Image) (t : Thread) (s : State) (sound : IsSound s) (own : Thr
         | inl here ↦
             of_thread waits.own changed (ap s.objects here.1 ∙ waits.is) (ap three.objects here.1 ∙ three-r)
             (receiver e badge waits.own.caller (shorter three three-queue ∙ ap (λ (q : ℕ). q ∷ (endpoint_at three e).receivers) (sym here.1))
-            waits.blocked names (as_before refl) (registers-are z here.1))
+            waits.blocked names (as_before refl) (registers-are z here.1) (arrives-at three refl z here.1))
         | inr apart ↦ elim (eqb_tells z e) [
           | inl here ↦
               of_endpoint old fewer (ap s.objects here.1 ∙ was) (ap three.objects here.1 ∙ three-queue)
@@ -261,7 +264,7 @@ module _ (image : Image) (t : Thread) (s : State) (sound : IsSound s) (own : Thr
           | inl here ↦
               of_thread waits.own changed (ap s.objects here.1 ∙ waits.is) (ap halted.objects here.1 ∙ halted-r)
               (receiver e badge waits.own.caller (shorter halted halted-queue ∙ ap (λ (q : ℕ). q ∷ (endpoint_at halted e).receivers) (sym here.1))
-              waits.blocked names (as_before refl) (registers-are z here.1))
+              waits.blocked names (as_before refl) (registers-are z here.1) (arrives-at halted refl z here.1))
           | inr apart ↦ elim (eqb_tells z e) [
             | inl here ↦
                 of_endpoint old fewer (ap s.objects here.1 ∙ was) (ap halted.objects here.1 ∙ halted-queue)
@@ -330,7 +333,7 @@ module _ (image : Image) (t : Thread) (s : State) (sound : IsSound s) (own : Thr
               of_thread waits.own replying (ap s.objects here.1 ∙ waits.is) (ap last.objects here.1 ∙ last-r)
               (receiver e badge (Some self) (shorter last last-queue ∙ ap (λ (q : ℕ). q ∷ (endpoint_at last e).receivers) (sym here.1))
               waits.blocked names (to_sender calls refl (ap (λ (u : ThreadState). u.status) (at-place last self waiting-so last-self)))
-              (ap (λ (u : ThreadState). record u { caller = Some self }) (registers-are z here.1)))
+              (ap (λ (u : ThreadState). record u { caller = Some self }) (registers-are z here.1)) (arrives-at last refl z here.1))
           | inr apart ↦ elim (eqb_tells z e) [
             | inl here ↦
                 of_endpoint old fewer (ap s.objects here.1 ∙ was) (ap last.objects here.1 ∙ last-queue)

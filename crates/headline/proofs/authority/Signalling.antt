@@ -3,8 +3,8 @@ use Rattle.std.proofs.Common.{ℕ, ◌≡◌, ◌≢◌, ◌⊎◌, ◌++◌, Bo
 use Rattle.std.specs.Prelude.{bit_or}
 use Rattle.std.specs.Option.{option_map_or}
 use Rattle.std.proofs.lemmas.Bool.Decides.{eqb_tells}
-use Rattle.model.specs.declared.capabilities.Cap.TheVariants.{InterruptHandler}
-use Rattle.model.specs.Acceptance.Authority.{CallNames, LineChange, joins, kept, passes_on, same_slice, self_of, taken, WaitsFor, waits}
+use Rattle.model.specs.Acceptance.Authority.{Acknowledges, CallNames, IsSignalled, joined, LineChange, joins, kept, passes_on}
+use Rattle.model.specs.Acceptance.Authority.{same_slice, self_of, taken, WaitsFor, waits}
 use Rattle.model.specs.Images.Image.{Image, Thread}
 use Rattle.model.specs.Kernel.Deliveries.{Signals, waiter, woken}
 use Rattle.model.specs.Kernel.Messages.{a0, deliver_word, waits_for_signal}
@@ -199,25 +199,36 @@ module _ (image : Image) (t : Thread) (s : State) (sound : IsSound s) (own : Thr
 
     -- ---- a signal, with which lines may change
 
-    module _ (badge : ℕ) (names : CallNames image t s (Signals s n badge)) (masked pending : ℕ → Bool) where
-      names-at : (y : ℕ) → y ≡ n → CallNames image t s (Signals s y badge)
-      names-at y here = subst (λ (q : ℕ). CallNames image t s (Signals s q badge)) (sym here) names
+    module _ (badge : ℕ) (masked pending : ℕ → Bool)
+        (names : (later : State) → later.pending ≡ pending → CallNames image t s (Signals s later n badge)) where
+      names-at : (later : State) → later.pending ≡ pending → (y : ℕ) → y ≡ n → CallNames image t s (Signals s later y badge)
+      names-at later same y here = subst (λ (q : ℕ). CallNames image t s (Signals s later q badge)) (sym here) (names later same)
 
       abbrev LinesChange : State → Type 0
       LinesChange after =
           (number : ℕ) → (s.masked number ≢ masked number) ⊎ (s.pending number ≢ pending number)
-          → CallNames image t s (λ capability. capability ≡ InterruptHandler number) × LineChange s after number
+          → CallNames image t s (Acknowledges number) × LineChange s after number
 
       -- nobody waits, and the badge joins the word
       module _ (none : old.waiters ≡ []) where
-        abbrev joined : NotificationState
-        joined = record (notification_at s n) { word = bit_or (notification_at s n).word badge }
+        abbrev joining_word : NotificationState
+        joining_word = record (notification_at s n) { word = bit_or (notification_at s n).word badge }
 
         abbrev joining : State
-        joining = record (with_notification s n joined) { masked = masked; pending = pending }
+        joining = record (with_notification s n joining_word) { masked = masked; pending = pending }
 
         joining-there : (y : ℕ) → y ≢ n → joining.objects y ≡ s.objects y
-        joining-there y not_word = notification-there s n joined y not_word
+        joining-there y not_word = notification-there s n joining_word y not_word
+
+        pub joins-signalled : IsSignalled s
+            (record (with_notification s n (record (notification_at s n) {
+              word = bit_or
+                  (notification_at s n).word badge;
+            })) { masked = masked; pending = pending })
+            n badge
+        joins-signalled =
+            joined (ap (λ (q : NotificationState). q.waiters) word-is ∙ none)
+            (ap (λ (q : NotificationState). q.word) (at-notification joining n joining_word (notification-here s n joining_word)))
 
         pub badge-joins : LinesChange (record (with_notification s n (record (notification_at s n) { word = bit_or (notification_at s n).word badge }))
             { masked = masked; pending = pending })
@@ -237,8 +248,8 @@ module _ (image : Image) (t : Thread) (s : State) (sound : IsSound s) (own : Thr
           };
           others = λ y not_self. elim (eqb_tells y n) [
             | inl here ↦
-                of_notification old joined (ap s.objects here.1 ∙ was) (ap joining.objects here.1 ∙ notification-here s n joined)
-                (joins badge (names-at y here.1) none (ap (λ (q : NotificationState). record q { word = bit_or q.word badge }) word-is))
+                of_notification old joining_word (ap s.objects here.1 ∙ was) (ap joining.objects here.1 ∙ notification-here s n joining_word)
+                (joins badge (names-at joining refl y here.1) none (ap (λ (q : NotificationState). record q { word = bit_or q.word badge }) word-is))
             | inr apart ↦ stays (joining-there y apart.1)
           ];
           lines = lines;
@@ -301,6 +312,11 @@ module _ (image : Image) (t : Thread) (s : State) (sound : IsSound s) (own : Thr
         runs-there still =
             let clash : Runnable ≡ Blocked n = sym (ap (λ (v : ThreadState). v.status) (at-place waking w changed waking-w)) ∙ still in absurd cc
 
+        pub wakes-signalled : IsSignalled s
+            (record (wake (deliver_word (with_notification s n (record (notification_at s n) { waiters = others })) w badge) w)
+            { masked = masked; pending = pending }) n badge
+        wakes-signalled = IsSignalled.passed w list (ap (λ (v : ThreadState). v.status) (at-place waking w changed waking-w))
+
         pub waiter-wakes : LinesChange (record (wake (deliver_word (with_notification s n (record (notification_at s n) { waiters = others })) w badge) w)
             { masked = masked; pending = pending })
             → ChangesObjects image t s (record (wake (deliver_word (with_notification s n (record (notification_at s n) { waiters = others })) w badge) w)
@@ -322,11 +338,11 @@ module _ (image : Image) (t : Thread) (s : State) (sound : IsSound s) (own : Thr
           others = λ y not_self. elim (eqb_tells y w) [
             | inl here ↦
                 of_thread rests.own changed (ap s.objects here.1 ∙ rests.is) (ap waking.objects here.1 ∙ waking-w)
-                (waiter n badge (list ∙ ap (λ (q : ℕ). q ∷ (notification_at waking n).waiters) (sym here.1)) rests.blocked names refl)
+                (waiter n badge (list ∙ ap (λ (q : ℕ). q ∷ (notification_at waking n).waiters) (sym here.1)) rests.blocked (names waking refl) refl)
             | inr apart ↦ elim (eqb_tells y n) [
               | inl here ↦
                   of_notification old fewer (ap s.objects here.1 ∙ was) (ap waking.objects here.1 ∙ waking-word)
-                  (passes_on badge w (names-at y here.1) first (ap (λ (q : NotificationState). q.word) word-is)
+                  (passes_on badge w (names-at waking refl y here.1) first (ap (λ (q : NotificationState). q.word) word-is)
                   (λ still. runs-there (still ∙ ap Blocked here.1)))
               | inr away ↦ stays (waking-there y apart.1 away.1)
             ]

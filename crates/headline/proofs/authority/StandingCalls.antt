@@ -31,12 +31,11 @@ use Rattle.model.specs.Kernel.Scheduling.{current}
 use Rattle.model.specs.Kernel.State.{State, Status, Inactive, Runnable, AwaitsHandler, ThreadObject, ThreadState, thread_at}
 use Rattle.model.specs.Kernel.Steps.{call_of, named_slot, step, system_call}
 use Rattle.model.specs.Machine.ProgramMemory.{read}
-use Rattle.headline.proofs.facts.Laws.{is-listed}
 use Rattle.headline.proofs.kept.Laws.{own-buffer, own-buffers}
-use Rattle.headline.proofs.moves.Laws.{call-leaves, named-here, one-thread}
-use Rattle.headline.proofs.starts.Laws.{contains}
+use Rattle.headline.proofs.moves.Laws.{call-leaves, named-here, one-event, one-thread}
 use Rattle.headline.proofs.authority.EndpointCalls.{receives-within, sends-within}
 use Rattle.headline.proofs.authority.NotificationCalls.{signals-within, waits-within}
+use Rattle.headline.proofs.authority.OwnSteps.{own-step}
 use Rattle.headline.proofs.authority.OwnCalls.{character-within, yield-within}
 use Rattle.headline.proofs.authority.ReplyCalls.{reply-endpoint, reply-notification, reply-within, thread-with}
 
@@ -127,7 +126,7 @@ module _ (laws : Laws) (bytes : List ℕ) (image : Image) (s : State) (labels : 
       handles-nobody buffers-own
   by-reply slot is_wait call named mine (ReceivesBy.on_notification offset r badge is reads asks) =
       reply-notification image t.thread s all.sound number call offset badge r reads (calls-here (Notification offset r badge) slot named mine is)
-      handles-nobody
+      handles-nobody buffers-own
 
   -- ---- whatever the call
 
@@ -164,12 +163,9 @@ pub stands-within : (laws : Laws) (bytes : List ℕ) (image : Image) (t : Number
     → AllStand image s labels → Contains (numbered_threads image) t → current s ≡ Some (tcb_of image t) → MakesCall s (tcb_of image t)
     → InvokesNothing s (tcb_of image t) → StaysWithin image s Step (step s Step).0
 stands-within laws bytes image t s labels accepted all listed now makes quiet =
-    inr (record {
-      thread = t.thread;
-      listed = let entry = is-listed image t listed in contains image.threads entry.number t.thread entry.listed;
-      runs = now;
-      within = call-leaves laws bytes image t s labels accepted all listed now makes (λ (after : State). WithinAuthority image t.thread s after)
-          (λ own point state left call at is number rule.
-          calls-within laws bytes image s labels accepted all t listed own point state left at call is rule
-          (λ kind slot sends named. quiet kind slot (number ∙ ap (λ (c : SystemCall). Some c) sends) named));
-    })
+    inr (own-step image t s (step s Step).0 listed now all.sound (one-event laws.keeps s Step all.sound)
+    (call-leaves laws bytes image t s labels accepted all listed now makes (λ (after : State). WithinAuthority image t.thread s after)
+    (λ own point state left call at is number rule.
+    calls-within laws bytes image s labels accepted all t listed own point state left at call is rule
+    (λ kind slot sends named. quiet kind slot (number ∙ ap (λ (c : SystemCall). Some c) sends) named)))
+    (λ plain. absurd (plain makes)))

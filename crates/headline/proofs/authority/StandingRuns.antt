@@ -1,5 +1,5 @@
 -- Whatever has happened to an accepted image, the next event stays within authority.
-use Rattle.std.proofs.Common.{ℕ, ◌++◌, List, [], ◌∷◌}
+use Rattle.std.proofs.Common.{ℕ, ◌++◌, List, [], ◌∷◌, refl}
 use Rattle.soundness.proofs.Laws.{raise-machine, tick-machine}
 use Rattle.headline.specs.SafeRuns.{EventsKeepAllStanding}
 use Rattle.headline.specs.authority.HeldInside.{AllHoldInside}
@@ -20,12 +20,10 @@ use Rattle.model.specs.Kernel.Scheduling.{tick}
 use Rattle.model.specs.Kernel.State.{State}
 use Rattle.model.specs.Kernel.Steps.{state_after, step}
 use Rattle.headline.proofs.authority.InsideKept.{inside-at-start}
-use Rattle.headline.proofs.authority.Interrupted.{raise-within}
 use Rattle.headline.proofs.authority.MapsKept.{maps-own-kept}
 use Rattle.headline.proofs.authority.PoolsKept.{base-inside}
 use Rattle.headline.proofs.authority.StandingSteps.{StepIsWithin, step-within}
 use Rattle.headline.proofs.authority.StartingMaps.{maps-own-at-start}
-use Rattle.headline.proofs.authority.Ticks.{tick-within}
 
 -- what is known of each state of a run
 record IsReached (image : Image) (s : State) : Type 0 where
@@ -46,11 +44,11 @@ module _ (laws : Laws) (keeps : PlainStepsKeepThreads) (writes : WritesWhereStor
       let so = step-within laws keeps writes touches bytes image s reached.labels accepted reached.stand reached.maps reached.inside in
       record { within = StepIsWithin.within so; inside = StepIsWithin.inside so }
   event-within s Tick reached = record {
-    within = tick-within s reached.stand.sound;
+    within = refl;
     inside = base-inside image s (tick s) (tick-machine s) reached.inside;
   }
   event-within s (Irq number) reached = record {
-    within = raise-within s reached.stand.sound number;
+    within = refl;
     inside = base-inside image s (raise s number) (raise-machine s number) reached.inside;
   }
 

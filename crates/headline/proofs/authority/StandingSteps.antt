@@ -28,6 +28,8 @@ use Rattle.model.specs.declared.invocations.Invocation.{Invocation}
 use Rattle.model.specs.declared.invocations.Invocation.TheVariants.{OnUntyped, OnThread, OnCNode, OnFrame, OnTable, OnControl, OnHandler}
 use Rattle.model.specs.declared.labels.Label.{Label}
 use Rattle.model.specs.declared.system_calls.SendCall.{SendCall}
+use Rattle.model.specs.declared.system_calls.SystemCall.TheVariants.{Sends}
+use Rattle.model.specs.Machine.ProgramMemory.{read}
 use Rattle.model.specs.Acceptance.Accepted.{IsAccepted}
 use Rattle.model.specs.Acceptance.Authority.{StaysWithin, WithinAuthority}
 use Rattle.model.specs.Acceptance.CallRules.{AfterCall}
@@ -39,20 +41,19 @@ use Rattle.model.specs.Images.Image.{Image}
 use Rattle.model.specs.Kernel.AddressSpaces.{content_of, with_content}
 use Rattle.model.specs.Kernel.Interrupts.{acknowledge}
 use Rattle.model.specs.Kernel.Invocations.{perform}
-use Rattle.model.specs.Kernel.Messages.{passes, with_registers}
+use Rattle.model.specs.Kernel.Messages.{a7, passes, with_registers}
 use Rattle.model.specs.Kernel.Scheduling.{current, is_runnable}
 use Rattle.model.specs.Kernel.State.{State, Runnable, ThreadObject, ThreadState, as_thread, thread_at}
-use Rattle.model.specs.Kernel.Steps.{answered, completed, named_slot, registers_of, step, system_call}
+use Rattle.model.specs.Kernel.Steps.{answered, call_of, completed, named_slot, registers_of, step, system_call}
 use Rattle.model.specs.Machine.Effects.{effect}
-use Rattle.headline.proofs.facts.Laws.{is-listed}
 use Rattle.headline.proofs.invocations.AllRuns.{either-invokes}
 use Rattle.headline.proofs.invocations.InvocationSteps.{invocation-leaves}
 use Rattle.headline.proofs.moves.Laws.{call-leaves, idle-is, one-event, one-thread, plain-leaves, step-cases}
-use Rattle.headline.proofs.starts.Laws.{contains}
 use Rattle.headline.proofs.authority.Acknowledging.{acknowledge-changes}
 use Rattle.headline.proofs.authority.CallsMade.{completed-within, runs-apart}
 use Rattle.headline.proofs.authority.Changes.{changes-within}
 use Rattle.headline.proofs.authority.InsideKept.{inside-kept}
+use Rattle.headline.proofs.authority.OwnSteps.{own-step}
 use Rattle.headline.proofs.authority.PlainStanding.{plain-stands}
 use Rattle.headline.proofs.authority.PoolsKept.{PoolsIn, base-inside, base-pools, copies-keep, maps-keep, mints-keep, moves-keep, pools-stay, unmaps-keep}
 use Rattle.headline.proofs.authority.QuietCalls.{quiet-same}
@@ -79,7 +80,8 @@ module _ (laws : Laws) (bytes : List ℕ) (image : Image) (s : State) (labels : 
   -- ---- an invocation that the rules allow
 
   module _ (own : ThreadState) (point : ℕ) (state : PointState) (left : AfterCall) (at : CallsAt image t s labels own point state left) (slot : ℕ)
-      (called : named_slot s (tcb_of image t) ≡ Ok slot) where
+      (called : named_slot s (tcb_of image t) ≡ Ok slot) (sent : SendCall)
+      (number : call_of (read (registers_of s (tcb_of image t)) a7) ≡ Some (Sends sent)) where
     mirrors : Mirrors image t s state.slots
     mirrors = laws.mirror bytes image t s labels own point state accepted listed all at.stands
 
@@ -137,7 +139,14 @@ module _ (laws : Laws) (bytes : List ℕ) (image : Image) (s : State) (labels : 
     left-within (OnHandler line Acknowledge) m after made =
         let same : acknowledge s line ≡ after = (let e : ◌≡◌ {A = Result State KError} (Ok (acknowledge s line)) (Ok after) = made in cc) in
         let change =
-        acknowledge-changes image t.thread s all.sound own at.there at.status line (record { slot = slot; own = m.own; named = called; such = m.on }) in
+        acknowledge-changes image t.thread s all.sound own at.there at.status line (record {
+          call = Sends sent;
+          slot = slot;
+          asks = number;
+          own = m.own;
+          named = called;
+          such = (refl, m.on);
+        }) in
         subst IsLeft same (record {
           within = changes-within image t.thread s (acknowledge s line) change;
           pools = base-pools image s (acknowledge s line) (acknowledge-machine s line);
@@ -172,7 +181,7 @@ module _ (laws : Laws) (bytes : List ℕ) (image : Image) (s : State) (labels : 
   invoked-done now makes invokes =
       invocation-leaves laws bytes image s labels accepted all t listed now IsDone
       (λ own point state left at kind slot c called may after made.
-      let l = left-within own point state left at slot called c may after made in
+      let l = left-within own point state left at slot called invokes.kind invokes.number c may after made in
       let base = base-pools image after (completed after tcb kind) (completed-base after kind) in
       record {
         within = completed-within image t.thread s after (runs-apart image t.thread s all.sound own at.there at.status) l.now l.there l.within kind;
@@ -221,12 +230,7 @@ module _ (laws : Laws) (keeps : PlainStepsKeepThreads) (writes : WritesWhereStor
     invoking-step makes invokes =
         let done = invoked-done laws bytes image s labels accepted all maps inside t listed now makes invokes in
         record {
-          within = inr (record {
-            thread = t.thread;
-            listed = let entry = is-listed image t listed in contains image.threads entry.number t.thread entry.listed;
-            runs = now;
-            within = done.within;
-          });
+          within = inr (own-step image t s last listed now all.sound (one-event laws.below.keeps s Step all.sound) done.within (λ plain. absurd (plain makes)));
           inside = inside-kept bytes image accepted s last all.sound (one-event laws.below.keeps s Step all.sound) inside done.pools t listed done.within;
         }
 

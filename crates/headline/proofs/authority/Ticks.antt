@@ -4,7 +4,7 @@ use Rattle.std.proofs.Common.{[], ◌∷◌, refl, sym, ◌∙◌, ap, subst, in
 use Rattle.std.specs.Option.{option_map_or}
 use Rattle.std.proofs.lemmas.Bool.{and_parts, eq-eqb, eqb-true, ne_eqb}
 use Rattle.std.proofs.lemmas.Bool.Decides.{eqb_tells}
-use Rattle.model.specs.Acceptance.Authority.{WithinTick}
+use Rattle.headline.specs.authority.Events.{WithinTick}
 use Rattle.model.specs.Kernel.Scheduling.{current, first_below, full_slice, head_of, is_runnable, tick, ticked, yielded}
 use Rattle.model.specs.Shared.Lists.{times_in, without}
 use Rattle.model.specs.Kernel.Soundness.{IsSound, ThreadsAreSound}
@@ -71,6 +71,12 @@ runs-of s sound thread is =
     let law = sound.ready thread first.priority in
     let own = runs-own (as_thread (s.objects thread)) first.priority (omega (arith, count, law)) in
     record { priority = first.priority; own = own.0; first = first.first; is = thread-object (s.objects thread) own.0 own.1; at = own.2 }
+
+-- the current thread is in a list of the ready
+pub current-counts : (s : State) (thread : ℕ) → current s ≡ Some thread → (priority : ℕ) × (1 ≤ times_in (s.ready priority) thread)
+current-counts s thread is =
+    let first = first-of 256 s.ready thread is in
+    (first.priority, head-counts (s.ready first.priority) thread first.first)
 
 -- ---- lists without a thread
 

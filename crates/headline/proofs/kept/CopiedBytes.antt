@@ -1,10 +1,11 @@
 -- The bytes that a delivery changes: those of the message's words from the eighth on, in the receiver's buffer.
-use Rattle.std.proofs.Common.{ℕ, ◌≡◌, ◌+◌, ◌-◌, ◌*◌, ◌%◌, ◌^◌, ◌<◌, ◌≤◌, ◌⊎◌, inl, inr, min, true, false, if◌then◌else◌, Option, Some, None, refl, ◌∙◌, ap}
+use Rattle.std.proofs.Common.{ℕ, ◌≡◌, ◌+◌, ◌-◌, ◌*◌, ◌%◌, ◌^◌, ◌<◌, ◌≤◌, ◌⊎◌, inl, inr, min, Bool, true}
+use Rattle.std.proofs.Common.{false, if◌then◌else◌, Option, Some, None, refl, ◌∙◌, ap}
 use Rattle.std.proofs.Common.{subst}
 use Rattle.std.proofs.Common.{arith}
 use Rattle.std.specs.Prelude.{IsSome}
 use Rattle.std.specs.Option.{option_map_or}
-use Rattle.model.proofs.SlotChanges.{within-bounds}
+use Rattle.model.proofs.SlotChanges.{bounds-within, within-bounds}
 use Rattle.model.specs.declared.capabilities.Cap.{Cap}
 use Rattle.model.specs.declared.capabilities.Cap.TheVariants.{Empty, Untyped, Tcb, Endpoint, Notification, CNode, Frame, PageTable, RootTable}
 use Rattle.model.specs.declared.capabilities.Cap.TheVariants.{InterruptControl, InterruptHandler}
@@ -125,3 +126,15 @@ module _ (s : State) (sound : IsSound s) where
       let around : frame_around (offset + index) ≡ offset = around-it offset index (IsFrame.aligned frame) less in
       (sound.memory.bytes (offset + index)).1
       (ap (kind_at s) around ∙ sound.memory.named (buffer_slot thread) NewFrame offset (IsFrame.named frame))
+
+-- ---- where the words come
+
+-- such a byte is what the sender's buffer holds
+pub copied-here : (s : State) (from to count source target index : ℕ) → buffer_of s from ≡ Some source → buffer_of s to ≡ Some target
+    → 4 * register_words ≤ index → index < 4 * count → bytes_between s from to count (target + index) ≡ s.bytes (source + index)
+copied-here s from to count source target index one other first last =
+    ap (λ (o : Option ℕ). bytes_by s count o (buffer_of s to) (target + index)) one
+    ∙ ap (λ (o : Option ℕ). bytes_by s count (Some source) o (target + index)) other
+    ∙ ap (λ (b : Bool). if b then s.bytes (source + (target + index - target)) else s.bytes (target + index))
+    (bounds-within (target + 4 * register_words) (4 * (count - register_words)) (target + index) (omega (arith, first)) (omega (arith, first, last)))
+    ∙ ap (λ (n : ℕ). s.bytes (source + n)) (omega arith)

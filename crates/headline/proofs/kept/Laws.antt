@@ -1,7 +1,7 @@
 -- What the other modules use of these proofs.
 pub use Rattle.headline.proofs.kept.BlockSlots.{block-apart, block-thread}
 pub use Rattle.headline.proofs.kept.Buffers.{code-stays, own-buffer, own-buffers}
-pub use Rattle.headline.proofs.kept.CopiedBytes.{IsCopied, buffer-bytes, copied-at, length-few, one-buffer}
+pub use Rattle.headline.proofs.kept.CopiedBytes.{copied-here, IsCopied, buffer-bytes, copied-at, length-few, one-buffer}
 pub use Rattle.headline.proofs.kept.EachOf.{Each, each-contained, each-picked, each-so, same-picked}
 pub use Rattle.headline.proofs.kept.FramePlaces.{frame-aligned}
 pub use Rattle.headline.proofs.kept.HangsKept.{hangs-kept}

@@ -100,7 +100,7 @@ abbrev pub RepliesToWaitStayWithin : Type 0
 RepliesToWaitStayWithin =
     (image : Image) (t : Thread) (s : State) (number notification badge : ℕ) (allowed : Rights) → IsSound s
     → call_of number ≡ Some RepliesAndReceives → (call : CallsOn image t s number (Notification notification allowed badge)) → IsTrue (may_read allowed)
-    → HandlesNobody s call.own → CallStaysWithin image t s
+    → HandlesNobody s call.own → HaveOwnBuffers s → CallStaysWithin image t s
 
 -- ---- calls that concern the thread alone
 

@@ -2,35 +2,25 @@
 use Rattle.std.specs.Prelude.{ℕ, ◌≡◌, ◌++◌, false, Some, Ok, List, [], ◌∷◌, All}
 use Rattle.headline.specs.calls.Messages.{IsInvoked}
 use Rattle.headline.specs.facts.Standing.{AllStand}
+pub use Rattle.model.specs.Acceptance.Authority.{MakesCall}
 use Rattle.model.specs.declared.events.Event.{Event}
-use Rattle.model.specs.declared.instructions.Access.TheVariants.{Fetch}
-use Rattle.model.specs.declared.instructions.AccessSize.TheVariants.{Word}
-use Rattle.model.specs.declared.instructions.Instr.TheVariants.{Ecall}
 use Rattle.model.specs.declared.labels.Label.{Label}
 use Rattle.model.specs.Capabilities.Slots.{capability_at}
 use Rattle.model.specs.Images.Described.{described}
 use Rattle.model.specs.Images.Image.{Image}
-use Rattle.model.specs.Kernel.AddressSpaces.{content_of}
 use Rattle.model.specs.Kernel.Messages.{a7}
 use Rattle.model.specs.Kernel.State.{State}
 use Rattle.model.specs.Kernel.Steps.{call_of, named_slot, registers_of, state_after, step, trace}
 use Rattle.model.specs.declared.system_calls.SendCall.{SendCall}
 use Rattle.model.specs.declared.system_calls.SystemCall.TheVariants.{Sends}
 use Rattle.model.specs.Kernel.Waits.{is_error, is_fault}
-use Rattle.model.specs.Machine.Decoding.{decoded}
-use Rattle.model.specs.Machine.ProgramMemory.{loaded, read}
+use Rattle.model.specs.Machine.ProgramMemory.{read}
 
 -- no fault, no error, and the threads' invariant holds after it
 pub record GoesWell (image : Image) (s : State) (labels : List Label) (event : Event) : Type 0 where
   pub faults : is_fault (step s event).1 ≡ false
   pub errors : is_error (step s event).1 ≡ false
   pub stands : AllStand image (step s event).0 (labels ++ (step s event).1 ∷ [])
-
--- the thread's next instruction is a system call
-pub record MakesCall (s : State) (thread : ℕ) : Type 0 where
-  pub word : ℕ
-  pub fetched : loaded (content_of s thread) Fetch Word (registers_of s thread).pc ≡ Ok word
-  pub call : decoded word ≡ Some Ecall
 
 -- that call is no invocation: it names no capability, or an endpoint or a notification
 abbrev pub InvokesNothing : State → ℕ → Type 0

@@ -2,7 +2,8 @@
 
 ghost use Rattle.std.specs.Prelude.{ℕ, ◌≡◌, ◌≢◌, Option, Some};
 ghost use Rattle.model.specs.declared.capabilities.Cap.TheVariants.{Untyped};
-ghost use Rattle.model.specs.Acceptance.Authority.{WithinAuthority, WithinInterrupt, WithinTick, self_of};
+ghost use Rattle.model.specs.Acceptance.Authority.{WithinAuthority, self_of};
+ghost use Rattle.headline.specs.authority.Events.{WithinInterrupt, WithinTick};
 ghost use Rattle.model.specs.Images.Image.{Image, Thread};
 ghost use Rattle.model.specs.Kernel.Interrupts.{raise};
 ghost use Rattle.model.specs.Kernel.Messages.{with_registers};

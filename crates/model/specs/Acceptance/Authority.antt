@@ -11,8 +11,13 @@ use Rattle.model.specs.declared.capabilities.FrameMapping.{FrameMapping}
 use Rattle.model.specs.declared.capabilities.TableMapping.{TableMapping}
 use Rattle.model.specs.declared.events.Event.{Event}
 use Rattle.model.specs.declared.events.Event.TheVariants.{Step, Tick, Irq}
-use Rattle.model.specs.declared.instructions.Access.TheVariants.{Store}
+use Rattle.model.specs.declared.instructions.Access.TheVariants.{Fetch, Store}
+use Rattle.model.specs.declared.instructions.AccessSize.TheVariants.{Word}
+use Rattle.model.specs.declared.instructions.Instr.TheVariants.{Ecall}
 use Rattle.model.specs.declared.rights.Rights.{Rights}
+use Rattle.model.specs.declared.system_calls.SendCall.{SendCall}
+use Rattle.model.specs.declared.system_calls.SystemCall.{SystemCall}
+use Rattle.model.specs.declared.system_calls.SystemCall.TheVariants.{Sends}
 use Rattle.model.specs.Acceptance.NotedKernel.{stands_in}
 use Rattle.model.specs.Acceptance.ThreadRules.{reached}
 use Rattle.model.specs.Capabilities.CapabilityKinds.{frame_mapping, table_mapping, unmapped}
@@ -21,20 +26,20 @@ use Rattle.model.specs.Capabilities.Slots.{IsFull, capability_at, parent_at}
 use Rattle.model.specs.Images.Image.{Image, Thread}
 use Rattle.model.specs.Images.Places.{offset_of}
 use Rattle.model.specs.Kernel.AddressSpaces.{content_of}
-use Rattle.model.specs.Kernel.Deliveries.{Reason, ReceivesFrom, SendsTo, Signals, woken}
-use Rattle.model.specs.Kernel.Interrupts.{binding}
+use Rattle.model.specs.Kernel.Deliveries.{Reason, ReceivesFrom, SendsTo, Signals, is_receive, is_send, sent_by}
+use Rattle.model.specs.Kernel.Interrupts.{binding, raise}
 use Rattle.model.specs.Shared.Lists.{times_in, without}
 use Rattle.model.specs.Kernel.Kinds.{Names, frame_around, kind_at}
-use Rattle.model.specs.Kernel.Messages.{a0, buffer_of, length_between, register_words}
+use Rattle.model.specs.Kernel.Messages.{a7, buffer_of, length_between, register_words, with_registers}
 use Rattle.model.specs.Kernel.Retype.{NewObject, NewFrame, object, object_bits}
-use Rattle.model.specs.Kernel.Scheduling.{current, full_slice, head_of, is_runnable}
+use Rattle.model.specs.Kernel.Scheduling.{current, full_slice, is_runnable, tick}
 use Rattle.model.specs.Kernel.State.{State, Runnable, Blocked, AwaitsReply, ThreadObject, EndpointObject, NotificationObject, EndpointState, NotificationState}
 use Rattle.model.specs.Kernel.State.{Sender}
 use Rattle.model.specs.Kernel.State.{Sent, BySend}
 use Rattle.model.specs.Kernel.State.{ByCall, ByFault, ThreadState, endpoint_at, notification_at, thread_at}
-use Rattle.model.specs.Kernel.Steps.{named_slot}
-use Rattle.model.specs.Machine.Effects.{advanced}
-use Rattle.model.specs.Machine.ProgramMemory.{write}
+use Rattle.model.specs.Kernel.Steps.{call_of, named_slot, registers_of}
+use Rattle.model.specs.Machine.Decoding.{decoded}
+use Rattle.model.specs.Machine.ProgramMemory.{RegisterFile, loaded, read}
 
 -- ---- capabilities
 
@@ -71,12 +76,15 @@ pub record Holds (image : Image) (t : Thread) (s : State) (Such : Cap → Type 0
   pub own : IsOwnSlot image t slot
   pub such : Such (capability_at s.slots slot)
 
--- the thread's system call names such a capability, in a slot that is its own
-pub record CallNames (image : Image) (t : Thread) (s : State) (Such : Cap → Type 0) : Type 0 where
+-- the thread's system call is such a one and names such a capability, in a slot that is its own
+pub record CallNames (image : Image) (t : Thread) (s : State) (Such : SystemCall → Cap → Type 0) : Type 0 where
+  pub call : SystemCall
   pub slot : ℕ
+  -- the call is that of the number in a7
+  pub asks : call_of (read (registers_of s (self_of image t)) a7) ≡ Some call
   pub own : IsOwnSlot image t slot
   pub named : named_slot s (self_of image t) ≡ Ok slot
-  pub such : Such (capability_at s.slots slot)
+  pub such : Such call (capability_at s.slots slot)
 
 -- untyped memory around all bytes of a piece of memory
 pub record IsUntypedAround (first size : ℕ) (capability : Cap) : Type 0 where
@@ -147,16 +155,17 @@ pub data RightChange (image : Image) (t : Thread) (s behind : State) (before aft
 -- this one gives; it reports no fault
 pub record AsksAs (image : Image) (t : Thread) (s : State) (endpoint : ℕ) (x : Sender) : Type 0 where
   pub allowed : Rights
+  pub kind : SendCall
   -- its call names a capability to the endpoint with this badge
-  pub named : CallNames image t s (λ capability. capability ≡ Endpoint endpoint allowed x.badge)
+  pub named : CallNames image t s (λ call capability. (call ≡ Sends kind) × (capability ≡ Endpoint endpoint allowed x.badge))
   -- which may write
   pub writes : IsTrue (may_write allowed)
   -- it is the thread itself that asks
   pub thread : x.thread ≡ self_of image t
   -- it may get a reply where the capability may
   pub replies : x.grant_reply ≡ may_grant_reply allowed
-  -- it sends or calls
-  pub sends : (x.sent ≡ BySend) ⊎ (x.sent ≡ ByCall)
+  -- it sends or calls, as its call says
+  pub sends : x.sent ≡ sent_by kind
 
 -- who waits at an endpoint changes by the call alone: the thread joins at the tail, or the first of those that wait goes, and waits no more
 pub data EndpointChange (image : Image) (t : Thread) (s after : State) (endpoint : ℕ) (old new : EndpointState) : Type 0 where
@@ -169,8 +178,9 @@ pub data EndpointChange (image : Image) (t : Thread) (s after : State) (endpoint
   takes_receiver : (badge first : ℕ) → CallNames image t s (SendsTo endpoint badge) → old.receivers ≡ first ∷ new.receivers
       → new.senders ≡ old.senders → (thread_at after first).status ≢ Blocked endpoint → EndpointChange image t s after endpoint old new
 
--- a capability by which a thread waits for a notification
-pub record WaitsFor (notification : ℕ) (capability : Cap) : Type 0 where
+-- a call and a capability by which a thread waits for a notification
+pub record WaitsFor (notification : ℕ) (call : SystemCall) (capability : Cap) : Type 0 where
+  pub receives : is_receive call ≡ true
   pub allowed : Rights
   pub badge : ℕ
   pub is : capability ≡ Notification notification allowed badge
@@ -179,9 +189,9 @@ pub record WaitsFor (notification : ℕ) (capability : Cap) : Type 0 where
 -- a notification's word, and who waits for it, change by the call alone: a badge joins the word, the first of those that wait goes, and
 -- waits no more, the word is taken, or the thread joins at the tail
 pub data NotificationChange (image : Image) (t : Thread) (s after : State) (notification : ℕ) (old new : NotificationState) : Type 0 where
-  joins : (badge : ℕ) → CallNames image t s (Signals s notification badge) → old.waiters ≡ [] → new ≡ record old { word = bit_or old.word badge }
+  joins : (badge : ℕ) → CallNames image t s (Signals s after notification badge) → old.waiters ≡ [] → new ≡ record old { word = bit_or old.word badge }
       → NotificationChange image t s after notification old new
-  passes_on : (badge first : ℕ) → CallNames image t s (Signals s notification badge) → old.waiters ≡ first ∷ new.waiters → new.word ≡ old.word
+  passes_on : (badge first : ℕ) → CallNames image t s (Signals s after notification badge) → old.waiters ≡ first ∷ new.waiters → new.word ≡ old.word
       → (thread_at after first).status ≢ Blocked notification → NotificationChange image t s after notification old new
   taken : CallNames image t s (WaitsFor notification) → new ≡ record old { word = 0 } → NotificationChange image t s after notification old new
   waits : CallNames image t s (WaitsFor notification) → new ≡ record old { waiters = old.waiters ++ self_of image t ∷ [] }
@@ -202,10 +212,25 @@ pub data UsedChange (image : Image) (t : Thread) (s after : State) (slot old new
 
 -- ---- lines
 
--- what becomes of a line: it is not masked any more, or what was pending is delivered, and it is masked
+-- a call and a capability by which a thread acknowledges the interrupt of a line
+abbrev pub Acknowledges : ℕ → SystemCall → Cap → Type 0
+Acknowledges number call capability = (is_send call ≡ true) × (capability ≡ InterruptHandler number)
+
+-- what a signal leaves: the badge joins the word of the notification, or its first waiter runs again
+pub data IsSignalled (s after : State) (notification badge : ℕ) : Type 0 where
+  joined : (notification_at s notification).waiters ≡ []
+      → (notification_at after notification).word ≡ bit_or (notification_at s notification).word badge → IsSignalled s after notification badge
+  passed : (first : ℕ) → (notification_at s notification).waiters ≡ first ∷ (notification_at after notification).waiters
+      → (thread_at after first).status ≡ Runnable → IsSignalled s after notification badge
+
+-- what becomes of a line: it is not masked any more, if nothing is pending or it is bound to nothing; or what was pending is delivered,
+-- and it is masked
 pub data LineChange (s after : State) (number : ℕ) : Type 0 where
-  opens : after.masked number ≡ false → after.pending number ≡ s.pending number → LineChange s after number
-  delivers : s.pending number ≡ true → after.pending number ≡ false → after.masked number ≡ true → LineChange s after number
+  opens : (s.pending number ≡ false) ⊎ (binding s number ≡ None) → after.masked number ≡ false → after.pending number ≡ s.pending number
+      → LineChange s after number
+  delivers : (notification badge : ℕ) → binding s number ≡ Some (record { notification = notification; badge = badge })
+      → IsSignalled s after notification badge → s.pending number ≡ true → after.pending number ≡ false → after.masked number ≡ true
+      → LineChange s after number
 
 -- ---- the thread's own slice
 
@@ -336,94 +361,23 @@ pub record WithinAuthority (image : Image) (t : Thread) (s after : State) : Type
       → after.objects other ≡ Some (ThreadObject new) → old ≢ new → Reason s after (self_of image t) (CallNames image t s) other old new
   -- lines change only where the call names the handler, as by an acknowledgement
   pub lines : (number : ℕ) → (s.masked number ≢ after.masked number) ⊎ (s.pending number ≢ after.pending number)
-      → CallNames image t s (λ capability. capability ≡ InterruptHandler number) × LineChange s after number
+      → CallNames image t s (Acknowledges number) × LineChange s after number
   -- a list of the ready gains only threads that were woken, at its tail, and loses none but the thread itself
   pub ready : (priority : ℕ) → ReadyChange s after (self_of image t) priority
 
--- ---- ticks
-
--- slots, bytes and the shape of the machine stay
-pub record SameStore (s after : State) : Type 0 where
-  -- memory keeps its size
-  pub memory_bits : after.memory_bits ≡ s.memory_bits
-  -- the boot CNode keeps its size
-  pub boot_radix : after.boot_radix ≡ s.boot_radix
-  -- each slot stays
-  pub slots : (slot : ℕ) → after.slots slot ≡ s.slots slot
-  -- each byte stays
-  pub bytes : (place : ℕ) → after.bytes place ≡ s.bytes place
-
--- a tick changes the current thread's slice alone, and where it is in the list of its priority
-pub record WithinTick (s after : State) : Type 0 where
-  -- slots, bytes and the shape of the machine stay
-  pub store : SameStore s after
-  -- each line is masked as it was
-  pub masked : (number : ℕ) → after.masked number ≡ s.masked number
-  -- each line is pending as it was
-  pub pending : (number : ℕ) → after.pending number ≡ s.pending number
-  -- each object stays but the current thread
-  pub others : (offset : ℕ) → current s ≢ Some offset → after.objects offset ≡ s.objects offset
-  -- of the current thread the slice alone changes
-  pub runs : (thread : ℕ) (old : ThreadState) → current s ≡ Some thread → s.objects thread ≡ Some (ThreadObject old)
-      → (slice : ℕ) × (after.objects thread ≡ Some (ThreadObject (record old { slice = slice })))
-  -- where no thread runs, no list of the ready changes
-  pub idle : current s ≡ None → (priority : ℕ) → after.ready priority ≡ s.ready priority
-  -- without the current thread each list of the ready is the old one
-  pub ready : (thread priority : ℕ) → current s ≡ Some thread → without thread (after.ready priority) ≡ without thread (s.ready priority)
-  -- the current thread is in each list as often as before
-  pub as_often : (thread priority : ℕ) → current s ≡ Some thread → times_in (after.ready priority) thread ≡ times_in (s.ready priority) thread
-
--- ---- interrupts
-
--- the interrupt of a line is delivered: the line is bound, and not masked
-pub record IsDelivered (number : ℕ) (s : State) (notification badge : ℕ) : Type 0 where
-  -- its binding names this notification, with this badge
-  pub bound : binding s number ≡ Some (record { notification = notification; badge = badge })
-  -- no earlier interrupt of the line waits for its acknowledgement
-  pub unmasked : s.masked number ≡ false
-
--- what becomes of the notification that a line is bound to, and of the first thread that waits there
-pub data InterruptChange (number : ℕ) (s after : State) (offset : ℕ) : Type 0 where
-  -- nobody waits: the badge joins the word
-  joins : (badge : ℕ) (old : NotificationState) → IsDelivered number s offset badge
-      → s.objects offset ≡ Some (NotificationObject old) → old.waiters ≡ []
-      → after.objects offset ≡ Some (NotificationObject (record old { word = bit_or old.word badge }))
-      → InterruptChange number s after offset
-  -- the first waiter goes
-  passes_on : (badge waiter : ℕ) (others : List ℕ) (old : NotificationState) → IsDelivered number s offset badge
-      → s.objects offset ≡ Some (NotificationObject old) → old.waiters ≡ waiter ∷ others
-      → after.objects offset ≡ Some (NotificationObject (record old { waiters = others }))
-      → InterruptChange number s after offset
-  -- and it is that waiter, which gets the badge
-  wakes : (notification badge : ℕ) (old : ThreadState) → IsDelivered number s notification badge
-      → head_of (notification_at s notification).waiters ≡ Some offset → s.objects offset ≡ Some (ThreadObject old)
-      → after.objects offset ≡ Some (ThreadObject (woken old (advanced (write old.registers a0 badge))))
-      → InterruptChange number s after offset
-
--- the first waiter, and nobody else, goes to the tail of its priority
-pub data InterruptReady (number : ℕ) (s after : State) (priority : ℕ) : Type 0 where
-  stays : after.ready priority ≡ s.ready priority → InterruptReady number s after priority
-  adds : (notification badge thread : ℕ) → IsDelivered number s notification badge
-      → head_of (notification_at s notification).waiters ≡ Some thread → IsWoken s after priority thread
-      → after.ready priority ≡ s.ready priority ++ thread ∷ [] → InterruptReady number s after priority
-
--- An interrupt changes its line, the notification that is bound to it, and the first thread that waits there. There are 64 lines, and
--- one of a greater number changes nothing.
-pub record WithinInterrupt (number : ℕ) (s after : State) : Type 0 where
-  -- one of no line changes nothing
-  pub beyond : 63 < number → after ≡ s
-  -- slots, bytes and the shape of the machine stay
-  pub store : SameStore s after
-  -- each other line is masked as it was
-  pub masked : (other : ℕ) → other ≢ number → after.masked other ≡ s.masked other
-  -- each other line is pending as it was
-  pub pending : (other : ℕ) → other ≢ number → after.pending other ≡ s.pending other
-  -- objects change only as the delivery to the line's notification says
-  pub objects : (offset : ℕ) → s.objects offset ≢ after.objects offset → InterruptChange number s after offset
-  -- a list of the ready gains at most the first waiter, at its tail
-  pub ready : (priority : ℕ) → InterruptReady number s after priority
-
 -- ---- an event
+
+-- the thread's instruction is a system call
+pub record MakesCall (s : State) (thread : ℕ) : Type 0 where
+  pub word : ℕ
+  pub fetched : loaded (content_of s thread) Fetch Word (registers_of s thread).pc ≡ Ok word
+  pub call : decoded word ≡ Some Ecall
+
+-- registers of the thread change, and bytes, and nothing else
+pub record ComputesAlone (s after : State) (thread : ℕ) : Type 0 where
+  pub registers : RegisterFile
+  pub bytes : ℕ → Option ℕ
+  pub is : after ≡ record (with_registers s thread registers) { bytes = bytes }
 
 -- the step of a thread of the image
 pub record OwnStep (image : Image) (s after : State) : Type 0 where
@@ -431,9 +385,13 @@ pub record OwnStep (image : Image) (s after : State) : Type 0 where
   pub listed : Contains image.threads thread
   pub runs : current s ≡ Some (self_of image thread)
   pub within : WithinAuthority image thread s after
+  -- an instruction that is no system call changes the thread's registers and bytes alone
+  pub plain : (MakesCall s (self_of image thread) → ⊥) → ComputesAlone s after (self_of image thread)
+  -- who was woken is ready, at the tail of its priority
+  pub awake : (priority other : ℕ) → IsWoken s after priority other → Contains (within.ready priority).added other
 
--- An event stays within authority: where no thread runs, a step changes nothing.
+-- An event stays within authority: where no thread runs, a step changes nothing. A tick and an interrupt are what the kernel says of them.
 abbrev pub StaysWithin : Image → State → Event → State → Type 0
 StaysWithin image s Step after = ((current s ≡ None) × (after ≡ s)) ⊎ OwnStep image s after
-StaysWithin image s Tick after = WithinTick s after
-StaysWithin image s (Irq irq_line) after = WithinInterrupt irq_line s after
+StaysWithin image s Tick after = after ≡ tick s
+StaysWithin image s (Irq irq_line) after = after ≡ raise s irq_line

@@ -19,6 +19,7 @@ returns c = λ bytes image events accepted.
           (λ before behind is. (c.events_go_well.ensures bytes image before accepted).stand)
           (record { number = of.0; thread = t }) of.1;
       within = λ before event later is. c.events_stay_within_authority.ensures bytes image before event accepted;
+      sound = λ before later is. (c.events_go_well.ensures bytes image before accepted).stand.sound;
       promises = λ before later is.
           c.waiting_messages_keep_their_promises.ensures image (state_after (described image) before) (trace (described image) before)
           (c.events_go_well.ensures bytes image before accepted).stand;

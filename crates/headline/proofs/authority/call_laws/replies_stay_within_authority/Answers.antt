@@ -11,5 +11,5 @@ returns-clause-receiving c = λ image t s number endpoint badge allowed sound is
     reply-endpoint image t s sound number is endpoint badge allowed reads call nobody own_buffers
 
 pub returns-clause-waiting : goal.returns-clause-waiting
-returns-clause-waiting c = λ image t s number notification badge allowed sound is call reads nobody.
-    reply-notification image t s sound number is notification badge allowed reads call nobody
+returns-clause-waiting c = λ image t s number notification badge allowed sound is call reads nobody own_buffers.
+    reply-notification image t s sound number is notification badge allowed reads call nobody own_buffers
