@@ -36,7 +36,7 @@ covered offset r badge new source (inr same) covers = record {
 }
 
 -- neither is untyped memory, a handler or interrupt control
-no_untyped : (offset : ℕ) (r : Rights) (badge first size : ℕ) (source : Cap) → (source ≡ Empty) ⊎ (source ≡ Endpoint offset r badge) →
+pub no_untyped : (offset : ℕ) (r : Rights) (badge first size : ℕ) (source : Cap) → (source ≡ Empty) ⊎ (source ≡ Endpoint offset r badge) →
     IsUntypedAround first size source → ⊥
 no_untyped offset r badge first size source (inl none) around = let e : Empty ≡ Untyped around.offset around.bits around.watermark = sym none ∙ around.is in cc
 no_untyped offset r badge first size source (inr same) around = let e : Endpoint offset r badge ≡ Untyped around.offset around.bits around.watermark = sym same

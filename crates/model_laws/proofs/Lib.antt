@@ -4,6 +4,7 @@ pub mod Descents
 pub mod LookupLaws
 pub mod MessageBytes
 pub mod MovedRanges
+pub mod Narrow
 pub mod Opened
 pub mod Placements
 pub mod RangesKept

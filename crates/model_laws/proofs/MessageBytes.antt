@@ -56,10 +56,10 @@ module _ (image : Image) (t : Thread) (s after : State) (place : ℕ) (changes :
 field-few : (info most : ℕ) → min (info % 2 ^ 7) most ≤ 127
 field-few info most = omega arith
 
-length-few : (s : State) (from to : ℕ) → length_between s from to ≤ 127
+pub length-few : (s : State) (from to : ℕ) → length_between s from to ≤ 127
 length-few s from to = field-few (read (thread_at s from).registers a1) (min (greatest_length s from) (greatest_length s to))
 
-inside : (place target index count : ℕ) → place ≡ target + index → index < 4 * count → count ≤ 127 → (place < target) ⊎ (target + 2 ^ 12 ≤ place) → ⊥
+pub inside : (place target index count : ℕ) → place ≡ target + index → index < 4 * count → count ≤ 127 → (place < target) ⊎ (target + 2 ^ 12 ≤ place) → ⊥
 inside place target index count at less few (inl before) = omega (arith, at, before)
 inside place target index count at less few (inr behind) = omega (arith, at, less, few, behind)
 

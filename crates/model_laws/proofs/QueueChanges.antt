@@ -5,6 +5,7 @@ use Rattle.std.specs.Prelude.{bit_or}
 use Rattle.std.proofs.lemmas.List.Elements.{Contains-append_cases, Contains-append_right}
 use Rattle.model.specs.declared.capabilities.Cap.TheVariants.{Endpoint, InterruptHandler, Notification}
 use Rattle.model.specs.declared.rights.Rights.{Rights}
+use Rattle.model.specs.declared.system_calls.SystemCall.{SystemCall}
 use Rattle.model.specs.Acceptance.Authority.{AsksAs, EndpointChange, waits_to_send, waits_to_receive, takes_sender, takes_receiver, NotificationChange, joins}
 use Rattle.model.specs.Acceptance.Authority.{passes_on, taken, waits, self_of}
 use Rattle.model.specs.Capabilities.Rights.{may_grant_reply, may_write}
@@ -31,10 +32,10 @@ joined old new last x is among fresh =
     ]
 
 -- nobody is new where the list stays, or loses its first
-stays-old : {A : Type 0} (old new : List A) (x : A) → new ≡ old → Contains new x → Contains old x
+pub stays-old : {A : Type 0} (old new : List A) (x : A) → new ≡ old → Contains new x → Contains old x
 stays-old old new x is among = subst (λ (l : List _). Contains l x) is among
 
-tail-old : {A : Type 0} (old new : List A) (first x : A) → old ≡ first ∷ new → Contains new x → Contains old x
+pub tail-old : {A : Type 0} (old new : List A) (first x : A) → old ≡ first ∷ new → Contains new x → Contains old x
 tail-old old new first x is among = subst (λ (l : List _). Contains l x) (sym is) (Contains-append_right (first ∷ []) new x among)
 
 -- ---- endpoints
@@ -63,7 +64,7 @@ module _ (image : Image) (t : Thread) (s after : State) (endpoint : ℕ) (old ne
   pub endpoint-named : EndpointChange image t s after endpoint old new
       → (slot : ℕ) × (named_slot s (self_of image t) ≡ Ok slot)
       × ((allowed : Rights) × ((badge : ℕ) × (capability_at s.slots slot ≡ Endpoint endpoint allowed badge)))
-  endpoint-named (waits_to_send y asks is) = (asks.named.slot, asks.named.named, (asks.allowed, (y.badge, asks.named.such)))
+  endpoint-named (waits_to_send y asks is) = (asks.named.slot, asks.named.named, (asks.allowed, (y.badge, asks.named.such.1)))
   endpoint-named (waits_to_receive names is) = (names.slot, names.named, (names.such.allowed, (names.such.badge, names.such.is)))
   endpoint-named (takes_sender first names is same served) = (names.slot, names.named, (names.such.allowed, (names.such.badge, names.such.is)))
   endpoint-named (takes_receiver badge first names is same served) = (names.slot, names.named, (names.such.allowed, (badge, names.such.is)))
@@ -100,7 +101,7 @@ asks-same : (image : Image) (t : Thread) (s : State) (endpoint slot badge : ℕ)
     → named_slot s (self_of image t) ≡ Ok slot → capability_at s.slots slot ≡ Endpoint endpoint r badge
     → Endpoint endpoint asks.allowed x.badge ≡ Endpoint endpoint r badge
 asks-same image t s endpoint slot badge r x asks named holds =
-    sym asks.named.such ∙ named-capability s (self_of image t) asks.named.slot slot asks.named.named named ∙ holds
+    sym asks.named.such.1 ∙ named-capability s (self_of image t) asks.named.slot slot asks.named.named named ∙ holds
 
 pub asked-badge : (image : Image) (t : Thread) (s : State) (endpoint slot badge : ℕ) (r : Rights) (x : Sender) → AsksAs image t s endpoint x
     → named_slot s (self_of image t) ≡ Ok slot → capability_at s.slots slot ≡ Endpoint endpoint r badge → x.badge ≡ badge
@@ -123,10 +124,10 @@ module _ (image : Image) (t : Thread) (s after : State) (notification : ℕ) (ol
         → capability_at s.slots slot ≡ Notification notification allowed badge → WordNow
     is_same : new.word ≡ old.word → WordNow
     is_joined : (slot badge : ℕ) → new.word ≡ bit_or old.word badge → named_slot s (self_of image t) ≡ Ok slot
-        → Signals s notification badge (capability_at s.slots slot) → WordNow
+        → (call : SystemCall) → Signals s after notification badge call (capability_at s.slots slot) → WordNow
 
   pub word-now : NotificationChange image t s after notification old new → WordNow
-  word-now (joins badge names empty is) = is_joined names.slot badge (ap (λ (n : NotificationState). n.word) is) names.named names.such
+  word-now (joins badge names empty is) = is_joined names.slot badge (ap (λ (n : NotificationState). n.word) is) names.named names.call names.such
   word-now (passes_on badge first names is same served) = is_same same
   word-now (taken names is) = is_zero (ap (λ (n : NotificationState). n.word) is) names.slot names.such.allowed names.such.badge names.named names.such.is
   word-now (waits names is) = is_same (ap (λ (n : NotificationState). n.word) is)
@@ -153,10 +154,10 @@ module _ (image : Image) (t : Thread) (s after : State) (notification : ℕ) (ol
       → (new.word ≡ bit_or old.word badge) × (may_write r ≡ true)
   joined-badge slot badge r named holds differs some (is_zero is _ _ _ _ _) = absurd (some is)
   joined-badge slot badge r named holds differs some (is_same is) = absurd (differs is)
-  joined-badge slot badge r named holds differs some (is_joined other b is also such) =
+  joined-badge slot badge r named holds differs some (is_joined other b is also call such) =
       let there : capability_at s.slots other ≡ Notification notification r badge = named-capability s (self_of image t) other slot also named ∙ holds in (
-        is ∙ ap (bit_or old.word) (one-signal s notification b notification badge r (capability_at s.slots other) there such),
-        signal-writes s notification b notification badge r (capability_at s.slots other) there such,
+        is ∙ ap (bit_or old.word) (one-signal s after notification b notification badge r call (capability_at s.slots other) there such),
+        signal-writes s after notification b notification badge r call (capability_at s.slots other) there such,
       )
 
   -- by a handler of a line that is bound to it
@@ -167,6 +168,6 @@ module _ (image : Image) (t : Thread) (s after : State) (notification : ℕ) (ol
       let e : Notification notification allowed b ≡ InterruptHandler number = sym there ∙ named-capability s (self_of image t) other slot also named ∙ holds in
       absurd cc
   bound-badge slot number badge named holds bound differs (is_same is) = absurd (differs is)
-  bound-badge slot number badge named holds bound differs (is_joined other b is also such) =
-      is ∙ ap (bit_or old.word) (line-signal s notification b number badge (capability_at s.slots other)
+  bound-badge slot number badge named holds bound differs (is_joined other b is also call such) =
+      is ∙ ap (bit_or old.word) (line-signal s after notification b number badge call (capability_at s.slots other)
       (named-capability s (self_of image t) other slot also named ∙ holds) bound such)

@@ -8,7 +8,11 @@ use Rattle.model.specs.Capabilities.Slots.{capability_at}
 use Rattle.model.specs.Images.Image.{Image, Thread}
 use Rattle.model.specs.Kernel.AddressSpaces.{content_of}
 use Rattle.model.specs.Kernel.Kinds.{frame_around}
+use Rattle.model.specs.Kernel.Messages.{a7}
 use Rattle.model.specs.Kernel.State.{State, FrameObject}
+use Rattle.model.specs.Kernel.Steps.{call_of, registers_of}
+use Rattle.model.specs.Machine.ProgramMemory.{read}
+use Rattle.model.specs.declared.system_calls.SystemCall.{SystemCall}
 
 -- the thread holds this capability, and nothing else
 pub record HoldsOnly (image : Image) (t : Thread) (s : State) (held : Cap) : Type 0 where
@@ -20,3 +24,7 @@ pub record ChangesUnwritten (image : Image) (t : Thread) (s after : State) (plac
   pub is : after.objects (frame_around place) ≡ Some FrameObject
   pub unwritten : (address : ℕ) → (content_of s (self_of image t)).place Store address ≢ Some place
   pub differs : s.bytes place ≢ after.bytes place
+
+-- the number in the thread's a7 is that of this call
+abbrev pub Asks : Image → Thread → State → SystemCall → Type 0
+Asks image t s call = call_of (read (registers_of s (self_of image t)) a7) ≡ Some call

@@ -4,7 +4,8 @@ ghost use Rattle.std.specs.Prelude.{ℕ, ◌≡◌, ◌≢◌, ◌+◌, ◌*◌,
 ghost use Rattle.model.specs.declared.capabilities.Cap.TheVariants.{CNode, Empty, Endpoint, Frame, InterruptControl, InterruptHandler, Notification, PageTable, Tcb, Untyped};
 ghost use Rattle.model.specs.declared.rights.Rights.{Rights};
 ghost use Rattle.model.specs.declared.lookup_failures.LookupFailure.{LookupFailure};
-ghost use Rattle.model.specs.Acceptance.Authority.{IsOwnSlot, WithinAuthority, WithinInterrupt, WithinTick, self_of};
+ghost use Rattle.model.specs.Acceptance.Authority.{IsOwnSlot, WithinAuthority, self_of};
+ghost use Rattle.headline.specs.authority.Events.{WithinInterrupt, WithinTick};
 ghost use Rattle.model.specs.Capabilities.Rights.{may_grant_reply, rights};
 ghost use Rattle.model.specs.Capabilities.Slots.{IsFull, capability_at, parent_at};
 ghost use Rattle.model.specs.Images.Image.{Image, Thread};

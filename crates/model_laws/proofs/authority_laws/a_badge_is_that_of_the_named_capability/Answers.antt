@@ -11,13 +11,15 @@ returns-clause-endpoint c = λ image t s after slot other endpoint badge r old n
     wrong (receivers_badge s after (self_of image t) (CallNames image t s) other endpoint badge old new waits nobody stays
     (λ e b h. let same : Endpoint e h.such.allowed b ≡ Endpoint endpoint r badge = sym h.such.is
     ∙ named-capability s (self_of image t) h.slot slot h.named named ∙ holds in cc)
-    (λ n b h. no-signal s n b endpoint badge r (capability_at s.slots h.slot) (named-capability s (self_of image t) h.slot slot h.named named ∙ holds) h.such)
+    (λ n b h. no-signal s after n b endpoint badge r h.call (capability_at s.slots h.slot)
+    (named-capability s (self_of image t) h.slot slot h.named named ∙ holds) h.such)
     (within.threads other old new differ is now changed))
 
 pub returns-clause-notification : goal.returns-clause-notification
 returns-clause-notification c = λ image t s after slot other notification badge r old new differ named holds is waits now changed stays wrong within.
     wrong (waiters_badge s after (self_of image t) (CallNames image t s) other notification badge old new waits stays
-    (λ n b h. one-signal s n b notification badge r (capability_at s.slots h.slot) (named-capability s (self_of image t) h.slot slot h.named named ∙ holds)
+    (λ n b h. one-signal s after n b notification badge r h.call (capability_at s.slots h.slot)
+    (named-capability s (self_of image t) h.slot slot h.named named ∙ holds)
     h.such)
     (λ e b h. let same : Endpoint e h.such.allowed b ≡ Notification notification r badge = sym h.such.is
     ∙ named-capability s (self_of image t) h.slot slot h.named named ∙ holds in cc)

@@ -1,7 +1,10 @@
 -- What joins a queue, by which capability.
-use Rattle.std.proofs.Common.{◌≡◌, Ok, Err, [], ◌∷◌, Contains, subst, sym, ap, ◌∙◌, inl, inr}
+use Rattle.std.proofs.Common.{◌≡◌, Ok, Err, [], ◌∷◌, Contains, subst, sym, ap, ◌∙◌}
 use Rattle.model.specs.Acceptance.Authority.{self_of}
-use Rattle.model.specs.Kernel.State.{BySend, ByCall, ByFault, EndpointState}
+use Rattle.model.specs.Kernel.State.{BySend, ByCall, ByFault, EndpointState, FaultMessage}
+use Rattle.model.specs.declared.system_calls.SendCall.{SendCall}
+use Rattle.model.specs.declared.system_calls.SendCall.TheVariants.{Calling, Sending, Trying}
+use Rattle.model.specs.Kernel.Deliveries.{sent_by}
 use Rattle.model_laws.proofs.QueueChanges.{asked-badge, asked-reply, endpoint-named, first-goes, receiver-is, sender-asks}
 use Rattle.model_laws.proofs.Reasons.{named-capability}
 use Rattle.model_laws.proofs.authority_laws.a_sender_that_joins_is_the_caller.Goals as goal
@@ -42,10 +45,13 @@ returns-clause-nothing c = λ image t s after endpoint failure old new named bef
     let names = endpoint-named image t s after endpoint old new (within.endpoints endpoint old new before behind differ) in
     let e : Ok names.0 ≡ Err failure = sym names.1 ∙ named in cc
 
+never-fault : (kind : SendCall) (message : FaultMessage) → sent_by kind ≡ ByFault message → ⊥
+never-fault Calling message is = let e : ByCall ≡ ByFault message = is in cc
+never-fault Sending message is = let e : BySend ≡ ByFault message = is in cc
+never-fault Trying message is = let e : BySend ≡ ByFault message = is in cc
+
 pub returns-clause-fault : goal.returns-clause-fault
 returns-clause-fault c = λ image t s after endpoint old new x message before behind among fresh told within.
     let change = within.endpoints endpoint old new before behind (λ same. fresh (subst (λ (e : EndpointState). Contains e.senders x) (sym same) among)) in
-    elim (sender-asks image t s after endpoint old new change x among fresh).sends [
-      | inl sent ↦ let e : BySend ≡ ByFault message = sym sent ∙ told in cc
-      | inr called ↦ let e : ByCall ≡ ByFault message = sym called ∙ told in cc
-    ]
+    let asks = sender-asks image t s after endpoint old new change x among fresh in
+    never-fault asks.kind message (sym asks.sends ∙ told)
