@@ -5,3 +5,4 @@ pub mod Numbers
 pub mod RunningLabels
 pub mod SpentLabels
 pub mod Stretches
+mod Fronts

@@ -7,7 +7,7 @@ use Rattle.std.proofs.lemmas.Int.{ints}
 use Rattle.headline.specs.measure_facts.Terms.{NamesRegisters}
 use Rattle.headline.specs.facts.Standing.{AllStand}
 use Rattle.model.specs.declared.events.Event.{Event}
-use Rattle.model.specs.declared.events.Event.TheVariants.{Irq, Step, Tick}
+use Rattle.model.specs.declared.events.Event.TheVariants.{Irq, Read, Step, Tick, Write}
 use Rattle.model.specs.declared.labels.Label.{Label}
 use Rattle.model.specs.declared.labels.Label.TheVariants.{Idle}
 use Rattle.model.specs.declared.ranges.Range.{Range}
@@ -38,6 +38,8 @@ label-runs s Step thread is = elim (current s) as (λ o. is_of thread (option_ma
 ] is
 label-runs s Tick thread is = absurd (false≢true is)
 label-runs s (Irq number) thread is = absurd (false≢true is)
+label-runs s (Write address word) thread is = absurd (false≢true is)
+label-runs s (Read address) thread is = absurd (false≢true is)
 
 -- ---- who runs does not wait
 

@@ -42,3 +42,5 @@ mod Stored
 mod Ticks
 mod Yielding
 pub mod Laws
+mod DataStays
+mod Written

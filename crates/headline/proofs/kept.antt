@@ -14,3 +14,4 @@ mod StoredPlaces
 mod HangsKept
 mod StartHangs
 pub mod Laws
+mod UnexecutedFrames

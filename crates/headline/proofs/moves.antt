@@ -26,3 +26,4 @@ mod Ticks
 mod Waiters
 mod Woken
 pub mod Laws
+mod WorldWrites

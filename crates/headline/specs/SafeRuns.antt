@@ -4,6 +4,7 @@ use Rattle.model.specs.declared.events.Event.{Event}
 use Rattle.model.specs.declared.labels.Label.{Label}
 use Rattle.model.specs.Acceptance.Accepted.{IsAccepted}
 use Rattle.model.specs.Acceptance.Authority.{StaysWithin}
+use Rattle.model.specs.Acceptance.Devices.{KeepsDevices}
 use Rattle.model.specs.Acceptance.ThreadInvariants.{KeepsPromises, tcb_of}
 use Rattle.model.specs.Images.Boot.{booted}
 use Rattle.model.specs.Images.Described.{described, Numbered, numbered_threads}
@@ -28,6 +29,7 @@ trace_of image events = trace (described image) events
 -- image promises there.
 pub record IsSafeRun (bytes : List ℕ) (image : Image) (events : List Event) : Type 0 where
   pub accepted : IsAccepted bytes image
+  pub devices : All (KeepsDevices image) events
   pub boots : booted image ≡ Ok (described image)
   pub inside : StandApart image
   pub faults : All (λ label. is_fault label ≡ false) (trace_of image events)
@@ -41,12 +43,13 @@ pub record IsSafeRun (bytes : List ℕ) (image : Image) (events : List Event) : 
 -- ---- the laws
 
 abbrev pub AcceptedImagesRunSafely : Type 0
-AcceptedImagesRunSafely = (bytes : List ℕ) (image : Image) (events : List Event) → IsAccepted bytes image → IsSafeRun bytes image events
+AcceptedImagesRunSafely =
+    (bytes : List ℕ) (image : Image) (events : List Event) → IsAccepted bytes image → All (KeepsDevices image) events → IsSafeRun bytes image events
 
 abbrev pub EventsKeepAllStanding : Type 0
 EventsKeepAllStanding =
-    (bytes : List ℕ) (image : Image) (s : State) (labels : List Label) (event : Event) → IsAccepted bytes image → AllStand image s labels
-    → GoesWell image s labels event
+    (bytes : List ℕ) (image : Image) (s : State) (labels : List Label) (event : Event) → IsAccepted bytes image → KeepsDevices image event
+    → AllStand image s labels → GoesWell image s labels event
 
 -- where the threads' invariant holds throughout
 abbrev pub StandingThreadsKeepTheirBudgets : Type 0

@@ -24,8 +24,10 @@ pub use standing_laws::{
     noted_mappings_stay_within_authority, noted_removals_stay_within_authority,
     noted_retypes_stay_within_authority, steps_stay_within_authority,
     threads_hold_objects_inside_their_own_memory, threads_map_under_their_own_root_tables,
+    words_of_data_stay,
 };
 pub use step_laws::{
     a_new_endpoint_stays_within_authority, a_plain_step_stays_within_authority,
-    a_tick_stays_within_authority, an_interrupt_stays_within_authority,
+    a_tick_stays_within_authority, a_write_stays_within_authority,
+    an_interrupt_stays_within_authority,
 };

@@ -11,7 +11,10 @@ mod promise_laws;
 mod standing_laws;
 
 pub use below::laws_below;
-pub use event_laws::{interrupts_keep_all_standing, ticks_keep_all_standing};
+pub use event_laws::{
+    interrupts_keep_all_standing, reads_keep_all_standing, ticks_keep_all_standing,
+    writes_keep_all_standing,
+};
 pub use message_laws::calls_that_invoke_nothing_go_well;
 pub use moving_laws::{
     calls_that_pass_lead_on, threads_begin_to_wait, threads_that_are_left_alone_stand_on,

@@ -1,8 +1,8 @@
 //! What each event does.
 
-ghost use Rattle.std.specs.Prelude.{ℕ, ◌≡◌};
+ghost use Rattle.std.specs.Prelude.{ℕ, ◌≡◌, ◌+◌, ◌^◌, ◌<◌};
 ghost use Rattle.model.specs.Kernel.Scheduling.{tick};
-ghost use Rattle.model.specs.Kernel.Steps.{ran, step};
+ghost use Rattle.model.specs.Kernel.Steps.{place_of, ran, step};
 ghost use Rattle.objects.specs.Lives.{state_in};
 ghost use Rattle.soundness.specs.Running.{IsRunning};
 
@@ -13,6 +13,7 @@ use model::{Event, Label};
 use packed_slots::WalkStore;
 use sched::{choose, tick};
 use slots::SlotStore;
+use user_memory::{read_word, write_word};
 
 /// Where physical memory begins.
 pub(crate) const MEMORY_BASE: u32 = 0x8000_0000;
@@ -54,7 +55,16 @@ fn pass_tick<S: SlotStore>(kernel: &mut Kernel<S>)
     tick(&mut kernel.live);
 }
 
-/// What an event does: the current thread goes on by an instruction, a tick passes, or an interrupt is raised.
+/// Where a physical address is in memory; those below it are at 0, where no frame is.
+fn place_of(address: u32) -> u32
+    ensures place { result ≡ place_of address }
+    ensures room { result + 3 < 2 ^ 32 }
+{
+    address.saturating_sub(MEMORY_BASE)
+}
+
+/// What an event does: the current thread goes on by an instruction, a tick passes, an interrupt is raised, or the world outside
+/// stores a word or looks at one.
 #[tactic(auto, unfolding(model::specs::Kernel::Steps::step))]
 pub(crate) fn step<S: WalkStore>(kernel: &mut Kernel<S>, event: Event) -> Label
     ensures state { state_in S.slots S.memory kernel.new
@@ -71,5 +81,13 @@ pub(crate) fn step<S: WalkStore>(kernel: &mut Kernel<S>, event: Event) -> Label
             raise(kernel, line);
             Label::Raised(line)
         }
+        Event::Write { address, word } => {
+            write_word(kernel, place_of(address), word);
+            Label::Wrote { address, word }
+        }
+        Event::Read { address } => Label::Showed {
+            address,
+            word: read_word(kernel, place_of(address)),
+        },
     }
 }

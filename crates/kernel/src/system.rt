@@ -38,8 +38,8 @@ impl System {
         }
     }
 
-    /// What an event does: the current thread runs one instruction, a tick of the timer passes, or an interrupt is
-    /// raised. The label says what came of it.
+    /// What an event does: the current thread runs one instruction, a tick of the timer passes, an interrupt is raised, or
+    /// the world outside stores a word or looks at one. The label says what came of it.
     pub fn step(&mut self, event: Event) -> Label
         ensures state { state_in self.new ≡ (step (state_in self.old) event).0 }
         ensures label { result ≡ (step (state_in self.old) event).1 }

@@ -15,3 +15,4 @@ pub mod PointRules
 pub mod Accepted
 pub mod ThreadInvariants
 pub mod Authority
+pub mod Devices

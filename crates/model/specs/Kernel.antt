@@ -19,6 +19,7 @@ pub mod InterruptCalls
 pub mod Invocations
 pub mod Setup
 pub mod Soundness
+pub mod World
 pub mod Steps
 pub mod Waits
 pub mod Outcomes

@@ -11,6 +11,20 @@ pub enum Label {
     Ticked,
     /// An interrupt on this line.
     Raised(u8),
+    /// The world outside stored a word.
+    Wrote {
+        /// The physical address of its first byte.
+        address: u32,
+        /// The word.
+        word: u32,
+    },
+    /// The world outside looked at a word.
+    Showed {
+        /// The physical address of its first byte.
+        address: u32,
+        /// What it saw.
+        word: u32,
+    },
     /// A thread ran one instruction.
     Ran {
         /// The thread: the physical address of its TCB.

@@ -7,7 +7,7 @@ use Rattle.model.specs.declared.capabilities.Cap.TheVariants.{InterruptHandler}
 use Rattle.model.specs.declared.errors.KError.{KError}
 use Rattle.model.specs.declared.errors.KError.TheVariants.{InvalidCapability}
 use Rattle.model.specs.declared.events.Event.{Event}
-use Rattle.model.specs.declared.events.Event.TheVariants.{Step, Tick, Irq}
+use Rattle.model.specs.declared.events.Event.TheVariants.{Step, Tick, Irq, Write, Read}
 use Rattle.model.specs.declared.instructions.Access.TheVariants as accesses
 use Rattle.model.specs.declared.instructions.Access.TheVariants.{Fetch}
 use Rattle.model.specs.declared.instructions.AccessSize.TheVariants.{Word}
@@ -246,6 +246,8 @@ unfolding step
 only-waits s Step waits = (refl, stepped-waits s (current s) refl waits)
 only-waits s Tick waits = no-wait waits
 only-waits s (Irq irq_line) waits = no-wait waits
+only-waits s (Write address word) waits = no-wait waits
+only-waits s (Read address) waits = no-wait waits
 
 -- ---- the waiting calls are waits, faults or errors
 

@@ -41,7 +41,7 @@ enum Line {
     Events(Event, u32),
 }
 
-/// The events of a list: lines `step`, `step N`, `tick` and `irq N`, empty lines and comments.
+/// The events of a list: lines `step`, `step N`, `tick`, `irq N`, `write ADDRESS WORD` and `read ADDRESS`, empty lines and comments.
 ///
 /// # Errors
 ///
@@ -92,8 +92,64 @@ fn line_of(line: &[u8]) -> Option<Line> {
             line @ 0..=GREATEST_LINE => Some(Line::Events(Event::Irq(line as u8), 1)),
             _ => None,
         },
+        [b'w', b'r', b'i', b't', b'e', b' ', words @ ..] => {
+            let (address, word) = split_at_space(words)?;
+            let address = address_of(address)?;
+            let word = word_of(word)?;
+            Some(Line::Events(Event::Write { address, word }, 1))
+        }
+        [b'r', b'e', b'a', b'd', b' ', word @ ..] => {
+            let address = address_of(word)?;
+            Some(Line::Events(Event::Read { address }, 1))
+        }
         _ => None,
     }
+}
+
+/// What stands before and after the first space.
+fn split_at_space(words: &[u8]) -> Option<(&[u8], &[u8])> {
+    let at = words.iter().position(|byte| *byte == b' ')?;
+    let (first, rest) = words.split_at(at);
+    Some((first, rest.get(1..)?))
+}
+
+/// The address of a word: a number that 4 divides.
+fn address_of(word: &[u8]) -> Option<u32> {
+    let address = word_of(word)?;
+    if address % 4 == 0 {
+        Some(address)
+    } else {
+        None
+    }
+}
+
+/// The number below 2^32 that decimal digits spell, or hexadecimal ones behind `0x`.
+fn word_of(word: &[u8]) -> Option<u32> {
+    match word {
+        [b'0', b'x', digits @ ..] => digits_in(digits, 16),
+        digits => digits_in(digits, 10),
+    }
+}
+
+/// The number below 2^32 that digits spell in a base.
+fn digits_in(digits: &[u8], base: u32) -> Option<u32> {
+    if digits.is_empty() {
+        return None;
+    }
+    let mut number = 0u32;
+    for byte in digits {
+        let digit = match *byte {
+            byte @ b'0'..=b'9' => u32::from(byte - b'0'),
+            byte @ b'a'..=b'f' => u32::from(byte - b'a') + 10,
+            byte @ b'A'..=b'F' => u32::from(byte - b'A') + 10,
+            _ => return None,
+        };
+        if digit >= base {
+            return None;
+        }
+        number = number.checked_mul(base)?.checked_add(digit)?;
+    }
+    Some(number)
 }
 
 /// The number that decimal digits spell, if there is one and it is not too great.

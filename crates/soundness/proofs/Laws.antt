@@ -37,6 +37,7 @@ pub use Rattle.soundness.proofs.ThreadCalls.{fine-of, passes-whole, registers-wh
 pub use Rattle.soundness.proofs.ThreadCalls.{tick-whole}
 pub use Rattle.soundness.proofs.UnusedMemory.{unused-free}
 pub use Rattle.soundness.proofs.Waking.{AreApart, apart-filter, in-filter, is_in, places-apart}
+pub use Rattle.soundness.proofs.WorldWrites.{IsWritten, written-beside, written-byte, written-whole}
 pub use Rattle.soundness.proofs.boot_laws.Laws.{AreFormed, BufferKept, CapabilityKept, CountsAreLengths, FrameKept, IsWithin, ReadsBoot, ReadsObjects}
 pub use Rattle.soundness.proofs.boot_laws.Laws.{TableKept, ThreadKept, any-taken, are-formed, boot-slots-suffice, boots-well, buffer-kept}
 pub use Rattle.soundness.proofs.boot_laws.Laws.{buffer-slot, bytes-long, cnode-slot, cnode-type, contents-fit, counts-are, cspace-slot}

@@ -46,3 +46,4 @@ mod UnmappedTables
 mod UnusedMemory
 mod Waking
 pub mod Laws
+mod WorldWrites

@@ -332,7 +332,7 @@ list-small bytes index less = elim (cases_lt index (length bytes)) [
   | inr outside ↦ let e = get_or_past bytes index 0 outside in omega (arith, e)
 ]
 
-filled-whole : (s : State) (offset : ℕ) (bytes : List ℕ) → IsSound s → All (λ byte. byte < 2 ^ 8) bytes → IsSound (with_first_bytes s offset bytes)
+pub filled-whole : (s : State) (offset : ℕ) (bytes : List ℕ) → IsSound s → All (λ byte. byte < 2 ^ 8) bytes → IsSound (with_first_bytes s offset bytes)
 filled-whole s offset bytes whole small =
     bytes-whole s (λ place. if is_within offset (length bytes) place then option_map (λ _. slice_index bytes (place - offset)) (s.bytes place) else
     s.bytes place) whole

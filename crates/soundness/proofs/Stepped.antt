@@ -5,7 +5,7 @@ use Rattle.std.specs.Int.{from_le_bytes}
 use Rattle.std.specs.Option.{option_map_or}
 use Rattle.std.proofs.lemmas.List.Elements.{All-cons, All-nil}
 use Rattle.model.specs.declared.events.Event.{Event}
-use Rattle.model.specs.declared.events.Event.TheVariants.{Step, Tick, Irq}
+use Rattle.model.specs.declared.events.Event.TheVariants.{Step, Tick, Irq, Write, Read}
 use Rattle.model.specs.declared.instructions.Access.{Access}
 use Rattle.model.specs.declared.instructions.Access.TheVariants.{Load, Store, Fetch}
 use Rattle.model.specs.declared.instructions.AccessSize.TheVariants.{Word}
@@ -22,7 +22,7 @@ use Rattle.model.specs.Kernel.Faults.{fault, instruction_fault, memory_fault}
 use Rattle.model.specs.Kernel.Messages.{with_registers}
 use Rattle.model.specs.Kernel.Scheduling.{current}
 use Rattle.model.specs.Kernel.State.{State, thread_at}
-use Rattle.model.specs.Kernel.Steps.{Done, after_effect, ran, registers_of, runs, runs_decoded, runs_fetched, state_after, step}
+use Rattle.model.specs.Kernel.Steps.{Done, after_effect, place_of, ran, registers_of, runs, runs_decoded, runs_fetched, state_after, step}
 use Rattle.model.specs.Machine.Decoding.{decoded}
 use Rattle.model.specs.Machine.Effects.{access_number, cause_number, effect}
 use Rattle.model.specs.Machine.ProgramMemory.{Content, ◌>>=◌, loaded, next_address, place_at, place_or_fault, places_from, width_of}
@@ -35,6 +35,7 @@ use Rattle.soundness.proofs.Registers.{registers-of}
 use Rattle.soundness.proofs.Running.{current-runs}
 use Rattle.soundness.proofs.SystemCalls.{system_call-whole}
 use Rattle.soundness.proofs.ThreadCalls.{fine-of, registers-whole, tick-whole}
+use Rattle.soundness.proofs.WorldWrites.{written-whole}
 
 pub access-less : (access : Access) → access_number access < 2 ^ 32
 access-less Load = omega arith
@@ -137,6 +138,8 @@ unfolding step
 step-whole instructions s Step whole = stepped-whole instructions s whole (current s) refl
 step-whole instructions s Tick whole = tick-whole s whole
 step-whole instructions s (Irq irq_line) whole = raise-whole s whole irq_line
+step-whole instructions s (Write address word) whole = written-whole s (place_of address) word whole
+step-whole instructions s (Read address) whole = whole
 
 pub events-whole : InstructionsKeep → (s : State) (events : List Event) → IsSound s → IsSound (state_after s events)
 unfolding state_after

@@ -44,6 +44,16 @@ fn front(thread: u32, pc: u32) -> [u8; 18]
     ]
 }
 
+/// Appends an address, and the word that is there.
+fn push_word(to: &mut Line, address: u32, word: u32)
+    requires { array_vec_len to.old + 17 ≤ 32 }
+    ensures { to.new.items ≡ to.old.items ++ (hex_word address ++ (0x20 ∷ hex_word word)) }
+{
+    push_text(to, &hex_word(address));
+    push_text(to, b" ");
+    push_text(to, &hex_word(word));
+}
+
 /// The line that a trace has for `label`, without a line feed.
 pub fn line(label: Label) -> ArrayVec<u8, 32>
     ensures { result.items ≡ line_of label }
@@ -55,6 +65,14 @@ pub fn line(label: Label) -> ArrayVec<u8, 32>
         Label::Raised(irq_line) => {
             push_text(&mut text, b"irq ");
             push_decimal(&mut text, irq_line);
+        }
+        Label::Wrote { address, word } => {
+            push_text(&mut text, b"write ");
+            push_word(&mut text, address, word);
+        }
+        Label::Showed { address, word } => {
+            push_text(&mut text, b"read ");
+            push_word(&mut text, address, word);
         }
         Label::Ran {
             thread,

@@ -1,13 +1,12 @@
 -- Bytes that are written into a frame are those that filling it gives.
 use Rattle.std.proofs.Common.{ℕ, ◌≡◌, ◌∙◌, ◌+◌, ◌-◌, ◌%◌, ◌^◌, ◌<◌, ◌≤◌, ◌&&◌, Bool, true, false, if◌then◌else◌, Option, Some, None, IsSome, option_map, List}
 use Rattle.std.proofs.Common.{length, refl, sym, ap, subst, arith}
-use Rattle.std.specs.Prelude.{nat_le, slice_index}
+use Rattle.std.specs.Prelude.{nat_le}
 use Rattle.std.proofs.lemmas.Bool.{and_parts, leb-true}
 use Rattle.std.proofs.Math.Pow.{pow_mono}
 use Rattle.kernel_invariant.specs.Agreement.{Agrees}
-use Rattle.model.proofs.SlotChanges.{within-bounds}
 use Rattle.model.specs.Capabilities.CapabilityWords.{IsCapability}
-use Rattle.model.specs.Capabilities.Slots.{OutsideSlots, Slots, capability_at, is_within}
+use Rattle.model.specs.Capabilities.Slots.{OutsideSlots, Slots, capability_at}
 use Rattle.model.specs.Kernel.AddressSpaces.{page_size}
 use Rattle.model.specs.Kernel.Kinds.{Names, frame_around, kind_at, kind_of}
 use Rattle.model.specs.Kernel.Retype.{NewObject, NewThread, NewEndpoint, NewNotification, NewCNode, NewFrame, NewPageTable, NewRootTable}
@@ -18,17 +17,16 @@ use Rattle.model.specs.Kernel.State.{RootTableObject}
 use Rattle.model.specs.declared.capabilities.Cap.{Cap}
 use Rattle.model.specs.declared.capabilities.Cap.TheVariants.{Empty, Untyped, Endpoint, Notification, CNode, Frame, PageTable, Tcb, RootTable, InterruptControl}
 use Rattle.model.specs.declared.capabilities.Cap.TheVariants.{InterruptHandler}
-use Rattle.objects.specs.Frames.{SameBesideFrames}
 use Rattle.objects.specs.Standing.{Standing}
 use Rattle.objects.specs.Tables.{Tables, state_of}
 use Rattle.soundness.proofs.Laws.{object-inside}
 use Rattle.user_memory.proofs.Named.{place-outside}
-use Rattle.user_memory.proofs.Stored.{own-bytes, stored-agrees, stored-stands, stored-state}
+use Rattle.user_memory.proofs.BytesWritten.{written-agrees, written-stands, written-state}
 use Rattle.user_memory.specs.Fills.{AreWritten}
 
 -- ---- the frame
 
-frame-kind : (o : Option Object) → is_frame_object o ≡ true → option_map kind_of o ≡ Some NewFrame
+pub frame-kind : (o : Option Object) → is_frame_object o ≡ true → option_map kind_of o ≡ Some NewFrame
 frame-kind (Some FrameObject) is = refl
 frame-kind None is = absurd (let clash : false ≡ true = is in cc)
 frame-kind (Some (ThreadObject t)) is = absurd (let clash : false ≡ true = is in cc)
@@ -98,46 +96,23 @@ pub not-filled : (s : State) (offset : ℕ) (bytes : List ℕ) → may_fill s of
 unfolding fill
 not-filled s offset bytes may_not = ap (λ b. if b then Some (with_first_bytes s offset bytes) else None) may_not
 
-filled-byte : (within : Bool) (b : Option ℕ) (byte old : ℕ) → option_map (λ _. old) b ≡ b
-    → option_map (λ _. if within then byte else old) b ≡ (if within then option_map (λ _. byte) b else b)
-filled-byte true b byte old own = refl
-filled-byte false b byte old own = own
-
 module _ (o : Tables) (slots : Slots) (old new : List ℕ) (offset : ℕ) (bytes : List ℕ) (written : AreWritten old new offset (length bytes) bytes)
     (agrees : Agrees (state_of o slots old) old) (sound : IsSound (state_of o slots old)) (stood : Standing o slots old)
     (may : may_fill (state_of o slots old) offset (length bytes) ≡ true) where
   abbrev before : State
   before = state_of o slots old
 
-  -- where no frame is, nothing is written
-  none-same : (place : ℕ) → before.bytes place ≡ None → slice_index new place ≡ slice_index old place
-  none-same place none =
-      written.bytes place ∙ elim (is_within offset (length bytes) place) as (λ b. is_within offset (length bytes) place ≡ b
-      → (if b then slice_index bytes (place - offset) else slice_index old place) ≡ slice_index old place) [
-        | true ↦ λ is.
-            let bounds = within-bounds offset (length bytes) place is in
-            let some = fill-some before old offset (length bytes) agrees sound may place bounds.0 bounds.1 in
-            let clash : IsSome {T = ℕ} None = subst (λ (b : Option ℕ). IsSome b) none some in
-            absurd cc
-        | false ↦ λ is. refl
-      ] refl
-
-  same-frames : SameBesideFrames before old new
-  same-frames = record { size = written.size; bytes = none-same }
-
-  pub filled-state : state_of o slots new ≡ with_first_bytes before offset bytes
-  filled-state = stored-state o slots old new stood same-frames ∙ (λ i. record before {
-    bytes = λ place. (ap (λ (byte : ℕ). option_map (λ _. byte) (before.bytes place)) (written.bytes place)
-        ∙ filled-byte (is_within offset (length bytes) place) (before.bytes place) (slice_index bytes (place - offset)) (slice_index old place)
-        (own-bytes o slots old place)) i;
-  })
+  some : (place : ℕ) → offset ≤ place → place < offset + length bytes → IsSome (before.bytes place)
+  some place low high = fill-some before old offset (length bytes) agrees sound may place low high
 
   pub fill-done : fill before offset bytes ≡ Some (state_of o slots new)
   unfolding fill
-  fill-done = ap (λ b. if b then Some (with_first_bytes before offset bytes) else None) may ∙ ap Some (sym filled-state)
+  fill-done =
+      ap (λ b. if b then Some (with_first_bytes before offset bytes) else None) may
+      ∙ ap Some (sym (written-state o slots old new offset bytes written stood some))
 
   pub fill-agrees : Agrees (state_of o slots new) new
-  fill-agrees = stored-agrees o slots old new stood same-frames agrees
+  fill-agrees = written-agrees o slots old new offset bytes written stood some agrees
 
   pub fill-stands : Standing o slots new
-  fill-stands = stored-stands o slots old new stood same-frames
+  fill-stands = written-stands o slots old new offset bytes written stood some

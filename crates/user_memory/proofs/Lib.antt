@@ -21,3 +21,5 @@ pub mod WordStores
 pub mod Words
 pub mod Writing
 pub mod Written
+pub mod BytesWritten
+pub mod WordsOfFrames

@@ -14,7 +14,7 @@ use slots::SlotStore;
 const PAGE_SIZE: usize = 4096;
 
 /// Writes bytes into memory from an offset on, where no slot is open.
-fn write_bytes<S: SlotStore>(store: &mut S, offset: u32, bytes: &[u8])
+pub(crate) fn write_bytes<S: SlotStore>(store: &mut S, offset: u32, bytes: &[u8])
     requires within { offset + length bytes.now ≤ length (S.memory store.old) }
     requires most { length (S.memory store.old) ≤ 2 ^ 24 }
     requires outside { OutsideSlots (S.slots store.old) offset (length bytes.now) }

@@ -15,6 +15,7 @@ mod roots;
 mod spaces;
 mod thread_registers;
 mod view;
+mod world;
 
 pub use execution::{execute, fetch};
 pub use filling::fill;
@@ -22,3 +23,4 @@ pub use known_words::KnownWords;
 pub use labels::Labels;
 pub use plain_runs::{PlainRun, run_plain};
 pub use roots::root_of;
+pub use world::{read_word, write_word};

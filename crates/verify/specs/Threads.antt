@@ -1,6 +1,7 @@
 -- What is true of the threads of an accepted image.
 use Rattle.std.specs.Prelude.{◌≡◌, ◌++◌, false, List, [], ◌∷◌, Some, Contains}
 use Rattle.headline.specs.facts.Standing.{AllStand}
+use Rattle.model.specs.Acceptance.Devices.{KeepsDevices}
 use Rattle.model.specs.Acceptance.ThreadInvariants.{ThreadInvariant, tcb_of}
 use Rattle.model.specs.Images.Described.{Numbered, described, numbered_threads}
 use Rattle.model.specs.Images.Image.{Image}
@@ -40,6 +41,8 @@ PlainStepsAreKept image =
 abbrev pub AllStandAtFirst : Image → Type 0
 AllStandAtFirst image = AllStand image (described image) []
 
--- In every state in which the threads' invariant holds, each event goes well: no fault, no error, and the invariant holds again after it.
+-- In every state in which the threads' invariant holds, each event goes well, if what the world does keeps to device pages: no fault, no
+-- error, and the invariant holds again after it.
 abbrev pub EventsGoWell : Image → Type 0
-EventsGoWell image = (s : State) (labels : List Label) (event : Event) → AllStand image s labels → GoesWell image s labels event
+EventsGoWell image =
+    (s : State) (labels : List Label) (event : Event) → KeepsDevices image event → AllStand image s labels → GoesWell image s labels event

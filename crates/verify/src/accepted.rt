@@ -72,7 +72,8 @@ pub fn verify(alloc: Global, bytes: &[u8]) -> Result<Accepted<'_>, Refusal>
     // In that state the threads' invariant holds, and they wait for what they asked.
     ensures stands { IfOk result AllStandAtFirst }
     // Where the threads' invariant holds, whatever happens next goes well: a step is no fault and no error, whoever
-    // runs and whatever it calls, and after a step, a tick and an interrupt the invariant holds again.
+    // runs and whatever it calls, and after a step, a tick, an interrupt, and a write or a look of the world in a device
+    // page, the invariant holds again.
     ensures events { IfOk result EventsGoWell }
     // What cannot be read is refused for the first reason, and takes no memory.
     ensures unread { IfErr (reading whole_image bytes.now) (λ refusal. result ≡ Err refusal) }

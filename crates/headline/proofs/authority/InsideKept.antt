@@ -40,7 +40,7 @@ use Rattle.headline.proofs.authority.Stored.{capability_of}
 unnamed : {A : Type 0} (kind : NewObject) (offset : ℕ) → ◌≡◌ {A = Option (NewObject × ℕ)} None (Some (kind, offset)) → A
 unnamed kind offset clash = absurd (none-some (kind, offset) clash)
 
-names-kind : (offset : ℕ) (c : Cap) → names_object offset c ≡ true → (kind : NewObject) × Names kind offset c
+pub names-kind : (offset : ℕ) (c : Cap) → names_object offset c ≡ true → (kind : NewObject) × Names kind offset c
 names-kind offset Empty is = absurd (false≢true is)
 names-kind offset (Untyped _ _ _) is = absurd (false≢true is)
 names-kind offset (Endpoint a r b) is = (NewEndpoint, ap (λ (o : ℕ). Some (NewEndpoint, o)) (eqb-true a offset is))

@@ -4,7 +4,7 @@ use Rattle.std.proofs.Common.{ℕ, ◌≡◌, ◌≢◌, ◌∙◌, inl, inr, Li
 use Rattle.std.specs.Prelude.{Contains}
 use Rattle.std.proofs.lemmas.Bool.Decides.{eqb_tells}
 use Rattle.model.specs.declared.events.Event.{Event}
-use Rattle.model.specs.declared.events.Event.TheVariants.{Step, Tick, Irq}
+use Rattle.model.specs.declared.events.Event.TheVariants.{Step, Tick, Irq, Write, Read}
 use Rattle.model.specs.declared.slot_entries.Entry.{Entry}
 use Rattle.model.specs.Acceptance.Accepted.{IsAccepted}
 use Rattle.model.specs.Acceptance.Authority.{OwnStep, StaysWithin, WithinAuthority}
@@ -12,12 +12,14 @@ use Rattle.model.specs.Acceptance.ThreadInvariants.{root_table_of}
 use Rattle.model.specs.Capabilities.CapabilityKinds.{frame_mapping}
 use Rattle.model.specs.Capabilities.Slots.{Slots, capability_at}
 use Rattle.model.specs.Kernel.Interrupts.{raise}
-use Rattle.soundness.specs.Machines.{SameBase}
-use Rattle.soundness.proofs.Laws.{raise-machine, tick-machine}
+use Rattle.soundness.specs.Machines.{SameBase, SameBesideBytes}
+use Rattle.soundness.proofs.Laws.{raise-machine, tick-machine, written-beside}
 use Rattle.model.specs.Images.Described.{Numbered, numbered_threads}
 use Rattle.model.specs.Images.Image.{Image}
 use Rattle.model.specs.Kernel.Scheduling.{current, tick}
 use Rattle.model.specs.Kernel.State.{State}
+use Rattle.model.specs.Kernel.Steps.{place_of}
+use Rattle.model.specs.Kernel.World.{world_writes}
 use Rattle.headline.specs.authority.OwnMaps.{AllMapOwn}
 use Rattle.headline.proofs.authority.Stored.{capability_of}
 use Rattle.headline.proofs.invocations.TwoThreads.{one-owner}
@@ -56,3 +58,7 @@ module _ (bytes : List ℕ) (image : Image) (accepted : IsAccepted bytes image) 
   maps-own-kept Step (inr step) = own-step step
   maps-own-kept Tick within = same-slots (tick s) (tick-machine s) within
   maps-own-kept (Irq line) within = same-slots (raise s line) (raise-machine s line) within
+  maps-own-kept (Write address word) within =
+      let place = place_of address in
+      same-slots (world_writes s place word) (SameBesideBytes.base (written-beside s place word)) within
+  maps-own-kept (Read address) same = subst (λ (x : State). AllMapOwn image x) (sym same) before

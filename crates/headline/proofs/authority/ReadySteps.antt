@@ -1,5 +1,5 @@
 -- Each event keeps the ready list free of doubles.
-use Rattle.std.proofs.Common.{ℕ, ◌≡◌, ◌==◌, ◌&&◌, ◌||◌, Bool, true, false, not, if◌then◌else◌, List, [], ◌∷◌, Option, Some, None, Result, Ok, Err, refl, subst}
+use Rattle.std.proofs.Common.{ℕ, ◌≡◌, ◌==◌, ◌&&◌, ◌||◌, Bool, true, false, not, if◌then◌else◌, List, [], ◌∷◌, Option, Some, None, Result, Ok, Err, refl, subst, sym}
 use Rattle.std.specs.Prelude.{◌+◌, ◌-◌, ◌/◌, ◌%◌, ◌^◌, ◌++◌, filter, fold, is_some, nat_le, nat_lt}
 use Rattle.std.specs.Option.{option_map_or}
 use Rattle.model.specs.declared.capabilities.Cap.{Cap}
@@ -9,7 +9,7 @@ use Rattle.model.specs.declared.errors.KError.{KError}
 use Rattle.model.specs.declared.errors.KError.TheVariants.{AlignmentError, DeleteFirst, FailedLookup, IllegalOperation, InvalidArgument, InvalidCapability}
 use Rattle.model.specs.declared.errors.KError.TheVariants.{NotEnoughMemory, RangeError, RevokeFirst}
 use Rattle.model.specs.declared.events.Event.{Event}
-use Rattle.model.specs.declared.events.Event.TheVariants.{Step, Tick, Irq}
+use Rattle.model.specs.declared.events.Event.TheVariants.{Step, Tick, Irq, Write, Read}
 use Rattle.model.specs.declared.instructions.Access.TheVariants.{Fetch}
 use Rattle.model.specs.declared.instructions.AccessSize.TheVariants.{Word}
 use Rattle.model.specs.declared.instructions.Exec.{Exec}
@@ -67,13 +67,15 @@ use Rattle.model.specs.Kernel.State.{AwaitsReply, AwaitsHandler, as_thread, bind
 use Rattle.model.specs.Kernel.State.{notification_at, put, thread_at, vspace_slot, with_endpoint, with_notification, with_slots, with_thread}
 use Rattle.model.specs.Kernel.Steps.{Done, call_of, calls, calls_known, registers_of, lacks_capability, named_slot, signal_on, after_effect, after_invocation}
 use Rattle.model.specs.Kernel.Steps.{answered, completed, invokes, ran, receive_by, receive_named, receive_on_endpoint, receive_on_notification, refused, runs}
-use Rattle.model.specs.Kernel.Steps.{runs_decoded, runs_fetched, send_by, send_named, send_on, sender, sends_nothing, step, system_call}
+use Rattle.model.specs.Kernel.Steps.{place_of, runs_decoded, runs_fetched, send_by, send_named, send_on, sender, sends_nothing, step, system_call}
 use Rattle.model.specs.declared.system_calls.SendCall.{SendCall}
 use Rattle.model.specs.declared.system_calls.SendCall.TheVariants.{Calling, Sending, Trying}
 use Rattle.model.specs.declared.system_calls.ReceiveCall.{ReceiveCall}
 use Rattle.model.specs.declared.system_calls.ReceiveCall.TheVariants.{Receiving, Polling}
 use Rattle.model.specs.declared.system_calls.SystemCall.{SystemCall}
 use Rattle.model.specs.declared.system_calls.SystemCall.TheVariants.{Sends, Receives, RepliesAndReceives, Replies, Yields, PutsCharacter}
+use Rattle.soundness.specs.Machines.{SameBesideBytes}
+use Rattle.soundness.proofs.Laws.{written-beside}
 use Rattle.headline.specs.authority.Ready.{HoldsNoneTwice}
 use Rattle.headline.proofs.authority.ReadyLists.{filtered-none_twice, moved-none_twice, unready-none_twice}
 
@@ -592,6 +594,8 @@ unfolding step
 event-sound s Step before = stepped-sound s (current s) before
 event-sound s Tick before = tick-sound s before
 event-sound s (Irq irq_line) before = raise-sound s irq_line before
+event-sound s (Write address word) before = same (sym (SameBesideBytes.ready (written-beside s (place_of address) word))) before
+event-sound s (Read address) before = before
 
 pub step-sound : (s : State) (event : Event) → HoldsNoneTwice s.ready → HoldsNoneTwice (step s event).0.ready
 step-sound s event before = (event-sound s event (record { holds = before })).holds

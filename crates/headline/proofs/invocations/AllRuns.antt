@@ -1,5 +1,5 @@
 -- Whatever happens to an accepted image, all goes well.
-use Rattle.std.proofs.Common.{ℕ, ◌≡◌, ◌∙◌, ◌⊎◌, inl, inr, Option, Some, None, Result, Ok, Err, List, [], refl, sym, subst}
+use Rattle.std.proofs.Common.{ℕ, ◌≡◌, ◌∙◌, ◌⊎◌, inl, inr, Option, Some, None, Result, Ok, Err, List, [], All, refl, sym, subst}
 use Rattle.headline.specs.calls.Messages.{IsInvoked}
 use Rattle.headline.specs.facts.Standing.{AllStand}
 use Rattle.model.specs.declared.capabilities.Cap.{Cap}
@@ -8,6 +8,7 @@ use Rattle.model.specs.declared.capabilities.Cap.TheVariants.{InterruptHandler}
 use Rattle.model.specs.declared.events.Event.{Event}
 use Rattle.model.specs.declared.lookup_failures.LookupFailure.{LookupFailure}
 use Rattle.model.specs.Acceptance.Accepted.{IsAccepted}
+use Rattle.model.specs.Acceptance.Devices.{KeepsDevices}
 use Rattle.model.specs.Acceptance.ThreadInvariants.{tcb_of}
 use Rattle.model.specs.Capabilities.Slots.{capability_at}
 use Rattle.model.specs.Images.Described.{described}
@@ -19,7 +20,7 @@ use Rattle.model.specs.declared.system_calls.SendCall.{SendCall}
 use Rattle.model.specs.declared.system_calls.SystemCall.{SystemCall}
 use Rattle.model.specs.declared.system_calls.SystemCall.TheVariants.{Sends, Receives, RepliesAndReceives, Replies, Yields, PutsCharacter}
 use Rattle.model.specs.Machine.ProgramMemory.{read}
-use Rattle.headline.specs.moves.Laws.{InterruptsGoWell, Laws, MessagesGoWell, PlainStepsGoWell, TicksGoWell}
+use Rattle.headline.specs.moves.Laws.{InterruptsGoWell, Laws, MessagesGoWell, PlainStepsGoWell, ReadsGoWell, TicksGoWell, WritesGoWell}
 use Rattle.headline.specs.moves.Steps.{HasGoneWell, InvokesNothing}
 use Rattle.headline.proofs.moves.Laws.{run-goes-by, step-goes-by}
 use Rattle.headline.specs.invocations.Invoking.{Invokes}
@@ -88,7 +89,7 @@ any-step-goes laws invocations messages plain bytes image s labels accepted all 
 
 -- ---- events
 
-pub any-run-goes : AnyStepGoesWell → TicksGoWell → InterruptsGoWell → (bytes : List ℕ) (image : Image) (events : List Event) → IsAccepted bytes image
-    → AllStand image (described image) [] → HasGoneWell image events
-any-run-goes steps ticks interrupts bytes image events accepted start =
-    run-goes-by ticks interrupts bytes image accepted (λ s labels all. steps bytes image s labels accepted all) events start
+pub any-run-goes : AnyStepGoesWell → TicksGoWell → InterruptsGoWell → WritesGoWell → ReadsGoWell → (bytes : List ℕ) (image : Image) (events : List Event)
+    → IsAccepted bytes image → All (KeepsDevices image) events → AllStand image (described image) [] → HasGoneWell image events
+any-run-goes steps ticks interrupts world_writes world_reads bytes image events accepted devices start =
+    run-goes-by ticks interrupts world_writes world_reads bytes image accepted (λ s labels all. steps bytes image s labels accepted all) events devices start

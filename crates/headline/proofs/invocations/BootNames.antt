@@ -30,7 +30,7 @@ use Rattle.typestate.specs.Spaces.{HeldInBoot}
 module _ (image : Image) (fits : whole_image.fits image ≡ true) (well : IsWellFormed image) where
   -- ---- an object that is no untyped memory
 
-  typed-held : (number : ℕ) (kind : NewObject) (o : Object) → number < image.header.objects → type_at image number ≡ Some kind
+  pub typed-held : (number : ℕ) (kind : NewObject) (o : Object) → number < image.header.objects → type_at image number ≡ Some kind
       → is_untyped_type (Some kind) ≡ false
       → object kind ≡ Some o → HeldInBoot image (names_object (offset_of image number))
   typed-held number kind o less typed plain made =

@@ -1,29 +1,24 @@
 -- The message buffers of an accepted image's threads, while all stand: each is the frame that the image gives the thread, which no earlier
 -- thread has, and which is no code. So what one of them receives changes no byte of code.
-use Rattle.std.proofs.Common.{ℕ, ◌≡◌, ◌∙◌, ◌==◌, ◌&&◌, ◌+◌, ◌*◌, ◌^◌, ◌<◌, ◌≤◌, ◌⊎◌, inl, inr, Bool, true, false, Option, Some, None, List, refl, sym, ap}
-use Rattle.std.proofs.Common.{arith}
+use Rattle.std.proofs.Common.{ℕ, ◌≡◌, ◌∙◌, ◌==◌, ◌+◌, ◌*◌, ◌^◌, ◌<◌, ◌≤◌, ◌⊎◌, inl, inr, true, false, Option, Some, None, List, refl, sym, ap}
+use Rattle.std.proofs.Common.{arith, subst}
 use Rattle.std.specs.Prelude.{Contains, find, slice_get}
 use Rattle.std.specs.Option.{option_map_or}
 use Rattle.std.proofs.lemmas.Bool.{cases_order, eq-eqb}
-use Rattle.std.proofs.lemmas.List.Folds.{list_any_at}
-use Rattle.std.proofs.lemmas.Option.{slice_get-get_or}
-use Rattle.format_laws.specs.Fitting.{FrameFits, IsFitting}
 use Rattle.format_laws.proofs.Laws.{is-fitting}
-use Rattle.soundness.specs.boot_laws.Standing.{StandApart}
-use Rattle.soundness.proofs.Laws.{AreFormed, BufferKept, FrameKept, are-formed, buffer-kept, buffer-slot, first_of_type, frame-listed, frame-type, mapped_by}
+use Rattle.soundness.proofs.Laws.{BufferKept, are-formed, buffer-kept, buffer-slot, first_of_type, frame-listed, frame-type, mapped_by}
 use Rattle.soundness.proofs.Laws.{stand-apart}
 use Rattle.model.specs.declared.capabilities.Cap.TheVariants.{Empty}
-use Rattle.model.specs.declared.entries.FrameEntry.{FrameEntry}
 use Rattle.model.specs.declared.entries.TableEntry.{TableEntry}
 use Rattle.model.specs.declared.labels.Label.{Label}
 use Rattle.model.specs.declared.slot_entries.Entry.{Entry}
 use Rattle.model.specs.Acceptance.Accepted.{IsAccepted}
 use Rattle.model.specs.Acceptance.ThreadInvariants.{IsCode, tcb_of}
-use Rattle.model.specs.Acceptance.WellFormed.{executes, is_frame_type}
+use Rattle.model.specs.Acceptance.WellFormed.{is_frame_type}
 use Rattle.model.specs.Capabilities.CapabilityKinds.{frame_of}
 use Rattle.model.specs.Images.Described.{Numbered, described, numbered_threads, original}
 use Rattle.model.specs.Images.Image.{Image, no_buffer}
-use Rattle.model.specs.Images.Places.{bits_of, object_at, offset_of, type_at}
+use Rattle.model.specs.Images.Places.{offset_of, type_at}
 use Rattle.model.specs.Kernel.AddressSpaces.{page_size}
 use Rattle.model.specs.Kernel.Messages.{buffer_of, bytes_between}
 use Rattle.model.specs.Kernel.Retype.{NewObject, NewFrame}
@@ -32,7 +27,7 @@ use Rattle.thread_spaces.proofs.Laws.{buffer-shown, no_buffer-shown}
 use Rattle.headline.specs.facts.Standing.{AllStand}
 use Rattle.headline.proofs.kept.BlockSlots.{block-apart, block-thread}
 use Rattle.headline.proofs.kept.CopiedBytes.{IsCopied, copied-at}
-use Rattle.headline.proofs.kept.FramePlaces.{frame-bits}
+use Rattle.headline.proofs.kept.UnexecutedFrames.{unexecuted-apart}
 use Rattle.headline.proofs.kept.OwnBlocks.{before-fails, one-object, one-thread, thread-entry}
 
 -- a frame's original names the frame
@@ -117,38 +112,10 @@ own-buffers bytes image a b frame accepted first second one two =
 -- the buffer is another frame than one of code, and they lie apart
 module _ (bytes : List ℕ) (image : Image) (accepted : IsAccepted bytes image) (t : Numbered) (frame : ℕ) (own : IsOwnBuffer image t frame) (code : ℕ)
     (is : IsCode image code) where
-  abbrev buffer : ℕ
-  buffer = t.thread.header.buffer
-
-  listed-at : slice_get image.frames is.listed.0 ≡ Some is.entry
-  listed-at = slice_get-get_or image.frames is.listed.0 is.entry is.listed.1 ∙ ap (λ (f : FrameEntry). Some f) is.listed.2
-
-  executed-frame : is_frame_type (type_at image is.entry.frame) ≡ true
-  executed-frame = FrameKept.frame (AreFormed.frame (are-formed image accepted.formed) is.listed.0 is.entry listed-at)
-
-  executed-less : is.entry.frame < image.header.objects
-  executed-less = FrameFits.frame (IsFitting.frame (is-fitting image accepted.spelled.fits) is.listed.0 is.entry listed-at)
-
-  not-executed : buffer ≡ is.entry.frame → ⊥
-  not-executed same =
-      let passes : (is.entry.frame == buffer && executes is.entry) ≡ true =
-      ap (λ (b : Bool). b && executes is.entry) (eq-eqb is.entry.frame buffer (sym same)) ∙ is.executes in
-      let some = list_any_at (λ f. f.frame == buffer && executes f) image.frames is.listed.0 is.entry is.listed.1
-      (ap (λ (f : FrameEntry). f.frame == buffer && executes f) is.listed.2 ∙ passes) in
-      let clash : false ≡ true = sym own.kept.no_code ∙ some in cc
-
   pub code-apart : (frame + 2 ^ 12 ≤ code) ⊎ (code + 2 ^ 12 ≤ frame)
   code-apart =
-      let one : bits_of (object_at image buffer) ≡ 12 = frame-bits (type_at image buffer) own.kept.frame in
-      let two : bits_of (object_at image is.entry.frame) ≡ 12 = frame-bits (type_at image is.entry.frame) executed-frame in
-      let size : 2 ^ bits_of (object_at image buffer) ≡ 4096 = ap (λ (k : ℕ). 2 ^ k) one in
-      let other_size : 2 ^ bits_of (object_at image is.entry.frame) ≡ 4096 = ap (λ (k : ℕ). 2 ^ k) two in
-      let place = own.place in
-      let code_place = is.place in
-      elim (StandApart.apart (stand-apart image accepted.spelled.fits accepted.formed) buffer is.entry.frame own.less executed-less not-executed) [
-        | inl before ↦ inl (omega (arith, before, size, place, code_place))
-        | inr behind ↦ inr (omega (arith, behind, other_size, place, code_place))
-      ]
+      subst (λ (n : ℕ). (n + 2 ^ 12 ≤ code) ⊎ (code + 2 ^ 12 ≤ n)) (sym own.place)
+      (unexecuted-apart bytes image accepted t.thread.header.buffer own.less own.kept.frame own.kept.no_code code is)
 
   outside : (index place count : ℕ) → place ≡ frame + index → index < 4 * count → count ≤ 127 → code ≤ place → place < code + page_size → ⊥
   outside index place count at less few low high = elim code-apart [

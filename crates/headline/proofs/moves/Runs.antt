@@ -2,11 +2,11 @@
 use Rattle.std.proofs.Common.{ℕ, ◌≡◌, ◌∙◌, ◌++◌, ◌⊎◌, inl, inr, true, false, Option, Some, None, Result, Ok, Err, List, [], ◌∷◌, All, refl, sym, ap, subst}
 use Rattle.std.specs.Prelude.{Contains}
 use Rattle.std.specs.Option.{option_map_or}
-use Rattle.std.proofs.lemmas.List.Elements.{All-cons, All-nil}
+use Rattle.std.proofs.lemmas.List.Elements.{All-cons, All-head, All-nil, All-tail}
 use Rattle.soundness.proofs.Laws.{current-runs}
 use Rattle.headline.specs.facts.Standing.{AllStand}
 use Rattle.model.specs.declared.events.Event.{Event}
-use Rattle.model.specs.declared.events.Event.TheVariants.{Step, Tick, Irq}
+use Rattle.model.specs.declared.events.Event.TheVariants.{Step, Tick, Irq, Write, Read}
 use Rattle.model.specs.declared.instructions.Access.TheVariants as accesses
 use Rattle.model.specs.declared.instructions.AccessSize.TheVariants.{Word}
 use Rattle.model.specs.declared.instructions.Instr.{Instr}
@@ -15,6 +15,7 @@ use Rattle.model.specs.declared.instructions.MemoryFault.{MemoryFault}
 use Rattle.model.specs.declared.labels.Label.{Label}
 use Rattle.model.specs.declared.labels.Label.TheVariants.{Idle}
 use Rattle.model.specs.Acceptance.Accepted.{IsAccepted}
+use Rattle.model.specs.Acceptance.Devices.{KeepsDevices}
 use Rattle.model.specs.Acceptance.ThreadInvariants.{tcb_of}
 use Rattle.model.specs.Images.Described.{Numbered, described, numbered_threads}
 use Rattle.model.specs.Images.Image.{Image}
@@ -25,7 +26,7 @@ use Rattle.model.specs.Kernel.Steps.{ran, registers_of, state_after, step, trace
 use Rattle.model.specs.Kernel.Waits.{is_error, is_fault}
 use Rattle.model.specs.Machine.Decoding.{decoded}
 use Rattle.model.specs.Machine.ProgramMemory.{loaded}
-use Rattle.headline.specs.moves.Laws.{InterruptsGoWell, Laws, PlainStepsGoWell, TicksGoWell}
+use Rattle.headline.specs.moves.Laws.{InterruptsGoWell, Laws, PlainStepsGoWell, ReadsGoWell, TicksGoWell, WritesGoWell}
 use Rattle.headline.specs.moves.Steps.{GoesWell, HasGoneWell, MakesCall}
 use Rattle.headline.proofs.moves.Interrupts.{unchanged-stand}
 use Rattle.headline.proofs.moves.Puts.{other-label, thread-there}
@@ -147,28 +148,33 @@ one-by-one : (labels : List Label) (l : Label) (later : List Label) → (labels 
 one-by-one [] l later = refl
 one-by-one (x ∷ labels) l later = ap (λ (ls : List Label). x ∷ ls) (one-by-one labels l later)
 
-module _ (ticks : TicksGoWell) (interrupts : InterruptsGoWell) (bytes : List ℕ) (image : Image) (accepted : IsAccepted bytes image)
+module _ (ticks : TicksGoWell) (interrupts : InterruptsGoWell) (world_writes : WritesGoWell) (world_reads : ReadsGoWell) (bytes : List ℕ) (image : Image) (accepted : IsAccepted bytes image)
     (steps : (s : State) (labels : List Label) → AllStand image s labels → GoesWell image s labels Step) where
-  event-goes : (s : State) (labels : List Label) (event : Event) → AllStand image s labels → GoesWell image s labels event
+  event-goes : (s : State) (labels : List Label) (event : Event) → KeepsDevices image event → AllStand image s labels → GoesWell image s labels event
   unfolding state_after step
-  event-goes s labels Step all = steps s labels all
-  event-goes s labels Tick all = record { faults = refl; errors = refl; stands = ticks bytes image s labels accepted all }
-  event-goes s labels (Irq number) all = record { faults = refl; errors = refl; stands = interrupts bytes image s labels number accepted all }
+  event-goes s labels Step devices all = steps s labels all
+  event-goes s labels Tick devices all = record { faults = refl; errors = refl; stands = ticks bytes image s labels accepted all }
+  event-goes s labels (Irq number) devices all =
+      record { faults = refl; errors = refl; stands = interrupts bytes image s labels number accepted all }
+  event-goes s labels (Write address word) devices all =
+      record { faults = refl; errors = refl; stands = world_writes bytes image s labels address word accepted all devices }
+  event-goes s labels (Read address) devices all =
+      record { faults = refl; errors = refl; stands = world_reads bytes image s labels address accepted all }
 
-  events-go : (s : State) (labels : List Label) (events : List Event) → AllStand image s labels → GoneWell image s labels events
+  events-go : (s : State) (labels : List Label) (events : List Event) → All (KeepsDevices image) events → AllStand image s labels → GoneWell image s labels events
   unfolding state_after trace
-  events-go s labels [] all = record { stand = subst (AllStand image s) (sym (behind-nothing labels)) all; faults = All-nil NoFault; errors = All-nil NoError }
-  events-go s labels (event ∷ rest) all =
-      let well = event-goes s labels event all in
+  events-go s labels [] devices all = record { stand = subst (AllStand image s) (sym (behind-nothing labels)) all; faults = All-nil NoFault; errors = All-nil NoError }
+  events-go s labels (event ∷ rest) devices all =
+      let well = event-goes s labels event (All-head (KeepsDevices image) event rest devices) all in
       let next = step s event in
-      let later = events-go next.0 (labels ++ next.1 ∷ []) rest well.stands in
+      let later = events-go next.0 (labels ++ next.1 ∷ []) rest (All-tail (KeepsDevices image) event rest devices) well.stands in
       record {
         stand = subst (AllStand image (state_after next.0 rest)) (one-by-one labels next.1 (trace next.0 rest)) (GoneWell.stand later);
         faults = All-cons NoFault next.1 (trace next.0 rest) well.faults (GoneWell.faults later);
         errors = All-cons NoError next.1 (trace next.0 rest) well.errors (GoneWell.errors later);
       }
 
-  pub run-goes-by : (events : List Event) → AllStand image (described image) [] → HasGoneWell image events
-  run-goes-by events start =
-      let gone = events-go (described image) [] events start in
+  pub run-goes-by : (events : List Event) → All (KeepsDevices image) events → AllStand image (described image) [] → HasGoneWell image events
+  run-goes-by events devices start =
+      let gone = events-go (described image) [] events devices start in
       record { stand = GoneWell.stand gone; faults = GoneWell.faults gone; errors = GoneWell.errors gone }

@@ -1,5 +1,5 @@
--- What a tick and an interrupt leave as it is, and what they change: it follows from what they are.
-use Rattle.std.specs.Prelude.{ℕ, ◌≡◌, ◌≢◌, ◌<◌, false, bit_or, Some, None, List, [], ◌∷◌, ◌++◌}
+-- What a tick, an interrupt and a write of the world leave as it is, and what they change: it follows from what they are.
+use Rattle.std.specs.Prelude.{ℕ, ◌≡◌, ◌≢◌, ◌+◌, ◌<◌, ◌≤◌, false, bit_or, IsSome, Some, None, List, [], ◌∷◌, ◌++◌}
 use Rattle.model.specs.Kernel.Deliveries.{woken}
 use Rattle.model.specs.Acceptance.Authority.{IsWoken}
 use Rattle.model.specs.Kernel.Interrupts.{binding}
@@ -92,3 +92,25 @@ pub record WithinInterrupt (number : ℕ) (s after : State) : Type 0 where
   pub objects : (offset : ℕ) → s.objects offset ≢ after.objects offset → InterruptChange number s after offset
   -- a list of the ready gains at most the first waiter, at its tail
   pub ready : (priority : ℕ) → InterruptReady number s after priority
+
+-- ---- the world outside
+
+-- the world stores a word: its four bytes change, if they are a frame's, and nothing else
+pub record WithinWrite (place : ℕ) (s after : State) : Type 0 where
+  -- memory keeps its size
+  pub memory_bits : after.memory_bits ≡ s.memory_bits
+  -- the boot CNode keeps its size
+  pub boot_radix : after.boot_radix ≡ s.boot_radix
+  -- each slot stays
+  pub slots : (slot : ℕ) → after.slots slot ≡ s.slots slot
+  -- each object stays
+  pub objects : (offset : ℕ) → after.objects offset ≡ s.objects offset
+  -- each list of the ready stays
+  pub ready : (priority : ℕ) → after.ready priority ≡ s.ready priority
+  -- each line is masked as it was
+  pub masked : (number : ℕ) → after.masked number ≡ s.masked number
+  -- each line is pending as it was
+  pub pending : (number : ℕ) → after.pending number ≡ s.pending number
+  -- a byte that changes is one of the word's, in a frame that stays
+  pub bytes : (other : ℕ) → s.bytes other ≢ after.bytes other
+      → (place ≤ other) × (other < place + 4) × IsSome (s.bytes other) × IsSome (after.bytes other)

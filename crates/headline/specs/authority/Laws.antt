@@ -1,5 +1,5 @@
 -- The laws on calls: what each changes stays within authority, from every sound state.
-use Rattle.std.specs.Prelude.{ℕ, ◌≡◌, ◌≢◌, IsTrue, Contains, List, Option, Some, None, Ok}
+use Rattle.std.specs.Prelude.{ℕ, ◌≡◌, ◌≢◌, true, IsTrue, All, Contains, List, Option, Some, None, Ok}
 use Rattle.model.specs.declared.capabilities.Cap.{Cap}
 use Rattle.model.specs.declared.capabilities.Cap.TheVariants.{Endpoint, Frame, InterruptControl, InterruptHandler, Notification}
 use Rattle.model.specs.declared.capabilities.FrameMapping.{FrameMapping}
@@ -21,6 +21,7 @@ use Rattle.model.specs.declared.system_calls.SendCall.{SendCall}
 use Rattle.model.specs.declared.system_calls.SystemCall.TheVariants.{PutsCharacter, Receives, Replies, RepliesAndReceives, Sends, Yields}
 use Rattle.model.specs.Acceptance.Accepted.{IsAccepted}
 use Rattle.model.specs.Acceptance.Authority.{IsOwnSlot, StaysWithin, WithinAuthority, self_of}
+use Rattle.model.specs.Acceptance.Devices.{IsOfData, KeepsDevices}
 use Rattle.model.specs.Acceptance.NotedStates.{NotedSlot}
 use Rattle.model.specs.Acceptance.ThreadInvariants.{tcb_of}
 use Rattle.model.specs.Capabilities.CapabilityKinds.{frame_mapping, table_mapping}
@@ -36,6 +37,7 @@ use Rattle.model.specs.Kernel.MappingCalls.{unmap_frame}
 use Rattle.model.specs.Kernel.Soundness.{IsSound}
 use Rattle.model.specs.Kernel.State.{State, Runnable, AwaitsHandler, ThreadObject, ThreadState, thread_at}
 use Rattle.model.specs.Kernel.Scheduling.{current}
+use Rattle.model.specs.Kernel.World.{is_word_of_frame}
 use Rattle.model.specs.Kernel.Steps.{call_of, completed, named_slot, state_after, step, system_call}
 use Rattle.headline.specs.facts.Standing.{AllStand}
 use Rattle.headline.specs.invocations.Mirrors.{Mirrors}
@@ -281,5 +283,11 @@ StepsStayWithin =
 -- whatever has happened to an accepted image, the next event
 abbrev pub EventsStayWithin : Type 0
 EventsStayWithin =
-    (bytes : List ℕ) (image : Image) (before : List Event) (event : Event) → IsAccepted bytes image
+    (bytes : List ℕ) (image : Image) (before : List Event) (event : Event) → IsAccepted bytes image → All (KeepsDevices image) before
     → StaysWithin image (state_after (described image) before) event (step (state_after (described image) before) event).0
+
+-- what the world may write stays a frame's, so that each write is done
+abbrev pub WordsOfDataStay : Type 0
+WordsOfDataStay =
+    (bytes : List ℕ) (image : Image) (s : State) (labels : List Label) (place : ℕ) → IsAccepted bytes image → AllStand image s labels
+    → IsOfData image place → is_word_of_frame s place ≡ true

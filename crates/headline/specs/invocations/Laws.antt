@@ -1,5 +1,5 @@
 -- The laws of this crate: single invocations, all threads after one, and whatever happens to an accepted image.
-use Rattle.std.specs.Prelude.{ℕ, ◌+◌, ◌++◌, List, [], ◌∷◌, Contains, ◌≡◌, Some}
+use Rattle.std.specs.Prelude.{ℕ, ◌+◌, ◌++◌, List, [], ◌∷◌, All, Contains, ◌≡◌, Some}
 use Rattle.model.specs.declared.events.Event.TheVariants.{Step}
 use Rattle.model.specs.declared.events.Event.{Event}
 use Rattle.model.specs.declared.invocations.CNodeCall.TheVariants.{Copy, Mint, Move, Delete, Revoke}
@@ -15,6 +15,7 @@ use Rattle.model.specs.declared.labels.Outcome.TheVariants.{Completed}
 use Rattle.model.specs.declared.rights.Rights.{Rights}
 use Rattle.model.specs.Acceptance.Accepted.{IsAccepted}
 use Rattle.model.specs.Acceptance.CallRules.{AfterCall}
+use Rattle.model.specs.Acceptance.Devices.{KeepsDevices}
 use Rattle.model.specs.Acceptance.NotedStates.{NotedSlot, PointState}
 use Rattle.model.specs.Acceptance.ThreadInvariants.{StandsAt, tcb_of}
 use Rattle.model.specs.Images.Described.{Numbered, numbered_threads}
@@ -129,7 +130,8 @@ AnyStepGoesWell =
 
 -- whatever happens to an accepted image
 abbrev pub EventsHaveGoneWell : Type 0
-EventsHaveGoneWell = (bytes : List ℕ) (image : Image) (events : List Event) → IsAccepted bytes image → HasGoneWell image events
+EventsHaveGoneWell =
+    (bytes : List ℕ) (image : Image) (events : List Event) → IsAccepted bytes image → All (KeepsDevices image) events → HasGoneWell image events
 
 -- ---- the laws that invocations are built on
 

@@ -1,11 +1,12 @@
 -- The laws of this crate, and those of the crates below that its proofs are built on.
 use Rattle.std.specs.Prelude.{ℕ, ◌≡◌, ◌+◌, List, Ok, Some, false, true, Bool, Contains, ◌++◌, [], ◌∷◌}
-use Rattle.model.specs.declared.events.Event.TheVariants.{Irq, Tick, Step}
+use Rattle.model.specs.declared.events.Event.TheVariants.{Irq, Tick, Step, Write, Read}
 use Rattle.model.specs.declared.instructions.Instr.TheVariants.{Ecall}
 use Rattle.model.specs.declared.labels.Label.{Label}
 use Rattle.model.specs.Acceptance.Accepted.{IsAccepted}
 use Rattle.headline.specs.moves.Ground.{SameGround}
 use Rattle.model.specs.Acceptance.CallRules.{AfterCall}
+use Rattle.model.specs.Acceptance.Devices.{IsOfData}
 use Rattle.model.specs.Acceptance.NotedStates.{PointState}
 use Rattle.model.specs.Acceptance.PointStates.{call_at, instruction_at}
 use Rattle.model.specs.Acceptance.ThreadInvariants.{IsWaiting, IsWithinBudget, KeepsPromises, StandsAt, ThreadInvariant, WaitsThere, tcb_of}
@@ -14,7 +15,7 @@ use Rattle.model.specs.Images.Image.{Image}
 use Rattle.model.specs.Kernel.Scheduling.{current}
 use Rattle.model.specs.Kernel.Soundness.{IsSound}
 use Rattle.model.specs.Kernel.State.{State, ThreadObject, ThreadState}
-use Rattle.model.specs.Kernel.Steps.{step}
+use Rattle.model.specs.Kernel.Steps.{place_of, step}
 use Rattle.model.specs.Kernel.Waits.{open_count}
 use Rattle.headline.specs.calls.Laws.{LeadsOn, AreAllowed, AreNumbered, AreNamed, Receives, Sends, NeedNothing, MessageFits, AnswerFits, SignalFits, ResultFits}
 use Rattle.headline.specs.calls.Laws.{SentMessagesKeepPromises, NothingFits}
@@ -91,6 +92,17 @@ abbrev pub InterruptsGoWell : Type 0
 InterruptsGoWell =
     (bytes : List ℕ) (image : Image) (s : State) (labels : List Label) (number : ℕ) → IsAccepted bytes image → AllStand image s labels
     → AllStand image (step s (Irq number)).0 (labels ++ (step s (Irq number)).1 ∷ [])
+
+-- the world outside writes into a frame that nobody executes, or looks at any
+abbrev pub WritesGoWell : Type 0
+WritesGoWell =
+    (bytes : List ℕ) (image : Image) (s : State) (labels : List Label) (address word : ℕ) → IsAccepted bytes image → AllStand image s labels
+    → IsOfData image (place_of address) → AllStand image (step s (Write address word)).0 (labels ++ (step s (Write address word)).1 ∷ [])
+
+abbrev pub ReadsGoWell : Type 0
+ReadsGoWell =
+    (bytes : List ℕ) (image : Image) (s : State) (labels : List Label) (address : ℕ) → IsAccepted bytes image → AllStand image s labels
+    → AllStand image (step s (Read address)).0 (labels ++ (step s (Read address)).1 ∷ [])
 
 -- system calls that invoke nothing
 abbrev pub MessagesGoWell : Type 0

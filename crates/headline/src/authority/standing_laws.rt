@@ -1,6 +1,6 @@
 //! Steps stay within authority where all threads of an accepted image are as certified.
 
-ghost use Rattle.headline.specs.authority.Laws.{EventsStayWithin, MessagesStayWithin, NotedCopiesStayWithin, NotedDeletesStayWithin, NotedMapsStayWithin, NotedMintsStayWithin, NotedMovesStayWithin, NotedRetypesStayWithin, NotedRevokesStayWithin, NotedUnmapsStayWithin, PlainStepsStayWithin, StepsStayWithin, ThreadsStartHoldingInside, ThreadsStartMappingOwn, WithinKeepsHoldingInside, WithinKeepsMappingOwn};
+ghost use Rattle.headline.specs.authority.Laws.{EventsStayWithin, MessagesStayWithin, NotedCopiesStayWithin, NotedDeletesStayWithin, NotedMapsStayWithin, NotedMintsStayWithin, NotedMovesStayWithin, NotedRetypesStayWithin, NotedRevokesStayWithin, NotedUnmapsStayWithin, PlainStepsStayWithin, StepsStayWithin, ThreadsStartHoldingInside, ThreadsStartMappingOwn, WithinKeepsHoldingInside, WithinKeepsMappingOwn, WordsOfDataStay};
 
 use crate::events_keep_all_standing;
 use crate::invocations::laws_on_invocations;
@@ -87,3 +87,8 @@ pub fn events_stay_within_authority()
     events_keep_all_standing();
     all_stand_at_the_start();
 }
+
+/// Whatever has happened to an accepted image, the words that the world outside may write are in frames still.
+pub fn words_of_data_stay()
+    ensures { WordsOfDataStay }
+{}

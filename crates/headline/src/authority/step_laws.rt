@@ -1,9 +1,9 @@
-//! Laws of sound states: ticks, interrupts and plain steps stay within authority, and a Retype that makes an endpoint.
+//! Laws of sound states: ticks, interrupts, writes of the world and plain steps stay within authority, and a Retype that makes an endpoint.
 
 ghost use Rattle.std.specs.Prelude.{ℕ, ◌≡◌, ◌≢◌, Option, Some};
 ghost use Rattle.model.specs.declared.capabilities.Cap.TheVariants.{Untyped};
 ghost use Rattle.model.specs.Acceptance.Authority.{WithinAuthority, self_of};
-ghost use Rattle.headline.specs.authority.Events.{WithinInterrupt, WithinTick};
+ghost use Rattle.headline.specs.authority.Events.{WithinInterrupt, WithinTick, WithinWrite};
 ghost use Rattle.model.specs.Images.Image.{Image, Thread};
 ghost use Rattle.model.specs.Kernel.Interrupts.{raise};
 ghost use Rattle.model.specs.Kernel.Messages.{with_registers};
@@ -13,6 +13,7 @@ ghost use Rattle.model.specs.Kernel.Scheduling.{tick};
 ghost use Rattle.model.specs.Kernel.Soundness.{IsSound};
 ghost use Rattle.model.specs.Kernel.State.{State, ThreadObject, ThreadState};
 ghost use Rattle.model.specs.Kernel.Steps.{system_call};
+ghost use Rattle.model.specs.Kernel.World.{world_writes};
 
 /// A tick stays within authority.
 pub fn a_tick_stays_within_authority()
@@ -38,4 +39,9 @@ pub fn a_new_endpoint_stays_within_authority()
 /// An interrupt stays within authority.
 pub fn an_interrupt_stays_within_authority()
     ensures { (s : State) → IsSound s → (number : ℕ) → WithinInterrupt number s (raise s number) }
+{}
+
+/// A write of the world stays within authority.
+pub fn a_write_stays_within_authority()
+    ensures { (s : State) (place word : ℕ) → WithinWrite place s (world_writes s place word) }
 {}

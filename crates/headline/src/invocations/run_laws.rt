@@ -6,7 +6,8 @@ use crate::invocations::invocation_laws::invocations_go_well;
 use crate::kept::all_stand_at_the_start;
 use crate::moves::{
     calls_that_invoke_nothing_go_well, interrupts_keep_all_standing, laws_below,
-    plain_steps_go_well, ticks_keep_all_standing,
+    plain_steps_go_well, reads_keep_all_standing, ticks_keep_all_standing,
+    writes_keep_all_standing,
 };
 
 /// A step goes well, whoever runs and whatever it does.
@@ -26,5 +27,7 @@ pub fn events_go_well()
     all_stand_at_the_start();
     ticks_keep_all_standing();
     interrupts_keep_all_standing();
+    writes_keep_all_standing();
+    reads_keep_all_standing();
     steps_go_well();
 }

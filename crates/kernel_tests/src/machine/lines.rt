@@ -24,6 +24,16 @@ fn prints_each_kind_of_label(rt: HostRuntime) {
     prints(&rt, Label::Raised(3), "irq 3");
     prints(&rt, Label::Raised(63), "irq 63");
     prints(&rt, Label::Raised(255), "irq 255");
+    let wrote = Label::Wrote {
+        address: 0x8001_4000,
+        word: 0x2a,
+    };
+    prints(&rt, wrote, "write 80014000 0000002a");
+    let showed = Label::Showed {
+        address: 0x8001_4ffc,
+        word: 0xffff_fff0,
+    };
+    prints(&rt, showed, "read 80014ffc fffffff0");
     prints(&rt, ran(Outcome::Waited), "8000c000 00001008 wait");
     prints(&rt, ran(Outcome::Plain), "8000c000 00001008 plain");
     prints(&rt, ran(Outcome::Completed), "8000c000 00001008 ok");

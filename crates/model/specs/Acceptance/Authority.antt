@@ -10,7 +10,7 @@ use Rattle.model.specs.declared.capabilities.Cap.TheVariants.{Empty, Untyped, En
 use Rattle.model.specs.declared.capabilities.FrameMapping.{FrameMapping}
 use Rattle.model.specs.declared.capabilities.TableMapping.{TableMapping}
 use Rattle.model.specs.declared.events.Event.{Event}
-use Rattle.model.specs.declared.events.Event.TheVariants.{Step, Tick, Irq}
+use Rattle.model.specs.declared.events.Event.TheVariants.{Step, Tick, Irq, Write, Read}
 use Rattle.model.specs.declared.instructions.Access.TheVariants.{Fetch, Store}
 use Rattle.model.specs.declared.instructions.AccessSize.TheVariants.{Word}
 use Rattle.model.specs.declared.instructions.Instr.TheVariants.{Ecall}
@@ -37,9 +37,10 @@ use Rattle.model.specs.Kernel.State.{State, Runnable, Blocked, AwaitsReply, Thre
 use Rattle.model.specs.Kernel.State.{Sender}
 use Rattle.model.specs.Kernel.State.{Sent, BySend}
 use Rattle.model.specs.Kernel.State.{ByCall, ByFault, ThreadState, endpoint_at, notification_at, thread_at}
-use Rattle.model.specs.Kernel.Steps.{call_of, named_slot, registers_of}
+use Rattle.model.specs.Kernel.Steps.{call_of, named_slot, place_of, registers_of}
 use Rattle.model.specs.Machine.Decoding.{decoded}
 use Rattle.model.specs.Machine.ProgramMemory.{RegisterFile, loaded, read}
+use Rattle.model.specs.Kernel.World.{world_writes}
 
 -- ---- capabilities
 
@@ -390,8 +391,11 @@ pub record OwnStep (image : Image) (s after : State) : Type 0 where
   -- who was woken is ready, at the tail of its priority
   pub awake : (priority other : ℕ) → IsWoken s after priority other → Contains (within.ready priority).added other
 
--- An event stays within authority: where no thread runs, a step changes nothing. A tick and an interrupt are what the kernel says of them.
+-- An event stays within authority: where no thread runs, a step changes nothing. A tick, an interrupt and a write of the world are what
+-- the kernel says of them, and a look changes nothing.
 abbrev pub StaysWithin : Image → State → Event → State → Type 0
 StaysWithin image s Step after = ((current s ≡ None) × (after ≡ s)) ⊎ OwnStep image s after
 StaysWithin image s Tick after = after ≡ tick s
 StaysWithin image s (Irq irq_line) after = after ≡ raise s irq_line
+StaysWithin image s (Write address word) after = after ≡ world_writes s (place_of address) word
+StaysWithin image s (Read address) after = after ≡ s

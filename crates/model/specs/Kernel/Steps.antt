@@ -1,13 +1,13 @@
 -- Steps of the machine: what each event does, and the label that it gives. One event after another makes the trace.
 -- seL4 Reference Manual, "System Calls", for the calls; numbers and labels are our own.
-use Rattle.std.specs.Prelude.{ℕ, ◌==◌, ◌+◌, ◌%◌, ◌^◌, Bool, is_some, if◌then◌else◌, Option, Some, None, Result, Ok, Err, List, [], ◌∷◌}
+use Rattle.std.specs.Prelude.{ℕ, ◌==◌, ◌+◌, ◌-◌, ◌%◌, ◌^◌, Bool, is_some, if◌then◌else◌, Option, Some, None, Result, Ok, Err, List, [], ◌∷◌}
 use Rattle.std.specs.Option.{option_map_or}
 use Rattle.model.specs.declared.capabilities.Cap.{Cap}
 use Rattle.model.specs.declared.capabilities.Cap.TheVariants.{Endpoint, Notification}
 use Rattle.model.specs.declared.errors.KError.{KError}
 use Rattle.model.specs.declared.errors.KError.TheVariants.{InvalidCapability}
 use Rattle.model.specs.declared.events.Event.{Event}
-use Rattle.model.specs.declared.events.Event.TheVariants.{Step, Tick, Irq}
+use Rattle.model.specs.declared.events.Event.TheVariants.{Step, Tick, Irq, Write, Read}
 use Rattle.model.specs.declared.instructions.Access.TheVariants.{Fetch}
 use Rattle.model.specs.declared.instructions.AccessSize.TheVariants.{Word}
 use Rattle.model.specs.declared.instructions.Cause.TheVariants.{Illegal}
@@ -16,7 +16,7 @@ use Rattle.model.specs.declared.instructions.Exec.TheVariants.{Next, Ecall, Trap
 use Rattle.model.specs.declared.instructions.Instr.{Instr}
 use Rattle.model.specs.declared.instructions.MemoryFault.{MemoryFault}
 use Rattle.model.specs.declared.labels.Label.{Label}
-use Rattle.model.specs.declared.labels.Label.TheVariants.{Idle, Ticked, Raised, Ran}
+use Rattle.model.specs.declared.labels.Label.TheVariants.{Idle, Ticked, Raised, Wrote, Showed, Ran}
 use Rattle.model.specs.declared.labels.Outcome.{Outcome}
 use Rattle.model.specs.declared.labels.Outcome.TheVariants.{Faulted, Refused, Completed, Put, Waited, Plain}
 use Rattle.model.specs.declared.lookup_failures.LookupFailure.{LookupFailure}
@@ -42,6 +42,7 @@ use Rattle.model.specs.Kernel.Messages.{try_to_receive, try_to_send, wait, with_
 use Rattle.model.specs.Capabilities.Rights.{may_grant_reply, may_read, may_write}
 use Rattle.model.specs.Kernel.Scheduling.{current, is_runnable, tick, yielded}
 use Rattle.model.specs.Capabilities.Slots.{capability_at}
+use Rattle.model.specs.Kernel.World.{word_seen, world_writes}
 use Rattle.model.specs.Kernel.State.{FaultMessage, Sender, Sent, BySend, ByCall, State, as_thread, cspace_slot, thread_at}
 
 -- what one instruction of a thread leaves, and what came of it
@@ -218,6 +219,10 @@ runs s thread = runs_fetched s thread (loaded (content_of s thread) Fetch Word (
 abbrev pub memory_base : ℕ
 memory_base = 2 ^ 31
 
+-- where a physical address is in memory; at those below it is no frame
+abbrev pub place_of : ℕ → ℕ
+place_of address = address - memory_base
+
 abbrev pub ran : State → ℕ → State × Label
 ran s thread =
     let done = runs s thread in
@@ -227,6 +232,8 @@ unfoldable pub step : State → Event → State × Label
 step s Step = option_map_or (ran s) (current s) (s, Idle)
 step s Tick = (tick s, Ticked)
 step s (Irq irq_line) = (raise s irq_line, Raised irq_line)
+step s (Write address word) = (world_writes s (place_of address) word, Wrote address word)
+step s (Read address) = (s, Showed address (word_seen s (place_of address)))
 
 -- the labels of events, one after another
 unfoldable pub trace : State → List Event → List Label

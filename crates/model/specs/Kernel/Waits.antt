@@ -2,7 +2,7 @@
 use Rattle.std.specs.Prelude.{ℕ, ◌≡◌, ◌==◌, ◌+◌, ◌≤◌, Bool, true, false, not, if◌then◌else◌, IsTrue, List, [], ◌∷◌, ◌++◌, filter, fold, length}
 use Rattle.std.specs.List.{list_all}
 use Rattle.model.specs.declared.labels.Label.{Label}
-use Rattle.model.specs.declared.labels.Label.TheVariants.{Idle, Ticked, Raised, Ran}
+use Rattle.model.specs.declared.labels.Label.TheVariants.{Idle, Ticked, Raised, Wrote, Showed, Ran}
 use Rattle.model.specs.declared.labels.Outcome.{Outcome}
 use Rattle.model.specs.declared.labels.Outcome.TheVariants.{Faulted, Refused, Completed, Put, Waited, Plain}
 use Rattle.model.specs.Kernel.Steps.{memory_base}
@@ -20,12 +20,16 @@ abbrev pub is_wait : Label → Bool
 is_wait Idle = false
 is_wait Ticked = false
 is_wait (Raised irq_line) = false
+is_wait (Wrote place word) = false
+is_wait (Showed place word) = false
 is_wait (Ran thread pc outcome) = is_waited outcome
 
 abbrev pub is_fault : Label → Bool
 is_fault Idle = false
 is_fault Ticked = false
 is_fault (Raised irq_line) = false
+is_fault (Wrote place word) = false
+is_fault (Showed place word) = false
 is_fault (Ran thread pc (Faulted kind)) = true
 is_fault (Ran thread pc _) = false
 
@@ -33,6 +37,8 @@ abbrev pub is_error : Label → Bool
 is_error Idle = false
 is_error Ticked = false
 is_error (Raised irq_line) = false
+is_error (Wrote place word) = false
+is_error (Showed place word) = false
 is_error (Ran thread pc (Refused error)) = true
 is_error (Ran thread pc _) = false
 
@@ -41,6 +47,8 @@ abbrev pub is_of : ℕ → Label → Bool
 is_of thread Idle = false
 is_of thread Ticked = false
 is_of thread (Raised irq_line) = false
+is_of thread (Wrote place word) = false
+is_of thread (Showed place word) = false
 is_of thread (Ran address pc outcome) = address == memory_base + thread
 
 -- a thread's labels

@@ -2,7 +2,7 @@
 use Rattle.std.specs.Prelude.{ℕ, ◌+◌, ◌/◌, ◌%◌, ◌^◌, List, [], ◌∷◌, ◌++◌, codes, decimal, nat_lt, if◌then◌else◌}
 use Rattle.model.specs.Shared.Labels.{error_number, fault_number}
 use Rattle.model.specs.declared.labels.Label.{Label}
-use Rattle.model.specs.declared.labels.Label.TheVariants.{Idle, Ticked, Raised, Ran}
+use Rattle.model.specs.declared.labels.Label.TheVariants.{Idle, Ticked, Raised, Wrote, Showed, Ran}
 use Rattle.model.specs.declared.labels.Outcome.{Outcome}
 use Rattle.model.specs.declared.labels.Outcome.TheVariants.{Faulted, Refused, Completed, Put, Waited, Plain}
 
@@ -33,4 +33,6 @@ abbrev pub line_of : Label → List ℕ
 line_of Idle = codes "idle"
 line_of Ticked = codes "tick"
 line_of (Raised irq_line) = codes "irq " ++ decimal irq_line
+line_of (Wrote address word) = codes "write " ++ hex_word address ++ codes " " ++ hex_word word
+line_of (Showed address word) = codes "read " ++ hex_word address ++ codes " " ++ hex_word word
 line_of (Ran thread pc outcome) = hex_word thread ++ codes " " ++ hex_word pc ++ codes " " ++ text_of_outcome outcome

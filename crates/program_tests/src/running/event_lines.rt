@@ -73,6 +73,10 @@ fn told(alloc: Global, read: Result<Vec<Event>, EventsFault>) -> Result<String, 
             Event::Step => told.push('S')?,
             Event::Tick => told.push('T')?,
             Event::Irq(line) => told.push_str(format!(in alloc; "I{line}")?.as_str())?,
+            Event::Write { address, word } => told.push_str(format!(in alloc;
+                "W{address},{word}"
+            )?.as_str())?,
+            Event::Read { address } => told.push_str(format!(in alloc; "R{address}")?.as_str())?,
         }
     }
     Ok(told)

@@ -70,8 +70,8 @@ pub returns-clause-stands : goal.returns-clause-stands
 returns-clause-stands c = c.all_stand_at_the_start.ensures c.args.bytes.now c.in_ok-image.image (returns-clause-accepted c)
 
 pub returns-clause-events : goal.returns-clause-events
-returns-clause-events c = λ s labels event all.
-    c.events_keep_all_standing.ensures c.args.bytes.now c.in_ok-image.image s labels event (returns-clause-accepted c) all
+returns-clause-events c = λ s labels event devices all.
+    c.events_keep_all_standing.ensures c.args.bytes.now c.in_ok-image.image s labels event (returns-clause-accepted c) devices all
 
 pub returns-clause-unread : goal.returns-clause-unread
 returns-clause-unread c = untold c.args.bytes.now c.in_ok-image.image _ (sym c.in_ok-image.was ∙ c.read.ensures)
