@@ -14,4 +14,5 @@ mod StoredPlaces
 mod HangsKept
 mod StartHangs
 pub mod Laws
+mod DevicePages
 mod UnexecutedFrames

@@ -86,9 +86,10 @@ thread-law version objects t =
 untypeds-law : (xs : List UntypedEntry) → many_spelling (λ _. untyped_format) (λ _. 0) 0 xs ≡ flat_map untyped_format.spelling xs
 untypeds-law xs = spelled-each (λ _. untyped_format) (λ _. 0) untyped_format.spelling (λ k x. refl) 0 xs
 
-objects-law : (untypeds : ℕ) (xs : List ObjectEntry) → many_spelling (object_format untypeds) (λ e. e.untyped) 0 xs ≡ flat_map (object_format 0 0).spelling xs
+objects-law : (version untypeds : ℕ) (xs : List ObjectEntry)
+    → many_spelling (object_format version untypeds) (λ e. e.untyped) 0 xs ≡ flat_map (object_format 0 0 0).spelling xs
 unfolding object_format
-objects-law untypeds xs = spelled-each (object_format untypeds) _ (object_format 0 0).spelling (λ k x. refl) 0 xs
+objects-law version untypeds xs = spelled-each (object_format version untypeds) _ (object_format 0 0 0).spelling (λ k x. refl) 0 xs
 
 capabilities-law : (objects interrupts : ℕ) (xs : List CapabilityEntry) →
     many_spelling (capability_format objects interrupts) (λ e. pair_key e.cnode e.index + 1) 0 xs ≡ flat_map (capability_format 0 0 0).spelling xs
@@ -131,12 +132,12 @@ unfolding image_with sections_format
 image-law i =
     let h = i.header in
     joined _ _ _ _
-    (ap (λ (l : List ℕ). header_format.spelling h ++ l) (joined _ _ _ _ (untypeds-law i.untypeds) (joined _ _ _ _ (objects-law h.untypeds i.objects)
+    (ap (λ (l : List ℕ). header_format.spelling h ++ l) (joined _ _ _ _ (untypeds-law i.untypeds) (joined _ _ _ _ (objects-law h.version h.untypeds i.objects)
     (joined _ _ _ _ (capabilities-law h.objects h.interrupts i.capabilities) (joined _ _ _ _ (interrupts-law h.objects i.interrupts)
     (joined _ _ _ _ (tables-law h.objects i.tables) (joined _ _ _ _ (frames-law h.objects i.frames)
     (joined _ _ _ _ (contents-law h.objects i.contents) (promises-law h.objects i.promises)))))))))
     (threads-law h.version h.objects i.threads)
-    ∙ regrouped (header_format.spelling h) (flat_map untyped_format.spelling i.untypeds) (flat_map (object_format 0 0).spelling i.objects)
+    ∙ regrouped (header_format.spelling h) (flat_map untyped_format.spelling i.untypeds) (flat_map (object_format 0 0 0).spelling i.objects)
     (flat_map (capability_format 0 0 0).spelling i.capabilities) (flat_map (interrupt_format 0 0).spelling i.interrupts)
     (flat_map (table_format 0 0).spelling i.tables) (flat_map (frame_format 0 0).spelling i.frames) (flat_map content_bytes i.contents)
     (flat_map promise_bytes i.promises) (flat_map (thread_bytes h.version) i.threads)

@@ -8,7 +8,7 @@ use Rattle.image.specs.Sections.{sections_fit}
 use Rattle.image_reading.specs.declared.entries.Counts.{Counts}
 
 abbrev counts_given : ImageHeader → Counts
-counts_given h = record { untypeds = h.untypeds; objects = h.objects; interrupts = h.interrupts; words = 0 }
+counts_given h = record { version = h.version; untypeds = h.untypeds; objects = h.objects; interrupts = h.interrupts; words = 0 }
 
 abbrev pub threads_fit : Counts → Image → Bool
 threads_fit l i = many_fit (λ _. thread_format (slots_format l.objects) i.header.version l.objects) (λ _. 0) 0 i.header.threads i.threads

@@ -16,6 +16,6 @@ mappings_fit l i =
 abbrev pub sections_fit : Counts → Image → Bool
 sections_fit l i =
     many_fit (λ _. untyped_format) (λ _. 0) 0 i.header.untypeds i.untypeds
-    && (many_fit (object_format l.untypeds) (λ e. e.untyped) 0 i.header.objects i.objects
+    && (many_fit (object_format l.version l.untypeds) (λ e. e.untyped) 0 i.header.objects i.objects
     && (many_fit (capability_format l.objects l.interrupts) (λ e. pair_key e.cnode e.index + 1) 0 i.header.capabilities i.capabilities
     && (many_fit (interrupt_format l.objects) (λ e. e.line + 1) 0 i.header.interrupts i.interrupts && mappings_fit l i)))

@@ -37,7 +37,7 @@ thread_bytes version t =
 abbrev pub object_bytes : Image → List ℕ
 object_bytes i =
     flat_map untyped_format.spelling i.untypeds
-    ++ (flat_map (object_format 0 0).spelling i.objects
+    ++ (flat_map (object_format 0 0 0).spelling i.objects
     ++ (flat_map (capability_format 0 0 0).spelling i.capabilities ++ flat_map (interrupt_format 0 0).spelling i.interrupts))
 
 -- tables, frames, what frames begin with, and promises

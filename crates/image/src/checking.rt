@@ -157,12 +157,13 @@ fn head_fits(parts: &Parts) -> bool
 #[tactic(auto, unfolding(model::specs::Images::Image::header_format))]
 fn counts_of(parts: &Parts) -> Option<Counts>
     ensures { let h = parts.now.header in result ≡ (if header_format.fits h
-        then Some (record { untypeds = h.untypeds; objects = h.objects; interrupts = h.interrupts; words = 0 }) else None) }
+        then Some (record { version = h.version; untypeds = h.untypeds; objects = h.objects; interrupts = h.interrupts; words = 0 }) else None) }
 {
     if !head_fits(parts) {
         return None;
     }
     Some(Counts {
+        version: parts.version,
         untypeds: parts.untypeds.len() as u32,
         objects: parts.objects.len() as u32,
         interrupts: parts.interrupts.len() as u32,

@@ -5,7 +5,7 @@ use Rattle.std.proofs.lemmas.Bool.{and_parts, le-leb, ltb-false}
 use Rattle.model.specs.declared.refusals.Refusal.TheVariants.{Limit}
 use Rattle.model.specs.Images.Format.{Format, ◌>>=◌, number_at, field, both, named, signed_number}
 use Rattle.model.specs.Images.Image.{anything, below, between, capability_format, frame_format, interrupt_format, object_format, names_parent, no_parent}
-use Rattle.model.specs.Images.Image.{not_zero, pair_key, size_fits}
+use Rattle.model.specs.Images.Image.{not_zero, pair_key, size_fits_in}
 use Rattle.model.specs.Images.Image.{promised_word_format, range_format, register_format, slot_format, table_format, term_format, untyped_format}
 use Rattle.model.specs.Capabilities.CapabilityFields.{unpacked}
 use Rattle.std.specs.Prelude.{is_some}
@@ -63,13 +63,13 @@ pub untyped_size : HasSize 8 untyped_format untyped_format
 unfolding untyped_format
 untyped_size = named_size 8 _ _ _ _ (both_size 4 4 _ _ _ _ (same_field anything) (λ (a : ℕ). same_field (between 4 24)))
 
-pub object_entry_size : (untypeds least : ℕ) → HasSize 12 (object_format untypeds least) (object_format untypeds 0)
+pub object_entry_size : (version untypeds least : ℕ) → HasSize 12 (object_format version untypeds least) (object_format version untypeds 0)
 unfolding object_format
-object_entry_size untypeds least = named_size 12 _ _ _ _
+object_entry_size version untypeds least = named_size 12 _ _ _ _
     (both_size 4 8 _ _ _ _ (field_size (λ n. leb least n && ltb n untypeds) (λ n. leb 0 n && ltb n untypeds)
     (λ n h. and-from-0 (leb least n) (ltb n untypeds) n h)) (λ (a : ℕ).
     both_size 4 4 _ _ _ _ (same_field (between 1 8)) (λ (kind : ℕ).
-    same_field (size_fits kind))))
+    same_field (size_fits_in version kind))))
 
 pub capability_size : (objects interrupts least : ℕ) → HasSize 20 (capability_format objects interrupts least) (capability_format objects interrupts 0)
 unfolding capability_format

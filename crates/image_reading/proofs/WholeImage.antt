@@ -19,7 +19,7 @@ use Rattle.model.specs.Capabilities.CapabilityFields.{unpacked}
 use Rattle.model.specs.Images.Format.{IsSpelling, field, reading}
 use Rattle.model.specs.Images.Image.{Image, ImageContent, Sections, has_promises, latest_version, promise_format, promised_word_format}
 use Rattle.model.specs.Images.Image.{anything, below, between, capability_format, content_format, frame_format, header_fields, header_format}
-use Rattle.model.specs.Images.Image.{image_with, interrupt_format, magic, names_parent, no_parent, object_format, pair_key, sections_format, size_fits}
+use Rattle.model.specs.Images.Image.{image_with, interrupt_format, magic, names_parent, no_parent, object_format, pair_key, sections_format, size_fits_in}
 use Rattle.model.specs.Images.Image.{slot_format, slots_format, table_format, untyped_format, whole_image, words_format}
 use Rattle.image_reading.proofs.FormatLaws.{IsBytes, IsLawful, bind_ok, guard_ok, ok_is, number_law, both_law, named_law, only_if_law, ordered_law, wide32}
 use Rattle.image_reading.proofs.ThreadLaws.{AreLawful, field_law, thread_law, words_law}
@@ -48,12 +48,12 @@ untyped_law : IsLawful untyped_format
 unfolding untyped_format
 untyped_law = named_law _ _ _ (λ x h. refl) (λ y. refl) (both_law _ _ (field_law anything) (λ (a : ℕ). field_law (between 4 24)))
 
-object_law : (untypeds least : ℕ) → IsLawful (object_format untypeds least)
+object_law : (version untypeds least : ℕ) → IsLawful (object_format version untypeds least)
 unfolding object_format
-object_law untypeds least = named_law _ _ _ (λ x h. refl) (λ y. refl)
+object_law version untypeds least = named_law _ _ _ (λ x h. refl) (λ y. refl)
     (both_law _ _ (field_law (λ n. leb least n && ltb n untypeds)) (λ (a : ℕ).
     both_law _ _ (field_law (between 1 8)) (λ (kind : ℕ).
-    field_law (size_fits kind))))
+    field_law (size_fits_in version kind))))
 
 capability_law : (objects interrupts least : ℕ) → IsLawful (capability_format objects interrupts least)
 unfolding capability_format
@@ -131,7 +131,7 @@ unfolding sections_format
 sections_law =
     both_law _ _ header_law (λ (header : ImageHeader).
     both_law _ _ (ordered_law 0 (λ _. untyped_format) (λ _. 0) header.untypeds (λ k. untyped_law)) (λ (a : List UntypedEntry).
-    both_law _ _ (ordered_law 0 (object_format header.untypeds) (λ e. e.untyped) header.objects (object_law header.untypeds)) (λ (b : List ObjectEntry).
+    both_law _ _ (ordered_law 0 (object_format header.version header.untypeds) (λ e. e.untyped) header.objects (object_law header.version header.untypeds)) (λ (b : List ObjectEntry).
     both_law _ _ (ordered_law 0 (capability_format header.objects header.interrupts) (λ e. pair_key e.cnode e.index + 1) header.capabilities
     (capability_law header.objects header.interrupts)) (λ (c : List CapabilityEntry).
     both_law _ _ (ordered_law 0 (interrupt_format header.objects) (λ e. e.line + 1) header.interrupts (interrupt_law header.objects))

@@ -56,7 +56,7 @@ pub counted : (bytes : List ℕ) (h : ImageHeader) (untypeds objects capabilitie
 unfolding untypeds_format objects_format capabilities_format interrupts_format tables_format frames_format contents_format promises_format threads_format
 counted bytes h untypeds objects capabilities interrupts tables frames contents promises threads s = record {
   untypeds = list_length (λ _. untyped_format) (λ _. 0) 0 h.untypeds bytes untypeds (ok-of _ _ s.untypeds_end);
-  objects = list_length (object_format h.untypeds) (λ e. e.untyped) 0 h.objects bytes objects (ok-of _ _ s.objects_end);
+  objects = list_length (object_format h.version h.untypeds) (λ e. e.untyped) 0 h.objects bytes objects (ok-of _ _ s.objects_end);
   capabilities = list_length (capability_format h.objects h.interrupts) (λ e. pair_key e.cnode e.index + 1) 0 h.capabilities bytes capabilities
       (ok-of _ _ s.capabilities_end);
   interrupts = list_length (interrupt_format h.objects) (λ e. e.line + 1) 0 h.interrupts bytes interrupts (ok-of _ _ s.interrupts_end);

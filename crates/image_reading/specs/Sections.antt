@@ -16,7 +16,7 @@ unfoldable pub untypeds_format : ImageHeader → Format (List UntypedEntry)
 untypeds_format h = many h.untypeds untyped_format
 
 unfoldable pub objects_format : ImageHeader → Format (List ObjectEntry)
-objects_format h = ordered 0 (object_format h.untypeds) (λ e. e.untyped) h.objects
+objects_format h = ordered 0 (object_format h.version h.untypeds) (λ e. e.untyped) h.objects
 
 unfoldable pub capabilities_format : ImageHeader → Format (List CapabilityEntry)
 capabilities_format h = ordered 0 (capability_format h.objects h.interrupts) (λ e. pair_key e.cnode e.index + 1) h.capabilities

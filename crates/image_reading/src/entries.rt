@@ -12,9 +12,10 @@ use crate::spelled::Spelled;
 use model::Refusal;
 use std::marker::{Model, PhantomData};
 
-/// What the ranges of an entry's fields depend on. Four words, which are passed in registers.
+/// What the ranges of an entry's fields depend on.
 #[derive(Clone, Copy, Drop)]
 pub struct Counts {
+    pub version: u32,
     pub untypeds: u32,
     pub objects: u32,
     pub interrupts: u32,

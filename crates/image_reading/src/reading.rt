@@ -45,9 +45,10 @@ impl<'a> Model for ImageRef<'a> {
 
 /// The counts that the ranges of an image's fields depend on.
 fn counts_of(header: &ImageHeader) -> Counts
-    ensures { result ≡ record { untypeds = header.now.untypeds; objects = header.now.objects; interrupts = header.now.interrupts; words = 0 } }
+    ensures { result ≡ record { version = header.now.version; untypeds = header.now.untypeds; objects = header.now.objects; interrupts = header.now.interrupts; words = 0 } }
 {
     Counts {
+        version: header.version,
         untypeds: header.untypeds,
         objects: header.objects,
         interrupts: header.interrupts,
@@ -292,6 +293,7 @@ fn image_at(bytes: &[u8]) -> Result<(ImageRef<'_>, usize), Refusal>
 {
     let (header, untypeds_at) = image_header(bytes, 0)?;
     let counts = Counts {
+        version: header.version,
         untypeds: header.untypeds,
         objects: header.objects,
         interrupts: header.interrupts,

@@ -4,7 +4,7 @@
 ghost use Rattle.std.specs.Prelude.{◌≡◌, ◌==◌, ◌&&◌, ◌||◌, ◌+◌, ◌^◌, nat_lt, nat_le, is_some, if◌then◌else◌, Some, None};
 ghost use Rattle.model.specs.Capabilities.CapabilityFields.{unpacked};
 ghost use Rattle.model.specs.Images.Format.{field};
-ghost use Rattle.model.specs.Images.Image.{below, capability_format, frame_format, interrupt_format, names_parent, object_format, pair_key, promised_word_format, size_fits, slot_format, table_format, untyped_format};
+ghost use Rattle.model.specs.Images.Image.{below, capability_format, frame_format, interrupt_format, names_parent, object_format, pair_key, promised_word_format, size_fits_in, slot_format, table_format, untyped_format};
 
 use crate::entries::{Counts, Entry, Keyed, Listed};
 use crate::fields::{
@@ -12,8 +12,9 @@ use crate::fields::{
 };
 use crate::slot_words::{is_empty, names_parent, unpacks};
 use crate::spelled::{Spelled, append_all};
+use crate::versions::size_fits;
 use model::{
-    CapabilityEntry, FrameEntry, InterruptEntry, ObjectEntry, ObjectType, PromisedWord, Refusal,
+    CapabilityEntry, FrameEntry, InterruptEntry, ObjectEntry, PromisedWord, Refusal,
     SlotEntry, TableEntry, UntypedEntry,
 };
 use std::alloc::AllocError;
@@ -77,11 +78,11 @@ impl Entry for UntypedEntry {
 }
 
 /// The size of an object of this type at `at`, and the offset after it.
-fn object_size(bytes: &[u8], at: usize, kind: u32) -> Result<(u32, usize), Refusal>
-    ensures { result ≡ (field (size_fits kind)).reads bytes.now at }
+fn object_size(bytes: &[u8], at: usize, version: u32, kind: u32) -> Result<(u32, usize), Refusal>
+    ensures { result ≡ (field (size_fits_in version kind)).reads bytes.now at }
 {
     let (size, next) = any_word(bytes, at)?;
-    if ObjectType::size_fits(kind, size) {
+    if size_fits(version, kind, size) {
         Ok((size, next))
     } else {
         Err(Refusal::Limit { offset: at as u64 })
@@ -98,7 +99,7 @@ impl Keyed for ObjectEntry {
 
 #[tactic(auto, unfolding(model::specs::Images::Image::object_format))]
 impl Spelled for ObjectEntry {
-    ghost spelling = { (object_format 0 0).spelling };
+    ghost spelling = { (object_format 0 0 0).spelling };
 
     fn append(&self, bytes: &mut Vec<u8>) -> Result<(), AllocError> {
         append_all(bytes, &[self.untyped, self.kind, self.size])
@@ -107,7 +108,7 @@ impl Spelled for ObjectEntry {
 
 #[tactic(auto, unfolding(model::specs::Images::Image::object_format))]
 impl Listed for ObjectEntry {
-    ghost format = { λ c. object_format c.untypeds };
+    ghost format = { λ c. object_format c.version c.untypeds };
 
     ghost next = { λ e. e.untyped };
 
@@ -122,7 +123,7 @@ impl Listed for ObjectEntry {
             && untyped < counts.untypeds
             && 1 <= kind
             && kind <= 8
-            && ObjectType::size_fits(kind, size)
+            && size_fits(counts.version, kind, size)
         {
             Some(key)
         } else {
@@ -145,7 +146,7 @@ impl Entry for ObjectEntry {
     ) -> Result<(ObjectEntry, usize), Refusal> {
         let (untyped, at) = rising_word(bytes, at, least, counts.untypeds)?;
         let (kind, at) = word_between(bytes, at, 1, 8)?;
-        let (size, at) = object_size(bytes, at, kind)?;
+        let (size, at) = object_size(bytes, at, counts.version, kind)?;
         Ok((
             ObjectEntry {
                 untyped,

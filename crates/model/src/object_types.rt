@@ -58,7 +58,8 @@ impl ObjectKind {
 }
 
 impl ObjectType {
-    /// Whether an image's object of this number may have this size: untyped memory 4 to 24, a CNode 1 to 14, another 0.
+    /// Whether an image's object of this number may have this size: untyped memory 4 to 24, a CNode 1 to 14, a frame 0 or, as a device
+    /// page, 1, another 0.
     pub fn size_fits(number: u32, size: u32) -> bool
         ensures { result ≡ size_fits number size }
     {
@@ -66,6 +67,7 @@ impl ObjectType {
             0 => false,
             1 => 4 <= size && size <= 24,
             5 => 1 <= size && size <= 14,
+            6 => size == 0 || size == 1,
             _ => size == 0,
         }
     }

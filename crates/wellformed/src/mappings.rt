@@ -5,13 +5,13 @@ ghost use Rattle.std.specs.List.{list_any};
 ghost use Rattle.model.specs.declared.refusals.Refusal.TheVariants.{BadMapping, OutOfMemory};
 ghost use Rattle.model.specs.Acceptance.Rules.{first_broken, refuse_if};
 ghost use Rattle.model.specs.Acceptance.ThreadRules.{is_member};
-ghost use Rattle.model.specs.Acceptance.WellFormed.{content_rule, executes, fills_nothing, frame_rules, has_writable_code, is_address, is_covered, is_mapped_before, is_mapped_twice, is_named_otherwise, mapping_rules, misplaces_frame, misplaces_table, promise_rule, promises_nothing};
+ghost use Rattle.model.specs.Acceptance.WellFormed.{content_rule, executes, fills_nothing, frame_rules, has_writable_code, is_address, is_covered, is_device, is_mapped_before, is_mapped_twice, is_named_otherwise, mapping_rules, misplaces_frame, misplaces_table, promise_rule, promises_nothing};
 ghost use Rattle.model.specs.Images.Described.{numbered};
 ghost use Rattle.wellformed.specs.Answering.{Answers, AreNamed, AreTwice, with_number};
 
 use crate::number_sets::NumberSet;
 use crate::object_types::{is_endpoint, is_frame, is_page_table, is_root_table, type_at};
-use image_reading::{ContentRef, ImageRef, PromiseRef, header_of, lists_region};
+use image_reading::{ContentRef, ImageRef, PromiseRef, header_of, lists_region, object_of};
 use model::{FrameEntry, Refusal, TableEntry};
 use std::alloc::Global;
 
@@ -87,6 +87,17 @@ pub(crate) fn executes(entry: FrameEntry) -> bool
     entry.rights & 4 != 0
 }
 
+/// Whether a number is that of a device page.
+fn is_device(image: &ImageRef<'_>, number: u32) -> bool
+    ensures { result ≡ is_device image.now number }
+{
+    if number >= header_of(image).objects {
+        return false;
+    }
+    let object = object_of(image, number);
+    object.kind == 6 && object.size == 1
+}
+
 /// What names frames besides the one mapping at hand.
 #[derive(Drop)]
 struct FrameNames<'n, 'i, 'a> {
@@ -150,7 +161,8 @@ impl FrameNames<'_, '_, '_> {
             || (executes(entry)
                 && (self.twice.contains(entry.frame)
                     || self.sources.contains(entry.frame)
-                    || self.filled.contains(entry.frame)))
+                    || self.filled.contains(entry.frame)
+                    || is_device(self.image, entry.frame)))
     }
 
     /// The mappings of frames, in their order, numbered on after the tables.

@@ -1,5 +1,6 @@
 -- The frames that the world may write stay frames, since the boot CNode names them: what it writes is written, and what it looks at is there.
-use Rattle.std.proofs.Common.{ℕ, zero, suc, ◌≡◌, ◌∙◌, ◌==◌, ◌+◌, ◌%◌, ◌<◌, ◌≤◌, ◌&&◌, Bool, true, false, if◌then◌else◌, nat_le, find, take, List, [], ◌∷◌, Option, Some, None, option_map, refl, sym, ap, subst, arith}
+use Rattle.std.proofs.Common.{ℕ, zero, suc, ◌≡◌, ◌∙◌, ◌==◌, ◌+◌, ◌%◌, ◌<◌, ◌≤◌, ◌&&◌, Bool, true, false, if◌then◌else◌, nat_le, find, take, List, [], ◌∷◌}
+use Rattle.std.proofs.Common.{Option, Some, None, option_map, refl, sym, ap, subst, arith}
 use Rattle.std.specs.Prelude.{option_and_then, slice_get}
 use Rattle.std.specs.Option.{option_map_or}
 use Rattle.std.proofs.lemmas.Bool.{eqb-true, false≢true}
@@ -19,7 +20,8 @@ use Rattle.model.specs.Kernel.AddressSpaces.{page_size}
 use Rattle.model.specs.Kernel.Kinds.{Names, frame_around, kind_at, kind_of}
 use Rattle.model.specs.Kernel.Retype.{NewObject, NewThread, NewFrame, object}
 use Rattle.model.specs.Kernel.Setup.{is_frame_object}
-use Rattle.model.specs.Kernel.State.{State, Object, ThreadObject, EndpointObject, NotificationObject, CNodeObject, FrameObject, PageTableObject, RootTableObject}
+use Rattle.model.specs.Kernel.State.{State, Object, ThreadObject, EndpointObject, NotificationObject, CNodeObject, FrameObject, PageTableObject}
+use Rattle.model.specs.Kernel.State.{RootTableObject}
 use Rattle.model.specs.Kernel.State.{boot_area_slots}
 use Rattle.model.specs.Kernel.World.{is_word_of_frame}
 use Rattle.soundness.specs.boot_laws.Loading.{all_loaded}
@@ -110,7 +112,8 @@ module _ (bytes : List ℕ) (image : Image) (s : State) (labels : List Label) (a
       let boot = HeldInBoot.boot held in
       let below : slot < boot_area_slots image.header.boot_radix = omega (arith, boot) in
       let named = names-kind offset (capability_at (described image).slots slot) (HeldInBoot.holds held) in
-      let kind : Some named.0 ≡ Some NewFrame = sym (first.memory.named slot named.0 offset named.1) ∙ ap (λ (o : Option Object). option_map kind_of o) frame-described in
+      let kind : Some named.0 ≡ Some NewFrame = sym (first.memory.named slot named.0 offset named.1)
+      ∙ ap (λ (o : Option Object). option_map kind_of o) frame-described in
       let same : capability_at s.slots slot ≡ capability_at (described image).slots slot =
       ap (λ (o : Option Entry). option_map_or (λ (held : Entry). held.capability) o Empty)
       (boot-kept image accepted.spelled.fits accepted.formed s labels all slot below) in
@@ -122,9 +125,11 @@ word-there bytes image s labels place accepted all d =
     let number = IsOfData.frame d in
     let offset = offset_of image number in
     let fitting = is-fitting image accepted.spelled.fits in
-    let aligned = frame-aligned image number fitting (stand-apart image accepted.spelled.fits accepted.formed) accepted.formed (IsOfData.listed d) (IsOfData.kind d) in
+    let aligned = frame-aligned image number fitting (stand-apart image accepted.spelled.fits accepted.formed) accepted.formed (IsOfData.listed d)
+    (IsOfData.kind d) in
     let low = IsOfData.begins d in
     let high = IsOfData.ends d in
     ap (λ (n : ℕ). is_frame_object (s.objects n) && nat_le (place % page_size + 4) page_size) (around-it offset place aligned low high)
-    ∙ ap (λ b. b && nat_le (place % page_size + 4) page_size) (is-frame (s.objects offset) (frame-stays bytes image s labels accepted all number (IsOfData.kind d)))
+    ∙ ap (λ b. b && nat_le (place % page_size + 4) page_size) (is-frame (s.objects offset) (frame-stays bytes image s labels accepted all number
+    (IsOfData.kind d)))
     ∙ le-true (place % page_size + 4) page_size (fits-page offset place aligned low high)

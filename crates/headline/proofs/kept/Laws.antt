@@ -11,4 +11,5 @@ pub use Rattle.headline.proofs.kept.OwnKeys.{IsOwnKey, key-kept, keys-own, membe
 pub use Rattle.headline.proofs.kept.StandingOn.{same-capability}
 pub use Rattle.headline.proofs.kept.StartObjects.{listed-from}
 pub use Rattle.headline.proofs.kept.ThreadsGiven.{IsGiven, given}
+pub use Rattle.headline.proofs.kept.DevicePages.{device-word}
 pub use Rattle.headline.proofs.kept.UnexecutedFrames.{unexecuted-apart}

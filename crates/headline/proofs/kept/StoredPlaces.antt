@@ -12,7 +12,7 @@ use Rattle.model.specs.declared.instructions.Access.TheVariants as accesses
 use Rattle.model.specs.declared.rights.Rights.{Rights}
 use Rattle.model.specs.Acceptance.NotedStates.{NotedSlot}
 use Rattle.model.specs.Acceptance.ThreadInvariants.{ImageMaps, IsCode, MapsAreNoted, NamesNoCode, NotedMaps, root_table_of, tcb_of}
-use Rattle.model.specs.Acceptance.WellFormed.{are_frame_rights, executes, has_writable_code, is_frame_type, is_mapped_twice, is_named_otherwise}
+use Rattle.model.specs.Acceptance.WellFormed.{are_frame_rights, executes, has_writable_code, is_frame_type, is_mapped_twice, is_named_otherwise, is_device}
 use Rattle.model.specs.Capabilities.CapabilityWords.{IsCapability}
 use Rattle.model.specs.Capabilities.Rights.{frame_rights, mapping_rights, may_write}
 use Rattle.model.specs.Images.Described.{Numbered}
@@ -62,8 +62,10 @@ not-twice from i (h ∷ hs) (suc j) frame g none at =
 one-mapping : (image : Image) (i j frame : ℕ) (g : FrameEntry) → slice_get image.frames j ≡ Some g → is_named_otherwise image i frame ≡ false →
     g.frame ≡ frame → j ≡ i
 one-mapping image i j frame g at none same =
+    let inside = or_parts (is_mapped_twice image i frame || list_any (λ c. c.source == frame) image.capabilities
+    || list_any (λ c. c.header.frame == frame) image.contents) (is_device image frame) none in
     let outer = or_parts (is_mapped_twice image i frame || list_any (λ c. c.source == frame) image.capabilities)
-    (list_any (λ c. c.header.frame == frame) image.contents) none in
+    (list_any (λ c. c.header.frame == frame) image.contents) inside.0 in
     let inner = or_parts (is_mapped_twice image i frame) (list_any (λ c. c.source == frame) image.capabilities) outer.0 in
     let start : 0 + j ≡ j = omega arith in
     by-test (j == i) refl (subst (λ n. (not (n == i) && (g.frame == frame)) ≡ false) start (not-twice 0 i image.frames j frame g inner.0 at))

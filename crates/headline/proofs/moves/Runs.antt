@@ -22,12 +22,13 @@ use Rattle.model.specs.Images.Image.{Image}
 use Rattle.model.specs.Kernel.AddressSpaces.{content_of}
 use Rattle.model.specs.Kernel.Scheduling.{current, is_runnable}
 use Rattle.model.specs.Kernel.State.{State, Status, Inactive, Runnable, Blocked, AwaitsReply, AwaitsHandler, thread_at}
-use Rattle.model.specs.Kernel.Steps.{ran, registers_of, state_after, step, trace}
+use Rattle.model.specs.Kernel.Steps.{place_of, ran, registers_of, state_after, step, trace}
 use Rattle.model.specs.Kernel.Waits.{is_error, is_fault}
 use Rattle.model.specs.Machine.Decoding.{decoded}
 use Rattle.model.specs.Machine.ProgramMemory.{loaded}
 use Rattle.headline.specs.moves.Laws.{InterruptsGoWell, Laws, PlainStepsGoWell, ReadsGoWell, TicksGoWell, WritesGoWell}
 use Rattle.headline.specs.moves.Steps.{GoesWell, HasGoneWell, MakesCall}
+use Rattle.headline.proofs.kept.Laws.{device-word}
 use Rattle.headline.proofs.moves.Interrupts.{unchanged-stand}
 use Rattle.headline.proofs.moves.Puts.{other-label, thread-there}
 use Rattle.headline.specs.steps.Points.{ReachesNoCall}
@@ -148,7 +149,8 @@ one-by-one : (labels : List Label) (l : Label) (later : List Label) → (labels 
 one-by-one [] l later = refl
 one-by-one (x ∷ labels) l later = ap (λ (ls : List Label). x ∷ ls) (one-by-one labels l later)
 
-module _ (ticks : TicksGoWell) (interrupts : InterruptsGoWell) (world_writes : WritesGoWell) (world_reads : ReadsGoWell) (bytes : List ℕ) (image : Image) (accepted : IsAccepted bytes image)
+module _ (ticks : TicksGoWell) (interrupts : InterruptsGoWell) (world_writes : WritesGoWell) (world_reads : ReadsGoWell) (bytes : List ℕ) (image : Image)
+    (accepted : IsAccepted bytes image)
     (steps : (s : State) (labels : List Label) → AllStand image s labels → GoesWell image s labels Step) where
   event-goes : (s : State) (labels : List Label) (event : Event) → KeepsDevices image event → AllStand image s labels → GoesWell image s labels event
   unfolding state_after step
@@ -157,13 +159,24 @@ module _ (ticks : TicksGoWell) (interrupts : InterruptsGoWell) (world_writes : W
   event-goes s labels (Irq number) devices all =
       record { faults = refl; errors = refl; stands = interrupts bytes image s labels number accepted all }
   event-goes s labels (Write address word) devices all =
-      record { faults = refl; errors = refl; stands = world_writes bytes image s labels address word accepted all devices }
+      record {
+        faults = refl;
+        errors = refl;
+        stands = world_writes bytes image s labels address word accepted all (device-word bytes image
+            (place_of address) accepted devices);
+      }
   event-goes s labels (Read address) devices all =
       record { faults = refl; errors = refl; stands = world_reads bytes image s labels address accepted all }
 
-  events-go : (s : State) (labels : List Label) (events : List Event) → All (KeepsDevices image) events → AllStand image s labels → GoneWell image s labels events
+  events-go : (s : State) (labels : List Label) (events : List Event) → All (KeepsDevices image) events → AllStand image s labels
+      → GoneWell image s labels events
   unfolding state_after trace
-  events-go s labels [] devices all = record { stand = subst (AllStand image s) (sym (behind-nothing labels)) all; faults = All-nil NoFault; errors = All-nil NoError }
+  events-go s labels [] devices all = record {
+    stand = subst (AllStand image s) (sym
+        (behind-nothing labels)) all;
+    faults = All-nil NoFault;
+    errors = All-nil NoError;
+  }
   events-go s labels (event ∷ rest) devices all =
       let well = event-goes s labels event (All-head (KeepsDevices image) event rest devices) all in
       let next = step s event in

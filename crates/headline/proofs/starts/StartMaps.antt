@@ -24,7 +24,7 @@ use Rattle.model.specs.Acceptance.Accepted.{IsWellFormed}
 use Rattle.model.specs.Acceptance.NotedStates.{NotedSlot, image_slots, listed_slot}
 use Rattle.model.specs.Acceptance.ThreadInvariants.{ImageMaps, IsCode, MapsAreNoted, NotedMaps}
 use Rattle.model.specs.Acceptance.ThreadRules.{is_member, reached}
-use Rattle.model.specs.Acceptance.WellFormed.{executes, has_writable_code, is_mapped_twice, is_named_otherwise}
+use Rattle.model.specs.Acceptance.WellFormed.{executes, has_writable_code, is_mapped_twice, is_named_otherwise, is_device}
 use Rattle.model.specs.Capabilities.CapabilityKinds.{frame_mapping, object_of, with_payload}
 use Rattle.model.specs.Capabilities.Rights.{frame_rights}
 use Rattle.model.specs.Capabilities.Slots.{capability_at}
@@ -80,8 +80,10 @@ unfolding has_writable_code
 only-code image k f kept runs =
     let outer = or_parts (f.rights == 7) (executes f && is_named_otherwise image k f.frame) kept in
     let named : is_named_otherwise image k f.frame ≡ false = sym (ap (λ b. b && is_named_otherwise image k f.frame) runs) ∙ outer.1 in
+    let inside = or_parts (is_mapped_twice image k f.frame || list_any (λ c. c.source == f.frame) image.capabilities
+    || list_any (λ c. c.header.frame == f.frame) image.contents) (is_device image f.frame) named in
     let a = or_parts (is_mapped_twice image k f.frame || list_any (λ c. c.source == f.frame) image.capabilities)
-    (list_any (λ c. c.header.frame == f.frame) image.contents) named in
+    (list_any (λ c. c.header.frame == f.frame) image.contents) inside.0 in
     let b = or_parts (is_mapped_twice image k f.frame) (list_any (λ c. c.source == f.frame) image.capabilities) a.0 in
     record { once = b.0; unlisted = b.1; unfilled = a.1 }
 

@@ -15,7 +15,7 @@ use Rattle.model.specs.declared.instructions.Instr.TheVariants.{Upper, Jal, Jalr
 use Rattle.model.specs.declared.instructions.LoadOp.{LoadOp}
 use Rattle.model.specs.declared.instructions.MemoryFault.{MemoryFault}
 use Rattle.model.specs.declared.instructions.Register.{Register}
-use Rattle.model.specs.Acceptance.WellFormed.{are_frame_rights, executes, is_mapped_twice, is_named_otherwise}
+use Rattle.model.specs.Acceptance.WellFormed.{are_frame_rights, executes, is_mapped_twice, is_named_otherwise, is_device}
 use Rattle.model.specs.Capabilities.Rights.{frame_rights, mapping_rights, may_write}
 use Rattle.model.specs.Images.Image.{Image}
 use Rattle.model.specs.Machine.Effects.{branches, effect, goes_on, is_taken, jumps, load_size, loads, next_pc, plus, stays, store_size, stores}
@@ -139,8 +139,10 @@ any-none test from (y ∷ ys) (suc k) x none at =
 pub one-mapping : (image : Image) (i j : ℕ) (f g : FrameEntry) → slice_get image.frames j ≡ Some g → is_named_otherwise image i f.frame ≡ false →
     g.frame ≡ f.frame → j ≡ i
 one-mapping image i j f g at none same =
+    let inside = or_parts (is_mapped_twice image i f.frame || list_any (λ c. c.source == f.frame) image.capabilities
+    || list_any (λ c. c.header.frame == f.frame) image.contents) (is_device image f.frame) none in
     let outer = or_parts (is_mapped_twice image i f.frame || list_any (λ c. c.source == f.frame) image.capabilities)
-    (list_any (λ c. c.header.frame == f.frame) image.contents) none in
+    (list_any (λ c. c.header.frame == f.frame) image.contents) inside.0 in
     let inner = or_parts (is_mapped_twice image i f.frame) (list_any (λ c. c.source == f.frame) image.capabilities) outer.0 in
     let start : 0 + j ≡ j = omega arith in
     let test = subst (λ n. (not (n == i) && (g.frame == f.frame)) ≡ false) start

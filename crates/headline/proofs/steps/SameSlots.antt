@@ -54,9 +54,12 @@ slots-back (a ∷ as_) (b ∷ bs) one other same =
 -- ---- CNodes have at most 2^14 slots
 
 cnode-size : (size : ℕ) → size_fits 5 size ≡ true → size ≤ 14
-cnode-size size is = elim (or_cases _ _ is) [
-  | inl fits ↦ (between-bounds 1 14 size fits).1
-  | inr clash ↦ absurd (let no : false ≡ true = (and_parts _ false clash).1 in cc)
+cnode-size size is = elim (or_cases _ false is) [
+  | inl sized ↦ elim (or_cases _ _ sized) [
+    | inl fits ↦ (between-bounds 1 14 size fits).1
+    | inr clash ↦ absurd (let no : false ≡ true = (and_parts _ false clash).1 in cc)
+  ]
+  | inr none ↦ absurd (let clash : false ≡ true = none in cc)
 ]
 
 radix-size : (kind size radix : ℕ) → kind ≤ 8 → size_fits kind size ≡ true → radix_of (type_of kind size) ≡ Some radix → radix ≤ 14

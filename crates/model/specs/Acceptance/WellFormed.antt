@@ -13,7 +13,7 @@ use Rattle.model.specs.declared.refusals.Refusal.TheVariants.{UntypedOverlap, No
 use Rattle.model.specs.Kernel.AddressSpaces.{address_limit, page_size, region_size}
 use Rattle.model.specs.Capabilities.CapabilityKinds.{is_badge, is_guard_word}
 use Rattle.model.specs.Images.Described.{numbered}
-use Rattle.model.specs.Images.Image.{Image, ImageContent, ImagePromise}
+use Rattle.model.specs.Images.Image.{Image, ImageContent, ImagePromise, is_device_size}
 use Rattle.model.specs.Capabilities.Placement.{placement}
 use Rattle.model.specs.Images.Places.{bits_of, boot_slots, is_handler, object_at, type_at, untyped_at, used_before}
 use Rattle.model.specs.Kernel.Retype.{NewObject, NewUntyped, NewThread, NewEndpoint, NewNotification, NewCNode, NewFrame, NewPageTable, NewRootTable}
@@ -163,11 +163,15 @@ executes f = not (bit_and f.rights 4 == 0)
 abbrev pub is_mapped_twice : Image → ℕ → ℕ → Bool
 is_mapped_twice image item frame = list_any (λ g. not (g.0 == item) && (g.1).frame == frame) (numbered image.frames)
 
--- something else names the frame
+-- a frame that the world outside reads and writes
+abbrev pub is_device : Image → ℕ → Bool
+is_device image number = is_device_size (object_at image number).kind (object_at image number).size
+
+-- something else names the frame, or it is a device page
 abbrev pub is_named_otherwise : Image → ℕ → ℕ → Bool
 is_named_otherwise image item frame =
     is_mapped_twice image item frame || list_any (λ c. c.source == frame) image.capabilities
-    || list_any (λ c. c.header.frame == frame) image.contents
+    || list_any (λ c. c.header.frame == frame) image.contents || is_device image frame
 
 -- code that can be written, or that something else than its mapping reaches
 unfoldable pub has_writable_code : Image → ℕ × FrameEntry → Bool

@@ -119,14 +119,17 @@ header_of (
 
 -- the latest version of image files that is read
 abbrev pub latest_version : ℕ
-latest_version = 3
+latest_version = 4
 
--- the versions whose images have promises, and those whose threads have buffers
+-- the versions whose images have promises, whose threads have buffers, and whose frames may be device pages
 abbrev pub has_promises : ℕ → Bool
 has_promises version = nat_le 2 version
 
 abbrev pub has_buffers : ℕ → Bool
 has_buffers version = nat_le 3 version
+
+abbrev pub has_devices : ℕ → Bool
+has_devices version = nat_le 4 version
 
 unfoldable pub header_format : Format ImageHeader
 header_format =
@@ -152,18 +155,27 @@ untyped_format =
     named (λ (offset, bits). record { offset = offset; bits = bits }) (λ e. (e.offset, e.bits))
     (both (field anything) (λ _. field (between 4 24)))
 
+-- a frame of this size is a device page
+abbrev pub is_device_size : ℕ → ℕ → Bool
+is_device_size kind size = kind == 6 && size == 1
+
 -- the size of an object of this type
 abbrev pub size_fits : ℕ → ℕ → Bool
 size_fits kind size =
     (kind == 1 && between 4 24 size) || (kind == 5 && between 1 14 size) || (nat_lt 1 kind && size == 0 && (nat_lt kind 5 || nat_lt 5 kind))
+    || is_device_size kind size
+
+-- the same in an image of this version
+abbrev pub size_fits_in : ℕ → ℕ → ℕ → Bool
+size_fits_in version kind size = size_fits kind size && (has_devices version || not (is_device_size kind size))
 
 -- the untyped's number never falls
-unfoldable pub object_format : ℕ → ℕ → Format ObjectEntry
-object_format untypeds least =
+unfoldable pub object_format : ℕ → ℕ → ℕ → Format ObjectEntry
+object_format version untypeds least =
     named (λ (untyped, (kind, size)). record { untyped = untyped; kind = kind; size = size }) (λ e. (e.untyped, (e.kind, e.size)))
     (both (field (λ n. nat_le least n && nat_lt n untypeds)) (λ _.
     both (field (between 1 8)) (λ kind.
-    field (size_fits kind))))
+    field (size_fits_in version kind))))
 
 -- the CNode and the index rise together
 unfoldable pub capability_format : ℕ → ℕ → ℕ → Format CapabilityEntry
@@ -399,7 +411,7 @@ unfoldable pub sections_format : Format Sections
 sections_format =
     both header_format (λ header.
     both (many header.untypeds untyped_format) (λ _.
-    both (ordered 0 (object_format header.untypeds) (λ e. e.untyped) header.objects) (λ _.
+    both (ordered 0 (object_format header.version header.untypeds) (λ e. e.untyped) header.objects) (λ _.
     both (ordered 0 (capability_format header.objects header.interrupts) (λ e. pair_key e.cnode e.index + 1) header.capabilities) (λ _.
     both (ordered 0 (interrupt_format header.objects) (λ e. e.line + 1) header.interrupts) (λ _.
     both (ordered 0 (table_format header.objects) (λ e. pair_key e.root e.address + 1) header.tables) (λ _.

@@ -14,7 +14,7 @@ use Rattle.model.specs.declared.entries.RangeEntry.{RangeEntry}
 use Rattle.model.specs.declared.entries.SlotEntry.{SlotEntry}
 use Rattle.model.specs.declared.entries.TermEntry.{TermEntry}
 use Rattle.model.specs.Images.Described.{numbered}
-use Rattle.model.specs.Images.Image.{Image, Thread, ImageContent, ImagePromise, StateRecord, no_buffer, no_parent}
+use Rattle.model.specs.Images.Image.{Image, Thread, ImageContent, ImagePromise, StateRecord, is_device_size, no_buffer, no_parent}
 use Rattle.model.specs.Acceptance.NotedStates.{record_of}
 use Rattle.model.specs.Images.Places.{interrupt_of, is_handler}
 
@@ -67,9 +67,9 @@ memory_line image = line (codes "memory" ∷ decimal image.header.memory_bits �
 abbrev pub untyped_line : ℕ × UntypedEntry → Text
 untyped_line u = line (codes "untyped" ∷ untyped_name u.0 ∷ decimal (u.1).offset ∷ decimal (u.1).bits ∷ [])
 
--- a size where the kind has one: the bits of untyped memory, and the radix of a CNode
+-- a size where the kind has one: the bits of untyped memory, the radix of a CNode, and 1 for a device page
 abbrev pub size_words : ObjectEntry → List Text
-size_words o = if o.kind == 1 || o.kind == 5 then decimal o.size ∷ [] else []
+size_words o = if o.kind == 1 || o.kind == 5 || is_device_size o.kind o.size then decimal o.size ∷ [] else []
 
 abbrev pub object_line : ℕ × ObjectEntry → Text
 object_line o =
@@ -161,8 +161,11 @@ abbrev pub version_promised : List ImagePromise → ℕ
 version_promised [] = 1
 version_promised (p ∷ promises) = 2
 
-abbrev pub version_listed : List ImagePromise → List Thread → ℕ
-version_listed promises threads = if some_buffered threads then 3 else version_promised promises
+abbrev pub some_device : List ObjectEntry → Bool
+some_device objects = list_any (λ o. is_device_size o.kind o.size) objects
+
+abbrev pub version_listed : List ObjectEntry → List ImagePromise → List Thread → ℕ
+version_listed objects promises threads = if some_device objects then 4 else if some_buffered threads then 3 else version_promised promises
 
 unfoldable pub listing_lines : Image → List Text
 listing_lines image =

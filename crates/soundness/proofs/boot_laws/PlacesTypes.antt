@@ -24,15 +24,21 @@ abbrev typed : (o : ObjectEntry) (kind : NewObject) → type_of o.kind o.size �
 typed o kind is large small = record { kind = kind; is = is; large = large; small = small }
 
 untyped-size : (size : ℕ) → size_fits 1 size ≡ true → between 4 24 size ≡ true
-untyped-size size is = elim (or_cases _ _ is) [
-  | inl first ↦ elim (or_cases (between 4 24 size) false first) [ inl fits ↦ fits | inr clash ↦ absurd (false≢true clash) ]
+untyped-size size is = elim (or_cases _ false is) [
+  | inl sized ↦ elim (or_cases _ _ sized) [
+    | inl first ↦ elim (or_cases (between 4 24 size) false first) [ inl fits ↦ fits | inr clash ↦ absurd (false≢true clash) ]
+    | inr clash ↦ absurd (false≢true clash)
+  ]
   | inr clash ↦ absurd (false≢true clash)
 ]
 
 cnode-size : (size : ℕ) → size_fits 5 size ≡ true → between 1 14 size ≡ true
-cnode-size size is = elim (or_cases _ _ is) [
-  | inl fits ↦ fits
-  | inr clash ↦ absurd (false≢true (and_parts _ false clash).1)
+cnode-size size is = elim (or_cases _ false is) [
+  | inl sized ↦ elim (or_cases _ _ sized) [
+    | inl fits ↦ fits
+    | inr clash ↦ absurd (false≢true (and_parts _ false clash).1)
+  ]
+  | inr clash ↦ absurd (false≢true clash)
 ]
 
 pub of-type : (untyped kind size : ℕ) → 1 ≤ kind → kind ≤ 8 → size_fits kind size ≡ true → HasType (record { untyped = untyped; kind = kind; size = size })

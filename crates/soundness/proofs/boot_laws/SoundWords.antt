@@ -15,7 +15,7 @@ use Rattle.model.specs.Images.BootCalls.{LoaderCall, boot_argument, boot_cnode, 
 use Rattle.model.specs.Images.BootCalls.{loader_call, object_call, signal_calls, table_call, thread_calls}
 use Rattle.model.specs.Images.Described.{start_of}
 use Rattle.model.specs.Images.Fills.{Fill, bytes_of, frame_at, page_bytes, page_fill, program_fills, program_pages}
-use Rattle.model.specs.Images.Image.{Image, Thread, no_buffer, size_fits}
+use Rattle.model.specs.Images.Image.{Image, Thread, is_device_size, no_buffer, size_fits}
 use Rattle.model.specs.Images.Places.{frame_copy_slot, handler_slot, is_handler, notification_copy_slot, object_at, offset_of, original_slot, source_boot_slot}
 use Rattle.model.specs.Kernel.AddressSpaces.{page_size}
 use Rattle.model.specs.Kernel.CallForms.{configure_label, copy_label, map_frame_label, mint_label, move_label, resume_label, set_notification_label}
@@ -63,8 +63,9 @@ two-fine : (one other : LoaderCall) → AreSmall one.words → AreSmall other.wo
 two-fine one other first second =
     All-cons HasSmallWords one (other ∷ []) (small-all one.words first) (All-cons HasSmallWords other [] (small-all other.words second) (All-nil HasSmallWords))
 
-size-small : (kind size : ℕ) → size_fits kind size ≡ true → size < 2 ^ 32
-size-small kind size is =
+sized-small : (kind size : ℕ) → ((kind == 1 && (nat_le 4 size && nat_le size 24)) || (kind == 5 && (nat_le 1 size && nat_le size 14))
+    || (nat_lt 1 kind && size == 0 && (nat_lt kind 5 || nat_lt 5 kind))) ≡ true → size < 2 ^ 32
+sized-small kind size is =
     elim (or_cases ((kind == 1 && (nat_le 4 size && nat_le size 24)) || (kind == 5 && (nat_le 1 size && nat_le size 14)))
     (nat_lt 1 kind && size == 0 && (nat_lt kind 5 || nat_lt 5 kind)) is) [
       | inl sized ↦ elim (or_cases (kind == 1 && (nat_le 4 size && nat_le size 24)) (kind == 5 && (nat_le 1 size && nat_le size 14)) sized) [
@@ -80,6 +81,12 @@ size-small kind size is =
           (and_parts (nat_lt 1 kind && size == 0) (nat_lt kind 5 || nat_lt 5 kind) none).0).1 in
           omega (arith, zeros)
     ]
+
+size-small : (kind size : ℕ) → size_fits kind size ≡ true → size < 2 ^ 32
+size-small kind size is = elim (or_cases _ (is_device_size kind size) is) [
+  | inl sized ↦ sized-small kind size sized
+  | inr device ↦ let one = eqb-true size 1 (and_parts (kind == 6) (size == 1) device).1 in omega (arith, one)
+]
 
 module _ (image : Image) (fitting : IsFitting image) where
   original-small : (number : ℕ) → number < image.header.objects → original_slot image number < 2 ^ 32

@@ -43,7 +43,7 @@ contents-fit image is i c at =
     let whole = and_parts (sections_format.fits (sections_of image)) _ is in
     let a = and_parts (header_format.fits header) _ whole.0 in
     let b = and_parts ((many header.untypeds untyped_format).fits image.untypeds) _ a.1 in
-    let d = and_parts ((ordered 0 (object_format header.untypeds) (λ e. e.untyped) header.objects).fits image.objects) _ b.1 in
+    let d = and_parts ((ordered 0 (object_format header.version header.untypeds) (λ e. e.untyped) header.objects).fits image.objects) _ b.1 in
     let e = and_parts ((ordered 0 (capability_format header.objects header.interrupts) (λ e. pair_key e.cnode e.index + 1) header.capabilities).fits
     image.capabilities) _ d.1 in
     let f = and_parts ((ordered 0 (interrupt_format header.objects) (λ e. e.line + 1) header.interrupts).fits image.interrupts) _ e.1 in

@@ -1,6 +1,8 @@
 -- By the kind of the event: the label of all but a step is no fault and no error.
 use Rattle.model.specs.declared.events.Event.TheVariants.{Step, Tick, Irq, Write, Read}
+use Rattle.model.specs.Kernel.Steps.{place_of}
 use Rattle.headline.specs.SafeRuns.{EventsKeepAllStanding}
+use Rattle.headline.proofs.kept.Laws.{device-word}
 use Rattle.headline.proofs.Labels.{irq-fine, read-fine, tick-fine, write-fine}
 use Rattle.headline.proofs.event_laws.events_keep_all_standing.Goals as goal
 
@@ -22,7 +24,7 @@ returns c = each
     each bytes image s labels (Write address word) accepted devices all = record {
       faults = (write-fine s address word).0;
       errors = (write-fine s address word).1;
-      stands = c.writes_keep_all_standing.ensures bytes image s labels address word accepted all devices;
+      stands = c.writes_keep_all_standing.ensures bytes image s labels address word accepted all (device-word bytes image (place_of address) accepted devices);
     }
     each bytes image s labels (Read address) accepted devices all = record {
       faults = (read-fine s address).0;
