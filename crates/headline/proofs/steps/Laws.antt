@@ -6,3 +6,4 @@ pub use Rattle.headline.proofs.steps.KeptRules.{point-kept}
 pub use Rattle.headline.proofs.steps.NotedForms.{after-low}
 pub use Rattle.headline.proofs.steps.PointForms.{known-form}
 pub use Rattle.headline.proofs.steps.SameSlots.{not-stray-formed, slots-back}
+pub use Rattle.headline.proofs.steps.PlainSteps.{RunsAlong, goes-along}

@@ -38,7 +38,7 @@ use Rattle.model.specs.Machine.Effects.{effect}
 use Rattle.model.specs.Machine.Instructions.{IsInstr}
 use Rattle.model.specs.Machine.ProgramMemory.{Content, RegisterFile, loaded}
 use Rattle.ranges.specs.Standing.{AreWords}
-use Rattle.headline.specs.steps.Points.{IsPoint, LeadsOn, ReachesNoCall}
+use Rattle.headline.specs.steps.Points.{GoesAlong, IsPoint, LeadsOn, ReachesNoCall}
 use Rattle.headline.specs.steps.Taken.{IsPlain, MayTake, edges_among}
 use Rattle.headline.proofs.steps.Accesses.{reaches-mapped}
 use Rattle.headline.proofs.steps.Budgets.{open-more, within-still}
@@ -201,6 +201,20 @@ module _ (image : Image) (t : Numbered) (g : IsGiven image t) (s : State) (label
         slots-back state.slots leads.state.slots (not-stray-formed image t.thread point state g.fitting (g.forms point state stands.known).low at.own)
         (not-stray-formed image t.thread leads.point leads.state g.fitting (g.forms leads.point leads.state leads.known).low there-at.own) leads.slots
 
+    along : GoesAlong image t s point state
+    along = record {
+      registers = left;
+      content = (effect r content instr).content;
+      after = ap (λ (x : State × Label). x.0) stepped;
+      label = ap (λ (x : State × Label). x.1) stepped;
+      edge = edge;
+      among = among;
+      next = leads.point;
+      inside = leads.inside;
+      target = leads.target;
+      pc = behind.0;
+    }
+
     stands-there : StandsAt image t next next_own leads.point leads.state
     stands-there = record {
       inside = leads.inside;
@@ -244,6 +258,38 @@ module _ (image : Image) (t : Numbered) (g : IsGiven image t) (s : State) (label
           × ThreadInvariant image t (step s Step).0 (labels ++ (step s Step).1 ∷ [])
       by-instr None is = absurd (let clash : true ≡ false = subst (λ (o : Option Instr). is_illegal o ≡ false) is at.legal in cc)
       by-instr (Some instr) is = instr-keeps instr is
+
+  along-so : GoesAlong image t s point state
+  along-so = by-instr (instruction_at t.thread point) refl
+    where
+      by-instr : (o : Option Instr) → instruction_at t.thread point ≡ o → GoesAlong image t s point state
+      by-instr None is = absurd (let clash : true ≡ false = subst (λ (o : Option Instr). is_illegal o ≡ false) is at.legal in cc)
+      by-instr (Some instr) is = along instr is
+
+-- where a thread that reaches no system call goes
+pub record RunsAlong (image : Image) (t : Numbered) (s : State) : Type 0 where
+  pub own : ThreadState
+  pub there : s.objects (tcb_of image t) ≡ Some (ThreadObject own)
+  pub status : own.status ≡ Runnable
+  pub point : ℕ
+  pub state : PointState
+  pub stands : StandsAt image t s own point state
+  pub goes : GoesAlong image t s point state
+
+pub goes-along : (image : Image) (t : Numbered) (s : State) (labels : List Label) → IsGiven image t → IsSound s → current s ≡ Some (tcb_of image t) →
+    ReachesNoCall s (tcb_of image t) → ThreadInvariant image t s labels → RunsAlong image t s
+goes-along image t s labels g sound now free (runs_so own point state there status stands budget) = record {
+  own = own;
+  there = there;
+  status = status;
+  point = point;
+  state = state;
+  stands = stands;
+  goes = along-so image t g s labels sound now free own point state there status stands budget;
+}
+goes-along image t s labels g sound now free (waits own point state there waiting stands waits_there none) =
+    let running = current-runs s sound.threads (tcb_of image t) now in
+    absurd (not-waiting own.status (subst (λ (u : ThreadState). is_runnable u.status ≡ true) (at-place s (tcb_of image t) own there) running.runs) waiting)
 
 pub plain-keeps : (image : Image) (t : Numbered) (s : State) (labels : List Label) → IsGiven image t → IsSound s → current s ≡ Some (tcb_of image t) →
     ReachesNoCall s (tcb_of image t)

@@ -1,5 +1,5 @@
 -- What is known of a point of a program that keeps the rules.
-use Rattle.std.specs.Prelude.{ℕ, ◌≡◌, ◌<◌, ◌%◌, true, false, Some, Ok, pos, int_lt, Contains}
+use Rattle.std.specs.Prelude.{ℕ, ◌≡◌, ◌+◌, ◌<◌, ◌%◌, true, false, Some, Ok, pos, int_lt, Contains}
 use Rattle.model.specs.declared.instructions.Access.TheVariants.{Fetch}
 use Rattle.model.specs.declared.instructions.AccessSize.TheVariants.{Word}
 use Rattle.model.specs.declared.instructions.Instr.TheVariants.{Ecall}
@@ -9,11 +9,16 @@ use Rattle.model.specs.Acceptance.PointRules.{ProgramEdge, are_ranges_within, ed
 use Rattle.model.specs.Acceptance.PointStates.{Known, address_of, instruction_at, noted}
 use Rattle.model.specs.Images.Described.{Numbered}
 use Rattle.model.specs.Images.Image.{Image}
-use Rattle.model.specs.Kernel.AddressSpaces.{content_of}
+use Rattle.model.specs.Kernel.AddressSpaces.{content_of, with_content}
+use Rattle.model.specs.Kernel.Messages.{with_registers}
 use Rattle.model.specs.Kernel.State.{State}
-use Rattle.model.specs.Kernel.Steps.{registers_of}
+use Rattle.model.specs.Kernel.Steps.{memory_base, registers_of, step}
 use Rattle.model.specs.Machine.Decoding.{decoded}
-use Rattle.model.specs.Machine.ProgramMemory.{loaded}
+use Rattle.model.specs.Machine.ProgramMemory.{Content, RegisterFile, loaded}
+use Rattle.model.specs.declared.events.Event.TheVariants.{Step}
+use Rattle.model.specs.declared.labels.Label.TheVariants.{Ran}
+use Rattle.model.specs.declared.labels.Outcome.TheVariants.{Plain}
+use Rattle.model.specs.Acceptance.ThreadInvariants.{tcb_of}
 
 -- the word which the thread would fetch, if it can be fetched, spells no system call
 abbrev pub ReachesNoCall : State → ℕ → Type 0
@@ -42,3 +47,16 @@ pub record IsPoint (image : Image) (t : Numbered) (point : ℕ) (state : PointSt
   pub mapped : is_unmapped image t.thread state (instruction_at t.thread point) ≡ false
   pub leads : (edge : ProgramEdge) → Contains (edges_at image t point state (instruction_at t.thread point)) edge
       → LeadsOn image t state.measure edge
+
+-- The step of a thread that reaches no system call goes along an edge of its program: of the state its registers and bytes change alone.
+pub record GoesAlong (image : Image) (t : Numbered) (s : State) (point : ℕ) (state : PointState) : Type 0 where
+  pub registers : RegisterFile
+  pub content : Content
+  pub after : (step s Step).0 ≡ with_content (with_registers s (tcb_of image t) registers) content
+  pub label : (step s Step).1 ≡ Ran (memory_base + tcb_of image t) (registers_of s (tcb_of image t)).pc Plain
+  pub edge : ProgramEdge
+  pub among : Contains (edges_at image t point state (instruction_at t.thread point)) edge
+  pub next : ℕ
+  pub inside : next < t.thread.header.words
+  pub target : edge.target ≡ address_of t.thread next
+  pub pc : registers.pc ≡ edge.target
