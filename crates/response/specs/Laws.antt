@@ -1,0 +1,242 @@
+-- The laws of this crate.
+use Rattle.std.specs.Prelude.{ℕ, Bool, ◌≢◌, nat_lt, ◌<◌, ◌≡◌, ◌+◌, ◌≤◌, ◌++◌, true, false, All, List, [], ◌∷◌, Contains, Some, Ok}
+use Rattle.model.specs.declared.events.Event.{Event}
+use Rattle.model.specs.declared.events.Event.TheVariants.{Step, Tick, Irq, Write, Read}
+use Rattle.model.specs.declared.instructions.Instr.TheVariants.{Ecall}
+use Rattle.model.specs.declared.labels.Label.{Label}
+use Rattle.model.specs.Acceptance.Accepted.{IsAccepted}
+use Rattle.model.specs.Acceptance.Devices.{KeepsDevices}
+use Rattle.model.specs.Acceptance.ThreadInvariants.{StandsAt, tcb_of}
+use Rattle.model.specs.Images.Described.{Numbered, described, numbered_threads}
+use Rattle.model.specs.Images.Image.{Image}
+use Rattle.model.specs.Kernel.Scheduling.{current, is_runnable}
+use Rattle.model.specs.Kernel.State.{Blocked, NotificationObject, NotificationState, State, ThreadObject, ThreadState, thread_at}
+use Rattle.model.specs.Acceptance.CallRules.{AfterCall}
+use Rattle.model.specs.Acceptance.NotedStates.{PointState}
+use Rattle.model.specs.Acceptance.PointStates.{Known, call_at, instruction_at, noted}
+use Rattle.model.specs.Kernel.Steps.{state_after, step, trace}
+use Rattle.model.specs.Kernel.Waits.{open_count}
+use Rattle.response.specs.Asking.{Takes, asked_at}
+use Rattle.model.specs.Kernel.Interrupts.{binding}
+use Rattle.headline.specs.invocations.Invoking.{Invokes}
+use Rattle.headline.specs.moves.Steps.{MakesCall}
+use Rattle.model.specs.declared.capabilities.Cap.TheVariants.{InterruptHandler}
+use Rattle.model.specs.Capabilities.Slots.{capability_at}
+use Rattle.headline.specs.steps.Points.{ReachesNoCall}
+use Rattle.response.specs.Left.{at_rest, left, line_price}
+use Rattle.response.specs.Levels.{HasItsPriority, KeepsLevel, KeepsLevelOnceRested, is_level_label, is_of_level}
+use Rattle.response.specs.Rates.{Keeps, Rate, cost_of, costs_within}
+use Rattle.response.specs.Weights.{Pays, Weights, waits_for_no_message}
+
+-- threads of an accepted image keep the priorities that it gives them
+abbrev pub PrioritiesStay : Type 0
+PrioritiesStay =
+    (bytes : List ℕ) (image : Image) (events : List Event) (t : Numbered) → IsAccepted bytes image → All (KeepsDevices image) events
+    → Contains (numbered_threads image) t
+    → HasItsPriority image t (state_after (described image) events)
+
+-- a thread of the level runs
+pub record RunsOfLevel (image : Image) (priority : ℕ) (s : State) : Type 0 where
+  pub thread : Numbered
+  pub listed : Contains (numbered_threads image) thread
+  pub level : is_of_level priority thread ≡ true
+  pub runs : current s ≡ Some (tcb_of image thread)
+
+-- where a thread of the level may run, one does: a step is of the level
+abbrev pub LevelsRun : Type 0
+LevelsRun =
+    (bytes : List ℕ) (image : Image) (events : List Event) (priority : ℕ) (t : Numbered) → IsAccepted bytes image → All (KeepsDevices image) events
+    → Contains (numbered_threads image) t
+    → is_of_level priority t ≡ true → is_runnable (thread_at (state_after (described image) events) (tcb_of image t)).status ≡ true
+    → RunsOfLevel image priority (state_after (described image) events)
+
+-- such a step is of the level by its label, too
+abbrev pub LevelsAreSeen : Type 0
+LevelsAreSeen =
+    (image : Image) (s : State) (priority : ℕ) → RunsOfLevel image priority s → is_level_label image priority (step s Step).1 ≡ true
+
+-- What is known of what is left, over these events: it falls at each step of the level, and rises by what interrupts cost alone; after a step
+-- that is not the level's own it is at most so much.
+pub record Economy (image : Image) (priority : ℕ) (rates : List Rate) (price : ℕ → ℕ) (most : ℕ) (left : List Event → ℕ) (events : List Event) : Type 0 where
+  pub falls : (before later : List Event) → events ≡ before ++ Step ∷ later
+      → is_level_label image priority (step (state_after (described image) before) Step).1 ≡ true
+      → left (before ++ Step ∷ []) + 1 ≤ left before
+  pub rests : (before later : List Event) → events ≡ before ++ Step ∷ later
+      → is_level_label image priority (step (state_after (described image) before) Step).1 ≡ false
+      → left (before ++ Step ∷ []) ≤ most
+  pub ticks : (before later : List Event) → events ≡ before ++ Tick ∷ later → left (before ++ Tick ∷ []) ≤ left before
+  pub raises : (before later : List Event) (number : ℕ) → events ≡ before ++ Irq number ∷ later
+      → left (before ++ Irq number ∷ []) ≤ left before + cost_of rates price number
+  pub writes : (before later : List Event) (address word : ℕ) → events ≡ before ++ Write address word ∷ later
+      → left (before ++ Write address word ∷ []) ≤ left before
+  pub reads : (before later : List Event) (address : ℕ) → events ≡ before ++ Read address ∷ later → left (before ++ Read address ∷ []) ≤ left before
+
+-- where all that may be left and come within so many steps is at most as many, no more steps on end are of the level
+abbrev pub EconomiesBound : Type 0
+EconomiesBound =
+    (image : Image) (priority : ℕ) (rates : List Rate) (price : ℕ → ℕ) (most n : ℕ) (left : List Event → ℕ) (events : List Event)
+    → Economy image priority rates price most left events → left [] ≤ most → Keeps rates events → most + costs_within rates price n ≤ n
+    → KeepsLevel image priority n events
+
+-- and once the level has rested, whatever was left at the start
+abbrev pub EconomiesBoundLater : Type 0
+EconomiesBoundLater =
+    (image : Image) (priority : ℕ) (rates : List Rate) (price : ℕ → ℕ) (most n : ℕ) (left : List Event → ℕ) (events : List Event)
+    → Economy image priority rates price most left events → Keeps rates events → most + costs_within rates price n ≤ n
+    → KeepsLevelOnceRested image priority n events
+
+-- who runs has an instruction left of its budget
+abbrev pub WhoRunsHasLeft : Type 0
+WhoRunsHasLeft =
+    (bytes : List ℕ) (image : Image) (events : List Event) (t : Numbered) → IsAccepted bytes image → All (KeepsDevices image) events
+    → Contains (numbered_threads image) t
+    → current (state_after (described image) events) ≡ Some (tcb_of image t)
+    → open_count (tcb_of image t) (trace (described image) events) + 1 ≤ t.thread.header.budget
+
+-- ---- stage one
+
+-- what is left after events
+abbrev pub left_after : Image → ℕ → Weights → List Event → ℕ
+left_after image priority w events = left image priority w (state_after (described image) events) (trace (described image) events)
+
+-- a tick leaves as much
+abbrev pub TicksLeaveTheWork : Type 0
+TicksLeaveTheWork =
+    (bytes : List ℕ) (image : Image) (priority : ℕ) (w : Weights) (events : List Event) → IsAccepted bytes image → All (KeepsDevices image) events
+    → left_after image priority w (events ++ Tick ∷ []) ≡ left_after image priority w events
+
+-- and so does what the world does, wherever it is
+abbrev pub WritesLeaveTheWork : Type 0
+WritesLeaveTheWork =
+    (image : Image) (priority : ℕ) (w : Weights) (events : List Event) (address word : ℕ)
+    → left_after image priority w (events ++ Write address word ∷ []) ≡ left_after image priority w events
+
+abbrev pub LooksLeaveTheWork : Type 0
+LooksLeaveTheWork =
+    (image : Image) (priority : ℕ) (w : Weights) (events : List Event) (address : ℕ)
+    → left_after image priority w (events ++ Read address ∷ []) ≡ left_after image priority w events
+
+-- a thread that waits, and has run nothing since, at a point that takes from an object
+pub record WaitsToTake (image : Image) (t : Numbered) (s : State) (labels : List Label) (queue : ℕ) : Type 0 where
+  pub own : ThreadState
+  pub there : s.objects (tcb_of image t) ≡ Some (ThreadObject own)
+  pub status : own.status ≡ Blocked queue
+  pub point : ℕ
+  pub state : PointState
+  pub stands : StandsAt image t s own point state
+  pub ecall : instruction_at t.thread point ≡ Some Ecall
+  pub left : AfterCall
+  pub call : call_at image t point state ≡ Some (Ok left)
+  pub asks : asked_at image t.thread point state ≡ Takes queue
+  pub none : open_count (tcb_of image t) labels ≡ 0
+
+-- so does the first that waits for a notification
+abbrev pub WaitersTake : Type 0
+WaitersTake =
+    (bytes : List ℕ) (image : Image) (events : List Event) (t : Numbered) (queue : ℕ) (n : NotificationState) (others : List ℕ) → IsAccepted bytes image
+    → All (KeepsDevices image) events
+    → Contains (numbered_threads image) t → (state_after (described image) events).objects queue ≡ Some (NotificationObject n)
+    → n.waiters ≡ tcb_of image t ∷ others
+    → WaitsToTake image t (state_after (described image) events) (trace (described image) events) queue
+
+-- an interrupt adds at most what its line costs
+abbrev pub InterruptsCost : Type 0
+InterruptsCost =
+    (bytes : List ℕ) (image : Image) (priority : ℕ) (w : Weights) (events : List Event) (number : ℕ) → IsAccepted bytes image
+    → All (KeepsDevices image) events → Pays image priority w
+    → left_after image priority w (events ++ Irq number ∷ [])
+    ≤ left_after image priority w events + line_price w (state_after (described image) events) number
+
+-- and one of a line that there is not adds nothing
+abbrev pub InterruptsBeyond : Type 0
+InterruptsBeyond =
+    (bytes : List ℕ) (image : Image) (priority : ℕ) (w : Weights) (events : List Event) (number : ℕ) → IsAccepted bytes image
+    → All (KeepsDevices image) events → Pays image priority w
+    → nat_lt 63 number ≡ true → left_after image priority w (events ++ Irq number ∷ []) ≤ left_after image priority w events + 0
+
+-- a step of a thread of the level that makes no system call takes 1 off at least
+abbrev pub PlainStepsAreWork : Type 0
+PlainStepsAreWork =
+    (bytes : List ℕ) (image : Image) (priority : ℕ) (w : Weights) (events : List Event) (t : Numbered) → IsAccepted bytes image
+    → All (KeepsDevices image) events → Pays image priority w
+    → Contains (numbered_threads image) t → is_of_level priority t ≡ true → current (state_after (described image) events) ≡ Some (tcb_of image t)
+    → ReachesNoCall (state_after (described image) events) (tcb_of image t)
+    → left_after image priority w (events ++ Step ∷ []) + 1 ≤ left_after image priority w events
+
+-- an invocation of what is no line's handler rings no notification, and takes no word
+abbrev pub InvocationsRingNothing : Type 0
+InvocationsRingNothing =
+    (bytes : List ℕ) (image : Image) (events : List Event) (t : Numbered) (offset : ℕ) (old new : NotificationState) → IsAccepted bytes image
+    → All (KeepsDevices image) events
+    → Contains (numbered_threads image) t → let s = state_after (described image) events in current s ≡ Some (tcb_of image t) → (i : Invokes s (tcb_of image t))
+    → ((number : ℕ) → capability_at s.slots i.slot ≢ InterruptHandler number) → s.objects offset ≡ Some (NotificationObject old)
+    → (step s Step).0.objects offset ≡ Some (NotificationObject new) → new.word ≡ old.word
+
+-- ---- at rest
+
+-- the thread takes from this notification alone, and waits for no message
+abbrev pub TakesFromOne : Image → Numbered → ℕ → Type 0
+TakesFromOne image t queue =
+    (point : ℕ) (state : PointState) → point < t.thread.header.words → noted image t point ≡ Known state
+    → (waits_for_no_message (asked_at image t.thread point state) ≡ true)
+    × ((other : ℕ) → asked_at image t.thread point state ≡ Takes other → other ≡ queue)
+
+-- where such a thread rests, no word stands at its notification
+abbrev pub NoWordAtRest : Type 0
+NoWordAtRest =
+    (bytes : List ℕ) (image : Image) (events : List Event) (t : Numbered) (queue : ℕ) (n : NotificationState) → IsAccepted bytes image
+    → All (KeepsDevices image) events
+    → Contains (numbered_threads image) t → TakesFromOne image t queue
+    → is_runnable (thread_at (state_after (described image) events) (tcb_of image t)).status ≡ false
+    → (state_after (described image) events).objects queue ≡ Some (NotificationObject n) → n.word ≡ 0
+
+-- at each of these objects some thread of the level takes that takes from nothing else
+abbrev pub AreTakenAlone : Image → ℕ → (ℕ → Bool) → Type 0
+AreTakenAlone image priority is_taken =
+    (queue : ℕ) → is_taken queue ≡ true → (t : Numbered) × Contains (numbered_threads image) t × (is_of_level priority t ≡ true) × TakesFromOne image t queue
+
+-- ---- the whole of stage one, but for two laws
+
+-- each line is bound as the image describes it
+abbrev pub BindingsStay : Type 0
+BindingsStay =
+    (bytes : List ℕ) (image : Image) (events : List Event) (number : ℕ) → IsAccepted bytes image → All (KeepsDevices image) events → number < 64
+    → binding (state_after (described image) events) number ≡ binding (described image) number
+
+-- a step of a thread of the level that makes a system call takes 1 off at least
+abbrev pub CallsAreWork : Image → ℕ → Weights → Type 0
+CallsAreWork image priority w =
+    (events : List Event) → All (KeepsDevices image) events → (t : Numbered) → Contains (numbered_threads image) t → is_of_level priority t ≡ true
+    → current (state_after (described image) events) ≡ Some (tcb_of image t) → MakesCall (state_after (described image) events) (tcb_of image t)
+    → left_after image priority w (events ++ Step ∷ []) + 1 ≤ left_after image priority w events
+
+-- after a step of another thread no more than this is left
+abbrev pub StepsBelowRest : Image → ℕ → Weights → ℕ → Type 0
+StepsBelowRest image priority w most =
+    (events : List Event) → All (KeepsDevices image) events → (t : Numbered) → Contains (numbered_threads image) t → is_of_level priority t ≡ false
+    → current (state_after (described image) events) ≡ Some (tcb_of image t) → left_after image priority w (events ++ Step ∷ []) ≤ most
+
+-- each line that costs something has a rate
+abbrev pub HaveRates : Image → Weights → List Rate → Type 0
+HaveRates image w rates =
+    (number : ℕ) → number < 64 → line_price w (described image) number ≤ cost_of rates (line_price w (described image)) number
+
+-- With these two: no more than n steps on end are of the level, where all that may be left at the start and at rest, and come within n steps, is at most n.
+abbrev pub LevelsRestWithin : Type 0
+LevelsRestWithin =
+    (bytes : List ℕ) (image : Image) (priority : ℕ) (w : Weights) (rates : List Rate) (is_taken : ℕ → Bool) (most n : ℕ) (events : List Event)
+    → IsAccepted bytes image → All (KeepsDevices image) events → Pays image priority w → AreTakenAlone image priority is_taken → HaveRates image w rates
+    → CallsAreWork image priority w
+    → StepsBelowRest image priority w most
+    → left_after image priority w [] ≤ most → at_rest image w is_taken ≤ most → Keeps rates events
+    → most + costs_within rates (line_price w (described image)) n ≤ n → KeepsLevel image priority n events
+
+-- and once the level has rested, whatever was left at the start
+abbrev pub LevelsRestLater : Type 0
+LevelsRestLater =
+    (bytes : List ℕ) (image : Image) (priority : ℕ) (w : Weights) (rates : List Rate) (is_taken : ℕ → Bool) (most n : ℕ) (events : List Event)
+    → IsAccepted bytes image → All (KeepsDevices image) events → Pays image priority w → AreTakenAlone image priority is_taken → HaveRates image w rates
+    → CallsAreWork image priority w
+    → StepsBelowRest image priority w most
+    → at_rest image w is_taken ≤ most → Keeps rates events → most + costs_within rates (line_price w (described image)) n ≤ n
+    → KeepsLevelOnceRested image priority n events

@@ -1,0 +1,136 @@
+//! Response bounds: for how many steps on end a level of threads runs, the threads of a priority and above. There is no code here yet: each law
+//! is the contract of a function that does nothing.
+#![tactic(auto)]
+
+ghost use Rattle.response.specs.Laws.{BindingsStay, NoWordAtRest, InterruptsBeyond, InvocationsRingNothing, LevelsRestWithin, EconomiesBound, EconomiesBoundLater, LevelsRestLater, InterruptsCost, LevelsAreSeen, LevelsRun, PlainStepsAreWork, PrioritiesStay, TicksLeaveTheWork, WaitersTake, WhoRunsHasLeft, WritesLeaveTheWork, LooksLeaveTheWork};
+
+use headline::authority::{
+    a_tick_stays_within_authority, an_interrupt_stays_within_authority,
+    events_stay_within_authority,
+};
+use headline::invocations::events_go_well;
+use headline::kept::threads_have_their_own_blocks;
+use headline::measure_facts::{least_values_are_least, measures_of_points_name_registers};
+use headline::moves::laws_below;
+use headline::starts::threads_are_as_listed;
+
+/// Threads keep the priorities that the image gives them.
+pub fn priorities_stay()
+    ensures { PrioritiesStay }
+{
+    a_tick_stays_within_authority();
+    an_interrupt_stays_within_authority();
+    events_stay_within_authority();
+    events_go_well();
+    threads_are_as_listed();
+}
+
+/// Where a thread of a level may run, one does.
+pub fn levels_run()
+    ensures { LevelsRun }
+{
+    priorities_stay();
+    events_go_well();
+}
+
+/// The step of a thread of a level is of the level by its label.
+pub fn levels_are_seen()
+    ensures { LevelsAreSeen }
+{}
+
+/// Where what is left falls at each step of the level, and rises by what interrupts cost alone, their rates bound the steps on end.
+pub fn economies_bound()
+    ensures start { EconomiesBound }
+    ensures later { EconomiesBoundLater }
+{}
+
+/// Who runs has an instruction left of its budget.
+pub fn who_runs_has_left()
+    ensures { WhoRunsHasLeft }
+{
+    events_go_well();
+    least_values_are_least();
+    measures_of_points_name_registers();
+}
+
+/// A tick leaves as much work as there was.
+pub fn ticks_leave_the_work()
+    ensures { TicksLeaveTheWork }
+{
+    a_tick_stays_within_authority();
+    events_go_well();
+}
+
+/// So does what the world writes, and what it looks at.
+pub fn the_world_leaves_the_work()
+    ensures writes { WritesLeaveTheWork }
+    ensures looks { LooksLeaveTheWork }
+{}
+
+/// Who waits in the queue of a notification is at a point that takes from it.
+pub fn waiters_take()
+    ensures { WaitersTake }
+{
+    events_go_well();
+    laws_below();
+}
+
+/// An interrupt adds at most what its line costs, and one of no line nothing.
+pub fn interrupts_cost()
+    ensures cost { InterruptsCost }
+    ensures beyond { InterruptsBeyond }
+{
+    events_go_well();
+    laws_below();
+    waiters_take();
+}
+
+/// A step of a thread of a level that makes no system call takes 1 off what is left, at least.
+pub fn plain_steps_are_work()
+    ensures { PlainStepsAreWork }
+{
+    events_go_well();
+    measures_of_points_name_registers();
+    threads_have_their_own_blocks();
+    who_runs_has_left();
+}
+
+/// Each line is bound as the image describes it.
+pub fn bindings_stay()
+    ensures { BindingsStay }
+{
+    events_go_well();
+}
+
+/// The bound of stage one, where system calls are work too, and steps of threads below leave little.
+pub fn levels_rest_within()
+    ensures start { LevelsRestWithin }
+    ensures later { LevelsRestLater }
+{
+    events_go_well();
+    threads_have_their_own_blocks();
+    bindings_stay();
+    no_word_at_rest();
+    levels_run();
+    levels_are_seen();
+    plain_steps_are_work();
+    ticks_leave_the_work();
+    the_world_leaves_the_work();
+    interrupts_cost();
+    economies_bound();
+}
+
+/// An invocation of what is no line's handler rings no notification, and takes no word.
+pub fn invocations_ring_nothing()
+    ensures { InvocationsRingNothing }
+{
+    events_stay_within_authority();
+}
+
+/// Where a thread rests that takes from one notification alone, no word stands there.
+pub fn no_word_at_rest()
+    ensures { NoWordAtRest }
+{
+    events_go_well();
+    laws_below();
+}
