@@ -10,3 +10,4 @@ pub mod steps
 pub mod Throughout
 pub mod SafeRuns
 pub mod measure_facts
+pub mod parts

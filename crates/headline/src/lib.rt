@@ -13,6 +13,7 @@ pub mod kept;
 pub mod lookups;
 pub mod measure_facts;
 pub mod moves;
+pub mod parts;
 mod safety_laws;
 pub mod starts;
 pub mod steps;

@@ -1,0 +1,12 @@
+mod Agreeing
+mod Bridge
+mod Decided
+mod Given
+mod GivenRuns
+mod Kept
+mod KeptBytes
+mod Left
+mod Members
+mod Messages
+mod Signals
+mod Views
