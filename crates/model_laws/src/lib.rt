@@ -156,6 +156,7 @@ pub use narrow_laws::all_words_of_a_message_come;
 pub use narrow_laws::an_interrupt_that_is_taken_is_delivered;
 pub use narrow_laws::an_object_ends_inside_held_memory;
 pub use narrow_laws::another_thread_gets_the_registers_of_its_reason;
+pub use narrow_laws::the_world_writes_its_word_alone;
 pub use narrow_laws::ticks_and_interrupts_are_what_they_are;
 pub use narrow_laws::who_gives_a_right_to_reply_waits;
 pub use placement_laws::placement_is_aligned;

@@ -1,8 +1,8 @@
-//! What authority rules out, part by part: who delivers and who gets it, the registers of each reason, rights, numbers of calls, lines and ticks.
+//! What authority rules out, part by part: who delivers and who gets it, the registers of each reason, rights, numbers of calls, lines, ticks and the world.
 
 ghost use Rattle.std.specs.Prelude.{ℕ, ◌≡◌, ◌≢◌, ◌+◌, ◌*◌, ◌^◌, ◌<◌, ◌≤◌, ◌⊎◌, true, false, bit_or, [], ◌∷◌, Contains, List, Option, Some, None, Ok, Err};
 ghost use Rattle.model.specs.declared.capabilities.Cap.TheVariants.{Empty, Endpoint, Frame, InterruptHandler, Notification, Untyped};
-ghost use Rattle.model.specs.declared.events.Event.TheVariants.{Irq, Step, Tick};
+ghost use Rattle.model.specs.declared.events.Event.TheVariants.{Irq, Read, Step, Tick, Write};
 ghost use Rattle.model.specs.declared.lookup_failures.LookupFailure.{LookupFailure};
 ghost use Rattle.model.specs.declared.rights.Rights.{Rights};
 ghost use Rattle.model.specs.declared.system_calls.ReceiveCall.{ReceiveCall};
@@ -17,7 +17,7 @@ ghost use Rattle.model.specs.Kernel.Interrupts.{binding};
 ghost use Rattle.model.specs.Kernel.Messages.{a0, buffer_of, delivered, length_between, message_between, register_words};
 ghost use Rattle.model.specs.Kernel.Scheduling.{current};
 ghost use Rattle.model.specs.Kernel.State.{State, Runnable, Blocked, AwaitsReply, Sender, EndpointObject, EndpointState, FrameObject, NotificationObject, NotificationState, ThreadObject, ThreadState, endpoint_at, notification_at, thread_at};
-ghost use Rattle.model.specs.Kernel.Steps.{named_slot};
+ghost use Rattle.model.specs.Kernel.Steps.{named_slot, place_of};
 ghost use Rattle.model.specs.Machine.Effects.{advanced};
 ghost use Rattle.model.specs.Machine.ProgramMemory.{write};
 ghost use Rattle.model_laws.specs.Scenarios.{Asks, ChangesUnwritten, HoldsOnly};
@@ -164,4 +164,16 @@ pub fn ticks_and_interrupts_are_what_they_are()
     ensures bytes { (image : Image) (s after : State) (place : ℕ) → s.bytes place ≢ after.bytes place → StaysWithin image s Tick after → ⊥ }
     ensures slots { (image : Image) (s after : State) (slot : ℕ) → s.slots slot ≢ after.slots slot → StaysWithin image s Tick after → ⊥ }
     ensures irq_slots { (image : Image) (s after : State) (number slot : ℕ) → s.slots slot ≢ after.slots slot → StaysWithin image s (Irq number) after → ⊥ }
+{}
+
+/// A write of the world changes no byte beside its word, no slot and no object, and a look no byte. They are named outright (`StaysWithin`).
+pub fn the_world_writes_its_word_alone()
+    ensures bytes { (image : Image) (s after : State) (address word other : ℕ) → s.bytes other ≢ after.bytes other
+        → (other < place_of address) ⊎ (place_of address + 4 ≤ other) → StaysWithin image s (Write address word) after → ⊥ }
+    ensures slots { (image : Image) (s after : State) (address word slot : ℕ) → s.slots slot ≢ after.slots slot
+        → StaysWithin image s (Write address word) after → ⊥ }
+    ensures objects { (image : Image) (s after : State) (address word offset : ℕ) → s.objects offset ≢ after.objects offset
+        → StaysWithin image s (Write address word) after → ⊥ }
+    ensures looks { (image : Image) (s after : State) (address place : ℕ) → s.bytes place ≢ after.bytes place
+        → StaysWithin image s (Read address) after → ⊥ }
 {}
