@@ -13,6 +13,7 @@ use Rattle.model.specs.declared.events.Event.{Event}
 use Rattle.model.specs.declared.events.Event.TheVariants.{Step, Tick, Irq, Write, Read}
 use Rattle.model.specs.declared.instructions.Access.TheVariants.{Fetch, Store}
 use Rattle.model.specs.declared.instructions.AccessSize.TheVariants.{Word}
+use Rattle.model.specs.declared.instructions.Instr.{Instr}
 use Rattle.model.specs.declared.instructions.Instr.TheVariants.{Ecall}
 use Rattle.model.specs.declared.rights.Rights.{Rights}
 use Rattle.model.specs.declared.system_calls.SendCall.{SendCall}
@@ -25,21 +26,22 @@ use Rattle.model.specs.Capabilities.Rights.{mapping_rights, may_grant_reply, may
 use Rattle.model.specs.Capabilities.Slots.{IsFull, capability_at, parent_at}
 use Rattle.model.specs.Images.Image.{Image, Thread}
 use Rattle.model.specs.Images.Places.{offset_of}
-use Rattle.model.specs.Kernel.AddressSpaces.{content_of}
-use Rattle.model.specs.Kernel.Deliveries.{Reason, ReceivesFrom, SendsTo, Signals, is_receive, is_send, sent_by}
+use Rattle.model.specs.Kernel.AddressSpaces.{content_of, with_content}
+use Rattle.model.specs.Kernel.Deliveries.{Reason, ReceivesFrom, SendsTo, Signals, TakesReceiver, TakesSender, TakesWaiter, is_receive, is_send, sent_by}
 use Rattle.model.specs.Kernel.Interrupts.{binding, raise}
 use Rattle.model.specs.Shared.Lists.{times_in, without}
 use Rattle.model.specs.Kernel.Kinds.{Names, frame_around, kind_at}
 use Rattle.model.specs.Kernel.Messages.{a7, buffer_of, length_between, register_words, with_registers}
-use Rattle.model.specs.Kernel.Retype.{NewObject, NewFrame, object, object_bits}
+use Rattle.model.specs.Kernel.Retype.{NewObject, NewFrame, NewNotification, object, object_bits}
 use Rattle.model.specs.Kernel.Scheduling.{current, full_slice, is_runnable, tick}
 use Rattle.model.specs.Kernel.State.{State, Runnable, Blocked, AwaitsReply, ThreadObject, EndpointObject, NotificationObject, EndpointState, NotificationState}
 use Rattle.model.specs.Kernel.State.{Sender}
 use Rattle.model.specs.Kernel.State.{Sent, BySend}
-use Rattle.model.specs.Kernel.State.{ByCall, ByFault, ThreadState, endpoint_at, notification_at, thread_at}
+use Rattle.model.specs.Kernel.State.{ByCall, ByFault, ThreadState, notification_at, thread_at}
 use Rattle.model.specs.Kernel.Steps.{call_of, named_slot, place_of, registers_of}
 use Rattle.model.specs.Machine.Decoding.{decoded}
-use Rattle.model.specs.Machine.ProgramMemory.{RegisterFile, loaded, read}
+use Rattle.model.specs.Machine.Effects.{effect}
+use Rattle.model.specs.Machine.ProgramMemory.{loaded, read}
 use Rattle.model.specs.Kernel.World.{world_writes}
 
 -- ---- capabilities
@@ -147,7 +149,7 @@ pub data RightChange (image : Image) (t : Thread) (s behind : State) (before aft
   kept : after ≡ before → ((caller : ℕ) → before ≡ Some caller → behind.objects caller ≡ s.objects caller) → RightChange image t s behind before after
   dropped : after ≡ None → RightChange image t s behind before after
   of_sender : (endpoint : ℕ) (first : Sender) → CallNames image t s (ReceivesFrom endpoint)
-      → (endpoint_at s endpoint).senders ≡ first ∷ (endpoint_at behind endpoint).senders → gives_right first first.sent ≡ true → after ≡ Some first.thread
+      → TakesSender s behind endpoint first → gives_right first first.sent ≡ true → after ≡ Some first.thread
       → RightChange image t s behind before after
 
 -- ---- queues
@@ -217,12 +219,11 @@ pub data UsedChange (image : Image) (t : Thread) (s after : State) (slot old new
 abbrev pub Acknowledges : ℕ → SystemCall → Cap → Type 0
 Acknowledges number call capability = (is_send call ≡ true) × (capability ≡ InterruptHandler number)
 
--- what a signal leaves: the badge joins the word of the notification, or its first waiter runs again
+-- what a signal leaves, at a notification that is there before and after: the badge joins its word, or its first waiter runs again
 pub data IsSignalled (s after : State) (notification badge : ℕ) : Type 0 where
-  joined : (notification_at s notification).waiters ≡ []
+  joined : kind_at s notification ≡ Some NewNotification → kind_at after notification ≡ Some NewNotification → (notification_at s notification).waiters ≡ []
       → (notification_at after notification).word ≡ bit_or (notification_at s notification).word badge → IsSignalled s after notification badge
-  passed : (first : ℕ) → (notification_at s notification).waiters ≡ first ∷ (notification_at after notification).waiters
-      → (thread_at after first).status ≡ Runnable → IsSignalled s after notification badge
+  passed : (first : ℕ) → TakesWaiter s after notification first → (thread_at after first).status ≡ Runnable → IsSignalled s after notification badge
 
 -- what becomes of a line: it is not masked any more, if nothing is pending or it is bound to nothing; or what was pending is delivered,
 -- and it is masked
@@ -254,9 +255,9 @@ pub data ObjectChange (image : Image) (t : Thread) (s after : State) (offset : �
 -- call names; from the first sender of one, if that reports no fault, which is in registers alone; or to its caller.
 pub data Delivers (image : Image) (t : Thread) (s after : State) (from to : ℕ) : Type 0 where
   sends : (endpoint badge : ℕ) → from ≡ self_of image t → CallNames image t s (SendsTo endpoint badge)
-      → (endpoint_at s endpoint).receivers ≡ to ∷ (endpoint_at after endpoint).receivers → Delivers image t s after from to
+      → TakesReceiver s after endpoint to → Delivers image t s after from to
   receives : (endpoint : ℕ) (first : Sender) → to ≡ self_of image t → CallNames image t s (ReceivesFrom endpoint)
-      → (endpoint_at s endpoint).senders ≡ first ∷ (endpoint_at after endpoint).senders → first.thread ≡ from
+      → TakesSender s after endpoint first → first.thread ≡ from
       → (first.sent ≡ BySend) ⊎ (first.sent ≡ ByCall) → Delivers image t s after from to
   replies : from ≡ self_of image t → (thread_at s from).caller ≡ Some to → (thread_at s to).status ≡ AwaitsReply
       → (thread_at after to).status ≡ Runnable → Delivers image t s after from to
@@ -374,11 +375,19 @@ pub record MakesCall (s : State) (thread : ℕ) : Type 0 where
   pub fetched : loaded (content_of s thread) Fetch Word (registers_of s thread).pc ≡ Ok word
   pub call : decoded word ≡ Some Ecall
 
--- registers of the thread change, and bytes, and nothing else
+-- what an instruction of a thread leaves: the registers, and the bytes in frames that its address space names
+abbrev pub computed : State → ℕ → Instr → State
+computed s thread instruction =
+    let e = effect (registers_of s thread) (content_of s thread) instruction in
+    with_content (with_registers s thread e.registers) e.content
+
+-- the instruction at the thread's pc does what the instruction set says of it, and nothing else changes
 pub record ComputesAlone (s after : State) (thread : ℕ) : Type 0 where
-  pub registers : RegisterFile
-  pub bytes : ℕ → Option ℕ
-  pub is : after ≡ record (with_registers s thread registers) { bytes = bytes }
+  pub word : ℕ
+  pub instruction : Instr
+  pub fetched : loaded (content_of s thread) Fetch Word (registers_of s thread).pc ≡ Ok word
+  pub spelled : decoded word ≡ Some instruction
+  pub is : after ≡ computed s thread instruction
 
 -- the step of a thread of the image
 pub record OwnStep (image : Image) (s after : State) : Type 0 where
@@ -386,7 +395,7 @@ pub record OwnStep (image : Image) (s after : State) : Type 0 where
   pub listed : Contains image.threads thread
   pub runs : current s ≡ Some (self_of image thread)
   pub within : WithinAuthority image thread s after
-  -- an instruction that is no system call changes the thread's registers and bytes alone
+  -- an instruction that is no system call does what the instruction set says, and nothing else
   pub plain : (MakesCall s (self_of image thread) → ⊥) → ComputesAlone s after (self_of image thread)
   -- who was woken is ready, at the tail of its priority
   pub awake : (priority other : ℕ) → IsWoken s after priority other → Contains (within.ready priority).added other

@@ -12,7 +12,9 @@ use Rattle.model.specs.declared.system_calls.SystemCall.{SystemCall}
 use Rattle.model.specs.declared.system_calls.SystemCall.TheVariants.{Sends, Receives, RepliesAndReceives, Replies, Yields, PutsCharacter}
 use Rattle.model.specs.Capabilities.Rights.{may_grant_reply, may_read, may_write}
 use Rattle.model.specs.Kernel.Interrupts.{binding}
+use Rattle.model.specs.Kernel.Kinds.{kind_at}
 use Rattle.model.specs.Kernel.Messages.{a0, buffer_of, delivered, length_between, message_between, message_of, register_words, resumption}
+use Rattle.model.specs.Kernel.Retype.{NewEndpoint, NewNotification}
 use Rattle.model.specs.Kernel.Scheduling.{full_slice}
 use Rattle.model.specs.Kernel.State.{State, Inactive, Runnable, Blocked, AwaitsReply, AwaitsHandler, Sender, Sent, BySend, ByCall, ByFault, ThreadState}
 use Rattle.model.specs.Kernel.State.{endpoint_at, notification_at, thread_at}
@@ -83,6 +85,26 @@ pub data Signals (s after : State) (notification badge : ℕ) (call : SystemCall
       → binding s number ≡ Some (record { notification = notification; badge = badge }) → s.pending number ≡ true → after.pending number ≡ false
       → Signals s after notification badge call capability
 
+-- ---- queues that lose their first
+
+-- the first receiver of an endpoint leaves its queue; there is an endpoint before and after
+pub record TakesReceiver (s after : State) (endpoint first : ℕ) : Type 0 where
+  pub was : kind_at s endpoint ≡ Some NewEndpoint
+  pub is : kind_at after endpoint ≡ Some NewEndpoint
+  pub leaves : (endpoint_at s endpoint).receivers ≡ first ∷ (endpoint_at after endpoint).receivers
+
+-- the first sender
+pub record TakesSender (s after : State) (endpoint : ℕ) (first : Sender) : Type 0 where
+  pub was : kind_at s endpoint ≡ Some NewEndpoint
+  pub is : kind_at after endpoint ≡ Some NewEndpoint
+  pub leaves : (endpoint_at s endpoint).senders ≡ first ∷ (endpoint_at after endpoint).senders
+
+-- the first that waits for a notification
+pub record TakesWaiter (s after : State) (notification first : ℕ) : Type 0 where
+  pub was : kind_at s notification ≡ Some NewNotification
+  pub is : kind_at after notification ≡ Some NewNotification
+  pub leaves : (notification_at s notification).waiters ≡ first ∷ (notification_at after notification).waiters
+
 -- ---- what becomes of the other thread
 
 -- The receiver of a call that may be replied to has the right to do so, and the caller waits for that from then on; one of a message keeps
@@ -123,20 +145,20 @@ is_message (ByFault fault) = false
 pub data Reason (s after : State) (self : ℕ) (Named : (SystemCall → Cap → Type 0) → Type 0) (other : ℕ) (before changed : ThreadState) : Type 0 where
   -- the first receiver of an endpoint got the message of this thread
   receiver : (endpoint badge : ℕ) (caller : Option ℕ)
-      → (endpoint_at s endpoint).receivers ≡ other ∷ (endpoint_at after endpoint).receivers → before.status ≡ Blocked endpoint
+      → TakesReceiver s after endpoint other → before.status ≡ Blocked endpoint
       → Named (SendsTo endpoint badge) → MayReply after self Named endpoint badge before.caller caller
       → changed ≡ record (woken before (advanced (delivered before.registers badge (message_between s self other)))) { caller = caller }
       → Arrives s after self other
       → Reason s after self Named other before changed
   -- this thread received the message of the first sender
   sender : (endpoint : ℕ) (first : Sender)
-      → (endpoint_at s endpoint).senders ≡ first ∷ (endpoint_at after endpoint).senders → first.thread ≡ other → before.status ≡ Blocked endpoint
+      → TakesSender s after endpoint first → first.thread ≡ other → before.status ≡ Blocked endpoint
       → Named (ReceivesFrom endpoint) → changed ≡ once_received first first.sent before
       → (is_message first.sent ≡ true → Arrives s after other self)
       → Reason s after self Named other before changed
   -- the first waiter of a notification got the badge of a signal
   waiter : (notification badge : ℕ)
-      → (notification_at s notification).waiters ≡ other ∷ (notification_at after notification).waiters → before.status ≡ Blocked notification
+      → TakesWaiter s after notification other → before.status ≡ Blocked notification
       → Named (Signals s after notification badge) → changed ≡ woken before (advanced (write before.registers a0 badge))
       → Reason s after self Named other before changed
   -- this thread replied to its caller
