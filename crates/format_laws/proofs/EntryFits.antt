@@ -81,14 +81,16 @@ untyped-fits u is =
     let bits = field-between 4 24 u.bits a.1 in
     record { offset = (field-parts anything u.offset a.0).0; low = bits.0; high = bits.1 }
 
-pub object-fits : (image : Image) (least : ℕ) (o : ObjectEntry) → (object_format image.header.version image.header.untypeds least).fits o ≡ true → ObjectFits image o
+pub object-fits : (image : Image) (least : ℕ) (o : ObjectEntry) → (object_format image.header.version image.header.untypeds least).fits o ≡ true
+    → ObjectFits image o
 unfolding object_format
 object-fits image least o is =
     let a = and_parts _ _ is in
     let b = and_parts _ _ a.1 in
     let kind = field-between 1 8 o.kind b.0 in
     let untyped = and_parts _ _ (field-parts (λ n. nat_le least n && nat_lt n image.header.untypeds) o.untyped a.0).1 in
-    record { untyped = ltb-true o.untyped image.header.untypeds untyped.1; low = kind.0; high = kind.1; size = (and_parts (size_fits o.kind o.size) _ (field-parts (size_fits_in image.header.version o.kind) o.size b.1).1).0 }
+    let size = and_parts (size_fits o.kind o.size) _ (field-parts (size_fits_in image.header.version o.kind) o.size b.1).1 in
+    record { untyped = ltb-true o.untyped image.header.untypeds untyped.1; low = kind.0; high = kind.1; size = size.0 }
 
 pub capability-fits : (image : Image) (least : ℕ) (c : CapabilityEntry)
     → (capability_format image.header.objects image.header.interrupts least).fits c ≡ true → CapabilityFits image c × (least ≤ pair_key c.cnode c.index)

@@ -131,7 +131,8 @@ unfolding sections_format
 sections_law =
     both_law _ _ header_law (λ (header : ImageHeader).
     both_law _ _ (ordered_law 0 (λ _. untyped_format) (λ _. 0) header.untypeds (λ k. untyped_law)) (λ (a : List UntypedEntry).
-    both_law _ _ (ordered_law 0 (object_format header.version header.untypeds) (λ e. e.untyped) header.objects (object_law header.version header.untypeds)) (λ (b : List ObjectEntry).
+    both_law _ _ (ordered_law 0 (object_format header.version header.untypeds) (λ e. e.untyped) header.objects (object_law header.version header.untypeds))
+    (λ (b : List ObjectEntry).
     both_law _ _ (ordered_law 0 (capability_format header.objects header.interrupts) (λ e. pair_key e.cnode e.index + 1) header.capabilities
     (capability_law header.objects header.interrupts)) (λ (c : List CapabilityEntry).
     both_law _ _ (ordered_law 0 (interrupt_format header.objects) (λ e. e.line + 1) header.interrupts (interrupt_law header.objects))

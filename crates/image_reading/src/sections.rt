@@ -14,8 +14,8 @@ use crate::slot_words::{is_empty, names_parent, unpacks};
 use crate::spelled::{Spelled, append_all};
 use crate::versions::size_fits;
 use model::{
-    CapabilityEntry, FrameEntry, InterruptEntry, ObjectEntry, PromisedWord, Refusal,
-    SlotEntry, TableEntry, UntypedEntry,
+    CapabilityEntry, FrameEntry, InterruptEntry, ObjectEntry, PromisedWord, Refusal, SlotEntry,
+    TableEntry, UntypedEntry,
 };
 use std::alloc::AllocError;
 

@@ -1,8 +1,8 @@
 //! What each event does.
 
-ghost use Rattle.std.specs.Prelude.{ℕ, ◌≡◌, ◌+◌, ◌^◌, ◌<◌};
+ghost use Rattle.std.specs.Prelude.{◌≡◌};
 ghost use Rattle.model.specs.Kernel.Scheduling.{tick};
-ghost use Rattle.model.specs.Kernel.Steps.{place_of, ran, step};
+ghost use Rattle.model.specs.Kernel.Steps.{ran, step};
 ghost use Rattle.objects.specs.Lives.{state_in};
 ghost use Rattle.soundness.specs.Running.{IsRunning};
 
@@ -55,14 +55,6 @@ fn pass_tick<S: SlotStore>(kernel: &mut Kernel<S>)
     tick(&mut kernel.live);
 }
 
-/// Where a physical address is in memory; those below it are at 0, where no frame is.
-fn place_of(address: u32) -> u32
-    ensures place { result ≡ place_of address }
-    ensures room { result + 3 < 2 ^ 32 }
-{
-    address.saturating_sub(MEMORY_BASE)
-}
-
 /// What an event does: the current thread goes on by an instruction, a tick passes, an interrupt is raised, or the world outside
 /// stores a word or looks at one.
 #[tactic(auto, unfolding(model::specs::Kernel::Steps::step))]
@@ -82,12 +74,12 @@ pub(crate) fn step<S: WalkStore>(kernel: &mut Kernel<S>, event: Event) -> Label
             Label::Raised(line)
         }
         Event::Write { address, word } => {
-            write_word(kernel, place_of(address), word);
+            write_word(kernel, address, word);
             Label::Wrote { address, word }
         }
         Event::Read { address } => Label::Showed {
             address,
-            word: read_word(kernel, place_of(address)),
+            word: read_word(kernel, address),
         },
     }
 }

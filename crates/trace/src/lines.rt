@@ -44,16 +44,6 @@ fn front(thread: u32, pc: u32) -> [u8; 18]
     ]
 }
 
-/// Appends an address, and the word that is there.
-fn push_word(to: &mut Line, address: u32, word: u32)
-    requires { array_vec_len to.old + 17 ≤ 32 }
-    ensures { to.new.items ≡ to.old.items ++ (hex_word address ++ (0x20 ∷ hex_word word)) }
-{
-    push_text(to, &hex_word(address));
-    push_text(to, b" ");
-    push_text(to, &hex_word(word));
-}
-
 /// The line that a trace has for `label`, without a line feed.
 pub fn line(label: Label) -> ArrayVec<u8, 32>
     ensures { result.items ≡ line_of label }
@@ -68,11 +58,15 @@ pub fn line(label: Label) -> ArrayVec<u8, 32>
         }
         Label::Wrote { address, word } => {
             push_text(&mut text, b"write ");
-            push_word(&mut text, address, word);
+            push_text(&mut text, &hex_word(address));
+            push_text(&mut text, b" ");
+            push_text(&mut text, &hex_word(word));
         }
         Label::Showed { address, word } => {
             push_text(&mut text, b"read ");
-            push_word(&mut text, address, word);
+            push_text(&mut text, &hex_word(address));
+            push_text(&mut text, b" ");
+            push_text(&mut text, &hex_word(word));
         }
         Label::Ran {
             thread,

@@ -21,7 +21,7 @@ use rv32_exec::Regs;
 use soundness::events_keep_soundness;
 
 /// Where physical memory begins.
-const MEMORY_BASE: u32 = 0x8000_0000;
+pub(crate) const MEMORY_BASE: u32 = 0x8000_0000;
 
 /// Plain instructions that a thread ran, and what it runs next.
 #[derive(Clone, Copy)]

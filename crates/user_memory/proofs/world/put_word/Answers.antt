@@ -6,7 +6,7 @@ use Rattle.model.specs.Kernel.World.{is_word_of_frame, world_writes}
 use Rattle.objects.specs.Lives.{state_in}
 use Rattle.objects.specs.Tables.{state_of}
 use Rattle.user_memory.proofs.WordsOfFrames.{nothing-written, word-done, word-most, word-outside, word-whole, word-within}
-use Rattle.user_memory.proofs.world.write_word.Goals as goal
+use Rattle.user_memory.proofs.world.put_word.Goals as goal
 use Rattle.cnode_ops.proofs.Laws.{consistent-of, whole-of}
 
 pub returns-then-not-is_word_of_frame-clause-state : goal.returns-then-not-is_word_of_frame-clause-state
@@ -52,7 +52,8 @@ returns-clause-state g c =
     ≡ world_writes (state_in g.S.SlotMap.slots g.S.SlotStore.memory k) c.args.place c.args.word) of_kernel
     (ap (λ (n : Slots). state_of c.live.inside.objects n (g.S.SlotStore.memory c.write_bytes.new.store)) c.write_bytes.ensures.slots
     ∙ word-done c.live.inside.objects (g.S.SlotMap.slots c.live.inside.store) (g.S.SlotStore.memory c.live.inside.store)
-    (g.S.SlotStore.memory c.write_bytes.new.store) c.to_le_bytes.result c.args.place c.args.word c.to_le_bytes.ensures c.write_bytes.ensures.bytes whole may)
+    (g.S.SlotStore.memory c.write_bytes.new.store) c.to_le_bytes.result c.args.place c.args.word c.to_le_bytes.ensures
+    c.write_bytes.ensures.bytes whole may)
 
 pub invariant_of-live : goal.invariant_of-live
 invariant_of-live g c =
@@ -63,7 +64,8 @@ invariant_of-live g c =
     (sym c.is_word_of_frame.ensures ∙ c.if-not-is_word_of_frame.false) in
     subst (λ (n : Slots). IsWhole c.live.inside.objects n (g.S.SlotStore.memory c.write_bytes.new.store)) (sym c.write_bytes.ensures.slots)
     (word-whole c.live.inside.objects (g.S.SlotMap.slots c.live.inside.store) (g.S.SlotStore.memory c.live.inside.store)
-    (g.S.SlotStore.memory c.write_bytes.new.store) c.to_le_bytes.result c.args.place c.args.word c.to_le_bytes.ensures c.write_bytes.ensures.bytes whole may)).stands
+    (g.S.SlotStore.memory c.write_bytes.new.store) c.to_le_bytes.result c.args.place c.args.word c.to_le_bytes.ensures
+    c.write_bytes.ensures.bytes whole may)).stands
 
 pub invariant_of-kernel : goal.invariant_of-kernel
 invariant_of-kernel g c =
