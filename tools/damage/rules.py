@@ -52,7 +52,7 @@ def read(data):
     """The image that the bytes spell."""
     r, i = Reader(data), Image()
     r.field(lambda n: n == 0x5359534D, refusal=MAGIC)
-    version = r.field(lambda n: 1 <= n <= 3, refusal=VERSION)
+    version = r.field(lambda n: 1 <= n <= 4, refusal=VERSION)
     i.bits = r.between(16, 24)
     i.radix = r.between(1, min(14, i.bits - 5))
     u, o, c, n, t, f, d = (r.between(*it) for it in ((1, 64), (0, 4096), (0, 16384), (0, 64), (0, 1024), (0, 4096), (0, 4096)))
@@ -60,7 +60,7 @@ def read(data):
     h = r.between(1, 64)
     thing = lambda: r.field(lambda x: x < o)
     i.untypeds = [(r.field(), r.between(4, 24)) for _ in range(u)]
-    i.objects = r.rising(o, lambda last: read_object(r, u, last), lambda x: x[0])
+    i.objects = r.rising(o, lambda last: read_object(r, u, version, last), lambda x: x[0])
     i.capabilities = r.rising(c, lambda last: read_capability(r, o, n, last), lambda x: pair(x[0], x[1]))
     i.interrupts = r.rising(n, lambda last: (r.between(last + 1, 63), thing(), r.field(lambda x: x < 2**28)), lambda x: x[0])
     i.tables = r.rising(t, lambda last: (lambda root: (root, r.field(lambda x: pair(root, x) > last), thing()))(thing()), lambda x: pair(x[0], x[1]))
@@ -75,10 +75,11 @@ def read(data):
     return i
 
 
-def read_object(r, untypeds, last):
+def read_object(r, untypeds, version, last):
+    """The untyped, the type and the size, which is 1 for a frame that is a device page: version 4 is the first that has them."""
     untyped = r.field(lambda x: max(last, 0) <= x < untypeds)
     kind = r.between(1, 8)
-    low, high = {UNTYPED: (4, 24), CNODE: (1, 14)}.get(kind, (0, 0))
+    low, high = {UNTYPED: (4, 24), CNODE: (1, 14), FRAME: (0, int(version >= 4))}.get(kind, (0, 0))
     return untyped, kind, r.between(low, high)
 
 
@@ -234,6 +235,11 @@ def kind_of(i, number):
     return i.objects[number][1] if number < len(i.objects) else None
 
 
+def is_device(i, number):
+    """Whether an object is a device page, of which the world outside reads and writes words."""
+    return kind_of(i, number) == FRAME and i.objects[number][2] == 1
+
+
 def may_have(i, source, rights, data):
     kind = kind_of(i, source)
     if kind in (ENDPOINT, NOTIFICATION):
@@ -277,7 +283,7 @@ def check_mappings(i):
         if wrong or (root, address >> 22) not in covered or rights in (0, 1, 5):
             raise Refused(12, item, 0)
         twice = any(other[2] == frame for number, other in enumerate(i.frames) if number != place)
-        named_too = any(c[2] == frame for c in i.capabilities) or any(c[0] == frame for c in i.contents)
+        named_too = any(c[2] == frame for c in i.capabilities) or any(c[0] == frame for c in i.contents) or is_device(i, frame)
         if rights == 7 or rights & 4 and (twice or named_too):
             raise Refused(13, item, 0)
     for item, (frame, _) in enumerate(i.contents, len(i.tables) + len(i.frames)):

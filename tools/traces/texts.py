@@ -88,7 +88,7 @@ class Thread:
     def spelled(self, version):
         first, budget, fault, base = self.head
         counts = len(self.registers), len(self.code), len(self.records)
-        buffer = [ALL_ONES if self.buffer is None else self.buffer] if version == 3 else []
+        buffer = [ALL_ONES if self.buffer is None else self.buffer] if version >= 3 else []
         said = words(*first) + struct.pack("<Q", budget) + words(*fault, *buffer, self.labels[self.entry], base, *counts)
         for entry in sorted(self.registers):
             said += words(*entry)
@@ -144,8 +144,9 @@ def assembled(text):
         sorted((names[root], number(address), names[frame], number(rights)) for root, address, frame, rights in declared["map"]),
         sorted((names[frame], len(content), *map(number, content)) for frame, *content in declared["data"]),
     ]
-    # version 2 is the first that has promises, and version 3 the first that has buffers
-    version = 3 if any(it.buffer is not None for it in threads) else 2 if declared["promise"] else 1
+    # version 2 is the first that has promises, version 3 the first that has buffers, and version 4 the first that has device pages
+    has_devices = any(entry[1:] == (KINDS["frame"], 1) for entry in declared["object"])
+    version = 4 if has_devices else 3 if any(it.buffer is not None for it in threads) else 2 if declared["promise"] else 1
     if version > 1:
         sections.append(sorted((names[endpoint], *promised(content)) for endpoint, *content in declared["promise"]))
     said = b"MSYS" + words(version, *memory, *(len(section) for section in sections), len(threads))
