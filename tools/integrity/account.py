@@ -3,7 +3,7 @@ which lines are held back. It says what each event has to change, to the last bi
 
 from calls import A0, A1, A7, HANDLER, WORDS
 from programs import Instruction, signed, value
-from rules import ALL_ONES, BITS, CNODE, ENDPOINT, FRAME, NOTIFICATION, UNTYPED, align
+from rules import ALL_ONES, BITS, CNODE, ENDPOINT, FRAME, NOTIFICATION, UNTYPED, align, is_device
 from seen import EMPTY, EXECUTE, READ, WRITE, Wrong
 
 CALL, REPLY_RECV, SEND, NB_SEND, RECV, REPLY, YIELD, NB_RECV, PUT_CHAR = range(1, 10)
@@ -41,8 +41,8 @@ class Deed:
         self.kinds = []
         # what has to be there after it, by what changes
         self.wanted = {}
-        # the registers that other threads may get, and the places that a store writes
-        self.reached, self.stored = {}, ()
+        # the registers that other threads may get, and the places that a store writes, or the world with what bytes
+        self.reached, self.stored, self.written = {}, (), {}
         # the label and the slot of an invocation, and its words
         self.invokes, self.words = None, ()
         # words that go from buffer to buffer: from whom, to whom, and how many of the message
@@ -59,6 +59,7 @@ class Deed:
 class Account:
     def __init__(self, image):
         self.threads = {image.offsets[t.tcb]: Thread(image, t) for t in image.threads}
+        self.devices = {place for number, place in enumerate(image.offsets) if is_device(image, number)}
         self.ready = list(self.threads.values())
         # who waits: to receive, or for a signal; and to send, with the call, the badge and whether it may be answered
         self.receivers, self.senders, self.words = {}, {}, {}
@@ -361,14 +362,16 @@ class Account:
         elif it.kind == "branch":
             goes_to = pc + it.immediate if TAKEN[it.name](x[it.rs1], x[it.rs2]) else goes_to
         elif it.kind == "load":
-            width = WIDTHS[it.name[1]]
-            found = self.view.load(thread.root, x[it.rs1] + it.immediate, width)
+            width, address = WIDTHS[it.name[1]], x[it.rs1] + it.immediate
+            found = self.view.load(thread.root, address, width)
+            deed.kinds += ["load from a device page"] if self.is_of_device(self.view.place_of(thread.root, address, READ)) else []
             deed.set(thread, it.rd, found if it.name.endswith("u") else signed(found, 8 * width))
         elif it.kind == "store":
             width = WIDTHS[it.name[1]]
             deed.stored = [self.view.place_of(thread.root, x[it.rs1] + it.immediate + at, WRITE) for at in range(width)]
             for at, place in enumerate(deed.stored):
                 deed.wanted["byte", place] = x[it.rs2] >> 8 * at & 255
+            deed.kinds += ["store to a device page"] if self.is_of_device(deed.stored[0]) else []
         elif it.kind == "alu":
             deed.set(thread, it.rd, value(it.name, x[it.rs1], x[it.rs2] if it.immediate is None else it.immediate & ALL_ONES))
         deed.set_pc(thread, goes_to)
@@ -402,9 +405,37 @@ class Account:
         self.raised(deed, line)
         return deed
 
+    # ---- the world outside
+
+    def is_of_device(self, place):
+        return place // 4096 * 4096 in self.devices
+
+    def world(self, address):
+        """Where the word is that the world names: all of it in a device page."""
+        place = address - MEMORY
+        if place % 4 or not self.is_of_device(place):
+            raise Wrong(f"{address:08x} is no word of a device page")
+        return place
+
+    def write(self, address, word):
+        deed, place = Deed(), self.world(address)
+        deed.label, deed.kinds = f"write {address:08x} {word:08x}", ["write"]
+        deed.written = {place + at: word >> 8 * at & 255 for at in range(4)}
+        deed.wanted |= {("byte", at): byte for at, byte in deed.written.items()}
+        return deed
+
+    def look(self, address):
+        deed, place = Deed(), self.world(address)
+        word = sum(self.view.bytes[place + at] << 8 * at for at in range(4))
+        deed.label, deed.kinds = f"read {address:08x} {word:08x}", ["read"]
+        return deed
+
+    def event(self, name, words):
+        numbers = [int(it, 0) for it in words]
+        return {"step": self.step, "tick": self.tick, "irq": self.interrupt, "write": self.write, "read": self.look}[name](*numbers)
+
     def follow(self, view, event):
         """What an event does, on what was seen before it."""
         self.view = view
-        if event == "step":
-            return self.step()
-        return self.tick() if event == "tick" else self.interrupt(int(event.split()[1]))
+        name, *words = event.split()
+        return self.event(name, words)

@@ -113,6 +113,8 @@ class Bounds:
             needs(self.label == RETYPE and new == 0 and self.lies_in(self.left, place, 1), "a byte appears that no Retype makes")
         elif new is None:
             needs(self.label in (DELETE, REVOKE) and self.lies_in(self.memory, place, 1), "a byte goes that no Delete or Revoke of the thread's memory ends")
+        elif self.deed.written:
+            needs(self.deed.written.get(place) == new, "a byte that is none of the word that the world writes")
         elif self.deed.stored:
             needs(place in self.deed.stored and self.is_written(place), "a byte that the store does not reach")
         else:

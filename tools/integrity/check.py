@@ -22,12 +22,11 @@ from reckon import verdict  # noqa: E402
 from rules import read, well_formed  # noqa: E402
 from seen import View, Wrong, blocks, read_changes, said_changes  # noqa: E402
 from systems import events, random_system  # noqa: E402
-from texts import assembled  # noqa: E402
 
 SAMPLES = pathlib.Path(seen.HERE, "..", "..", "samples")
 # samples with as many events, and systems at random by their seeds
 OF_SAMPLES = {"bell": 200, "solo": 100, "worker": 1000, "client_server": 500, "promise": 300, "buffers": 1000}
-AT_RANDOM = [("whole", it, 1000) for it in range(2)] + [("makers", it, 1000) for it in range(7)] + [("talkers", it, 1000) for it in range(7)]
+AT_RANDOM = [(kind, it, 1000) for kind, count in (("whole", 2), ("makers", 7), ("talkers", 7), ("devices", 3)) for it in range(count)]
 LEAST = 20
 # what has to be there at least so often: the system calls, the invocations that accepted programs may make, how they are made, events,
 # instructions, and what comes of calls
@@ -38,7 +37,7 @@ message from who waits|message as an answer|words in buffers, to who waits|words
 message cut to 8 words|message cut to 120 words|waits to send|waits to receive|waits for a signal|word taken|nobody to send to
 nobody to answer|nothing to receive|signal wakes|signal is kept|interrupt wakes|interrupt is kept|line held back
 line without a notification|Ack of a line that was held back|endpoint ends|notification ends|frame ends|slots emptied
-child of what moves""".replace("\n", "|").split("|")
+child of what moves|write|read|load from a device page|store to a device page""".replace("\n", "|").split("|")
 
 
 class Counts:
@@ -55,8 +54,7 @@ def systems():
         image = (SAMPLES / f"{name}.img").read_bytes()
         yield name, image, events(random.Random(name), count, [3, 3, 9])
     for kind, seed, count in AT_RANDOM:
-        text, listed = random_system(kind, seed, count)
-        yield f"{kind}{seed}", assembled(text), listed
+        yield f"{kind}{seed}", *random_system(kind, seed, count)
 
 
 def write(folder):

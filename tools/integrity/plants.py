@@ -1,7 +1,7 @@
 """Changes that are planted into the record of an event, each of which has to be refused. Those that are `outside` have to be refused by
 the bounds of authority alone; the others are within them, but not what the event does."""
 
-from account import COPY, MAP, MINT, MOVE, RETYPE, REVOKE
+from account import COPY, MAP, MEMORY, MINT, MOVE, RETYPE, REVOKE
 from calls import A0, A1, WORDS
 from rules import ENDPOINT, FRAME, NOTIFICATION, UNTYPED
 from seen import EMPTY
@@ -26,6 +26,10 @@ class Scene:
         self.account, self.view, self.deed, self.label, self.changes = account, view, deed, label, changes
         self.thread, self.threads = deed.thread, list(account.threads.values())
         self.invoked, self.slot = deed.invokes or (None, None)
+
+    def seen_of(self, wanted):
+        """What is seen to change where a deed wants something."""
+        return {key: (self.view.now(key), new) for key, new in wanted.items() if self.view.now(key) != new}
 
     def put(self, key, new):
         """The record with another value there."""
@@ -500,3 +504,94 @@ def _(s):
     key = s.first("reg")
     old, new = s.changes.get(key, (0, 0))
     return (s.label, {**s.changes, key: (old ^ 2**31, new)}) if key and new != old ^ 2**31 else None
+
+
+# ---- the world outside
+
+
+def word_written(s):
+    """Where the world writes a word."""
+    return min(s.deed.written) if s.deed.written else None
+
+
+def other_byte(s, place):
+    return s.put(("byte", place), s.view.bytes[place] ^ 1)
+
+
+@plant("a write of the world changes a byte beside its word")
+def _(s):
+    place = word_written(s)
+    return place and other_byte(s, place + 4 if place % 4096 < 4092 else place - 1)
+
+
+@plant("a write of the world changes the byte before its word")
+def _(s):
+    place = word_written(s)
+    return other_byte(s, place - 1) if place and place % 4096 else None
+
+
+@plant("a write of the world changes a register")
+def _(s):
+    return word_written(s) and s.more(("reg", s.threads[0].tcb, A0))
+
+
+@plant("a write of the world lets a thread go on")
+def _(s):
+    return word_written(s) and s.more(("reg", s.threads[-1].tcb, 0))
+
+
+@plant("a write of the world reaches code")
+def _(s):
+    return word_written(s) and other_byte(s, code_of(s, s.threads[0]))
+
+
+@plant("a write of the world is lost", outside=False)
+def _(s):
+    return (s.label, {}) if word_written(s) and s.changes else None
+
+
+@plant("a write of the world is lost in part", outside=False)
+def _(s):
+    key = word_written(s) and s.first("byte")
+    return s.without(key) if key else None
+
+
+@plant("a write of the world has its bytes the other way round")
+def _(s):
+    place = word_written(s)
+    around = place and {("byte", place + 3 - at): s.deed.written[place + at] for at in range(4)}
+    changes = around and s.seen_of(around)
+    return (s.label, changes) if changes and changes != s.changes and any(around[key] != new for key, new in s.deed.wanted.items()) else None
+
+
+@plant("a write of the world says another word", outside=False)
+def _(s):
+    return word_written(s) and (f"{s.label[:-8]}{int(s.label[-8:], 16) ^ 1:08x}", s.changes)
+
+
+def looked_at(s):
+    """Where the world looks at a word."""
+    return int(s.label.split()[1], 16) % 2**31 if s.label.startswith("read") else None
+
+
+@plant("a look changes a byte")
+def _(s):
+    place = looked_at(s)
+    return place and other_byte(s, place)
+
+
+@plant("a look changes a register")
+def _(s):
+    return looked_at(s) and s.more(("reg", s.threads[0].tcb, A0))
+
+
+@plant("a look shows another word", outside=False)
+def _(s):
+    return looked_at(s) and (f"{s.label[:-8]}{int(s.label[-8:], 16) ^ 2**31:08x}", s.changes)
+
+
+@plant("a look shows the word beside", outside=False)
+def _(s):
+    place = looked_at(s)
+    other = s.account.look(MEMORY + (place ^ 4)).label if place else s.label
+    return (f"{s.label[:-8]}{other[-8:]}", s.changes) if other[-8:] != s.label[-8:] else None

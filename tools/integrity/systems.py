@@ -2,6 +2,9 @@
 
 import random
 
+from rules import is_device, read, well_formed
+from texts import assembled
+
 WORDS = [12, 13, 14, 15, 18, 19, 20, 21]
 A0, A1, A7 = 10, 11, 17
 # registers that no message writes, for addresses and for what is stored
@@ -14,6 +17,8 @@ POOL, CNODE, ROOT, WIRE, PORT, PAGE, NOTE, MORE = range(1, 9)
 BELL, LINE, OTHER_LINE = range(1, 4)
 # the memory of small objects, of the pool, and of pages, by the bits of all memory
 MEMORIES = {16: ("0x1000 12", "0x2000 13", "0x4000 14", "0x8000 15"), 17: ("0x2000 13", "0x4000 14", "0x8000 15", "0x10000 16")}
+# where physical memory begins, and words of a device page that the world often writes: those that threads store to, and those of buffers
+BASE, OFTEN = 0x80000000, [0, 4, 32, 36, 40, 100, 476, 480, 0x6FC, 4092]
 SHARED = {"port": "endpoint", "wire": "endpoint", "note": "notification", "bell": "notification"}
 
 
@@ -256,6 +261,20 @@ def talker(chance, sends):
     return p
 
 
+def watcher(chance):
+    """One of those that wait for the same lines: it looks at what the world wrote, writes, and waits again."""
+    p = Program(chance)
+    for _ in range(chance.randrange(1, 3)):
+        p.call(RECV, BELL)
+        p.load(0x2000 + chance.choice(OFTEN[:-1]))
+        for line in chance.sample([LINE, OTHER_LINE], 2):
+            p.invoke(line, 18)
+        p.store(0x2000 + chance.choice(OFTEN[:-1]))
+        p.call(NB_SEND, PORT, 0x5001, 4)
+        p.call(NB_RECV, NOTE)
+    return p
+
+
 class Text:
     """The text of a system. Each thread has a page of code, a root table with a page table, a CNode of 16 slots and a control block."""
 
@@ -296,11 +315,11 @@ class Text:
         self.capability("maker", NOTE, "note", 3, self.chance.randrange(2**28))
         self.capability("maker", MORE, "more")
 
-    def service(self):
-        self.thread("service", service(self.chance))
-        self.capability("service", PORT, "port", 2)
-        self.capability("service", NOTE, "note", 3, 4)
-        self.map("service", 0x2000, "page", 3)
+    def service(self, name="service"):
+        self.thread(name, service(self.chance))
+        self.capability(name, PORT, "port", 2)
+        self.capability(name, NOTE, "note", 3, 4)
+        self.map(name, 0x2000, "page", 3)
 
     def driver(self, page, priority=None):
         self.bound += ["irq line 3 bell 1", "irq other_line 4 bell 2"]
@@ -312,10 +331,22 @@ class Text:
         self.capability("driver", NOTE, "note", 3, 2)
         self.map("driver", 0x2000, page, 3)
 
-    def talkers(self, buffers, first):
+    def watchers(self, pages):
+        """Two that wait for the same lines, each with a page."""
+        self.bound += ["irq line 3 bell 1", "irq other_line 4 bell 2"]
+        for name, page in zip(("watcher", "other_watcher"), pages):
+            self.thread(name, watcher(self.chance), 102)
+            self.capability(name, BELL, "bell", 2)
+            self.capability(name, LINE, "line")
+            self.capability(name, OTHER_LINE, "other_line")
+            self.capability(name, PORT, "port", 9, 5)
+            self.capability(name, NOTE, "note", 3, 2)
+            self.map(name, 0x2000, page, 3)
+
+    def talkers(self, buffers, first, kind="frame"):
         """Who asks and who answers, one of them first; those that have a buffer have their page as such."""
         for name, sends in (("left", True), ("right", False)):
-            self.page(f"{name}_page")
+            self.page(f"{name}_page", kind)
             self.thread(name, talker(self.chance, sends), 101 if name == first else 99, f"{name}_page" if name in buffers else None)
             self.capability(name, WIRE, "wire", 9 if sends else 2, 6 if sends else 0)
             self.capability(name, PORT, "port", 9, 7 if sends else 8)
@@ -334,12 +365,23 @@ class Text:
         return "".join(f"{line}\n" for line in [*said, *interrupts, *(it for it in self.bound if it not in interrupts), *self.threads])
 
 
-def events(chance, count, lines):
-    """Mostly steps, with ticks, and interrupts on these lines, often or now and then."""
-    found, often = [], chance.choice([0.1, 0.3, 0.6])
+def of_the_world(chance, pages, lines):
+    """Words of these pages that the world writes and looks at, some of them twice; after that it may raise a line."""
+    found = []
+    for _ in range(chance.randrange(1, 3)):
+        address = BASE + chance.choice(pages) + chance.choice([*OFTEN, 4 * chance.randrange(1024)])
+        word = chance.choice([0, 1, 0x2A, chance.randrange(2**32)])
+        found += chance.choice([[f"write {address:#x} {word}"], [f"read {address:#x}"], [f"write {address:#x} {word:#x}", f"read {address:#x}"]])
+    return found + [f"irq {chance.choice(lines)}"] * chance.choice([0, 0, 0, 1, 2])
+
+
+def events(chance, count, lines, pages=()):
+    """Mostly steps, with ticks, and interrupts on these lines, often or now and then; where there are device pages, their words too."""
+    found, often = [], 0.05 if pages else chance.choice([0.1, 0.3, 0.6])
     while len(found) < count:
         found += ["step"] * chance.randrange(1, 16)
         found += [f"irq {chance.choice(lines)}"] if chance.random() < often else ["tick"] * chance.choice([1, 1, 6])
+        found += of_the_world(chance, pages, lines) if pages and chance.random() < 0.5 else []
     return "".join(f"{event}\n" for event in found[:count])
 
 
@@ -373,10 +415,32 @@ def whole_system(chance, _):
     return text
 
 
-KINDS = {"whole": whole_system, "makers": makers_system, "talkers": talkers_system}
+def devices_system(chance, seed):
+    """A device page that a maker hands on to itself, or talkers that have device pages as buffers. Two wait for a line, and two receive."""
+    text = Text(chance, 17)
+    text.page("page", "frame 1")
+    if seed % 2:
+        text.talkers(("left", "right"), ("left", "right")[seed // 2 % 2], "frame 1")
+    else:
+        text.maker([PARTS[(seed + it) % len(PARTS)] for it in (1, 4, 6)])
+    text.service()
+    text.service("other")
+    text.watchers(("left_page" if seed % 2 else "page", "page"))
+    return text
+
+
+KINDS = {"whole": whole_system, "makers": makers_system, "talkers": talkers_system, "devices": devices_system}
+
+
+def device_pages(image):
+    """Where the device pages of an image are in memory."""
+    found = read(image)
+    well_formed(found)
+    return [place for number, place in enumerate(found.offsets) if is_device(found, number)]
 
 
 def random_system(kind, seed, count):
-    """The text of a system, and its events: lines 3 and 4 are bound, line 9 is not."""
+    """The image of a system, and its events: lines 3 and 4 are bound, line 9 is not."""
     chance = random.Random(f"{kind} {seed}")
-    return KINDS[kind](chance, seed).lines(), events(chance, count, [3, 3, 4, 9])
+    image = assembled(KINDS[kind](chance, seed).lines())
+    return image, events(chance, count, [3, 3, 4, 9], device_pages(image))
