@@ -1,6 +1,8 @@
 """An account of its own of what each event does, by docs/MANUAL.md: who runs, who waits and for what, whom each thread may answer,
 which lines are held back. It says what each event has to change, to the last bit, of what was seen before."""
 
+import copy
+
 from calls import A0, A1, A7, HANDLER, WORDS
 from programs import Instruction, signed, value
 from rules import ALL_ONES, BITS, CNODE, ENDPOINT, FRAME, NOTIFICATION, UNTYPED, align, is_device
@@ -22,14 +24,11 @@ TAKEN = {
 
 
 class Thread:
-    """What the image says of a thread, and what is not seen of it."""
+    """What the image says of a thread."""
 
     def __init__(self, image, t):
-        self.tcb, self.root = image.offsets[t.tcb], image.offsets[t.root]
-        self.priority, self.slice = t.priority, SLICE
+        self.tcb, self.root, self.priority = image.offsets[t.tcb], image.offsets[t.root], t.priority
         self.cnodes = {image.offsets[it] for it in t.reached}
-        # who waits for its answer
-        self.caller = None
 
 
 class Deed:
@@ -47,6 +46,8 @@ class Deed:
         self.invokes, self.words = None, ()
         # words that go from buffer to buffer: from whom, to whom, and how many of the message
         self.copied = []
+        # who is ready from now on, and whose slice a tick ends
+        self.woken, self.ended = [], None
 
     def set(self, thread, number, word):
         if number:
@@ -61,11 +62,26 @@ class Account:
         self.threads = {image.offsets[t.tcb]: Thread(image, t) for t in image.threads}
         self.devices = {place for number, place in enumerate(image.offsets) if is_device(image, number)}
         self.ready = list(self.threads.values())
+        # how many ticks each thread has left, and who waits for its answer
+        self.slices, self.callers = {it: SLICE for it in self.ready}, {}
         # who waits: to receive, or for a signal; and to send, with the call, the badge and whether it may be answered
         self.receivers, self.senders, self.words = {}, {}, {}
         self.masked, self.pending = set(), set()
         self.lines = 16 << image.radix
         self.view = None
+        # for what is planted: the badges that a word was made of, by what gave them, and the word that was taken last; what happened from the
+        # last step on; and which event put a thread to the end of its list, if it has not run since
+        self.kept, self.taken, self.since, self.queued = {}, {}, [], {}
+
+    def copy(self):
+        """An account of the same, which goes on by itself."""
+        other = copy.copy(self)
+        for name in ("slices", "callers", "words", "masked", "pending", "taken", "queued"):
+            setattr(other, name, getattr(self, name).copy())
+        for name in ("receivers", "senders", "kept"):
+            setattr(other, name, {place: list(it) for place, it in getattr(self, name).items()})
+        other.ready, other.since = list(self.ready), list(self.since)
+        return other
 
     # ---- threads
 
@@ -73,7 +89,7 @@ class Account:
         return max(self.ready, key=lambda it: it.priority, default=None)
 
     def wake(self, thread):
-        thread.slice = SLICE
+        self.slices[thread] = SLICE
         self.ready.append(thread)
 
     def pc(self, thread):
@@ -83,6 +99,7 @@ class Account:
         """It goes on after its system call, at the end of its queue."""
         deed.set_pc(thread, self.pc(thread) + 4)
         deed.reached.setdefault(thread.tcb, set()).add(0)
+        deed.woken.append(thread)
         self.wake(thread)
 
     def register(self, thread, number):
@@ -123,11 +140,13 @@ class Account:
             self.passes(deed, thread)
         else:
             self.words[notification] = self.words.get(notification, 0) | badge
+            giver = "Ack" if "Ack of a line that was held back" in deed.kinds else by
+            self.kept.setdefault(notification, []).append((giver, badge))
 
     def handed_over(self, sender, call, answers, receiver):
         """Whether a sender whose message was taken goes on; else it waits for an answer."""
         if call == CALL and answers:
-            receiver.caller = sender
+            self.callers[receiver] = sender
         return call != CALL
 
     def send(self, deed, thread, call, held):
@@ -161,7 +180,7 @@ class Account:
             raise Wrong("no right to receive")
         outcome = "plain" if call == NB_RECV else "wait"
         if kind == ENDPOINT:
-            thread.caller = None
+            self.callers.pop(thread, None)
             if self.senders.get(place):
                 sender, how, badge, answers = self.senders[place].pop(0)
                 self.deliver(deed, sender, thread, badge, "from who waits")
@@ -171,7 +190,9 @@ class Account:
                 return outcome
         elif self.words.get(place):
             deed.kinds.append("word taken")
-            deed.set(thread, A0, self.words.pop(place))
+            self.taken[place] = self.words.pop(place)
+            self.kept.pop(place, None)
+            deed.set(thread, A0, self.taken[place])
             deed.set_pc(thread, self.pc(thread) + 4)
             return outcome
         if call == NB_RECV:
@@ -185,10 +206,10 @@ class Account:
         return outcome
 
     def reply(self, deed, thread):
-        if thread.caller:
-            self.deliver(deed, thread, thread.caller, 0, "as an answer")
-            self.passes(deed, thread.caller)
-            thread.caller = None
+        caller = self.callers.pop(thread, None)
+        if caller:
+            self.deliver(deed, thread, caller, 0, "as an answer")
+            self.passes(deed, caller)
         else:
             deed.kinds.append("nobody to answer")
 
@@ -391,9 +412,10 @@ class Account:
         thread, deed = self.current(), Deed()
         deed.label, deed.kinds = "tick", ["tick"]
         if thread:
-            thread.slice -= 1
-            if thread.slice == 0:
+            self.slices[thread] -= 1
+            if self.slices[thread] == 0:
                 deed.kinds.append("tick that ends a slice")
+                deed.ended = thread
                 self.ready.remove(thread)
                 self.wake(thread)
         return deed
@@ -438,4 +460,8 @@ class Account:
         """What an event does, on what was seen before it."""
         self.view = view
         name, *words = event.split()
-        return self.event(name, words)
+        deed = self.event(name, words)
+        self.queued.pop(deed.thread, None)
+        self.queued |= {it: name for it in [*deed.woken, deed.ended] if it}
+        self.since = [deed] if name == "step" else [*self.since, deed]
+        return deed

@@ -125,13 +125,26 @@ class Bounds:
         pages = self.view.pages().items()
         return any(root == self.root and rights & WRITE and frame == place // 4096 * 4096 for (root, _), (frame, rights) in pages)
 
+    # ---- messages
+
+    def buffers(self, sender, receiver):
+        """Where both have their buffers, or None."""
+        held = [self.view.held((it.tcb, BUFFER_SLOT)) for it in (sender, receiver)]
+        if None in held or any(it[0] != FRAME or it[2] != READ | WRITE for it in held):
+            return None
+        return held[0][1], held[1][1]
+
     def is_delivered(self, place, byte, sender, receiver, length):
         """Whether the byte is one of a word after the eighth that a message brings, and comes from the same place of the sender's buffer."""
-        buffers = [self.view.held((it.tcb, BUFFER_SLOT)) for it in (sender, receiver)]
-        if None in buffers or any(held[0] != FRAME or held[2] != READ | WRITE for held in buffers):
-            return False
-        (_, source, *_), (_, target, *_) = buffers
+        source, target = self.buffers(sender, receiver) or (0, place)
         return 32 <= place - target < 4 * length and byte == self.view.bytes[source + place - target]
+
+    def message(self, sender, receiver, length):
+        """A message comes whole."""
+        source, target = self.buffers(sender, receiver) or (0, 0)
+        for at in range(32, 4 * length):
+            _, byte = self.changes.get(("byte", target + at), (None, self.view.bytes[target + at]))
+            needs(byte == self.view.bytes[source + at], "a byte of a message that does not come")
 
 
 def check_bounds(view, deed, changes):
@@ -139,6 +152,8 @@ def check_bounds(view, deed, changes):
     bounds = Bounds(view, deed, changes)
     for key in changes:
         {"reg": bounds.register, "byte": bounds.byte}.get(key[0], lambda *slot: bounds.slot(slot))(*key[1:])
+    for it in deed.copied:
+        bounds.message(*it)
 
 
 def check_values(view, deed, changes):

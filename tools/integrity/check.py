@@ -95,9 +95,9 @@ def is_refused(check, view, deed, *record):
     return False
 
 
-def put_plants(counts, tried, account, view, deed, label, changes):
+def put_plants(counts, tried, scene):
     """Plants each change for which there is place, once in each kind of event, and sees to it that it is refused."""
-    scene = Scene(account, view, deed, label, changes)
+    view, deed = scene.view, scene.deed
     for name, (outside, altered) in PLANTS.items():
         record = altered(scene) if (name, deed.kinds[0]) not in tried else None
         if not record:
@@ -130,10 +130,10 @@ def judge(data, listed, record, counts):
         raise Wrong(f"{len(following)} events, and not {len(listed)}")
     for number, (event, (label, said)) in enumerate(zip(listed, following)):
         try:
-            changes = read_changes(said)
+            changes, before = read_changes(said), account.copy()
             deed = account.follow(view, event)
             check_event(view, deed, label, changes)
-            put_plants(counts, tried, account, view, deed, label, changes)
+            put_plants(counts, tried, Scene(account, before, event, deed, label, changes))
         except Wrong as wrong:
             raise Wrong(f"event {number}, {label}: {wrong}") from None
         view.take(changes)

@@ -1,14 +1,19 @@
 """Changes that are planted into the record of an event, each of which has to be refused. Those that are `outside` have to be refused by
 the bounds of authority alone; the others are within them, but not what the event does."""
 
-from account import COPY, MAP, MEMORY, MINT, MOVE, RETYPE, REVOKE
+import functools
+import operator
+
+from account import ACK, COPY, MAP, MEMORY, MINT, MOVE, NB_RECV, NB_SEND, RETYPE, REVOKE, Deed
 from calls import A0, A1, WORDS
 from rules import ENDPOINT, FRAME, NOTIFICATION, UNTYPED
-from seen import EMPTY
+from seen import EMPTY, READ, WRITE, Wrong
 
 PLANTS = {}
 # a register that no program of the systems here writes, and that no message has
 UNUSED = 9
+# instructions that are no system call
+PLAIN = ("load", "store", "branch", "jal", "alu", "upper")
 
 
 def plant(name, outside=True):
@@ -19,17 +24,50 @@ def plant(name, outside=True):
     return keep
 
 
-class Scene:
-    """An event: what was seen before it, what it does, and what its record says has changed."""
+def otherwise(name, outside=True):
+    """Names a function that answers how an account from before an event is to be changed, or None where there is no place for it. Queues,
+    lists, masks and slices are in no record: they are seen where the event then does something else, and so is the plant's record."""
+    def keep(function):
+        PLANTS[name] = outside, lambda scene: scene.otherwise(function(scene), outside)
+        return function
+    return keep
 
-    def __init__(self, account, view, deed, label, changes):
-        self.account, self.view, self.deed, self.label, self.changes = account, view, deed, label, changes
+
+class Scene:
+    """An event: the account before it and after it, what was seen before it, what it does, and what its record says has changed."""
+
+    def __init__(self, account, before, event, deed, label, changes):
+        self.account, self.before, self.event, self.view = account, before, event, account.view
+        before.view = self.view
+        self.deed, self.label, self.changes = deed, label, changes
         self.thread, self.threads = deed.thread, list(account.threads.values())
         self.invoked, self.slot = deed.invokes or (None, None)
 
     def seen_of(self, wanted):
         """What is seen to change where a deed wants something."""
         return {key: (self.view.now(key), new) for key, new in wanted.items() if self.view.now(key) != new}
+
+    def otherwise(self, change, outside):
+        """The record of the event, had the account been another before it. One that lies outside has to change something."""
+        if not change:
+            return None
+        account = self.before.copy()
+        change(account)
+        try:
+            deed = account.follow(self.view, self.event)
+        except Wrong:
+            return None
+        changes = self.seen_of(deed.wanted)
+        is_seen = changes if outside else True
+        return (deed.label, changes) if is_seen and (deed.label, changes) != (self.label, self.changes) else None
+
+    def besides(self, does):
+        """The record with what something else changes of other threads."""
+        deed, account = Deed(self.thread), self.before.copy()
+        does(account, deed)
+        own = self.thread and self.thread.tcb
+        others = {key: it for key, it in self.seen_of(deed.wanted).items() if key[1] != own and key not in self.changes}
+        return (self.label, {**self.changes, **others}) if others else None
 
     def put(self, key, new):
         """The record with another value there."""
@@ -437,7 +475,7 @@ def _(s):
     return found and s.put(("byte", found[0] + 36), s.view.bytes[found[0] + 36] ^ 1)
 
 
-@plant("a byte of a message is missing", outside=False)
+@plant("a byte of a message is missing")
 def _(s):
     key = s.delivered() and s.first("byte")
     return s.without(key) if key else None
@@ -504,6 +542,352 @@ def _(s):
     key = s.first("reg")
     old, new = s.changes.get(key, (0, 0))
     return (s.label, {**s.changes, key: (old ^ 2**31, new)}) if key and new != old ^ 2**31 else None
+
+
+def named(s):
+    """The capability that a0 names."""
+    return s.view.held(s.view.lookup(s.thread.tcb, s.account.register(s.thread, A0)))
+
+
+# ---- interrupts and lines
+
+
+def raised(s):
+    """The line of an interrupt."""
+    return int(s.label.split()[1])
+
+
+def came_of(s, kind):
+    """The notification and the badge of an interrupt's line, if this came of it."""
+    held = s.label.startswith("irq") and kind in s.deed.kinds and s.view.held((s.account.lines, raised(s)))
+    return (held[1], held[3]) if held else (None, None)
+
+
+def may_wait_at(s, place):
+    """The threads with a capability to a notification: those that are ready, and the others."""
+    nodes = {slot[0] for slot, (held, _) in s.view.slots.items() if held[:2] == (NOTIFICATION, place)}
+    found = [it for it in s.threads if it.cnodes & nodes]
+    return [it for it in found if it in s.before.ready], [it for it in found if it not in s.before.ready]
+
+
+@otherwise("an interrupt wakes who runs already")
+def _(s):
+    # it was woken there and is in the queue still
+    place, _ = came_of(s, "interrupt is kept")
+    ready = place and may_wait_at(s, place)[0]
+    return ready and (lambda account: account.receivers.update({place: ready[:1]}))
+
+
+@otherwise("an interrupt wakes who waits somewhere else by now")
+def _(s):
+    place, _ = came_of(s, "interrupt is kept")
+    others = place and may_wait_at(s, place)[1]
+    return others and (lambda account: account.receivers.update({place: others[:1]}))
+
+
+@plant("an interrupt wakes two")
+def _(s):
+    place, badge = came_of(s, "interrupt wakes")
+    if not place or len(s.before.receivers[place]) < 2:
+        return None
+    return s.besides(lambda account, deed: (account.receivers[place].pop(0), account.signal(deed, place, badge, "interrupt")))
+
+
+@otherwise("an interrupt wakes the second that waits")
+def _(s):
+    place, _ = came_of(s, "interrupt wakes")
+    return place and len(s.before.receivers[place]) > 1 and (lambda account: account.receivers[place].reverse())
+
+
+@otherwise("an interrupt wakes nobody, and is lost", outside=False)
+def _(s):
+    return came_of(s, "interrupt wakes")[0] and (lambda account: account.masked.add(raised(s)))
+
+
+@otherwise("an interrupt is delivered again while its line is held back")
+def _(s):
+    return came_of(s, "line held back")[0] and (lambda account: account.masked.discard(raised(s)))
+
+
+def acknowledged(s):
+    """The line that a call acknowledges."""
+    return s.view.held(s.slot)[2] if s.invoked == ACK else None
+
+
+@otherwise("an Ack of a line that was held back signals nobody", outside=False)
+def _(s):
+    wakes = s.invoked == ACK and "interrupt wakes" in s.deed.kinds
+    return wakes and (lambda account: account.pending.discard(acknowledged(s)))
+
+
+@otherwise("an Ack of a line that was not held back signals")
+def _(s):
+    free = s.invoked == ACK and "Ack of a line that was held back" not in s.deed.kinds
+    return free and (lambda account: account.pending.add(acknowledged(s)))
+
+
+def lost_word(s, giver):
+    """A word is taken without the badges that this gave it."""
+    place = "word taken" in s.deed.kinds and named(s)[1]
+    left = [badge for by, badge in s.before.kept.get(place, []) if by != giver]
+    word = functools.reduce(operator.or_, left, 0)
+    return place and word != s.before.words[place] and (lambda account: account.words.update({place: word}))
+
+
+@otherwise("the word of an interrupt for which nobody waited is lost", outside=False)
+def _(s):
+    return lost_word(s, "interrupt")
+
+
+@otherwise("the word of an Ack of a line that was held back is lost", outside=False)
+def _(s):
+    return lost_word(s, "Ack")
+
+
+@otherwise("the word of a signal for which nobody waited is lost", outside=False)
+def _(s):
+    return lost_word(s, "signal")
+
+
+def without_word(s):
+    """The notification of which a thread takes no word, since none is there."""
+    asks = s.thread and any(it in s.deed.kinds for it in ("waits for a signal", "nothing to receive"))
+    held = asks and named(s)
+    return held[1] if held and held[0] == NOTIFICATION else None
+
+
+@otherwise("a word is taken twice", outside=False)
+def _(s):
+    place = without_word(s)
+    return place in s.before.taken and (lambda account: account.words.update({place: s.before.taken[place]}))
+
+
+@otherwise("a signal that nobody gave is taken", outside=False)
+def _(s):
+    place = without_word(s)
+    return place and (lambda account: account.words.update({place: 0x40}))
+
+
+# ---- whose turn it is
+
+
+def first_again(account, thread):
+    """The thread is the first in the list of its priority."""
+    account.ready = [thread, *(it for it in account.ready if it is not thread)]
+
+
+def beside(s, threads):
+    """The first of these that is ready at the priority of the thread that runs, and is not this one."""
+    return s.thread and next((it for it in threads if it in s.before.ready and it.priority == s.thread.priority and it is not s.thread), None)
+
+
+def sleeps_on(s, name, alone):
+    """Who runs for the first time since such an event put it into the list of the ready is in none: another one runs, or nobody."""
+    others = [it for it in s.before.ready if it is not s.thread]
+    is_first = s.thread and s.before.queued.get(s.thread) == name
+    return is_first and alone != bool(others) and (lambda account: account.ready.remove(s.thread))
+
+
+@otherwise("who was woken by a step does not run, but another one")
+def _(s):
+    return sleeps_on(s, "step", False)
+
+
+@otherwise("who was woken by an interrupt does not run, but another one")
+def _(s):
+    return sleeps_on(s, "irq", False)
+
+
+@otherwise("whose slice a tick ended runs no more, but another one")
+def _(s):
+    return sleeps_on(s, "tick", False)
+
+
+@otherwise("who was woken by a step does not run, and nobody does", outside=False)
+def _(s):
+    return sleeps_on(s, "step", True)
+
+
+@otherwise("who was woken by an interrupt does not run, and nobody does", outside=False)
+def _(s):
+    return sleeps_on(s, "irq", True)
+
+
+@otherwise("whose slice a tick ended runs no more, and nobody does", outside=False)
+def _(s):
+    return sleeps_on(s, "tick", True)
+
+
+@otherwise("who was woken runs before those that were ready")
+def _(s):
+    it = beside(s, [it for it, name in s.before.queued.items() if name != "tick"])
+    return it and (lambda account: first_again(account, it))
+
+
+@otherwise("whose slice a tick ended runs before those that were ready")
+def _(s):
+    it = beside(s, [it for it, name in s.before.queued.items() if name == "tick"])
+    return it and (lambda account: first_again(account, it))
+
+
+def ticks(s):
+    """The ticks from the last step on."""
+    return [deed for deed in s.before.since if deed.label == "tick"]
+
+
+@otherwise("a tick ends a slice too early")
+def _(s):
+    goes_on = s.thread and ticks(s) and all(deed.ended is None for deed in ticks(s)) and s.before.since[0].thread is s.thread
+    return goes_on and beside(s, s.before.ready) and (lambda account: (account.ready.remove(s.thread), account.ready.append(s.thread)))
+
+
+@otherwise("a tick ends a slice too late")
+def _(s):
+    it = beside(s, [deed.ended for deed in ticks(s) if deed.ended])
+    return it and (lambda account: first_again(account, it))
+
+
+@otherwise("who yields runs on")
+def _(s):
+    it = s.before.since and "Yield" in s.before.since[0].kinds and beside(s, [s.before.since[0].thread])
+    return it and (lambda account: first_again(account, it))
+
+
+# ---- who joins a queue, and what is no call
+
+
+def rests(s, kinds):
+    """Whose last step made it wait so, if it would be the next to run."""
+    last = s.before.since[0] if s.event == "step" and s.before.since else None
+    waits = last and last.thread and last.thread not in s.before.ready and any(it in last.kinds for it in kinds)
+    return last.thread if waits and (s.thread is None or last.thread.priority >= s.thread.priority) else None
+
+
+@otherwise("who joined a queue runs on", outside=False)
+def _(s):
+    it = rests(s, ("waits to send", "waits to receive", "waits for a signal"))
+    return it and (lambda account: first_again(account, it))
+
+
+@otherwise("who waits for an answer runs on", outside=False)
+def _(s):
+    it = rests(s, ("Call",))
+    return it and (lambda account: first_again(account, it))
+
+
+@plant("who joined a queue goes on after its call", outside=False)
+def _(s):
+    return s.more(("reg", s.thread.tcb, 0)) if any(it.startswith("waits ") for it in s.deed.kinds) else None
+
+
+def named_by_plain(s):
+    """The capability that a0 names while an instruction runs that is no system call."""
+    if s.deed.kinds[0] not in PLAIN:
+        return None
+    try:
+        return named(s)
+    except Wrong:
+        return None
+
+
+@otherwise("who ran a plain instruction does not run on, but another one")
+def _(s):
+    last = s.before.since[0] if s.thread and s.before.since else None
+    waits = last and last.thread is s.thread and last.kinds[0] in PLAIN and len(s.before.ready) > 1
+    return waits and (lambda account: account.ready.remove(s.thread))
+
+
+@plant("a plain instruction wakes who waits")
+def _(s):
+    held = named_by_plain(s)
+    waits = held and held[0] in (ENDPOINT, NOTIFICATION) and held[2] & WRITE and s.before.receivers.get(held[1])
+    return s.besides(lambda account, deed: account.send(deed, s.thread, NB_SEND, held)) if waits else None
+
+
+@plant("a plain instruction takes the message of who waits")
+def _(s):
+    held = named_by_plain(s)
+    waits = held and held[0] == ENDPOINT and held[2] & READ and s.before.senders.get(held[1])
+    return s.besides(lambda account, deed: account.receive(deed, s.thread, NB_RECV, held)) if waits else None
+
+
+@plant("a plain instruction answers who waits")
+def _(s):
+    return s.besides(lambda account, deed: account.reply(deed, s.thread)) if named_by_plain(s) and s.thread in s.before.callers else None
+
+
+# ---- who gets a message
+
+
+def ends(s, kind, does):
+    """Somebody that waits elsewhere gets something of an object that ends."""
+    it = s.invoked and kind in s.deed.kinds and next((it for it in s.threads if it not in s.before.ready), s.bystander())
+    return s.besides(lambda account, deed: (does(account, deed, it), account.passes(deed, it))) if it else None
+
+
+@plant("who waits gets a message from an endpoint that ends")
+def _(s):
+    return ends(s, "endpoint ends", lambda account, deed, it: account.deliver(deed, s.thread, it, 7, ""))
+
+
+@plant("who waits gets the word of a notification that ends")
+def _(s):
+    return ends(s, "notification ends", lambda account, deed, it: deed.set(it, A0, 7))
+
+
+def queue_of(s, kind, queues):
+    """Where the call takes the first of a queue that has more."""
+    place = kind in s.deed.kinds and named(s)[1]
+    return place if len(queues.get(place, ())) > 1 else None
+
+
+@otherwise("not the first receiver gets the message")
+def _(s):
+    place = queue_of(s, "message to who waits", s.before.receivers)
+    return place and (lambda account: account.receivers[place].reverse())
+
+
+@otherwise("not the first sender's message is taken", outside=False)
+def _(s):
+    place = queue_of(s, "message from who waits", s.before.senders)
+    return place and (lambda account: account.senders[place].reverse())
+
+
+def owed_nothing(s):
+    """A thread that waits, and not for an answer of the thread that runs."""
+    caller = s.before.callers.get(s.thread)
+    return next((it for it in s.threads if it not in s.before.ready and it is not caller), None)
+
+
+@otherwise("who is owed no answer gets one")
+def _(s):
+    it = "nobody to answer" in s.deed.kinds and owed_nothing(s)
+    return it and (lambda account: account.callers.update({s.thread: it}))
+
+
+@otherwise("another one gets the answer")
+def _(s):
+    it = "message as an answer" in s.deed.kinds and owed_nothing(s)
+    return it and (lambda account: account.callers.update({s.thread: it}))
+
+
+@otherwise("an answer is lost", outside=False)
+def _(s):
+    return "message as an answer" in s.deed.kinds and (lambda account: account.callers.pop(s.thread))
+
+
+@plant("all bytes from the ninth word on are missing")
+def _(s):
+    found = s.delivered()
+    left = {it: change for it, change in s.changes.items() if it[0] != "byte"}
+    return (s.label, left) if found and len(left) < len(s.changes) else None
+
+
+@plant("the last word of a message is missing")
+def _(s):
+    found = s.delivered()
+    last = {("byte", found[1] + 4 * found[2] - it) for it in range(1, 5)} if found else set()
+    return (s.label, {it: change for it, change in s.changes.items() if it not in last}) if last & set(s.changes) else None
 
 
 # ---- the world outside
