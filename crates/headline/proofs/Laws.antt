@@ -2,7 +2,7 @@
 pub use Rattle.headline.proofs.authority.Laws.{Waits, awaited-apart, behind, blocked-awaits, first-waits}
 pub use Rattle.headline.proofs.facts.Laws.{at-place, is-listed, page-mapped, page-maps, with_number}
 pub use Rattle.headline.proofs.moves.Laws.{idle-is, other-label, own-label, step-cases}
-pub use Rattle.headline.proofs.steps.Laws.{IsGiven, RunsAlong, given, goes-along, state-next, trace-next}
+pub use Rattle.headline.proofs.steps.Laws.{IsGiven, RunsAlong, branch-content, given, goes-along, jump-content, load-content, state-next, trace-next}
 pub use Rattle.headline.proofs.RunningLabels.{runs-within}
 pub use Rattle.headline.proofs.invocations.OtherSlots.{boot-kept}
 pub use Rattle.headline.proofs.Fronts.{all-front}

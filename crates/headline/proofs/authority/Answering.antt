@@ -1,7 +1,7 @@
 -- A thread answers the one that called it, which runs again; and what it does in the same step after that. What both change stays within
 -- authority.
 use Rattle.std.proofs.Common.{ℕ, suc, ◌≡◌, ◌≢◌, ◌==◌, ◌+◌, ◌*◌, ◌<◌, ◌≤◌, ◌++◌, Bool, true, false, if◌then◌else◌, Option, Some, None, List, [], ◌∷◌, refl, sym}
-use Rattle.std.proofs.Common.{◌∙◌, ap, subst, inl, inr, arith}
+use Rattle.std.proofs.Common.{◌∙◌, ap, subst, inl, inr, arith, option_map}
 use Rattle.std.specs.Prelude.{Contains, bit_or}
 use Rattle.std.specs.Option.{option_map_or}
 use Rattle.std.proofs.lemmas.Bool.Decides.{eqb_tells}
@@ -16,12 +16,11 @@ use Rattle.model.specs.Acceptance.Authority.{ReadyChange, self_of}
 use Rattle.model.specs.Capabilities.Lookup.{called_slot}
 use Rattle.model.specs.Images.Image.{Image, Thread}
 use Rattle.model.specs.Kernel.Deliveries.{MayReply, as_before, to_sender, Reason, receiver, sender, waiter, caller as answered, faulted, set_back, Signals}
-use Rattle.model.specs.Kernel.Deliveries.{Arrives, ReceivesFrom, SendsTo}
+use Rattle.model.specs.Kernel.Deliveries.{Arrives, TakesReceiver, TakesSender, TakesWaiter}
 use Rattle.model.specs.Kernel.Deliveries.{by_right, by_line, woken}
-use Rattle.model.specs.Kernel.Kinds.{object_named}
+use Rattle.model.specs.Kernel.Kinds.{kind_at, kind_of}
 use Rattle.model.specs.Kernel.Messages.{Message, a0, a7, buffer_of, bytes_between, deliver, delivered}
 use Rattle.model.specs.Kernel.Messages.{length_between, message_between, reply_to_call, with_caller}
-use Rattle.model.specs.Kernel.Retype.{NewEndpoint}
 use Rattle.model.specs.Kernel.Scheduling.{is_runnable, wake}
 use Rattle.model.specs.Kernel.Soundness.{IsSound}
 use Rattle.model.specs.Kernel.State.{State, Inactive, Runnable, Blocked, AwaitsReply, Object, ThreadObject, EndpointObject, NotificationObject, EndpointState}
@@ -207,6 +206,32 @@ module _ (image : Image) (t : Thread) (s : State) (sound : IsSound s) (own : Thr
   notifications-same : (y : ℕ) → notification_at after y ≡ notification_at s y
   notifications-same = same-part (λ (o : Option Object). option_map_or (λ (n : NotificationState). n) (as_notification o) new_notification) (λ v w. refl)
 
+  kinds-same : (y : ℕ) → kind_at after y ≡ kind_at s y
+  kinds-same = same-part (option_map kind_of) (λ v w. refl)
+
+  -- queues that lose their first
+
+  receiver-back : (later : State) (endpoint first : ℕ) → TakesReceiver after later endpoint first → TakesReceiver s later endpoint first
+  receiver-back later endpoint first takes = record {
+    was = sym (kinds-same endpoint) ∙ takes.was;
+    is = takes.is;
+    leaves = ap (λ (e : EndpointState). e.receivers) (sym (endpoints-same endpoint)) ∙ takes.leaves;
+  }
+
+  sender-back : (later : State) (endpoint : ℕ) (first : Sender) → TakesSender after later endpoint first → TakesSender s later endpoint first
+  sender-back later endpoint first takes = record {
+    was = sym (kinds-same endpoint) ∙ takes.was;
+    is = takes.is;
+    leaves = ap (λ (e : EndpointState). e.senders) (sym (endpoints-same endpoint)) ∙ takes.leaves;
+  }
+
+  waiter-back : (later : State) (notification first : ℕ) → TakesWaiter after later notification first → TakesWaiter s later notification first
+  waiter-back later notification first takes = record {
+    was = sym (kinds-same notification) ∙ takes.was;
+    is = takes.is;
+    leaves = ap (λ (n : NotificationState). n.waiters) (sym (notifications-same notification)) ∙ takes.leaves;
+  }
+
   gone-back : (y : ℕ) → s.objects y ≡ None → after.objects y ≡ None
   gone-back y none =
       after-there y (λ same. let e : None ≡ Some (ThreadObject own) = sym none ∙ ap s.objects same ∙ is in cc)
@@ -299,26 +324,24 @@ module _ (image : Image) (t : Thread) (s : State) (sound : IsSound s) (own : Thr
           comes frame target index one other first less
           ∙ source-still from frame index (length_between after from to) source one less (length-few after from to)
 
-      sender-source : (endpoint : ℕ) (first : Sender) → CallNames image t after (ReceivesFrom endpoint)
-          → (endpoint_at after endpoint).senders ≡ first ∷ (endpoint_at later endpoint).senders → IsSource first.thread
-      sender-source endpoint first names list =
-          let queue = endpoint-kind (s.objects endpoint) (sound.memory.named names.slot NewEndpoint endpoint (ap object_named names.such.is)) in
+      sender-source : (endpoint : ℕ) (first : Sender) → TakesSender s later endpoint first → IsSource first.thread
+      sender-source endpoint first takes =
+          let queue = endpoint-kind (s.objects endpoint) takes.was in
           let senders : queue.0.senders ≡ first ∷ (endpoint_at later endpoint).senders =
-          ap (λ (e : EndpointState). e.senders) (sym (at-endpoint s endpoint queue.0 queue.1) ∙ sym (endpoints-same endpoint)) ∙ list in
+          ap (λ (e : EndpointState). e.senders) (sym (at-endpoint s endpoint queue.0 queue.1)) ∙ takes.leaves in
           waits-source first.thread endpoint (sender-waits s sound endpoint queue.0 queue.1 first (endpoint_at later endpoint).senders senders)
 
-      receiver-source : (endpoint badge to : ℕ) → CallNames image t after (SendsTo endpoint badge)
-          → (endpoint_at after endpoint).receivers ≡ to ∷ (endpoint_at later endpoint).receivers → IsSource to
-      receiver-source endpoint badge to names list =
-          let queue = endpoint-kind (s.objects endpoint) (sound.memory.named names.slot NewEndpoint endpoint (ap object_named names.such.is)) in
+      receiver-source : (endpoint to : ℕ) → TakesReceiver s later endpoint to → IsSource to
+      receiver-source endpoint to takes =
+          let queue = endpoint-kind (s.objects endpoint) takes.was in
           let receivers : queue.0.receivers ≡ to ∷ (endpoint_at later endpoint).receivers =
-          ap (λ (e : EndpointState). e.receivers) (sym (at-endpoint s endpoint queue.0 queue.1) ∙ sym (endpoints-same endpoint)) ∙ list in
+          ap (λ (e : EndpointState). e.receivers) (sym (at-endpoint s endpoint queue.0 queue.1)) ∙ takes.leaves in
           waits-source to endpoint (receiver-waits s sound endpoint queue.0 queue.1 to (endpoint_at later endpoint).receivers receivers)
 
       -- who gets the second message is not the caller
       target-source : (from to : ℕ) → Delivers image t after later from to → IsSource to
-      target-source from to (Delivers.sends endpoint badge at names list) = receiver-source endpoint badge to names list
-      target-source from to (Delivers.receives endpoint first at names list first_is kind) = subst IsSource (sym at) runs-source
+      target-source from to (Delivers.sends endpoint badge at names takes) = receiver-source endpoint to (receiver-back later endpoint to takes)
+      target-source from to (Delivers.receives endpoint first at names takes first_is kind) = subst IsSource (sym at) runs-source
       target-source from to (Delivers.replies at has waits_so runs_so) =
           absurd (no-right to (ap (λ (x : ℕ). (thread_at after x).caller) (sym at) ∙ has))
 
@@ -343,17 +366,16 @@ module _ (image : Image) (t : Thread) (s : State) (sound : IsSound s) (own : Thr
 
       reason-back : (y : ℕ) (old new : ThreadState) → Reason after later self (CallNames image t after) y old new
           → Reason s later self (CallNames image t s) y old new
-      reason-back y old new (receiver endpoint badge now list blocked names replies is_it comes) =
-          receiver endpoint badge now (ap (λ (e : EndpointState). e.receivers) (sym (endpoints-same endpoint)) ∙ list) blocked (names-back names)
+      reason-back y old new (receiver endpoint badge now takes blocked names replies is_it comes) =
+          receiver endpoint badge now (receiver-back later endpoint y takes) blocked (names-back names)
           (replies-back endpoint badge old.caller now replies)
           (is_it ∙ ap (λ (m : Message). record (woken old (advanced (delivered old.registers badge m))) { caller = now }) (message-same y))
           (arrives-back self y runs-source comes)
-      reason-back y old new (sender endpoint first list same blocked names is_it comes) =
-          sender endpoint first (ap (λ (e : EndpointState). e.senders) (sym (endpoints-same endpoint)) ∙ list) same blocked (names-back names) is_it
-          (λ some. arrives-back y self (subst IsSource same (sender-source endpoint first names list)) (comes some))
-      reason-back y old new (waiter notification badge list blocked names is_it) =
-          waiter notification badge (ap (λ (n : NotificationState). n.waiters) (sym (notifications-same notification)) ∙ list) blocked
-          (signals-back later notification badge names) is_it
+      reason-back y old new (sender endpoint first takes same blocked names is_it comes) =
+          sender endpoint first (sender-back later endpoint first takes) same blocked (names-back names) is_it
+          (λ some. arrives-back y self (subst IsSource same (sender-source endpoint first (sender-back later endpoint first takes))) (comes some))
+      reason-back y old new (waiter notification badge takes blocked names is_it) =
+          waiter notification badge (waiter-back later notification y takes) blocked (signals-back later notification badge names) is_it
       reason-back y old new (answered has waits_so is_it comes) = absurd (no-right y has)
       reason-back y old new (faulted has waits_so is_it) = absurd (no-right y has)
       reason-back y old new (set_back queue blocked some none is_it) = set_back queue blocked (λ gone. some (gone-back queue gone)) none is_it
@@ -424,15 +446,15 @@ module _ (image : Image) (t : Thread) (s : State) (sound : IsSound s) (own : Thr
       right-back : (before now : Option ℕ) → before ≡ None → RightChange image t after later before now → RightChange image t s later own.caller now
       right-back before now none (kept same rest) = dropped (same ∙ none)
       right-back before now none (dropped gone) = dropped gone
-      right-back before now none (of_sender endpoint first names list gives is_it) =
-          of_sender endpoint first (names-back names) (ap (λ (e : EndpointState). e.senders) (sym (endpoints-same endpoint)) ∙ list) gives is_it
+      right-back before now none (of_sender endpoint first names takes gives is_it) =
+          of_sender endpoint first (names-back names) (sender-back later endpoint first takes) gives is_it
 
       told-back : (notification badge : ℕ) → IsSignalled after later notification badge → IsSignalled s later notification badge
-      told-back notification badge (joined none is_it) =
-          joined (ap (λ (n : NotificationState). n.waiters) (sym (notifications-same notification)) ∙ none)
+      told-back notification badge (joined was still none is_it) =
+          joined (sym (kinds-same notification) ∙ was) still (ap (λ (n : NotificationState). n.waiters) (sym (notifications-same notification)) ∙ none)
           (is_it ∙ ap (λ (n : NotificationState). bit_or n.word badge) (notifications-same notification))
-      told-back notification badge (IsSignalled.passed first list runs_so) =
-          IsSignalled.passed first (ap (λ (n : NotificationState). n.waiters) (sym (notifications-same notification)) ∙ list) runs_so
+      told-back notification badge (IsSignalled.passed first takes runs_so) =
+          IsSignalled.passed first (waiter-back later notification first takes) runs_so
 
       line-back : (number : ℕ) → LineChange after later number → LineChange s later number
       line-back number (opens why unmasked same) = opens why unmasked same
@@ -520,20 +542,15 @@ module _ (image : Image) (t : Thread) (s : State) (sound : IsSound s) (own : Thr
         source : IsSource from
 
       delivers-back : (from to : ℕ) → Delivers image t after later from to → DeliversBoth from to
-      delivers-back from to (Delivers.sends endpoint badge at names list) = record {
-        delivers = Delivers.sends endpoint badge at (names-back names) (ap (λ (e : EndpointState). e.receivers) (sym (endpoints-same endpoint)) ∙ list);
+      delivers-back from to (Delivers.sends endpoint badge at names takes) = record {
+        delivers = Delivers.sends endpoint badge at (names-back names) (receiver-back later endpoint to takes);
         source = subst IsSource (sym at) runs-source;
       }
-      delivers-back from to (Delivers.receives endpoint first at names list first_is kind) =
-          let list_back : (endpoint_at s endpoint).senders ≡ first ∷ (endpoint_at later endpoint).senders =
-          ap (λ (e : EndpointState). e.senders) (sym (endpoints-same endpoint)) ∙ list in
-          let queue = endpoint-kind (s.objects endpoint) (sound.memory.named names.slot NewEndpoint endpoint (ap object_named names.such.is)) in
-          let senders : queue.0.senders ≡ first ∷ (endpoint_at later endpoint).senders =
-          ap (λ (e : EndpointState). e.senders) (sym (at-endpoint s endpoint queue.0 queue.1)) ∙ list_back in
+      delivers-back from to (Delivers.receives endpoint first at names takes first_is kind) =
+          let back = sender-back later endpoint first takes in
           record {
-            delivers = Delivers.receives endpoint first at (names-back names) list_back first_is kind;
-            source = subst IsSource first_is (waits-source first.thread endpoint
-                (sender-waits s sound endpoint queue.0 queue.1 first (endpoint_at later endpoint).senders senders));
+            delivers = Delivers.receives endpoint first at (names-back names) back first_is kind;
+            source = subst IsSource first_is (sender-source endpoint first back);
           }
       delivers-back from to (Delivers.replies at has waits_so runs_so) =
           absurd (no-right to (ap (λ (x : ℕ). (thread_at after x).caller) (sym at) ∙ has))

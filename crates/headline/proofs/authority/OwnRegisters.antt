@@ -10,7 +10,7 @@ use Rattle.model.specs.Acceptance.Authority.{opens, delivers, NewParent, emptied
 use Rattle.model.specs.Acceptance.Authority.{ObjectChange, appears, ends, RightChange, kept, dropped, of_sender, SliceChange, same_slice, new_slice}
 use Rattle.model.specs.Acceptance.Authority.{UsedChange, uses, freed, WithinAuthority, self_of}
 use Rattle.model.specs.Images.Image.{Image, Thread}
-use Rattle.model.specs.Kernel.Deliveries.{Signals, by_right, by_line}
+use Rattle.model.specs.Kernel.Deliveries.{Signals, TakesReceiver, TakesSender, TakesWaiter, by_right, by_line}
 use Rattle.model.specs.declared.system_calls.SystemCall.{SystemCall}
 use Rattle.model.specs.Acceptance.Authority.{IsSignalled, joined}
 use Rattle.model.specs.Kernel.Deliveries.{MayReply, as_before, to_sender, Reason, receiver, sender, waiter, caller as answered, faulted, set_back}
@@ -18,7 +18,7 @@ use Rattle.model.specs.Kernel.Kinds.{kind_at, kind_of}
 use Rattle.model.specs.Kernel.Messages.{passes, passes_with}
 use Rattle.model.specs.Kernel.Scheduling.{is_runnable}
 use Rattle.model.specs.Kernel.State.{State, Runnable, Object, ThreadObject, EndpointObject, NotificationObject, EndpointState, NotificationState}
-use Rattle.model.specs.Kernel.State.{ThreadState, as_endpoint, as_notification, as_thread, endpoint_at, new_endpoint, new_notification, new_thread}
+use Rattle.model.specs.Kernel.State.{Sender, ThreadState, as_endpoint, as_notification, as_thread, endpoint_at, new_endpoint, new_notification, new_thread}
 use Rattle.model.specs.Kernel.State.{notification_at, thread_at, with_thread}
 use Rattle.model.specs.Machine.Effects.{advanced}
 use Rattle.model.specs.Machine.ProgramMemory.{RegisterFile}
@@ -83,11 +83,33 @@ module _ (image : Image) (t : Thread) (s m : State) (apart : RunsApart image t s
   not-gone : (offset : ℕ) → m.objects offset ≡ None → offset ≢ self
   not-gone offset none same = let e : None ≡ Some (ThreadObject now) = sym none ∙ ap m.objects same ∙ there in cc
 
+  -- queues that lose their first
+
+  takes-receiver : (endpoint first : ℕ) → TakesReceiver s m endpoint first → TakesReceiver s after endpoint first
+  takes-receiver endpoint first takes = record {
+    was = takes.was;
+    is = kinds endpoint ∙ takes.is;
+    leaves = takes.leaves ∙ ap (λ (e : EndpointState). first ∷ e.receivers) (sym (endpoints endpoint));
+  }
+
+  takes-sender : (endpoint : ℕ) (first : Sender) → TakesSender s m endpoint first → TakesSender s after endpoint first
+  takes-sender endpoint first takes = record {
+    was = takes.was;
+    is = kinds endpoint ∙ takes.is;
+    leaves = takes.leaves ∙ ap (λ (e : EndpointState). first ∷ e.senders) (sym (endpoints endpoint));
+  }
+
+  takes-waiter : (notification first : ℕ) → TakesWaiter s m notification first → TakesWaiter s after notification first
+  takes-waiter notification first takes = record {
+    was = takes.was;
+    is = kinds notification ∙ takes.is;
+    leaves = takes.leaves ∙ ap (λ (n : NotificationState). first ∷ n.waiters) (sym (notifications notification));
+  }
+
   delivers-on : (from to : ℕ) → Delivers image t s m from to → Delivers image t s after from to
-  delivers-on from to (Delivers.sends endpoint badge at names list) =
-      Delivers.sends endpoint badge at names (list ∙ ap (λ (e : EndpointState). to ∷ e.receivers) (sym (endpoints endpoint)))
-  delivers-on from to (Delivers.receives endpoint first at names list is kind) =
-      Delivers.receives endpoint first at names (list ∙ ap (λ (e : EndpointState). first ∷ e.senders) (sym (endpoints endpoint))) is kind
+  delivers-on from to (Delivers.sends endpoint badge at names takes) = Delivers.sends endpoint badge at names (takes-receiver endpoint to takes)
+  delivers-on from to (Delivers.receives endpoint first at names takes is kind) =
+      Delivers.receives endpoint first at names (takes-sender endpoint first takes) is kind
   delivers-on from to (Delivers.replies at right awaits goes) = Delivers.replies at right awaits (statuses to ∙ goes)
 
   byte-on : (place : ℕ) → ByteChange image t s m place → ByteChange image t s after place
@@ -155,13 +177,13 @@ module _ (image : Image) (t : Thread) (s m : State) (apart : RunsApart image t s
   right-on (kept is rests) =
       kept is (λ caller right. elsewhere caller (λ same. apart.another (right ∙ ap (λ (n : ℕ). Some n) same)) ∙ rests caller right)
   right-on (dropped none) = dropped none
-  right-on (of_sender endpoint first names list gives is) =
-      of_sender endpoint first names (list ∙ ap (λ (e : EndpointState). first ∷ e.senders) (sym (endpoints endpoint))) gives is
+  right-on (of_sender endpoint first names takes gives is) = of_sender endpoint first names (takes-sender endpoint first takes) gives is
 
   told-on : (notification badge : ℕ) → IsSignalled s m notification badge → IsSignalled s after notification badge
-  told-on notification badge (joined none is) = joined none (ap (λ (n : NotificationState). n.word) (notifications notification) ∙ is)
-  told-on notification badge (IsSignalled.passed first list runs) =
-      IsSignalled.passed first (list ∙ ap (λ (n : NotificationState). first ∷ n.waiters) (sym (notifications notification))) (statuses first ∙ runs)
+  told-on notification badge (joined was still none is) =
+      joined was (kinds notification ∙ still) none (ap (λ (n : NotificationState). n.word) (notifications notification) ∙ is)
+  told-on notification badge (IsSignalled.passed first takes runs) =
+      IsSignalled.passed first (takes-waiter notification first takes) (statuses first ∙ runs)
 
   line-on : (number : ℕ) → LineChange s m number → LineChange s after number
   line-on number (opens why unmasked same) = opens why unmasked same
@@ -175,14 +197,12 @@ module _ (image : Image) (t : Thread) (s m : State) (apart : RunsApart image t s
 
   reason-on : (other : ℕ) (old new : ThreadState) → Reason s m self (CallNames image t s) other old new
       → Reason s after self (CallNames image t s) other old new
-  reason-on other old new (receiver endpoint badge caller list blocked names replies is comes) =
-      receiver endpoint badge caller (list ∙ ap (λ (e : EndpointState). other ∷ e.receivers) (sym (endpoints endpoint))) blocked names
-      (reply-on endpoint badge old.caller caller replies) is comes
-  reason-on other old new (sender endpoint first list same blocked names is comes) =
-      sender endpoint first (list ∙ ap (λ (e : EndpointState). first ∷ e.senders) (sym (endpoints endpoint))) same blocked names is comes
-  reason-on other old new (waiter notification badge list blocked names is) =
-      waiter notification badge (list ∙ ap (λ (n : NotificationState). other ∷ n.waiters) (sym (notifications notification))) blocked
-      (signals-on notification badge names) is
+  reason-on other old new (receiver endpoint badge caller takes blocked names replies is comes) =
+      receiver endpoint badge caller (takes-receiver endpoint other takes) blocked names (reply-on endpoint badge old.caller caller replies) is comes
+  reason-on other old new (sender endpoint first takes same blocked names is comes) =
+      sender endpoint first (takes-sender endpoint first takes) same blocked names is comes
+  reason-on other old new (waiter notification badge takes blocked names is) =
+      waiter notification badge (takes-waiter notification other takes) blocked (signals-on notification badge names) is
   reason-on other old new (answered right awaits is comes) = answered right awaits is comes
   reason-on other old new (faulted right awaits is) = faulted right awaits is
   reason-on other old new (set_back queue blocked some none is) =

@@ -132,7 +132,7 @@ plain-stands laws keeps writes touches bytes image t s labels accepted all liste
     inr (own-step image t s (step s Step).0 listed now all.sound (one-event laws.keeps s Step all.sound)
     (plain-leaves laws keeps writes touches bytes image t s labels accepted all listed now free
     (λ (after : State). WithinAuthority image t.thread s after)
-    (λ own there status instr.
+    (λ own there status word fetched instr spelled.
     let content = content_of s (tcb_of image t) in
     let r = registers_of s (tcb_of image t) in
     let left = effect r content instr in
@@ -145,10 +145,5 @@ plain-stands laws keeps writes touches bytes image t s labels accepted all liste
           elim (effect-wrote r content place instr) [ inl same ↦ absurd (changed.2 same) | inr where_to ↦ (changed.0, changed.1, where_to) ];
     })))
     (λ _. plain-leaves laws keeps writes touches bytes image t s labels accepted all listed now free (λ (after : State). ComputesAlone s after (tcb_of image t))
-    (λ own there status instr.
-    let left = effect (registers_of s (tcb_of image t)) (content_of s (tcb_of image t)) instr in
-    record {
-      registers = left.registers;
-      bytes = λ place. option_map_or (λ (byte : ℕ). Some (left.content.byte place)) (s.bytes place) None;
-      is = refl;
-    })))
+    (λ own there status word fetched instr spelled.
+    record { word = word; instruction = instr; fetched = fetched; spelled = spelled; is = refl })))

@@ -1,13 +1,14 @@
 -- A thread receives from an endpoint: the first sender's message, or it waits, or goes on with nothing. What that changes stays within
 -- authority.
-use Rattle.std.proofs.Common.{ℕ, ◌≡◌, ◌≢◌, ◌++◌, true, false, Option, Some, None, List, [], ◌∷◌, refl, sym, ◌∙◌, ap, subst, inl, inr}
+use Rattle.std.proofs.Common.{ℕ, ◌≡◌, ◌≢◌, ◌++◌, true, false, Option, Some, None, option_map, List, [], ◌∷◌, refl, sym, ◌∙◌, ap, subst, inl, inr}
 use Rattle.std.specs.Option.{option_map_or}
 use Rattle.std.proofs.lemmas.Bool.Decides.{eqb_tells}
 use Rattle.model.specs.Acceptance.Authority.{CallNames, Delivers, dropped, gives_right, of_sender, same_slice, self_of, takes_sender}
 use Rattle.model.specs.Acceptance.Authority.{waits_to_receive}
 use Rattle.model.specs.Capabilities.Slots.{Slots}
 use Rattle.model.specs.Images.Image.{Image, Thread}
-use Rattle.model.specs.Kernel.Deliveries.{Arrives, is_message, once_received, ReceivesFrom, sender as of_first, woken}
+use Rattle.model.specs.Kernel.Deliveries.{Arrives, is_message, once_received, ReceivesFrom, sender as of_first, TakesSender, woken}
+use Rattle.model.specs.Kernel.Kinds.{kind_of}
 use Rattle.model.specs.Kernel.Messages.{Message, a0, bytes_between, bytes_sent, deliver, deliver_sent, deliver_word, delivered, length_between, message_to}
 use Rattle.model.specs.Kernel.Messages.{passes, waits_to_receive as waits_in_queue, with_caller}
 use Rattle.model.specs.Kernel.Scheduling.{block, wake}
@@ -180,6 +181,14 @@ module _ (image : Image) (t : Thread) (s : State) (sound : IsSound s) (own : Thr
         ap (λ (q : EndpointState). q.senders) (at-endpoint s e old was) ∙ list
         ∙ ap (λ (o : Option Object). first ∷ (option_map_or (λ (q : EndpointState). q) (as_endpoint o) new_endpoint).senders) (sym queue)
 
+    -- the sender leaves it
+    takes : (after : State) → after.objects e ≡ Some (EndpointObject fewer) → TakesSender s after e first
+    takes after queue = record {
+      was = ap (option_map kind_of) was;
+      is = ap (option_map kind_of) queue;
+      leaves = shorter after queue;
+    }
+
     -- the sender's message is as long as before the right goes and the queue is shorter
     length-still : length_between taken from self ≡ length_between s from self
     length-still =
@@ -190,10 +199,10 @@ module _ (image : Image) (t : Thread) (s : State) (sound : IsSound s) (own : Thr
     bytes-told : (sent : Sent) → first.sent ≡ sent → (after : State) → after.objects e ≡ Some (EndpointObject fewer)
         → after.bytes ≡ bytes_sent taken first sent self → (place : ℕ) → StaysOrDelivered image t s after place
     bytes-told BySend is after queue bytes =
-        bytes-delivered image t s after sound from self (Delivers.receives e first refl names (shorter after queue) refl (inl is))
+        bytes-delivered image t s after sound from self (Delivers.receives e first refl names (takes after queue) refl (inl is))
         (bytes ∙ ap (bytes_between s from self) length-still)
     bytes-told ByCall is after queue bytes =
-        bytes-delivered image t s after sound from self (Delivers.receives e first refl names (shorter after queue) refl (inr is))
+        bytes-delivered image t s after sound from self (Delivers.receives e first refl names (takes after queue) refl (inr is))
         (bytes ∙ ap (bytes_between s from self) length-still)
     bytes-told (ByFault fault) is after queue bytes = λ place. inl (ap (λ (all : ℕ → Option ℕ). all place) bytes)
 
@@ -266,7 +275,7 @@ module _ (image : Image) (t : Thread) (s : State) (sound : IsSound s) (own : Thr
           others = λ y not_self. elim (eqb_tells y from) [
             | inl here ↦
                 of_thread waits.own changed (ap s.objects here.1 ∙ waits.is) (ap last.objects here.1 ∙ last-from)
-                (of_first e first (shorter last last-queue) (sym here.1) waits.blocked names (ap (λ (x : Sent). once_received first x waits.own) (sym sent))
+                (of_first e first (takes last last-queue) (sym here.1) waits.blocked names (ap (λ (x : Sent). once_received first x waits.own) (sym sent))
                 (arrives-at last refl y here.1))
             | inr apart ↦ elim (eqb_tells y e) [
               | inl here ↦
@@ -322,7 +331,7 @@ module _ (image : Image) (t : Thread) (s : State) (sound : IsSound s) (own : Thr
       afterwards after after-from after-queue after-bytes after-there y not_self = elim (eqb_tells y from) [
         | inl here ↦
             of_thread waits.own awaiting (ap s.objects here.1 ∙ waits.is) (ap after.objects here.1 ∙ after-from)
-            (of_first e first (shorter after after-queue) (sym here.1) waits.blocked names (sym becomes) (arrives-at after after-bytes y here.1))
+            (of_first e first (takes after after-queue) (sym here.1) waits.blocked names (sym becomes) (arrives-at after after-bytes y here.1))
         | inr apart ↦ elim (eqb_tells y e) [
           | inl here ↦
               of_endpoint old fewer (ap s.objects here.1 ∙ was) (ap after.objects here.1 ∙ after-queue)
@@ -388,7 +397,7 @@ module _ (image : Image) (t : Thread) (s : State) (sound : IsSound s) (own : Thr
               priority = refl;
               fault_address = refl;
               slice = same_slice refl;
-              right = of_sender e first names (shorter final final-queue) gives refl;
+              right = of_sender e first names (takes final final-queue) gives refl;
             };
             others = afterwards final final-from final-queue refl final-there;
             lines = λ number either. elim either [ inl differs ↦ absurd (differs refl) | inr differs ↦ absurd (differs refl) ];

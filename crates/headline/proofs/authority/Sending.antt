@@ -1,12 +1,13 @@
 -- A thread sends to an endpoint: the first receiver gets the message, or the thread waits. What that changes stays within authority.
-use Rattle.std.proofs.Common.{ℕ, ◌≡◌, ◌≢◌, ◌++◌, Bool, Option, Some, List, [], ◌∷◌, refl, sym, ◌∙◌, ap, subst, inl, inr}
+use Rattle.std.proofs.Common.{ℕ, ◌≡◌, ◌≢◌, ◌++◌, Bool, Option, Some, option_map, List, [], ◌∷◌, refl, sym, ◌∙◌, ap, subst, inl, inr}
 use Rattle.std.specs.Option.{option_map_or}
 use Rattle.std.proofs.lemmas.Bool.Decides.{eqb_tells}
 use Rattle.model.specs.Acceptance.Authority.{AsksAs, CallNames, Delivers, waits_to_send, takes_receiver, IsWoken, kept, same_slice}
 use Rattle.model.specs.Acceptance.Authority.{self_of}
 use Rattle.model.specs.Capabilities.Slots.{Slots}
 use Rattle.model.specs.Images.Image.{Image, Thread}
-use Rattle.model.specs.Kernel.Deliveries.{Arrives, as_before, CallsTo, receiver, SendsTo, to_sender, woken}
+use Rattle.model.specs.Kernel.Deliveries.{Arrives, as_before, CallsTo, receiver, SendsTo, TakesReceiver, to_sender, woken}
+use Rattle.model.specs.Kernel.Kinds.{kind_of}
 use Rattle.model.specs.Kernel.Messages.{Message, bytes_between, deliver, deliver_with, delivered, length_between, message_between}
 use Rattle.model.specs.Kernel.Messages.{waits_to_send as waits_in_queue, with_caller}
 use Rattle.model.specs.Kernel.Scheduling.{block, wake}
@@ -156,6 +157,14 @@ module _ (image : Image) (t : Thread) (s : State) (sound : IsSound s) (own : Thr
         ap (λ (q : EndpointState). q.receivers) queue-is ∙ first
         ∙ ap (λ (o : Option Object). r ∷ (option_map_or (λ (q : EndpointState). q) (as_endpoint o) new_endpoint).receivers) (sym queue)
 
+    -- the receiver leaves it
+    takes : (after : State) → after.objects e ≡ Some (EndpointObject fewer) → (z : ℕ) → z ≡ r → TakesReceiver s after e z
+    takes after queue z here = record {
+      was = ap (option_map kind_of) was;
+      is = ap (option_map kind_of) queue;
+      leaves = shorter after queue ∙ ap (λ (q : ℕ). q ∷ (endpoint_at after e).receivers) (sym here);
+    }
+
     -- bytes change by the message alone
     store-told : (after : State) → after.objects e ≡ Some (EndpointObject fewer) → after.memory_bits ≡ s.memory_bits → after.boot_radix ≡ s.boot_radix
         → after.slots ≡ s.slots → after.bytes ≡ bytes_between s self r (length_between s self r) → KeepsStore image t s after
@@ -163,7 +172,7 @@ module _ (image : Image) (t : Thread) (s : State) (sound : IsSound s) (own : Thr
       memory_bits = memory;
       boot_radix = radix;
       slots = λ slot. ap (λ (all : Slots). all slot) slots;
-      bytes = bytes-delivered image t s after sound self r (Delivers.sends e badge refl names (shorter after queue)) bytes;
+      bytes = bytes-delivered image t s after sound self r (Delivers.sends e badge refl names (takes after queue r refl)) bytes;
     }
 
     registers-are : (z : ℕ) → z ≡ r → changed ≡ woken waits.own (advanced (delivered waits.own.registers badge (message_between s self z)))
@@ -209,7 +218,7 @@ module _ (image : Image) (t : Thread) (s : State) (sound : IsSound s) (own : Thr
       others = λ z not_self. elim (eqb_tells z r) [
         | inl here ↦
             of_thread waits.own changed (ap s.objects here.1 ∙ waits.is) (ap three.objects here.1 ∙ three-r)
-            (receiver e badge waits.own.caller (shorter three three-queue ∙ ap (λ (q : ℕ). q ∷ (endpoint_at three e).receivers) (sym here.1))
+            (receiver e badge waits.own.caller (takes three three-queue z here.1)
             waits.blocked names (as_before refl) (registers-are z here.1) (arrives-at three refl z here.1))
         | inr apart ↦ elim (eqb_tells z e) [
           | inl here ↦
@@ -263,7 +272,7 @@ module _ (image : Image) (t : Thread) (s : State) (sound : IsSound s) (own : Thr
         others = λ z not_self. elim (eqb_tells z r) [
           | inl here ↦
               of_thread waits.own changed (ap s.objects here.1 ∙ waits.is) (ap halted.objects here.1 ∙ halted-r)
-              (receiver e badge waits.own.caller (shorter halted halted-queue ∙ ap (λ (q : ℕ). q ∷ (endpoint_at halted e).receivers) (sym here.1))
+              (receiver e badge waits.own.caller (takes halted halted-queue z here.1)
               waits.blocked names (as_before refl) (registers-are z here.1) (arrives-at halted refl z here.1))
           | inr apart ↦ elim (eqb_tells z e) [
             | inl here ↦
@@ -331,7 +340,7 @@ module _ (image : Image) (t : Thread) (s : State) (sound : IsSound s) (own : Thr
         others = λ z not_self. elim (eqb_tells z r) [
           | inl here ↦
               of_thread waits.own replying (ap s.objects here.1 ∙ waits.is) (ap last.objects here.1 ∙ last-r)
-              (receiver e badge (Some self) (shorter last last-queue ∙ ap (λ (q : ℕ). q ∷ (endpoint_at last e).receivers) (sym here.1))
+              (receiver e badge (Some self) (takes last last-queue z here.1)
               waits.blocked names (to_sender calls refl (ap (λ (u : ThreadState). u.status) (at-place last self waiting-so last-self)))
               (ap (λ (u : ThreadState). record u { caller = Some self }) (registers-are z here.1)) (arrives-at last refl z here.1))
           | inr apart ↦ elim (eqb_tells z e) [

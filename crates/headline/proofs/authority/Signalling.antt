@@ -1,12 +1,13 @@
 -- A thread signals a notification, takes its word or waits for it. What that changes stays within authority.
-use Rattle.std.proofs.Common.{ℕ, ◌≡◌, ◌≢◌, ◌⊎◌, ◌++◌, Bool, Option, Some, List, [], ◌∷◌, refl, sym, ◌∙◌, ap, subst, inl, inr}
+use Rattle.std.proofs.Common.{ℕ, ◌≡◌, ◌≢◌, ◌⊎◌, ◌++◌, Bool, Option, Some, option_map, List, [], ◌∷◌, refl, sym, ◌∙◌, ap, subst, inl, inr}
 use Rattle.std.specs.Prelude.{bit_or}
 use Rattle.std.specs.Option.{option_map_or}
 use Rattle.std.proofs.lemmas.Bool.Decides.{eqb_tells}
 use Rattle.model.specs.Acceptance.Authority.{Acknowledges, CallNames, IsSignalled, joined, LineChange, joins, kept, passes_on}
 use Rattle.model.specs.Acceptance.Authority.{same_slice, self_of, taken, WaitsFor, waits}
 use Rattle.model.specs.Images.Image.{Image, Thread}
-use Rattle.model.specs.Kernel.Deliveries.{Signals, waiter, woken}
+use Rattle.model.specs.Kernel.Deliveries.{Signals, TakesWaiter, waiter, woken}
+use Rattle.model.specs.Kernel.Kinds.{kind_of}
 use Rattle.model.specs.Kernel.Messages.{a0, deliver_word, waits_for_signal}
 use Rattle.model.specs.Kernel.Scheduling.{wake}
 use Rattle.model.specs.Kernel.Soundness.{IsSound, awaits_answer, waiting_at}
@@ -227,7 +228,8 @@ module _ (image : Image) (t : Thread) (s : State) (sound : IsSound s) (own : Thr
             })) { masked = masked; pending = pending })
             n badge
         joins-signalled =
-            joined (ap (λ (q : NotificationState). q.waiters) word-is ∙ none)
+            joined (ap (option_map kind_of) was) (ap (option_map kind_of) (notification-here s n joining_word))
+            (ap (λ (q : NotificationState). q.waiters) word-is ∙ none)
             (ap (λ (q : NotificationState). q.word) (at-notification joining n joining_word (notification-here s n joining_word)))
 
         pub badge-joins : LinesChange (record (with_notification s n (record (notification_at s n) { word = bit_or (notification_at s n).word badge }))
@@ -308,6 +310,14 @@ module _ (image : Image) (t : Thread) (s : State) (sound : IsSound s) (own : Thr
             ap (λ (q : NotificationState). q.waiters) word-is ∙ first
             ∙ ap (λ (o : Option Object). w ∷ (option_map_or (λ (q : NotificationState). q) (as_notification o) new_notification).waiters) (sym waking-word)
 
+        -- the waiter leaves it
+        takes : (y : ℕ) → y ≡ w → TakesWaiter s waking n y
+        takes y here = record {
+          was = ap (option_map kind_of) was;
+          is = ap (option_map kind_of) waking-word;
+          leaves = list ∙ ap (λ (q : ℕ). q ∷ (notification_at waking n).waiters) (sym here);
+        }
+
         runs-there : (thread_at waking w).status ≢ Blocked n
         runs-there still =
             let clash : Runnable ≡ Blocked n = sym (ap (λ (v : ThreadState). v.status) (at-place waking w changed waking-w)) ∙ still in absurd cc
@@ -315,7 +325,7 @@ module _ (image : Image) (t : Thread) (s : State) (sound : IsSound s) (own : Thr
         pub wakes-signalled : IsSignalled s
             (record (wake (deliver_word (with_notification s n (record (notification_at s n) { waiters = others })) w badge) w)
             { masked = masked; pending = pending }) n badge
-        wakes-signalled = IsSignalled.passed w list (ap (λ (v : ThreadState). v.status) (at-place waking w changed waking-w))
+        wakes-signalled = IsSignalled.passed w (takes w refl) (ap (λ (v : ThreadState). v.status) (at-place waking w changed waking-w))
 
         pub waiter-wakes : LinesChange (record (wake (deliver_word (with_notification s n (record (notification_at s n) { waiters = others })) w badge) w)
             { masked = masked; pending = pending })
@@ -338,7 +348,7 @@ module _ (image : Image) (t : Thread) (s : State) (sound : IsSound s) (own : Thr
           others = λ y not_self. elim (eqb_tells y w) [
             | inl here ↦
                 of_thread rests.own changed (ap s.objects here.1 ∙ rests.is) (ap waking.objects here.1 ∙ waking-w)
-                (waiter n badge (list ∙ ap (λ (q : ℕ). q ∷ (notification_at waking n).waiters) (sym here.1)) rests.blocked (names waking refl) refl)
+                (waiter n badge (takes y here.1) rests.blocked (names waking refl) refl)
             | inr apart ↦ elim (eqb_tells y n) [
               | inl here ↦
                   of_notification old fewer (ap s.objects here.1 ∙ was) (ap waking.objects here.1 ∙ waking-word)

@@ -213,7 +213,7 @@ module _ (laws : Laws) (keeps : PlainStepsKeepThreads) (writes : WritesWhereStor
     plain-step free = record {
       within = plain-stands laws.below keeps writes touches bytes image t s labels accepted all listed now free;
       inside = plain-leaves laws.below keeps writes touches bytes image t s labels accepted all listed now free (λ (x : State). AllHoldInside image x)
-          (λ own there status instr.
+          (λ own there status word fetched instr spelled.
           let e = effect (registers_of s thread) (content_of s thread) instr in
           base-inside image s (with_content (with_registers s thread e.registers) e.content) (record { memory_bits = refl; boot_radix = refl; slots = refl })
           inside);

@@ -26,6 +26,7 @@ use Rattle.model.specs.declared.labels.Label.{Label}
 use Rattle.model.specs.declared.labels.Label.TheVariants.{Idle, Ran}
 use Rattle.model.specs.declared.labels.Outcome.TheVariants.{Plain}
 use Rattle.model.specs.Acceptance.Accepted.{IsAccepted}
+use Rattle.model.specs.Acceptance.Authority.{computed}
 use Rattle.model.specs.Acceptance.NotedStates.{PointState}
 use Rattle.model.specs.Acceptance.ThreadInvariants.{StandsAt, ThreadInvariant, runs as runs_so, waits as waits_so, tcb_of}
 use Rattle.model.specs.Images.Described.{Numbered, numbered_threads}
@@ -283,11 +284,11 @@ module _ (laws : Laws) (keeps : PlainStepsKeepThreads) (writes : WritesWhereStor
       from-invariant (GoesWell image s labels Step) (λ own point state there status stands instr is. goes-by own point state there status stands instr is)
       (all.stand t listed)
 
-  -- what is so of each state that an instruction leaves is so of what the step leaves
+  -- what is so of each state that an instruction leaves, if it is the one at the pc, is so of what the step leaves
   pub plain-leaves : (P : State → Type 0) → ((own : ThreadState) → s.objects (tcb_of image t) ≡ Some (ThreadObject own) → own.status ≡ Runnable
-      → (instr : Instr)
-      → P (with_content (with_registers s (tcb_of image t) (effect (registers_of s (tcb_of image t)) (content_of s (tcb_of image t)) instr).registers)
-      (effect (registers_of s (tcb_of image t)) (content_of s (tcb_of image t)) instr).content)) → P (step s Step).0
+      → (code : ℕ) → loaded (content_of s (tcb_of image t)) Fetch Word (registers_of s (tcb_of image t)).pc ≡ Ok code
+      → (instr : Instr) → decoded code ≡ Some instr → P (computed s (tcb_of image t) instr)) → P (step s Step).0
   plain-leaves P each =
       from-invariant (P (step s Step).0) (λ own point state there status stands instr is.
-      subst (λ (x : State × Label). P x.0) (sym (stepped own point state there status stands instr is)) (each own there status instr)) (all.stand t listed)
+      subst (λ (x : State × Label). P x.0) (sym (stepped own point state there status stands instr is))
+      (each own there status (word own point state there status stands) (fetch own point state there status stands) instr is)) (all.stand t listed)

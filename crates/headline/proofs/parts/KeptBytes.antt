@@ -1,6 +1,6 @@
 -- A step of another thread leaves the bytes and the slots of a part, and so the whole agrees with the part alone as before.
-use Rattle.std.proofs.Common.{ℕ, zero, suc, ◌≡◌, ◌∙◌, ◌==◌, ◌^◌, ◌<◌, inl, inr, true, false, if◌then◌else◌, List, [], ◌∷◌, Option, Some, None, refl}
-use Rattle.std.proofs.Common.{sym, ap, subst, arith}
+use Rattle.std.proofs.Common.{ℕ, zero, suc, ◌≡◌, ◌∙◌, ◌==◌, ◌^◌, ◌<◌, inl, inr, true, false, if◌then◌else◌, List, Option, Some, None, refl, sym}
+use Rattle.std.proofs.Common.{ap, subst, arith}
 use Rattle.std.specs.Prelude.{Contains}
 use Rattle.std.specs.Option.{option_map_or}
 use Rattle.std.proofs.lemmas.Bool.{false≢true}
@@ -19,11 +19,11 @@ use Rattle.model.specs.Acceptance.ThreadInvariants.{tcb_of}
 use Rattle.model.specs.Capabilities.Rights.{rights}
 use Rattle.model.specs.Images.Described.{Numbered, is_object_slot, numbered_threads}
 use Rattle.model.specs.Images.Image.{Image}
+use Rattle.model.specs.Kernel.Deliveries.{TakesReceiver}
 use Rattle.model.specs.Kernel.Kinds.{frame_around}
 use Rattle.model.specs.Kernel.Retype.{object_bits}
 use Rattle.model.specs.Kernel.Soundness.{IsSound}
-use Rattle.model.specs.Kernel.State.{State, Object, ThreadObject, EndpointObject, NotificationObject, CNodeObject, FrameObject, PageTableObject}
-use Rattle.model.specs.Kernel.State.{RootTableObject, EndpointState, as_endpoint, endpoint_at, new_endpoint, slot_of, thread_at}
+use Rattle.model.specs.Kernel.State.{State, EndpointState, endpoint_at, slot_of, thread_at}
 use Rattle.headline.specs.facts.Standing.{AllStand}
 use Rattle.headline.specs.kept.Laws.{HaveOwnBlocks}
 use Rattle.headline.specs.parts.Agreeing.{AgreeFor, IsByteOfPart, is_made_byte, is_taken_byte, IsOfPart, is_made, is_taken, is_thread, IsSlotOfPart}
@@ -34,11 +34,12 @@ use Rattle.headline.specs.parts.Parts.{Part, is_in, is_thread_in}
 use Rattle.headline.proofs.authority.Laws.{Waits, receiver-waits}
 use Rattle.headline.proofs.invocations.TwoThreads.{one-owner}
 use Rattle.headline.proofs.kept.Laws.{block-apart, block-thread, length-few}
+use Rattle.headline.proofs.moves.Laws.{at-endpoint}
 use Rattle.headline.proofs.parts.Decided.{Decided, numbers, pairs, settled, some-numbers}
 use Rattle.headline.proofs.parts.Kept.{kept-line, kept-object}
 use Rattle.headline.proofs.parts.Left.{left-ready, to-send}
 use Rattle.headline.proofs.parts.Members.{member-of, no-member}
-use Rattle.soundness.proofs.Laws.{buffer-slot, cspace-slot, vspace-slot}
+use Rattle.soundness.proofs.Laws.{buffer-slot, cspace-slot, endpoint-kind, vspace-slot}
 
 -- ---- whether two entries are the same
 
@@ -131,26 +132,11 @@ some-entries (Some a) (Some b) = elim (entries a b) [
 
 -- ---- the first receiver waits
 
-abbrev receivers_in : Option Object → List ℕ
-receivers_in o = (option_map_or (λ (e : EndpointState). e) (as_endpoint o) new_endpoint).receivers
-
-none-waits : {A : Type 0} (o : Option Object) (r : ℕ) (others : List ℕ) → receivers_in o ≡ [] → receivers_in o ≡ r ∷ others → A
-none-waits o r others none is = absurd (let clash : ◌≡◌ {A = List ℕ} [] (r ∷ others) = sym none ∙ is in cc)
-
-first-receiver : (s : State) → IsSound s → (endpoint r : ℕ) (others : List ℕ) → receivers_in (s.objects endpoint) ≡ r ∷ others → (o : Option Object)
-    → s.objects endpoint ≡ o → Waits s r endpoint
-first-receiver s sound endpoint r others is None here = none-waits None r others refl (sym (ap receivers_in here) ∙ is)
-first-receiver s sound endpoint r others is (Some (EndpointObject queue)) here =
-    receiver-waits s sound endpoint queue here r others (sym (ap receivers_in here) ∙ is)
-first-receiver s sound endpoint r others is (Some (ThreadObject own)) here = none-waits (Some (ThreadObject own)) r others refl (sym
-    (ap receivers_in here) ∙ is)
-first-receiver s sound endpoint r others is (Some (NotificationObject n)) here =
-    none-waits (Some (NotificationObject n)) r others refl (sym (ap receivers_in here) ∙ is)
-first-receiver s sound endpoint r others is (Some (CNodeObject radix)) here = none-waits (Some (CNodeObject radix)) r others refl (sym
-    (ap receivers_in here) ∙ is)
-first-receiver s sound endpoint r others is (Some FrameObject) here = none-waits (Some FrameObject) r others refl (sym (ap receivers_in here) ∙ is)
-first-receiver s sound endpoint r others is (Some PageTableObject) here = none-waits (Some PageTableObject) r others refl (sym (ap receivers_in here) ∙ is)
-first-receiver s sound endpoint r others is (Some RootTableObject) here = none-waits (Some RootTableObject) r others refl (sym (ap receivers_in here) ∙ is)
+first-receiver : (s after : State) → IsSound s → (endpoint r : ℕ) → TakesReceiver s after endpoint r → Waits s r endpoint
+first-receiver s after sound endpoint r takes =
+    let queue = endpoint-kind (s.objects endpoint) takes.was in
+    receiver-waits s sound endpoint queue.0 queue.1 r (endpoint_at after endpoint).receivers
+    (ap (λ (e : EndpointState). e.receivers) (sym (at-endpoint s endpoint queue.0 queue.1)) ∙ takes.leaves)
 
 module _ (bytes : List ℕ) (image : Image) (accepted : IsAccepted bytes image) (own_blocks : HaveOwnBlocks) (part : Part) (t : Numbered)
     (s after : State) (labels later : List Label) (all : AllStand image s labels) (behind : AllStand image after later)
@@ -164,7 +150,7 @@ module _ (bytes : List ℕ) (image : Image) (accepted : IsAccepted bytes image) 
   no-delivery : (from to : ℕ) → Delivers image t.thread s after from to → is_thread_in image part to ≡ true → ⊥
   no-delivery from to (sends endpoint badge is named queue) inside =
       let m = member-of image part to inside in
-      let w = first-receiver s all.sound endpoint to (endpoint_at after endpoint).receivers queue (s.objects endpoint) refl in
+      let w = first-receiver s after all.sound endpoint to queue in
       (nothing.others.waits m.thread w.own endpoint m.listed m.inside (ap s.objects m.block ∙ w.is) w.blocked).named
       (record { slot = named.slot; own = named.own; such = to-send endpoint badge named.call _ named.such })
   no-delivery from to (receives endpoint first is named queue sender sent) inside = none-inside to is inside
