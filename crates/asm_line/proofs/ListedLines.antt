@@ -2,12 +2,12 @@
 use Rattle.std.specs.Prelude.{◌==◌, nat_lt, nat_le}
 use Rattle.std.proofs.Common.{◌≡◌, ℕ, zero, suc, ◌-◌, ◌^◌, ◌<◌, ◌≤◌, Bool, true, false, not, ◌&&◌, List, [], ◌∷◌, ◌++◌, length, Some, None, Ok, ℤ, pos, negsuc}
 use Rattle.std.proofs.Common.{refl}
-use Rattle.std.proofs.Common.{ap, ◌∙◌, arith, codes, min}
+use Rattle.std.proofs.Common.{ap, ◌∙◌, arith, codes, inl, inr, min}
 use Rattle.std.specs.Fmt.{decimal}
 use Rattle.std.specs.List.{list_all}
-use Rattle.std.proofs.lemmas.Bool.{and_parts, and_from}
+use Rattle.std.proofs.lemmas.Bool.{and_parts, and_from, eqb-true, or_cases}
 use Rattle.std.proofs.lemmas.Bool.Decides.{nat_tests}
-use Rattle.model.specs.Images.Image.{between, Image, size_fits}
+use Rattle.model.specs.Images.Image.{between, Image, is_device_size, size_fits}
 use Rattle.model.specs.Images.Places.{is_handler, interrupt_of as interrupt_behind}
 use Rattle.std.specs.Prelude.{◌||◌, if◌then◌else◌, map}
 use Rattle.std.specs.List.{AllByRecursion}
@@ -18,7 +18,7 @@ use Rattle.asm_line.specs.declared.lines.Code.TheVariants as code
 use Rattle.asm_line.specs.Words.{◌>>=◌, within, name_of, name_first, object_first}
 use Rattle.asm_line.specs.Lines.{keyword_of, thread_keyword_of, memory_of, untyped_of, interrupt_of, table_of, frame_of, register_line_of, word, kind_of}
 use Rattle.asm_line.specs.Lines.{kind_first, size_first, last_kind, object_of, capability_of, content_of, all_numbers, all_words, some_numbers, thread_of}
-use Rattle.asm_line.specs.Lines.{buffer_of, few_promised, number_pairs, promise_of, promised_first, promised_of}
+use Rattle.asm_line.specs.Lines.{all_promised, buffer_of, number_pairs, promise_of, promised_first, promised_of}
 use Rattle.asm_line.specs.Lines.{thread_words_of, thread_said, budget_of, range_of}
 use Rattle.asm_line.specs.Parsing.{line_of, line_for, plain_word_of, IsKnown}
 use Rattle.asm_line.specs.Listed.{IsWord}
@@ -161,7 +161,7 @@ first-size n words small = ap (λ r. r >>= λ size. Ok (size, words)) (number-de
 
 -- the words of a size, if the kind has one
 abbrev pub sizes : ℕ → ℕ → List Text
-sizes kind size = if kind == 1 || kind == 5 then decimal size ∷ [] else []
+sizes kind size = if kind == 1 || kind == 5 || is_device_size kind size then decimal size ∷ [] else []
 
 pub record Sized (size : ℕ) (words : List Text) : Type 0 where
   pub first : size_first words ≡ Ok (pos size, [])
@@ -170,9 +170,18 @@ pub record Sized (size : ℕ) (words : List Text) : Type 0 where
 with-size : (size : ℕ) → IsWord size → Sized size (decimal size ∷ [])
 with-size size small = record { first = first-size size [] (wide size small); plain = (number-plain size small, tt) }
 
-without-size : (size : ℕ) → (size == 0 && true) ≡ true → Sized size []
+without-size : (size : ℕ) → ((size == 0 && true) || false) ≡ true → Sized size []
 without-size zero h = record { first = refl; plain = tt }
 without-size (suc n) h = absurd (grind (arith, nat_tests))
+
+-- of the sizes of frames that of a device page is written
+frame-size : (size : ℕ) → size_fits 6 size ≡ true → Sized size (sizes 6 size)
+frame-size zero fits = without-size zero refl
+frame-size (suc zero) fits = with-size 1 (omega arith)
+frame-size (suc (suc n)) fits = elim (or_cases (suc (suc n) == 0 && true) (suc (suc n) == 1) fits) [
+  | inl none ↦ let is = eqb-true (suc (suc n)) 0 (and_parts (suc (suc n) == 0) true none).0 in absurd (omega (arith, is))
+  | inr one ↦ let is = eqb-true (suc (suc n)) 1 one in absurd (omega (arith, is))
+]
 
 pub size-says : (kind size : ℕ) → between 1 8 kind ≡ true → IsWord size → size_fits kind size ≡ true → Sized size (sizes kind size)
 size-says zero size h small fits = absurd cc
@@ -181,7 +190,7 @@ size-says (suc (suc zero)) size h small fits = without-size size fits
 size-says (suc (suc (suc zero))) size h small fits = without-size size fits
 size-says (suc (suc (suc (suc zero)))) size h small fits = without-size size fits
 size-says (suc (suc (suc (suc (suc zero))))) size h small fits = with-size size small
-size-says (suc (suc (suc (suc (suc (suc zero)))))) size h small fits = without-size size fits
+size-says (suc (suc (suc (suc (suc (suc zero)))))) size h small fits = frame-size size fits
 size-says (suc (suc (suc (suc (suc (suc (suc zero))))))) size h small fits = without-size size fits
 size-says (suc (suc (suc (suc (suc (suc (suc (suc zero)))))))) size h small fits = without-size size fits
 size-says (suc (suc (suc (suc (suc (suc (suc (suc (suc n))))))))) size h small fits = absurd (grind (arith, nat_tests))
@@ -251,9 +260,9 @@ content-says frame ns a some h = rw (first-object 111 frame (map decimal ns) ref
 
 -- ---- promises
 
-pub record ArePromised (most : ℕ) (words : List Text) : Type 0 where
+pub record ArePromised (words : List Text) : Type 0 where
   pub pairs : number_pairs words ≡ Ok tt
-  pub ranges : few_promised most words ≡ Ok tt
+  pub ranges : all_promised words ≡ Ok tt
   pub plain : AllPlain words
 
 pub promised-says : (w : PromisedWord) → IsPromisedWord w → promised_of (decimal w.low) (decimal w.high) ≡ Ok w
@@ -261,18 +270,17 @@ unfolding promised_of
 promised-says w h =
     rw (number-decimal w.low (wide w.low h.0)) (rw (number-decimal w.high (wide w.high h.1)) (rw (is-word w.low h.0) (rw (is-word w.high h.1) (rw h.2 refl))))
 
-pub promised-say : (most : ℕ) (ws : List PromisedWord) → length ws ≤ most → AllByRecursion IsPromisedWord ws → ArePromised most (flat_map promised_words ws)
-promised-say most [] few h = record { pairs = refl; ranges = refl; plain = tt }
-promised-say zero (w ∷ ws) few h = absurd (omega (arith, few))
-promised-say (suc most) (w ∷ ws) few h =
-    let rest = promised-say most ws (omega (arith, few)) h.1 in record {
+pub promised-say : (ws : List PromisedWord) → AllByRecursion IsPromisedWord ws → ArePromised (flat_map promised_words ws)
+promised-say [] h = record { pairs = refl; ranges = refl; plain = tt }
+promised-say (w ∷ ws) h =
+    let rest = promised-say ws h.1 in record {
       pairs = rw (number-decimal w.low (wide w.low h.0.0)) (rw (number-decimal w.high (wide w.high h.0.1)) rest.pairs);
       ranges = rw (promised-says w h.0) rest.ranges;
       plain = (number-plain w.low h.0.0, (number-plain w.high h.0.1, rest.plain));
     }
 
 pub promise-says : (endpoint low high : ℕ) (words : List Text) → IsWord endpoint → nat_le low high ≡ true → nat_lt high (2 ^ 28) ≡ true → IsWord low
-    → IsWord high → ArePromised 8 words
+    → IsWord high → ArePromised words
     → line_of (codes "promise" ∷ object_name endpoint ∷ decimal low ∷ decimal high ∷ words)
     ≡ Some (Ok (said.Promise (object_name endpoint) low high words))
 unfolding line_of keyword_of line_for promise_of promised_of

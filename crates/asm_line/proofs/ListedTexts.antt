@@ -121,9 +121,9 @@ reads _ _ (content c a some h) = record {
   known = tt;
   says = content-says c.header.frame c.words a some h;
 }
-reads _ _ (promise p a rises small few h) =
+reads _ _ (promise p a rises small h) =
     let x = p.header in
-    let words = promised-say 8 p.words few h in
+    let words = promised-say p.words h in
     let high : x.badge_high < 2 ^ 28 = ltb-true x.badge_high (2 ^ 28) small in
     let low : x.badge_low ≤ x.badge_high = leb-true x.badge_low x.badge_high rises in
     record {

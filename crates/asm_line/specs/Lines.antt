@@ -1,5 +1,5 @@
 -- What lines say, by their words. The grammar of a line comes first, and then the ranges of its own numbers.
-use Rattle.std.specs.Prelude.{ℕ, zero, suc, ◌-◌, ◌^◌, ◌==◌, Bool, ◌||◌, ◌&&◌, not, if◌then◌else◌, ℤ, pos, negsuc, codes, List, [], ◌∷◌, nat_lt, nat_le, min}
+use Rattle.std.specs.Prelude.{ℕ, ◌-◌, ◌^◌, ◌==◌, Bool, ◌||◌, ◌&&◌, not, if◌then◌else◌, ℤ, pos, negsuc, codes, List, [], ◌∷◌, nat_lt, nat_le, min}
 use Rattle.std.specs.Prelude.{Option, Some}
 use Rattle.std.specs.Prelude.{None, Result, Ok, Err}
 use Rattle.std.specs.Str.{bytes_eq}
@@ -199,12 +199,11 @@ promised_first [] = Err fault.Syntax
 promised_first (low ∷ []) = Err fault.Syntax
 promised_first (low ∷ high ∷ words) = promised_of low high >>= λ promised. Ok (promised, words)
 
--- the ranges of so many words at most
-abbrev pub few_promised : ℕ → List Text → Result (Unit {0}) LineFault
-few_promised most [] = Ok tt
-few_promised most (low ∷ []) = Err fault.Syntax
-few_promised zero (low ∷ high ∷ words) = Err fault.Range
-few_promised (suc most) (low ∷ high ∷ words) = promised_of low high >>= λ _. few_promised most words
+-- how many there are is no fault of the line alone
+abbrev pub all_promised : List Text → Result (Unit {0}) LineFault
+all_promised [] = Ok tt
+all_promised (low ∷ []) = Err fault.Syntax
+all_promised (low ∷ high ∷ words) = promised_of low high >>= λ _. all_promised words
 
 -- the badges are the first range
 unfoldable pub promise_of : List Text → Result Line LineFault
@@ -213,7 +212,7 @@ promise_of words = do
   grammar ← some_pairs endpoint.1
   badges ← promised_first endpoint.1
   small ← checked (nat_lt badges.0.high (2 ^ 28))
-  ranges ← few_promised 8 badges.1
+  ranges ← all_promised badges.1
   Ok (line.Promise endpoint.0 badges.0.low badges.0.high badges.1)
 
 -- ---- the lines of threads

@@ -60,7 +60,7 @@ pub data Lists : Line → Text → Type 0 where
   content : (c : ImageContent) → IsWord c.header.frame → 0 < length c.words → AllByRecursion IsWord c.words
       → Lists (said.Content (object_name c.header.frame) (map decimal c.words)) (content_line c)
   promise : (p : ImagePromise) → IsWord p.header.endpoint → nat_le p.header.badge_low p.header.badge_high ≡ true
-      → nat_lt p.header.badge_high (2 ^ 28) ≡ true → length p.words ≤ 8 → AllByRecursion IsPromisedWord p.words
+      → nat_lt p.header.badge_high (2 ^ 28) ≡ true → AllByRecursion IsPromisedWord p.words
       → Lists (said.Promise (object_name p.header.endpoint) p.header.badge_low p.header.badge_high (flat_map promised_words p.words)) (promise_line p)
   thread : (t : Thread) → IsWord t.header.tcb → IsWord t.header.cnode → IsWord t.header.guard → IsWord t.header.root → between 0 255 t.header.priority ≡ true
       → between 1 (2 ^ 62) t.header.budget ≡ true → IsWord t.header.fault → IsWord t.header.base

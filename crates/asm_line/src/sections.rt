@@ -1,7 +1,7 @@
 //! The lines of the sections before the threads.
 
 ghost use Rattle.std.specs.Prelude.{◌≡◌};
-ghost use Rattle.asm_line.specs.Lines.{all_numbers, all_words, some_numbers, capability_of, content_of, few_promised, frame_of, interrupt_of, kind_first, last_kind, memory_of, number_pairs, object_of, promise_of, promised_first, promised_of, size_first, some_pairs, table_of, untyped_of, word_first};
+ghost use Rattle.asm_line.specs.Lines.{all_numbers, all_promised, all_words, some_numbers, capability_of, content_of, frame_of, interrupt_of, kind_first, last_kind, memory_of, number_pairs, object_of, promise_of, promised_first, promised_of, size_first, some_pairs, table_of, untyped_of, word_first};
 
 use crate::faults::LineFault;
 use crate::keywords::kind_in;
@@ -254,21 +254,16 @@ pub(crate) fn promised_and_rest(words: Words<'_>) -> Result<(PromisedWord, Words
     Ok((promised_in(low, high)?, words))
 }
 
-/// The words are to be lowest and highest values of so many words of a message at most.
-fn check_promised(words: Words<'_>, most: u32) -> Result<(), LineFault>
-    ensures { result ≡ few_promised most words.entry }
+/// The words are to be lowest and highest values. How many there are is looked at later.
+fn check_promised(words: Words<'_>) -> Result<(), LineFault>
+    ensures { result ≡ all_promised words.entry }
 {
     let mut rest = words;
-    let mut left = most;
     'words: while let Some((low, words)) = rest.first() {
         let Some((high, words)) = words.first() else {
             return Err(LineFault::Syntax);
         };
-        if left == 0 {
-            return Err(LineFault::Range);
-        }
         promised_in(low, high)?;
-        left -= 1;
         rest = words;
     }
     Ok(())
@@ -285,7 +280,7 @@ pub(crate) fn promise(words: Words<'_>) -> Result<Line<'_>, LineFault>
     if badges.high >= 1 << 28 {
         return Err(LineFault::Range);
     }
-    check_promised(words.copied(), 8)?;
+    check_promised(words.copied())?;
     Ok(Line::Promise {
         endpoint,
         badge_low: badges.low,
