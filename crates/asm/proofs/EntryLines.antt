@@ -14,7 +14,7 @@ use Rattle.model.specs.declared.entries.UntypedEntry.{UntypedEntry}
 use Rattle.model.specs.Images.Format.{field, many_fit}
 use Rattle.model.specs.Images.Image.{Image, ImageContent, ImagePromise, anything, below, between, capability_format, content_format, frame_format}
 use Rattle.model.specs.Images.Image.{interrupt_format}
-use Rattle.model.specs.Images.Image.{object_format, pair_key, promise_format, promised_word_format, size_fits, table_format, untyped_format}
+use Rattle.model.specs.Images.Image.{object_format, pair_key, promise_format, promised_word_format, size_fits, size_fits_in, table_format, untyped_format}
 use Rattle.model.specs.Images.Listing.{untyped_line, object_line, interrupt_line, capability_line, table_line, frame_line, content_line, promise_line}
 use Rattle.asm_line.specs.Listed.{Lists, untyped, object, interrupt, capability, table, frame, content, promise, IsPromisedWord, IsWord}
 use Rattle.format_laws.proofs.Laws.{field-between, field-parts, many-length}
@@ -26,20 +26,21 @@ untyped-lists k u small is =
     let a = and_parts _ _ is in
     untyped k u small (field-parts anything u.offset a.0).0 (field-parts (between 4 24) u.bits a.1).1
 
-pub object-parts : (untypeds least : ℕ) (o : ObjectEntry) → (object_format untypeds least).fits o ≡ true
+pub object-parts : (version untypeds least : ℕ) (o : ObjectEntry) → (object_format version untypeds least).fits o ≡ true
     → (least ≤ o.untyped) × (o.untyped < untypeds) × (between 1 8 o.kind ≡ true) × (o.size < 2 ^ 32) × (size_fits o.kind o.size ≡ true)
 unfolding object_format
-object-parts untypeds least o is =
+object-parts version untypeds least o is =
     let a = and_parts _ _ is in
     let b = and_parts _ _ a.1 in
     let untyped = and_parts _ _ (field-parts (λ n. nat_le least n && nat_lt n untypeds) o.untyped a.0).1 in
-    let size = field-parts (size_fits o.kind) o.size b.1 in
-    (leb-true least o.untyped untyped.0, ltb-true o.untyped untypeds untyped.1, (field-parts (between 1 8) o.kind b.0).1, size.0, size.1)
+    let size = field-parts (size_fits_in version o.kind) o.size b.1 in
+    let fits = (and_parts (size_fits o.kind o.size) _ size.1).0 in
+    (leb-true least o.untyped untyped.0, ltb-true o.untyped untypeds untyped.1, (field-parts (between 1 8) o.kind b.0).1, size.0, fits)
 
-pub object-lists : (untypeds least k : ℕ) (o : ObjectEntry) → untypeds ≤ 2 ^ 32 → k < 2 ^ 32 → (object_format untypeds least).fits o ≡ true
+pub object-lists : (version untypeds least k : ℕ) (o : ObjectEntry) → untypeds ≤ 2 ^ 32 → k < 2 ^ 32 → (object_format version untypeds least).fits o ≡ true
     → Lists (object_said (k, o)) (object_line (k, o))
-object-lists untypeds least k o few small is =
-    let p = object-parts untypeds least o is in
+object-lists version untypeds least k o few small is =
+    let p = object-parts version untypeds least o is in
     let inside = p.1 in
     object k o small (omega (arith, few, inside)) p.2 p.3 p.4
 
@@ -229,4 +230,4 @@ pub promise-lists : (objects least : ℕ) (p : ImagePromise) → objects ≤ 2 ^
 promise-lists objects least p few is =
     let parts = promise-parts objects least p is in
     let inside = parts.endpoint in
-    promise p (omega (arith, few, inside)) parts.rises parts.small parts.few parts.words
+    promise p (omega (arith, few, inside)) parts.rises parts.small parts.words

@@ -88,7 +88,7 @@ same-header image limits fits =
     }
 
 -- what stands behind the last line of an image's listing is put together to that image
-pub is-listed : (image : Image) → whole_image.fits image ≡ true → image.header.version ≡ version_listed image.promises image.threads
+pub is-listed : (image : Image) → whole_image.fits image ≡ true → image.header.version ≡ version_listed image.objects image.promises image.threads
     → (draft : Draft) → draft ≡ draft_of image → (m : Memory) → draft.memory ≡ Some m
     → (cs : List CapabilityEntry) → cs ≡ map (entry_of draft.declared) draft.declared.capabilities → assembled m draft.declared cs draft.threads ≡ image
 is-listed image is version draft same m here cs told =

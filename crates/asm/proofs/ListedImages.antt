@@ -27,8 +27,8 @@ image-listed i fits limits =
     let h = i.header in
     let first = numbered-listed (λ _. untyped_format) (λ _. 0) untyped_said untyped_line (λ k l e small is. untyped-lists k e small is) 0 0 h.untypeds
     i.untypeds (omega (arith, untypeds, all_untypeds)) fits.untypeds in
-    let objects = numbered-listed (object_format h.untypeds) (λ o. o.untyped) object_said object_line
-    (λ k l e small is. object-lists h.untypeds l k e (omega (arith, untypeds)) small is) 0 0 h.objects i.objects (omega (arith, few, all_objects))
+    let objects = numbered-listed (object_format h.version h.untypeds) (λ o. o.untyped) object_said object_line
+    (λ k l e small is. object-lists h.version h.untypeds l k e (omega (arith, untypeds)) small is) 0 0 h.objects i.objects (omega (arith, few, all_objects))
     fits.objects in
     let interrupts = numbered-listed (interrupt_format h.objects) (λ x. x.line + 1) interrupt_said interrupt_line
     (λ k l e small is. interrupt-lists h.objects l k e (omega (arith, few)) small is) 0 0 h.interrupts i.interrupts (omega (arith, lines, all_interrupts))

@@ -371,7 +371,7 @@ searches number s (said ∷ others) (text ∷ texts) zip =
 
 -- ---- the whole
 
-ends-so : (image : Image) → whole_image.fits image ≡ true → image.header.version ≡ version_listed image.promises image.threads
+ends-so : (image : Image) → whole_image.fits image ≡ true → image.header.version ≡ version_listed image.objects image.promises image.threads
     → finished (draft_of image) ≡ Ok image
 unfolding finished memory_known
 ends-so image is version =
@@ -379,7 +379,7 @@ ends-so image is version =
     let whole = is-listed image is version (draft_of image) refl memory refl _ refl in
     ap fitting whole ∙ ap (λ (b : Bool). if b then Ok image else Err 4) is
 
-pub listing-means : (image : Image) → whole_image.fits image ≡ true → image.header.version ≡ version_listed image.promises image.threads
+pub listing-means : (image : Image) → whole_image.fits image ≡ true → image.header.version ≡ version_listed image.objects image.promises image.threads
     → All (λ (t : Thread). t.header.entry < t.header.words) image.threads → text_means (listing image) ≡ Ok image
 unfolding text_means
 listing-means image is version entered =

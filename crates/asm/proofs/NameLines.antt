@@ -43,8 +43,9 @@ module _ (image : Image) (labels : List FoundLabels) (fits : SectionsFit image) 
       let long = limits.objects in
       let few = limits.header.untypeds in
       let all = limits.untypeds in
-      let one = object-parts image.header.untypeds (least_behind (λ x. x.untyped) 0 front) o
-      (fits-at (object_format image.header.untypeds) (λ x. x.untyped) 0 image.header.objects image.objects front o rest fits.objects same) in
+      let one = object-parts image.header.version image.header.untypeds (least_behind (λ x. x.untyped) 0 front) o
+      (fits-at (object_format image.header.version image.header.untypeds) (λ x. x.untyped) 0 image.header.objects image.objects front o rest fits.objects
+      same) in
       let inside = one.1 in
       let number = number-named 117 (length image.untypeds) o.untyped (omega (arith, inside, all)) (omega (arith, few, all)) in
       let other = name-absent 111 117 0 (length image.untypeds) (length front) refl in

@@ -155,7 +155,7 @@ whole-goes i fits limits entered =
     (threads-go i labels limits 0 i.header.threads (number_behind 0 (sections_said i)) [] i.threads [] fits.threads (entered-each i.threads entered)
     (omega (arith, few, long)) refl (labels-found i fits entered))
 
-pub read-back : (image : Image) → whole_image.fits image ≡ true → image.header.version ≡ version_listed image.promises image.threads
+pub read-back : (image : Image) → whole_image.fits image ≡ true → image.header.version ≡ version_listed image.objects image.promises image.threads
     → All (λ (t : Thread). t.header.entry < t.header.words) image.threads → IsReadBack image
 unfolding listing
 read-back image is version entered =

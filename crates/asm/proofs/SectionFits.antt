@@ -13,11 +13,11 @@ use Rattle.format_laws.proofs.Laws.{field-parts}
 use Rattle.asm.proofs.Orders.{least_behind, many-at}
 
 pub record SectionsFit (i : Image) : Type 0 where
-  pub version : i.header.version ≡ version_listed i.promises i.threads
+  pub version : i.header.version ≡ version_listed i.objects i.promises i.threads
   pub memory : between 16 24 i.header.memory_bits ≡ true
   pub radix : between 1 (min 14 (i.header.memory_bits - 5)) i.header.boot_radix ≡ true
   pub untypeds : many_fit (λ _. untyped_format) (λ _. 0) 0 i.header.untypeds i.untypeds ≡ true
-  pub objects : many_fit (object_format i.header.untypeds) (λ o. o.untyped) 0 i.header.objects i.objects ≡ true
+  pub objects : many_fit (object_format i.header.version i.header.untypeds) (λ o. o.untyped) 0 i.header.objects i.objects ≡ true
   pub capabilities : many_fit (capability_format i.header.objects i.header.interrupts) (λ x. pair_key x.cnode x.index + 1) 0 i.header.capabilities
       i.capabilities ≡ true
   pub interrupts : many_fit (interrupt_format i.header.objects) (λ x. x.line + 1) 0 i.header.interrupts i.interrupts ≡ true
@@ -39,7 +39,8 @@ header-parts h is =
       (field-parts (between 1 (min 14 (h.memory_bits - 5))) h.boot_radix b.0).1,
     )
 
-pub sections-fit : (image : Image) → whole_image.fits image ≡ true → image.header.version ≡ version_listed image.promises image.threads → SectionsFit image
+pub sections-fit : (image : Image) → whole_image.fits image ≡ true → image.header.version ≡ version_listed image.objects image.promises image.threads
+    → SectionsFit image
 unfolding image_with sections_format
 sections-fit image is version =
     let whole = and_parts _ _ is in

@@ -73,7 +73,7 @@ draft_of image = record {
 
 abbrev pub counted_header : Memory → Declared → List CapabilityEntry → List Thread → ImageHeader
 counted_header m d cs ts = record {
-  version = version_listed d.promises ts;
+  version = version_listed d.objects d.promises ts;
   memory_bits = m.bits;
   boot_radix = m.boot_radix;
   untypeds = length d.untypeds;

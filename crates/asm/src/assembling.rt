@@ -115,7 +115,7 @@ fn image_with<'a>(alloc: Global, text: &'a str, labels: &[Labels<'a>]) -> Result
 pub fn assemble(alloc: Global, text: &str) -> Result<Image, SourceFault>
     ensures image { IfOk result (λ image. whole_image.fits image ≡ true) }
     ensures fault { IfErr result (λ fault. (1 ≤ fault.line) × (1 ≤ fault.kind) × (fault.kind ≤ 5)) }
-    ensures listed { (listed : described.Image) → whole_image.fits listed ≡ true → listed.header.version ≡ version_listed listed.promises listed.threads → All (λ (t : described.Thread). t.header.entry < t.header.words) listed.threads → text.now ≡ listing listed → MatchResult result (λ image. image ≡ listed) (λ fault. fault.kind ≡ 5) }
+    ensures listed { (listed : described.Image) → whole_image.fits listed ≡ true → listed.header.version ≡ version_listed listed.objects listed.promises listed.threads → All (λ (t : described.Thread). t.header.entry < t.header.words) listed.threads → text.now ≡ listing listed → MatchResult result (λ image. image ≡ listed) (λ fault. fault.kind ≡ 5) }
     ensures meant { MatchResult result (λ image. text_means text.now ≡ Ok image) (λ fault. (fault.kind ≡ 5) ⊎ (text_means text.now ≡ Err (fault.line, fault.kind))) }
 {
     let labels = labels_of(alloc, text)?;

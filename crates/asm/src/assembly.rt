@@ -4,8 +4,8 @@
 //! which is long to prove.
 
 ghost use Rattle.std.specs.Prelude.{◌≡◌, ◌==◌, ◌⊎◌, not, true, length, map, IfOk, MatchResult, Ok, Err, Some, None};
-ghost use Rattle.model.specs.Images.Image.{no_buffer, whole_image};
-ghost use Rattle.model.specs.Images.Listing.{some_buffered, version_listed};
+ghost use Rattle.model.specs.Images.Image.{is_device_size, no_buffer, whole_image};
+ghost use Rattle.model.specs.Images.Listing.{some_buffered, some_device, version_listed};
 ghost use Rattle.asm_line.specs.declared.lines.Line.TheVariants as said;
 ghost use Rattle.asm.specs.declared.faults.Fault.{Fault};
 ghost use Rattle.asm.specs.Drafts.{assembled, nothing_read};
@@ -20,12 +20,26 @@ use crate::labels::Labels;
 use crate::open_threads::{NO_BUFFER, OpenThread};
 use asm_line::{Line, ThreadLine};
 use image::{Image, Parts, Promise, ThreadParts};
-use model::CapabilityEntry;
+use model::{CapabilityEntry, ObjectEntry};
 use std::alloc::Global;
 use std::marker::Model;
 
 /// How many threads an image has at most.
 const MOST_THREADS: usize = model::MOST_THREADS as usize;
+
+/// Whether an object is a device page.
+fn is_device(object: &ObjectEntry) -> bool
+    ensures { result ≡ is_device_size object.now.kind object.now.size }
+{
+    object.kind == 6 && object.size == 1
+}
+
+/// Whether some object is a device page.
+fn some_device(objects: &[ObjectEntry]) -> bool
+    ensures { result ≡ some_device objects.now }
+{
+    objects.iter().any(|object| is_device(object))
+}
 
 /// Whether a thread has a message buffer.
 fn is_buffered(thread: &ThreadParts) -> bool
@@ -41,10 +55,13 @@ fn some_buffered(threads: &[ThreadParts]) -> bool
     threads.iter().any(|thread| is_buffered(thread))
 }
 
-/// The version of an image with these promises and threads: the first that has fields for them.
-fn version_with(promises: &[Promise], threads: &[ThreadParts]) -> u32
-    ensures { result ≡ version_listed promises.now threads.now }
+/// The version of an image with these objects, promises and threads: the first that has all of them.
+fn version_with(objects: &[ObjectEntry], promises: &[Promise], threads: &[ThreadParts]) -> u32
+    ensures { result ≡ version_listed objects.now promises.now threads.now }
 {
+    if some_device(objects) {
+        return 4;
+    }
     if some_buffered(threads) {
         return 3;
     }
@@ -337,7 +354,7 @@ impl<'a> Assembly<'a> {
         let declared = self.declared;
         drop(declared.names);
         Parts {
-            version: version_with(&declared.promises, &self.threads),
+            version: version_with(&declared.objects, &declared.promises, &self.threads),
             memory_bits: memory.bits,
             boot_radix: memory.boot_radix,
             untypeds: declared.untypeds,
