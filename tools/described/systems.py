@@ -142,9 +142,12 @@ class System:
         if slots and bits >= 12:
             part.code += retype()
 
+    def declared(self, page):
+        words = [self.chance.randrange(1 << 32) for _ in range(self.chance.choice([0, 0, 2, 1024]))]
+        return " ".join([self.chance.choice(["page", "page", "device"]), page, *map(str, words)])
+
     def text(self):
-        declared = [f"page {page}" + "".join(f" {self.chance.randrange(1 << 32)}" for _ in range(self.chance.choice([0, 0, 2, 1024])))
-            for page in self.pages]
+        declared = [self.declared(page) for page in self.pages]
         declared += [f"door {door}" for door in self.doors] + [f"bell {bell}" for bell in self.bells]
         self.chance.shuffle(declared)
         return "\n".join(declared) + "\n" + "".join(part.text(self.chance) for part in self.parts)
@@ -188,7 +191,7 @@ def filled(line):
 
 def noises(chance):
     """Files of 64 KiB by the kind of their noise."""
-    words = ["page", "bell", "door", "part", "end", "code", "waits", "rings", "serves", "calls", "sends", "sees", "writes", "pool", "reg",
+    words = ["page", "device", "bell", "door", "part", "end", "code", "waits", "rings", "serves", "calls", "sends", "sees", "writes", "pool", "reg",
         "budget", "within", "program", "line", "every", "burst", "as", "addi", "lui", "ecall", "x5", "a", "b", "0", "7", "0x1000", "4294967296", ":", "#"]
     code, valid = "addi x5 x5 1", (description(7) + description(8)).encode("ascii")
     turned = bytearray(valid[:NOISE])

@@ -30,7 +30,7 @@ FORMS = {
         "Line": set("buffer reg program word".split()),
     },
     "system": {
-        "Declaration": set("page bell door part end".split()),
+        "Declaration": set("page device bell door part end".split()),
         "Line": set("waits rings serves calls sends sees writes pool reg budget within code program word".split()),
     },
 }

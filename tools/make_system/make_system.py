@@ -41,7 +41,7 @@ SYSTEMS = {
 OPTIONS = {"--from", "--to"}
 STANDARD = "-"
 # What a description begins with.
-DECLARATIONS = {"page", "bell", "door", "part"}
+DECLARATIONS = {"page", "device", "bell", "door", "part"}
 PREFIX = "riscv64-unknown-elf-"
 # In how many rounds the sizes of programs are found: an address may be longer to write than the last one.
 ROUNDS = 8

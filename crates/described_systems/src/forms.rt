@@ -2,6 +2,8 @@
 
 pub(crate) const PAGE: &str = "page NAME [WORD ..]";
 
+pub(crate) const DEVICE: &str = "device NAME [WORD ..]";
+
 pub(crate) const BELL: &str = "bell NAME";
 
 pub(crate) const DOOR: &str = "door NAME";
@@ -36,7 +38,7 @@ pub(crate) const PROGRAM: &str = "program FILE.c .. [pages N] [data N] [stack N]
 
 /// Whether a word begins a declaration or a part.
 pub(crate) fn declares(word: &str) -> bool {
-    matches!(word, "page" | "bell" | "door" | "part")
+    matches!(word, "page" | "device" | "bell" | "door" | "part")
 }
 
 /// Whether a word begins a line of a part.

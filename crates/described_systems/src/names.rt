@@ -46,7 +46,7 @@ fn gives(kind: Kind, ending: &str) -> bool {
     match kind {
         Kind::Part => is_of_a_part(ending),
         Kind::Bell => is_numbered(ending, "line"),
-        Kind::Page | Kind::Door => false,
+        Kind::Page | Kind::Device | Kind::Door => false,
     }
 }
 
@@ -89,18 +89,18 @@ impl<'a> Names<'a> {
         Ok(())
     }
 
-    /// The names of a kind, in the order of their lines.
-    fn known(&self, alloc: Global, kind: Kind) -> Result<Vec<&'a str>, AllocError> {
+    /// The names of what is taken where a kind is wanted, in the order of their lines.
+    fn known(&self, alloc: Global, wanted: Kind) -> Result<Vec<&'a str>, AllocError> {
         let mut known = Vec::new(alloc);
         for (name, named) in self.names.iter() {
-            if named.kind == kind {
+            if named.kind.serves_as(wanted) {
                 known.push(*name)?;
             }
         }
         Ok(known)
     }
 
-    /// A name is to be declared as this kind.
+    /// A name is to be declared as this kind, or as one that is taken for it.
     pub(crate) fn check(
         &self,
         alloc: Global,
@@ -109,7 +109,7 @@ impl<'a> Names<'a> {
         wanted: Kind,
     ) -> Result<(), DescriptionFault<'a>> {
         match self.names.get(name) {
-            Some(named) if named.kind == wanted => Ok(()),
+            Some(named) if named.kind.serves_as(wanted) => Ok(()),
             Some(named) => {
                 let kind = named.kind;
                 Err(fault(line, Mistake::OtherKind { name, kind, wanted }))

@@ -68,7 +68,7 @@ impl<'a> Reader<'a> {
         }
     }
 
-    /// A page, a bell or a door.
+    /// A page, a device page, a bell or a door.
     fn declare(
         &mut self,
         kind: Kind,
@@ -85,16 +85,21 @@ impl<'a> Reader<'a> {
         Ok(())
     }
 
-    /// `page NAME [WORD ..]`
-    fn page(&mut self, words: &[&'a str]) -> Result<(), DescriptionFault<'a>> {
+    /// `page NAME [WORD ..]` or `device NAME [WORD ..]`
+    fn page(
+        &mut self,
+        kind: Kind,
+        form: &'static str,
+        words: &[&'a str],
+    ) -> Result<(), DescriptionFault<'a>> {
         match words {
             [name, content @ ..] => {
                 for word in content {
                     number(self.line, *word, 0, u32::MAX)?;
                 }
-                self.declare(Kind::Page, *name, content)
+                self.declare(kind, *name, content)
             }
-            [] => Err(self.other_form(forms::PAGE)),
+            [] => Err(self.other_form(form)),
         }
     }
 
@@ -137,7 +142,8 @@ impl<'a> Reader<'a> {
         words: &[&'a str],
     ) -> Result<(), DescriptionFault<'a>> {
         match head {
-            "page" => self.page(words),
+            "page" => self.page(Kind::Page, forms::PAGE, words),
+            "device" => self.page(Kind::Device, forms::DEVICE, words),
             "bell" => self.meeting(Kind::Bell, forms::BELL, words),
             "door" => self.meeting(Kind::Door, forms::DOOR, words),
             "part" => self.begin(words),

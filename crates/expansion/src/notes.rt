@@ -168,12 +168,22 @@ impl Notes<'_> {
         self.say(bell.line, "nobody waits for the bell ", bell.name, "")
     }
 
-    /// Who sees and writes a page.
+    /// Who sees and writes a page. A device page is written by the world, too.
     fn note_page(&mut self, system: &System<'_>, page: &Declaration<'_>) -> Result<(), AllocError> {
         let found = use_of(system, page.name);
+        let is_page = page.kind == Kind::Page;
         if !found.is_seen {
-            self.say(page.line, "nobody sees the page ", page.name, "")
-        } else if !found.is_written && page.words.is_empty() {
+            self.say(
+                page.line,
+                if is_page {
+                    "nobody sees the page "
+                } else {
+                    "nobody sees the device page "
+                },
+                page.name,
+                "",
+            )
+        } else if is_page && !found.is_written && page.words.is_empty() {
             self.say(
                 page.line,
                 "nobody writes the page ",
@@ -192,7 +202,7 @@ impl Notes<'_> {
         declared: &Declaration<'_>,
     ) -> Result<(), AllocError> {
         match declared.kind {
-            Kind::Page => self.note_page(system, declared),
+            Kind::Page | Kind::Device => self.note_page(system, declared),
             Kind::Bell => self.note_bell(system, declared),
             Kind::Door => self.note_door(system, declared),
             Kind::Part => Ok(()),

@@ -9,6 +9,9 @@ use std::alloc::{AllocError, Global};
 /// The greatest radix of a CNode.
 const MOST_RADIX: u32 = 14;
 
+/// The size of a frame that is a device page; that of others is 0.
+const DEVICE_SIZE: u32 = 1;
+
 /// What an object is.
 #[derive(Clone, Copy)]
 pub(crate) enum Sort {
@@ -18,6 +21,8 @@ pub(crate) enum Sort {
     Notification,
     CNode { radix: u32 },
     Frame,
+    /// A frame that the world writes and reads.
+    DevicePage,
     Table,
     Root,
 }
@@ -28,7 +33,7 @@ impl Sort {
         match self {
             Sort::Untyped { bits } => power_of_two(bits),
             Sort::CNode { radix } => SLOT_BYTES.saturating_mul(power_of_two(radix)),
-            Sort::Frame | Sort::Table | Sort::Root => PAGE_BYTES,
+            Sort::Frame | Sort::DevicePage | Sort::Table | Sort::Root => PAGE_BYTES,
             Sort::Tcb => 512,
             Sort::Endpoint | Sort::Notification => 16,
         }
@@ -42,7 +47,7 @@ impl Sort {
             Sort::Endpoint => "endpoint",
             Sort::Notification => "notification",
             Sort::CNode { .. } => "cnode",
-            Sort::Frame => "frame",
+            Sort::Frame | Sort::DevicePage => "frame",
             Sort::Table => "table",
             Sort::Root => "root",
         }
@@ -53,6 +58,7 @@ impl Sort {
         match self {
             Sort::Untyped { bits } => Some(bits),
             Sort::CNode { radix } => Some(radix),
+            Sort::DevicePage => Some(DEVICE_SIZE),
             _ => None,
         }
     }
@@ -150,10 +156,11 @@ impl Objects {
         }
     }
 
-    /// A page, a bell or a door.
+    /// A page, a device page, a bell or a door.
     pub(crate) fn add_declared(&mut self, declared: &Declaration<'_>) -> Result<(), AllocError> {
         let sort = match declared.kind {
             Kind::Page => Sort::Frame,
+            Kind::Device => Sort::DevicePage,
             Kind::Bell => Sort::Notification,
             Kind::Door => Sort::Endpoint,
             Kind::Part => Sort::Tcb,

@@ -24,6 +24,12 @@ part a 1
 code
 ecall
 end
+@ 1: note: nobody sees the device page p
+device p
+part a 1
+code
+ecall
+end
 @ 1: note: nobody writes the page p, and it has no first words: all that is seen there is 0
 page p
 part a 1
@@ -162,6 +168,23 @@ code
 ecall
 end
 ";
+
+/// The world writes what a sees, and reads what a writes.
+const DEVICES: &str = "device sensor
+device heater
+part a 1
+sees sensor
+writes heater
+code
+ecall
+end
+";
+
+#[test]
+fn the_world_writes_device_pages(rt: HostRuntime) -> Result<(), Fail> {
+    assert_eq!(&rt; said_of(rt.alloc(), DEVICES)?.as_str(), "");
+    Ok(())
+}
 
 #[test]
 fn what_comes_back_by_others_is_no_arrow(rt: HostRuntime) -> Result<(), Fail> {

@@ -48,6 +48,13 @@ end
 part a 256
 @ 1: `-1` is no number from 0 to 4294967295, decimal or after `0x`
 page p 1 0x2 -1
+@ 1: the form of such a line is `device NAME [WORD ..]`
+device
+@ 1: `1x` is no number from 0 to 4294967295, decimal or after `0x`
+device p 1x
+@ 2: `device` is inside of part a, which has no `end` before it
+part a 1
+device p
 @ 3: `0x2004` is no address of a page: a multiple of 4096 (0x1000) below 0x80000000
 page p
 part a 1
@@ -59,6 +66,21 @@ door p
 page p
 part a 1
 serves p
+@ 3: p is a device, and a bell is wanted
+device p
+part a 1
+waits p
+@ 4: part a has p already, on line 3
+device p
+part a 1
+sees p
+writes p
+@ 5: no page has the name `r`: declared are p, q
+page p
+device q
+bell b
+part a 1
+sees r
 @ 4: no bell has the name `c`: declared are b, bb
 bell b
 bell bb

@@ -106,6 +106,50 @@ entry: ecall # d:32
 end
 ";
 
+/// A page that the world writes, with two first words, and one that it reads.
+const DEVICES: &str = "device sensor 215 0x10
+device heater
+part ctl 100
+sees sensor
+writes heater 0x3000
+code
+lui x5 sensor
+lui x6 heater
+ecall
+end
+";
+
+const DEVICES_TEXT: &str = "memory 16 4
+untyped memory 0x8000 15
+object sensor memory frame 1 # d:1
+object heater memory frame 1 # d:2
+object ctl_code0 memory frame # d:3
+object ctl_space memory root # d:3
+object ctl_table0 memory table # d:3
+object ctl memory tcb # d:3
+object ctl_slots memory cnode 1 # d:3
+table ctl_space 0x0 ctl_table0 # d:3
+map ctl_space 0x1000 ctl_code0 4 # d:3
+map ctl_space 0x10000 sensor 2 # d:4
+map ctl_space 0x3000 heater 3 # d:5
+data sensor 215 0x10 # d:1
+
+thread ctl ctl_slots 31 ctl_space 100 auto 0 entry 0x1000 # d:3
+entry: lui x5 0x10 # d:7
+lui x6 0x3 # d:8
+ecall # d:9
+end
+";
+
+#[test]
+fn a_device_page_is_a_frame_of_size_1(rt: HostRuntime) -> Result<(), Fail> {
+    let expansion = expand(rt.alloc(), "d", DEVICES)
+        .ok()
+        .ok_or("it is not expanded")?;
+    assert_eq!(&rt; expansion.text.as_str(), DEVICES_TEXT);
+    Ok(())
+}
+
 #[test]
 fn a_description_has_its_text(rt: HostRuntime) -> Result<(), Fail> {
     let expansion = expand(rt.alloc(), "d", DESCRIPTION)
