@@ -22,11 +22,13 @@ pub(crate) fn only(part: usize) -> u64 {
     }
 }
 
-/// Whether who holds this can tell something by it, and whether it can hear something.
+/// Whether who holds this can tell those who hear by it something, and whether it can hear something.
 fn tells_and_hears(held: Held<'_>) -> (bool, bool) {
     match held {
-        Held::Line { .. } => (false, false),
-        Held::Waits { .. } => (false, true),
+        // Who acknowledges an interrupt lets the next one ring the bell.
+        Held::Line { .. } => (true, false),
+        // Who waits takes the signals from the others who wait.
+        Held::Waits { .. } => (true, true),
         Held::Rings { .. } => (true, false),
         // Who sends waits until somebody receives.
         Held::Serves { .. } | Held::Calls { .. } | Held::Sends { .. } => (true, true),

@@ -169,6 +169,23 @@ ecall
 end
 ";
 
+/// Each of a and b takes the signals that the other waits for, and b writes a page that a sees.
+const ONE_BELL: &str = "bell r
+page p
+part a 1
+waits r line 3
+sees p
+code
+ecall
+end
+part b 1
+waits r line 5
+writes p
+code
+ecall
+end
+";
+
 /// The world writes what a sees, and reads what a writes.
 const DEVICES: &str = "device sensor
 device heater
@@ -179,6 +196,12 @@ code
 ecall
 end
 ";
+
+#[test]
+fn who_waits_tells_those_who_wait_for_the_same_bell(rt: HostRuntime) -> Result<(), Fail> {
+    assert_eq!(&rt; said_of(rt.alloc(), ONE_BELL)?.as_str(), "");
+    Ok(())
+}
 
 #[test]
 fn the_world_writes_device_pages(rt: HostRuntime) -> Result<(), Fail> {
