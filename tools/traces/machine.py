@@ -12,9 +12,12 @@ sys.dont_write_bytecode = True
 from calls import A0, A1, A7, HANDLER, WORDS, Kernel, image_slots  # noqa: E402
 from programs import ALL_ONES, Instruction, signed, value  # noqa: E402
 from rules import ENDPOINT, FRAME, NOTIFICATION, read, well_formed  # noqa: E402
+from texts import number as number_of  # noqa: E402
 
 CALL, REPLY_RECV, SEND, NB_SEND, RECV, REPLY, YIELD, NB_RECV, PUT_CHAR = range(1, 10)
 SLICE = 5
+# where physical memory begins
+MEMORY = 0x80000000
 # how many words a message has at most, and how many of them are in registers
 MOST_WORDS, IN_REGISTERS = 120, len(WORDS)
 WIDTHS = {"b": 1, "h": 2, "w": 4}
@@ -68,6 +71,11 @@ class Machine:
 
     def frame(self, offset):
         return self.memory.setdefault(offset, bytearray(4096))
+
+    def word_at(self, address):
+        """The frame and the place in it of a word by its physical address."""
+        offset = address - MEMORY
+        return self.frame(offset & ~4095), offset & 4095
 
     def byte(self, runner, address):
         """The frame and the place in it of an address."""
@@ -272,7 +280,7 @@ class Machine:
         runner = self.current()
         if runner is None:
             return "idle"
-        at = f"{0x80000000 + runner.tcb:08x} {runner.pc:08x}"
+        at = f"{MEMORY + runner.tcb:08x} {runner.pc:08x}"
         return f"{at} {self.instruction(runner)}"
 
     def tick(self):
@@ -283,6 +291,17 @@ class Machine:
                 self.ready.remove(runner)
                 self.wake(runner)
         return "tick"
+
+    def write(self, address, word):
+        """The world writes a word of a device page."""
+        frame, place = self.word_at(address)
+        frame[place:place + 4] = word.to_bytes(4, "little")
+        return f"write {address:08x} {word:08x}"
+
+    def show(self, address):
+        """The world reads a word of a device page."""
+        frame, place = self.word_at(address)
+        return f"read {address:08x} {int.from_bytes(frame[place:place + 4], 'little'):08x}"
 
     def interrupt(self, line):
         if line in self.bound and line not in self.masked:
@@ -300,5 +319,9 @@ def trace(machine, events):
         if word == "step":
             for _ in range(int(rest[0]) if rest else 1):
                 yield machine.step()
+        elif word == "write":
+            yield machine.write(*map(number_of, rest))
+        elif word == "read":
+            yield machine.show(number_of(rest[0]))
         elif word:
             yield machine.tick() if word == "tick" else machine.interrupt(int(rest[0]))
