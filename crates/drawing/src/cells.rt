@@ -2,6 +2,7 @@
 
 use crate::faults::DrawingFault;
 use crate::threads::{Rest, ThreadRun};
+use crate::words::WordRun;
 use indexmap::IndexMap;
 use std::alloc::{AllocFailed, Global};
 use trace_lines::{Happening, Mark, told_by, without_end};
@@ -17,6 +18,8 @@ pub(crate) enum Shape {
     Run { lane: usize, count: u32 },
     /// An instruction with a mark.
     Event { lane: usize, pc: u32, mark: Mark },
+    /// The world writes or reads a word. Rows of words are numbered from 0.
+    World { row: usize, word: u32, writes: bool },
 }
 
 /// A cell, and the first of its lines, counted from 1.
@@ -34,10 +37,11 @@ pub(crate) struct Window {
 }
 
 /// What is drawn of a trace: the threads of the whole of it in the order in which they first run, each by the physical address of its
-/// TCB, and the cells.
+/// TCB; the words that the world writes or reads, each by its physical address, in the order of their first events; and the cells.
 #[derive(Drop)]
 pub(crate) struct Cells {
     pub(crate) threads: IndexMap<u32, ThreadRun>,
+    pub(crate) words: IndexMap<u32, WordRun>,
     pub(crate) cells: Vec<Cell>,
 }
 
@@ -57,6 +61,34 @@ impl Cells {
     /// What is known of the thread of a lane.
     fn thread(&mut self, lane: usize) -> Option<&mut ThreadRun> {
         self.threads.get_index_mut(lane)
+    }
+
+    /// The row of a word that has this value now, a new one where it has none.
+    fn row(&mut self, address: u32, word: u32) -> Result<usize, AllocFailed<(u32, WordRun)>> {
+        match self.words.get_index_of(&address) {
+            Some(row) => {
+                if let Some(run) = self.words.get_index_mut(row) {
+                    run.note(word);
+                }
+                Ok(row)
+            }
+            None => {
+                let row = self.words.len();
+                self.words.insert(address, WordRun::new(word))?;
+                Ok(row)
+            }
+        }
+    }
+
+    /// What an event of the world at a word shows.
+    fn shape_of_word(
+        &mut self,
+        address: u32,
+        word: u32,
+        writes: bool,
+    ) -> Result<Shape, DrawingFault> {
+        let row = self.row(address, word)?;
+        Ok(Shape::World { row, word, writes })
     }
 
     /// Whether the last cell takes in one more of this shape.
@@ -101,6 +133,15 @@ impl Cells {
             Happening::Tick => Ok(Shape::Tick),
             Happening::Interrupt(number) => Ok(Shape::Interrupt(number)),
             Happening::Ran { thread, pc, mark } => self.shape_of_run(thread, pc, mark),
+            Happening::Wrote { address, word } => self.shape_of_word(address, word, true),
+            Happening::Showed { address, word } => self.shape_of_word(address, word, false),
+        }
+    }
+
+    /// Takes notice of the value of a word before the lines that are drawn.
+    fn pass_word(&mut self, row: usize, word: u32) {
+        if let Some(run) = self.words.get_index_mut(row) {
+            run.first = Some(word);
         }
     }
 
@@ -109,6 +150,7 @@ impl Cells {
         let (lane, rest) = match shape {
             Shape::Run { lane, .. } => (lane, Rest::Ready),
             Shape::Event { lane, pc, mark } => (lane, Rest::after(mark, pc)),
+            Shape::World { row, word, .. } => return self.pass_word(row, word),
             Shape::Idle { .. } | Shape::Tick | Shape::Interrupt(_) => return,
         };
         if let Some(thread) = self.thread(lane) {
@@ -132,6 +174,7 @@ impl Cells {
 pub(crate) fn cells_of(alloc: Global, trace: &[u8], window: Window) -> Result<Cells, DrawingFault> {
     let mut cells = Cells {
         threads: IndexMap::new(alloc),
+        words: IndexMap::new(alloc),
         cells: Vec::new(alloc),
     };
     let mut line = 0u64;

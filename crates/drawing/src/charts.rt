@@ -4,8 +4,9 @@ use crate::cells::{Cell, Cells, Shape, Window, cells_of};
 use crate::faults::DrawingFault;
 use crate::lane_names::{LaneName, left_of, said_of_rest};
 use crate::layouts::{FOOT, HEAD, LANE, Layout, WIDTH, width_of};
-use crate::signs::{LEGEND, STYLE, push_said};
+use crate::signs::{LEGEND, STYLE, WORLD_LEGEND, WORLD_STYLE, push_said};
 use crate::threads::Rest;
+use crate::words::shown_word;
 use named_traces::TextNames;
 use sinks::{Sink, put_all};
 use source_texts::TextFault;
@@ -29,6 +30,14 @@ const COLOURS: [&str; 6] = [
     "#3b78b5", "#c9752d", "#4e9a47", "#8a5aa8", "#b84f6d", "#5f7f86",
 ];
 
+/// The colour of what the world does.
+const WORLD: &str = "#8d3b70";
+
+/// How high the curve of a word is at most, and how far its foot is below the top of its lane.
+const CURVE: u32 = 14;
+
+const CURVE_FOOT: u32 = 22;
+
 /// How far apart the numbers of lines are at least.
 const BETWEEN_NUMBERS: u32 = 90;
 
@@ -36,6 +45,13 @@ const BETWEEN_NUMBERS: u32 = 90;
 #[derive(Clone, Copy, Debug)]
 struct Lane {
     rest: Rest,
+    since: u32,
+}
+
+/// The value of a word, if an event said it, and since where it is drawn.
+#[derive(Clone, Copy, Debug)]
+struct WordLane {
+    value: Option<u32>,
     since: u32,
 }
 
@@ -48,6 +64,7 @@ struct Canvas<'c, 't> {
     names: &'c [LaneName],
     layout: Layout,
     lanes: Vec<Lane>,
+    words: Vec<WordLane>,
     /// The band at hand.
     band: u32,
     /// From where on the next number of a line may be.
@@ -79,7 +96,7 @@ impl Canvas<'_, '_> {
             self.svg,
             "<text class=\"n\" x=\"{left}\" y=\"{tick_line}\" text-anchor=\"end\" dx=\"-8\">events</text>\n"
         )?;
-        for lane in 0..self.lanes.len() {
+        for lane in 0..self.names.len() {
             self.push_lane(lane)?;
             self.push_name(lane)?;
         }
@@ -98,32 +115,36 @@ impl Canvas<'_, '_> {
 
     /// What is written beside a lane.
     fn push_name(&mut self, lane: usize) -> Result<(), AllocError> {
-        let Some(LaneName { thread, longest }) = self.names.get(lane) else {
+        let Some(LaneName { name, below }) = self.names.get(lane) else {
             return Ok(());
         };
         let top = self.layout.lane_top(self.band, lane);
-        if longest.is_empty() {
-            return self.push_thread(lane, thread, top.saturating_add(17));
+        if below.is_empty() {
+            return self.push_first_name(lane, name, top.saturating_add(17));
         }
-        self.push_thread(lane, thread, top.saturating_add(12))?;
-        self.push_longest(longest, top.saturating_add(22))
+        self.push_first_name(lane, name, top.saturating_add(12))?;
+        self.push_below(below, top.saturating_add(22))
     }
 
-    /// The thread of a lane.
-    fn push_thread(&mut self, lane: usize, thread: &str, base: u32) -> Result<(), AllocError> {
-        let (left, fill) = (self.layout.left, colour(lane));
+    /// The thread or word of a lane.
+    fn push_first_name(&mut self, lane: usize, name: &str, base: u32) -> Result<(), AllocError> {
+        let is_thread = lane < self.lanes.len();
+        let (left, fill) = (
+            self.layout.left,
+            if is_thread { colour(lane) } else { WORLD },
+        );
         write!(
             self.svg,
-            "<text class=\"t\" x=\"{left}\" y=\"{base}\" dx=\"-8\" fill=\"{fill}\">{thread}</text>\n"
+            "<text class=\"t\" x=\"{left}\" y=\"{base}\" dx=\"-8\" fill=\"{fill}\">{name}</text>\n"
         )
     }
 
-    /// The most instructions of a thread from one wait to the next.
-    fn push_longest(&mut self, longest: &str, base: u32) -> Result<(), AllocError> {
+    /// What is written in small letters below a name.
+    fn push_below(&mut self, below: &str, base: u32) -> Result<(), AllocError> {
         let left = self.layout.left;
         write!(
             self.svg,
-            "<text class=\"n\" x=\"{left}\" y=\"{base}\" dx=\"-8\" text-anchor=\"end\" style=\"font-size:9px\">{longest}</text>\n"
+            "<text class=\"n\" x=\"{left}\" y=\"{base}\" dx=\"-8\" text-anchor=\"end\" style=\"font-size:9px\">{below}</text>\n"
         )
     }
 
@@ -188,15 +209,93 @@ impl Canvas<'_, '_> {
         Ok(())
     }
 
-    /// Ends the band at hand, up to where its last cell ends, and begins the next one.
-    fn turn(&mut self, until: u32) -> Result<(), AllocError> {
+    /// How the threads rest, and the values of the words, up to here in the band at hand.
+    fn push_ends(&mut self, until: u32) -> Result<(), AllocError> {
         for lane in 0..self.lanes.len() {
             self.push_rest(lane, until)?;
         }
+        for row in 0..self.words.len() {
+            self.push_value(row, until)?;
+        }
+        Ok(())
+    }
+
+    /// Where the lane of a word begins in the band at hand.
+    fn row_top(&self, row: usize) -> u32 {
+        let lane = self.lanes.len().saturating_add(row);
+        self.layout.lane_top(self.band, lane)
+    }
+
+    /// How high a value of a word is drawn.
+    fn height_of(&self, row: usize, value: u32) -> u32 {
+        let height = match self.cells.words.get_index(row) {
+            Some((_, run)) => run.height(value, CURVE),
+            None => 0,
+        };
+        self.row_top(row)
+            .saturating_add(CURVE_FOOT)
+            .saturating_sub(height)
+    }
+
+    /// The value of a word up to here in the band at hand.
+    fn push_value(&mut self, row: usize, until: u32) -> Result<(), AllocError> {
+        let Some(word) = self.words.get(row).copied() else {
+            return Ok(());
+        };
+        match word.value {
+            Some(value) if word.since < until => {
+                let (since, y) = (word.since, self.height_of(row, value));
+                write!(self.svg, "<path class=\"v\" d=\"M{since} {y}H{until}\"/>\n")
+            }
+            _ => Ok(()),
+        }
+    }
+
+    /// The world writes or reads a word: a mark above, and the value from here on.
+    fn push_world(
+        &mut self,
+        row: usize,
+        x: u32,
+        value: u32,
+        writes: bool,
+    ) -> Result<(), AllocError> {
+        let middle = x.saturating_add(6);
+        self.push_value(row, middle)?;
+        if let Some(word) = self.words.get_mut(row) {
+            word.value = Some(value);
+            word.since = middle;
+        }
+        let y = self.height_of(row, value);
+        self.push_sign(middle, y, writes)?;
+        let base = self.row_top(row).saturating_add(11);
+        let shown = shown_word(self.alloc, value)?;
+        self.push_small(&shown, middle, base)
+    }
+
+    /// The mark of a word that is written, an arrow down to its value, or read, an arrow up from it.
+    fn push_sign(&mut self, x: u32, y: u32, writes: bool) -> Result<(), AllocError> {
+        let base = self.layout.band_top(self.band).saturating_add(32);
+        let head = if writes {
+            "l-4 -8h8z"
+        } else {
+            "m-4 0h8l-4 -8z"
+        };
+        write!(
+            self.svg,
+            "<path class=\"y\" d=\"M{x} {base}V{y}\"/><path fill=\"{WORLD}\" d=\"M{x} {base}{head}\"/><circle cx=\"{x}\" cy=\"{y}\" r=\"2.5\" fill=\"{WORLD}\"/>\n"
+        )
+    }
+
+    /// Ends the band at hand, up to where its last cell ends, and begins the next one.
+    fn turn(&mut self, until: u32) -> Result<(), AllocError> {
+        self.push_ends(until)?;
         self.band = self.band.saturating_add(1);
         self.number_from = 0;
         for lane in &mut self.lanes {
             lane.since = self.layout.left;
+        }
+        for word in &mut self.words {
+            word.since = self.layout.left;
         }
         self.push_band()
     }
@@ -356,6 +455,7 @@ impl Canvas<'_, '_> {
                 self.run(lane, x, end, Rest::Ready)?;
                 self.push_bar(lane, x, width, colour(lane))
             }
+            Shape::World { row, word, writes } => self.push_world(row, x, word, writes),
             Shape::Event { lane, pc, mark } => {
                 self.run(lane, x, end, Rest::after(mark, pc))?;
                 self.push_event(lane, x, width, mark)
@@ -387,10 +487,7 @@ impl Canvas<'_, '_> {
             self.push_cell(cell, at.x)?;
             place = at.behind(cell);
         }
-        for lane in 0..self.lanes.len() {
-            self.push_rest(lane, place.x)?;
-        }
-        Ok(())
+        self.push_ends(place.x)
     }
 }
 
@@ -406,6 +503,18 @@ fn first_lanes(alloc: Global, cells: &Cells, left: u32) -> Result<Vec<Lane>, All
     Ok(lanes)
 }
 
+/// The words where a chart begins.
+fn first_words(alloc: Global, cells: &Cells, left: u32) -> Result<Vec<WordLane>, AllocError> {
+    let mut words = Vec::new(alloc);
+    for run in cells.words.values() {
+        words.push(WordLane {
+            value: run.first,
+            since: left,
+        })?;
+    }
+    Ok(words)
+}
+
 /// What is written beside the lanes.
 fn lane_names(
     alloc: Global,
@@ -416,23 +525,28 @@ fn lane_names(
     for (address, run) in &cells.threads {
         names.push(LaneName::of(alloc, text, *address, run)?)?;
     }
+    for (address, run) in &cells.words {
+        names.push(LaneName::of_word(alloc, text, *address, run)?)?;
+    }
     Ok(names)
 }
 
-/// What is before the first band of a chart that is so wide, and whose last band ends there.
-fn push_head(svg: &mut String, right: u32, foot: u32) -> Result<(), AllocError> {
+/// What is before the first band of a chart that is so wide, whose last band ends there, and which has words of the world or none.
+fn push_head(svg: &mut String, right: u32, foot: u32, has_words: bool) -> Result<(), AllocError> {
     let (width, height) = (right.saturating_add(8), foot.saturating_add(FOOT));
     write!(
         svg,
         "<svg xmlns=\"http://www.w3.org/2000/svg\" width=\"{width}\" height=\"{height}\" viewBox=\"0 0 {width} {height}\">\n"
     )?;
     svg.push_str(STYLE)?;
+    svg.push_str(if has_words { WORLD_STYLE } else { "" })?;
     svg.push_str("<rect width=\"100%\" height=\"100%\" fill=\"#fff\"/>\n")
 }
 
 /// What the signs mean, and the end of the chart.
-fn push_legend(svg: &mut String, x: u32, y: u32) -> Result<(), AllocError> {
+fn push_legend(svg: &mut String, x: u32, y: u32, has_words: bool) -> Result<(), AllocError> {
     write!(svg, "<g transform=\"translate({x} {y})\">")?;
+    svg.push_str(if has_words { WORLD_LEGEND } else { "" })?;
     svg.push_str(LEGEND)
 }
 
@@ -442,9 +556,15 @@ impl Canvas<'_, '_> {
         let foot = self
             .layout
             .band_top(self.layout.bands_of(&self.cells.cells));
-        push_head(&mut self.svg, self.layout.right(), foot)?;
+        let has_words = !self.words.is_empty();
+        push_head(&mut self.svg, self.layout.right(), foot, has_words)?;
         self.push_cells()?;
-        push_legend(&mut self.svg, self.layout.left, foot.saturating_add(6))
+        push_legend(
+            &mut self.svg,
+            self.layout.left,
+            foot.saturating_add(6),
+            has_words,
+        )
     }
 }
 
@@ -466,6 +586,7 @@ fn chart_of(
         names: &names,
         layout,
         lanes: first_lanes(alloc, cells, layout.left)?,
+        words: first_words(alloc, cells, layout.left)?,
         band: 0,
         number_from: 0,
         svg: String::new(alloc),
@@ -483,7 +604,8 @@ fn names_in<'t>(alloc: Global, text: Option<&'t str>) -> Result<Option<TextNames
 }
 
 /// Puts a trace as a picture (SVG): a lane for each thread, in the order in which they first run, with what it did and where it waits,
-/// and ticks and interrupts above. Long runs of one thread are drawn shorter, and what does not fit beside it is put in
+/// and ticks, interrupts and what the world writes (an arrow down) and reads (an arrow up) above; below the threads a row for each word
+/// that the world writes or reads, with its values. Long runs of one thread are drawn shorter, and what does not fit beside it is put in
 /// the next band. With the text of the image threads have their names, with the most instructions from one wait to the next and the
 /// budget, and where they wait or faulted is said by label and line. Of the events before and after those that are drawn it is read who
 /// runs.

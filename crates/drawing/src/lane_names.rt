@@ -2,7 +2,8 @@
 
 use crate::layouts::LEAST_LEFT;
 use crate::threads::{Rest, ThreadRun};
-use named_traces::{NamedThread, SourcePlace, TextNames};
+use crate::words::{WordRun, shown_word};
+use named_traces::{DeviceWord, NamedThread, SourcePlace, TextNames};
 use std::alloc::{AllocError, Global};
 
 /// The most characters that are shown of a name.
@@ -19,10 +20,11 @@ const ADDRESS_WIDTH: u32 = 96;
 /// What is written beside a lane.
 #[derive(Drop)]
 pub(crate) struct LaneName {
-    /// The thread: its name, or the address of its TCB.
-    pub(crate) thread: String,
-    /// The most instructions from one wait to the next, and the budget; empty if there is no text.
-    pub(crate) longest: String,
+    /// The thread or word: its name, or the address of the TCB or the word.
+    pub(crate) name: String,
+    /// Of a thread the most instructions from one wait to the next, and the budget, if there is a text; of a word the least and the
+    /// greatest value.
+    pub(crate) below: String,
 }
 
 /// The front of a name that is too long, or the name.
@@ -48,6 +50,26 @@ fn longest_of_budget(
     }
 }
 
+/// The name of a word, or its address.
+fn name_of_word(
+    alloc: Global,
+    names: Option<&TextNames<'_>>,
+    address: u32,
+) -> Result<String, AllocError> {
+    match device_word(names, address) {
+        Some(word) => {
+            let (page, index) = (shown(word.page), word.index);
+            format!(in alloc; "{page} {index}")
+        }
+        None => format!(in alloc; "{address:08x}"),
+    }
+}
+
+/// The word of a device page at an address, if there is a text that knows it.
+fn device_word<'t>(names: Option<&TextNames<'t>>, address: u32) -> Option<DeviceWord<'t>> {
+    names?.device_word(address)
+}
+
 impl LaneName {
     /// What is written beside the lane of a thread.
     pub(crate) fn of(
@@ -58,24 +80,39 @@ impl LaneName {
     ) -> Result<Self, AllocError> {
         let Some(names) = names else {
             return Ok(LaneName {
-                thread: format!(in alloc; "{address:08x}")?,
-                longest: String::new(alloc),
+                name: format!(in alloc; "{address:08x}")?,
+                below: String::new(alloc),
             });
         };
         let named = names.thread(address);
         Ok(LaneName {
-            thread: match named {
+            name: match named {
                 Some(named) => String::from_str(alloc, shown(named.name))?,
                 None => format!(in alloc; "{address:08x}")?,
             },
-            longest: longest_of_budget(alloc, run.longest, named)?,
+            below: longest_of_budget(alloc, run.longest, named)?,
+        })
+    }
+
+    /// What is written beside the lane of a word.
+    pub(crate) fn of_word(
+        alloc: Global,
+        names: Option<&TextNames<'_>>,
+        address: u32,
+        run: &WordRun,
+    ) -> Result<Self, AllocError> {
+        let (low, high) = (shown_word(alloc, run.low)?, shown_word(alloc, run.high)?);
+        let (low, high) = (low.as_str(), high.as_str());
+        Ok(LaneName {
+            name: name_of_word(alloc, names, address)?,
+            below: format!(in alloc; "{low} to {high}")?,
         })
     }
 
     /// How wide this is.
     pub(crate) fn width(&self) -> u32 {
-        let name = width_of(&self.thread, NAME_WIDTH);
-        name.max(width_of(&self.longest, SMALL_WIDTH))
+        let name = width_of(&self.name, NAME_WIDTH);
+        name.max(width_of(&self.below, SMALL_WIDTH))
     }
 }
 

@@ -1,6 +1,7 @@
 //! Where the cells of a chart are: in bands below one another, each read from left to right.
 
 use crate::cells::{Cell, Shape};
+use crate::words::shown_length;
 use trace_lines::Mark;
 
 /// How much there is at least before the lanes of a band, for their names.
@@ -41,6 +42,7 @@ pub(crate) fn width_of(shape: Shape) -> u32 {
             Mark::Plain | Mark::Completed => 12,
             Mark::Put(_) | Mark::Refused(_) | Mark::Faulted(_) => 18,
         },
+        Shape::World { word, .. } => shown_length(word).saturating_mul(5).saturating_add(14),
     }
 }
 
@@ -66,6 +68,7 @@ impl Place {
 pub(crate) struct Layout {
     /// Where the lanes begin.
     pub(crate) left: u32,
+    /// How many lanes there are: of threads, and after them of words.
     pub(crate) lanes: usize,
 }
 

@@ -14,6 +14,7 @@ mod rights_words;
 mod scenes;
 mod signs;
 mod threads;
+mod words;
 
 pub use charts::{ChartRequest, chart};
 pub use faults::DrawingFault;

@@ -202,7 +202,9 @@ impl Scene<'_, '_, '_> {
                 push_node(&mut self.graph, name, NOTIFICATION, "notification")
             }
             Some(ObjectType::Object(ObjectKind::Frame)) => {
-                push_node(&mut self.graph, name, FRAME, "frame")
+                let is_device = self.text.is_device(number);
+                let words = if is_device { "device page" } else { "frame" };
+                push_node(&mut self.graph, name, FRAME, words)
             }
             _ => Ok(()),
         }

@@ -113,10 +113,10 @@ impl Scene<'_, '_, '_> {
         }
     }
 
-    /// Whether a frame is mapped more than once, held by a capability, or a message buffer.
+    /// Whether a frame is mapped more than once, held by a capability, a message buffer, or a device page.
     pub(crate) fn is_shared(&self, frame: usize) -> bool {
         let uses = self.uses_at(frame);
-        uses.mapped > 1 || uses.is_held || uses.is_buffer
+        uses.mapped > 1 || uses.is_held || uses.is_buffer || self.text.is_device(frame)
     }
 
     /// Whether a capability or an interrupt names an object.

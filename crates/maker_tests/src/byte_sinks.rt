@@ -23,7 +23,8 @@ fn puts<R: Abort + AllocGlobal>(rt: &R, pieces: &[&str], bytes: &[u8], rest: &st
 #[test]
 fn bytes_are_put_alone(rt: HostRuntime) {
     let trace =
-        "8000c000 00001000 byte 48\nidle\n8000c000 00001004 plain\n8000c000 00001008 byte 0a\n8000c000 0000100c error 3\n";
+        "8000c000 00001000 byte 48\nidle\n8000c000 00001004 plain\n8000c000 00001008 byte 0a\n8000c000 0000100c error 3\n\
+        write 80014000 0000002a\nread 80014004 00000000\n";
     puts(&rt, &[trace], b"H\n", "");
     puts(
         &rt,
@@ -50,6 +51,8 @@ fn other_lines_are_kept(rt: HostRuntime) {
         b"H",
         "refused 18 RangeNotKept 0 0",
     );
+    puts(&rt, &["write 80014000 2a\n"], b"", "write 80014000 2a");
+    puts(&rt, &["read 80014000\n"], b"", "read 80014000");
     puts(&rt, &["boot error 2", " 10"], b"", "boot error 2 10");
 }
 

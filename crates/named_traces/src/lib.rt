@@ -2,9 +2,11 @@
 #![tactic(auto)]
 
 mod addresses;
+mod device_words;
 mod labels;
 mod places;
 mod threads;
 
+pub use device_words::DeviceWord;
 pub use places::SourcePlace;
 pub use threads::{NamedThread, TextNames};

@@ -1,6 +1,7 @@
 //! The threads of a text, by the addresses of their TCBs.
 
 use crate::addresses::addresses_of;
+use crate::device_words::{DevicePages, DeviceWord};
 use crate::labels::LabelledLines;
 use crate::places::SourcePlace;
 use indexmap::IndexMap;
@@ -27,6 +28,7 @@ pub struct TextNames<'t> {
     text: LabelledLines<'t>,
     /// The threads by the physical addresses of their TCBs.
     threads: IndexMap<u32, NamedThread<'t>>,
+    devices: DevicePages<'t>,
 }
 
 /// The point of an address, where the program begins at another one.
@@ -57,27 +59,45 @@ impl<'t> TextNames<'t> {
         let mut names = TextNames {
             text: LabelledLines::of(alloc, text)?,
             threads: IndexMap::new(alloc),
+            devices: DevicePages::new(alloc),
         };
         let draft = without_programs(alloc, text)?;
         names.read_draft(alloc, &draft)?;
         Ok(names)
     }
 
-    /// The threads of a text, by the text as far as it can be read.
+    /// The threads and device pages of a text, by the text as far as it can be read.
     fn read_draft(&mut self, alloc: Global, draft: &Budgets) -> Result<(), TextFault> {
         let source = read(alloc, &draft.text)?;
-        self.add_threads(alloc, &source, &draft.lines)?;
+        let addresses = addresses_of(alloc, &source)?;
+        self.add_threads(alloc, &source, &addresses, &draft.lines)?;
+        self.add_devices(&source, &addresses)?;
         Ok(())
     }
 
-    /// The threads of a text.
+    /// The device pages of a text, whose objects have these addresses.
+    fn add_devices(
+        &mut self,
+        source: &SourceText<'_>,
+        addresses: &[u32],
+    ) -> Result<(), AllocError> {
+        for (object, address) in source.objects.iter().zip(addresses) {
+            if object.is_device {
+                let name = word_at(self.text.line(object.line), 1).unwrap_or("?");
+                self.devices.add(*address, name)?;
+            }
+        }
+        Ok(())
+    }
+
+    /// The threads of a text, whose objects have these addresses.
     fn add_threads(
         &mut self,
         alloc: Global,
         source: &SourceText<'_>,
+        addresses: &[u32],
         automatic: &[u64],
     ) -> Result<(), AllocError> {
-        let addresses = addresses_of(alloc, source)?;
         for thread in &source.threads {
             if let Some(address) = addresses.get(thread.tcb) {
                 let named = self.named(alloc, thread, automatic)?;
@@ -111,6 +131,11 @@ impl<'t> TextNames<'t> {
     /// The thread whose TCB is at a physical address.
     pub fn thread(&self, address: u32) -> Option<&NamedThread<'t>> {
         self.threads.get(&address)
+    }
+
+    /// The word of a device page at a physical address.
+    pub fn device_word(&self, address: u32) -> Option<DeviceWord<'t>> {
+        self.devices.word(address)
     }
 
     /// Where the instruction of a thread at an address is.

@@ -20,6 +20,8 @@ pub struct ObjectLine<'a> {
     pub untyped: usize,
     /// What it is, by its kind and its size.
     pub kind: ObjectType,
+    /// Whether it is a device page: a frame that the world writes and reads.
+    pub is_device: bool,
 }
 
 /// `irq NAME LINE NOTIFICATION BADGE`
@@ -127,6 +129,14 @@ impl<'a> SourceText<'a> {
         match self.objects.get(number) {
             Some(object) => Some(object.kind),
             None => None,
+        }
+    }
+
+    /// Whether an object is a device page.
+    pub fn is_device(&self, number: usize) -> bool {
+        match self.objects.get(number) {
+            Some(object) => object.is_device,
+            None => false,
         }
     }
 

@@ -8,8 +8,11 @@ use crate::faults::TextFault;
 use crate::names::{Named, Names};
 use crate::source_threads::{BufferLine, RecordLine, SourceThread};
 use asm_line::{Line, Name, ThreadLine, Words, parse_line};
-use model::{ObjectType, PromisedWord};
+use model::{ObjectKind, ObjectType, PromisedWord};
 use std::alloc::{AllocError, Global};
+
+/// The size of a frame that is a device page; that of others is 0.
+const DEVICE_SIZE: u32 = 1;
 
 /// What is read of a text up to some line.
 #[derive(Drop)]
@@ -19,6 +22,14 @@ struct Reader<'a> {
     text: SourceText<'a>,
     /// The thread that is not at its end.
     open: Option<SourceThread<'a>>,
+}
+
+/// Whether an object is a device page, by its kind and its size.
+fn is_device(kind: ObjectType, size: u32) -> bool {
+    match kind {
+        ObjectType::Object(ObjectKind::Frame) => size == DEVICE_SIZE,
+        _ => false,
+    }
 }
 
 /// The words' ranges of a `promise` line.
@@ -82,6 +93,7 @@ impl<'a> Reader<'a> {
             name,
             untyped,
             kind,
+            is_device: is_device(kind, size),
         })?;
         Ok(())
     }

@@ -6,16 +6,47 @@ use named_traces::TextNames;
 use std::alloc::{AllocError, Global};
 use trace_lines::Happening;
 
-/// Puts the thread of an instruction and where that is in the text, as far as the text knows them, after this.
+/// Puts the name of a device word after this, if the text knows it.
+fn push_device_word(
+    to: &mut String,
+    names: &TextNames<'_>,
+    before: &str,
+    address: u32,
+) -> Result<(), AllocError> {
+    match names.device_word(address) {
+        Some(word) => {
+            to.push_str(before)?;
+            word.push(to)
+        }
+        None => Ok(()),
+    }
+}
+
+/// Puts the thread of an instruction and where that is in the text, or the name of a device word, as far as the text knows them, after
+/// this.
 fn push_where(
     to: &mut String,
     names: &TextNames<'_>,
     before: &str,
     told: Happening,
 ) -> Result<(), AllocError> {
-    let Happening::Ran { thread, pc, .. } = told else {
-        return Ok(());
-    };
+    match told {
+        Happening::Ran { thread, pc, .. } => push_instruction(to, names, before, thread, pc),
+        Happening::Wrote { address, .. } | Happening::Showed { address, .. } => {
+            push_device_word(to, names, before, address)
+        }
+        Happening::Idle | Happening::Tick | Happening::Interrupt(_) => Ok(()),
+    }
+}
+
+/// Puts the thread of an instruction and where that is in the text, as far as the text knows them, after this.
+fn push_instruction(
+    to: &mut String,
+    names: &TextNames<'_>,
+    before: &str,
+    thread: u32,
+    pc: u32,
+) -> Result<(), AllocError> {
     let Some(thread) = names.thread(thread) else {
         return Ok(());
     };

@@ -20,6 +20,10 @@ pub enum Happening {
     Tick,
     Interrupt(u8),
     Ran { thread: u32, pc: u32, mark: Mark },
+    /// The world writes a word at a physical address.
+    Wrote { address: u32, word: u32 },
+    /// The world reads a word at a physical address.
+    Showed { address: u32, word: u32 },
 }
 
 impl Mark {
@@ -62,6 +66,8 @@ impl Happening {
                 write!(to, "{thread:08x} {pc:08x} ")?;
                 mark.push(to)
             }
+            Happening::Wrote { address, word } => write!(to, "write {address:08x} {word:08x}"),
+            Happening::Showed { address, word } => write!(to, "read {address:08x} {word:08x}"),
         }
     }
 }

@@ -82,6 +82,26 @@ fn ran(line: &[u8]) -> Option<Happening> {
     })
 }
 
+/// An address and a word, each of eight hexadecimal digits.
+fn address_and_word(text: &[u8]) -> Option<(u32, u32)> {
+    if text.len() != 17 || text[8] != b' ' {
+        return None;
+    }
+    Some((hex_word(&text[..8])?, hex_word(&text[9..])?))
+}
+
+/// That the world writes a word.
+fn wrote(text: &[u8]) -> Option<Happening> {
+    let (address, word) = address_and_word(text)?;
+    Some(Happening::Wrote { address, word })
+}
+
+/// That the world reads a word.
+fn showed(text: &[u8]) -> Option<Happening> {
+    let (address, word) = address_and_word(text)?;
+    Some(Happening::Showed { address, word })
+}
+
 /// A line without its line feed, and without a carriage return before it.
 pub fn without_end(piece: &[u8]) -> &[u8] {
     match piece {
@@ -97,6 +117,8 @@ pub fn told_by(line: &[u8]) -> Option<Happening> {
         b"idle" => Some(Happening::Idle),
         b"tick" => Some(Happening::Tick),
         [b'i', b'r', b'q', b' ', digits @ ..] => Some(Happening::Interrupt(small_number(digits)?)),
+        [b'w', b'r', b'i', b't', b'e', b' ', rest @ ..] => wrote(rest),
+        [b'r', b'e', b'a', b'd', b' ', rest @ ..] => showed(rest),
         line => ran(line),
     }
 }

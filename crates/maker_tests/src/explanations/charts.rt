@@ -101,6 +101,30 @@ fn events_between_two_are_drawn(rt: HostRuntime) -> Result<(), Fail> {
     Ok(())
 }
 
+/// The world writes 215 and then 2048 at 0x80010000, and reads 7 four bytes on.
+#[test]
+fn words_of_device_pages_have_rows(rt: HostRuntime) -> Result<(), Fail> {
+    let text = "memory 17 4\nuntyped u 0x10000 16\nobject sensor u frame 1\n";
+    let trace =
+        "write 80010000 000000d7\ntick\nread 80010004 00000007\nwrite 80010000 00000800\nidle\n";
+    let put = drawn(rt.alloc(), trace, text, None, None)?;
+    let said = [
+        ">sensor 0</text>",
+        ">215 to 0x800</text>",
+        ">sensor 1</text>",
+        ">7 to 7</text>",
+        ">215</text>",
+        ">0x800</text>",
+        ">7</text>",
+        "the world writes a word",
+    ];
+    has_all(&rt, put.bytes(), &said);
+    let last = drawn(rt.alloc(), trace, text, Some(5), Some(5))?;
+    has_all(&rt, last.bytes(), &[">sensor 0</text>", "class=\"v\""]);
+    has_none(&rt, last.bytes(), &[">0x800</text>"]);
+    Ok(())
+}
+
 #[test]
 fn a_text_at_fault_is_told(rt: HostRuntime) -> Result<(), Fail> {
     let put = drawn(

@@ -11,7 +11,17 @@ const TRACE: &str =
 
 /// What is said of a difference is this.
 fn says<R: Abort + AllocGlobal>(rt: &R, expected: &str, said: &str) {
-    let found = first_difference(rt.alloc(), SOLO, TRACE.as_bytes(), expected.as_bytes());
+    says_of(rt, (SOLO, TRACE), expected, said);
+}
+
+/// What is said of a difference of the trace of a text is this.
+fn says_of<R: Abort + AllocGlobal>(
+    rt: &R,
+    (text, trace): (&str, &str),
+    expected: &str,
+    said: &str,
+) {
+    let found = first_difference(rt.alloc(), text, trace.as_bytes(), expected.as_bytes());
     match found {
         Ok(Some(found)) => assert_eq!(rt; found.as_str(), said),
         Ok(None) => assert!(rt; said.is_empty(), "no difference: {said}"),
@@ -33,6 +43,27 @@ fn other_events_are_told(rt: HostRuntime) {
         "8000c000 00001000 byte 61\n8000c000 0000100c plain\nirq 3\n",
         "event 3: not as line 3 of what is expected says\n  expected irq 3\n  came 8000c200 00002000 byte 62\n",
     );
+}
+
+/// The world writes words of the page at 0x80010000, and reads one of a page that the text has not.
+#[test]
+fn words_of_device_pages_are_named(rt: HostRuntime) {
+    let text = "memory 17 4\nuntyped u 0x10000 16\nobject sensor u frame 1\n";
+    let trace = "write 80010000 000000d7\nwrite 80010008 00000001\nread 80011000 00000000\n";
+    says_of(
+        &rt,
+        (text, trace),
+        "write 80010000 000000d7\nwrite 80010008 00000002\n",
+        "event 2: not as line 2 of what is expected says\n  expected write 80010008 00000002: sensor 2\n  \
+        came write 80010008 00000001: sensor 2\n",
+    );
+    says_of(
+        &rt,
+        (text, trace),
+        "write 80010000 000000d7\nwrite 80010008 00000001\n",
+        "event 3: nothing more is expected\n  came read 80011000 00000000\n",
+    );
+    says_of(&rt, (text, trace), trace, "");
 }
 
 #[test]

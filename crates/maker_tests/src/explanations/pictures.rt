@@ -70,6 +70,25 @@ fn systems_with_programs_of_files_are_drawn(rt: HostRuntime) {
 }
 
 #[test]
+fn device_pages_are_drawn_apart(rt: HostRuntime) {
+    let text =
+        "memory 16 4\nuntyped u 0x8000 15\nobject code u frame\nobject sensor u frame 1\nobject vs u root\nobject pt u table\n\
+        object main u tcb\nobject cs u cnode 4\ntable vs 0 pt\nmap vs 0x1000 code 4\nmap vs 0x2000 sensor 2\n\
+        thread main cs 28 vs 100 auto 0 again 0x1000\nagain: jal x0 again\nend\n";
+    let mut sink = MemorySink::new(rt.alloc(), 100_000);
+    assert_eq!(rt; draw(rt.alloc(), text, &mut sink), Ok(()));
+    has_all(
+        &rt,
+        sink.bytes(),
+        &[
+            "\"sensor\" [shape=note",
+            "device page",
+            "\"sensor\" -> \"main\" [label=\"0x2000 read\"",
+        ],
+    );
+}
+
+#[test]
 fn traces_are_drawn(rt: HostRuntime) {
     let trace =
         b"8000c000 00001000 plain\n8000c000 00001004 byte 41\n8000c000 00001008 wait\nidle\ntick\nirq 3\n\
@@ -79,6 +98,9 @@ fn traces_are_drawn(rt: HostRuntime) {
         chart(rt.alloc(), trace.as_slice(), &WHOLE, &mut sink),
         Ok(())
     );
+    let said = std::str::from_utf8(sink.bytes()).unwrap_or("");
+    let has_words = said.contains("the world writes");
+    assert!(&rt; !has_words);
     has_all(
         &rt,
         sink.bytes(),
