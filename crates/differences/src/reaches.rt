@@ -4,7 +4,7 @@ use crate::holdings::Holdings;
 use crate::things::{Deed, Thing};
 use indexmap::IndexMap;
 use model::{ObjectKind, ObjectType};
-use source_texts::{CapabilityLine, FrameLine, Source, SourceText, SourceThread};
+use source_texts::{CapabilityLine, FrameLine, ObjectLine, Source, SourceText, SourceThread};
 use std::alloc::{AllocError, Global};
 
 /// Of the rights of a capability or a mapping, as the text has them.
@@ -81,21 +81,27 @@ impl<'n> Reach<'n> {
     }
 
     /// What a capability to a frame allows.
-    fn add_frame(&mut self, name: &'n str, capability: &CapabilityLine) -> Result<(), AllocError> {
-        let (line, rights) = (capability.line, capability.rights);
-        self.add_right(rights, READ, Thing::to(Deed::MapToRead, name), line)?;
-        self.add_right(rights, WRITE, Thing::to(Deed::MapToWrite, name), line)
-    }
-
-    /// What a capability to an object of a kind allows.
-    fn add_object(
+    fn add_frame(
         &mut self,
         name: &'n str,
-        kind: ObjectType,
+        is_device: bool,
         capability: &CapabilityLine,
     ) -> Result<(), AllocError> {
-        let line = capability.line;
-        match kind {
+        let (line, rights) = (capability.line, capability.rights);
+        let read = Thing::to_page(Deed::MapToRead, name, is_device);
+        let write = Thing::to_page(Deed::MapToWrite, name, is_device);
+        self.add_right(rights, READ, read, line)?;
+        self.add_right(rights, WRITE, write, line)
+    }
+
+    /// What a capability to an object allows.
+    fn add_object(
+        &mut self,
+        object: &ObjectLine<'n>,
+        capability: &CapabilityLine,
+    ) -> Result<(), AllocError> {
+        let (name, line) = (object.name, capability.line);
+        match object.kind {
             ObjectType::Untyped { bits } => {
                 let size = power_of_two(u32::from(bits));
                 self.add(Thing::with_number(Deed::MakeObjects, name, size), line)
@@ -109,7 +115,9 @@ impl<'n> Reach<'n> {
                 let slots = power_of_two(u32::from(radix));
                 self.add(Thing::with_number(Deed::ChangeSlots, name, slots), line)
             }
-            ObjectType::Object(ObjectKind::Frame) => self.add_frame(name, capability),
+            ObjectType::Object(ObjectKind::Frame) => {
+                self.add_frame(name, object.is_device, capability)
+            }
             ObjectType::Object(ObjectKind::PageTable) => {
                 self.add(Thing::to(Deed::MapTable, name), line)
             }
@@ -120,11 +128,21 @@ impl<'n> Reach<'n> {
     }
 
     /// What a mapping allows.
-    fn add_page(&mut self, name: &'n str, page: &FrameLine) -> Result<(), AllocError> {
+    fn add_page(
+        &mut self,
+        name: &'n str,
+        is_device: bool,
+        page: &FrameLine,
+    ) -> Result<(), AllocError> {
         let (line, rights) = (page.line, page.rights);
-        self.add_right(rights, READ, Thing::to(Deed::Read, name), line)?;
-        self.add_right(rights, WRITE, Thing::to(Deed::Write, name), line)?;
-        self.add_right(rights, EXECUTE, Thing::to(Deed::Execute, name), line)
+        for (right, deed) in [
+            (READ, Deed::Read),
+            (WRITE, Deed::Write),
+            (EXECUTE, Deed::Execute),
+        ] {
+            self.add_right(rights, right, Thing::to_page(deed, name, is_device), line)?;
+        }
+        Ok(())
     }
 }
 
@@ -149,8 +167,8 @@ impl<'n> Scene<'n, '_> {
         capability: &CapabilityLine,
     ) -> Result<(), AllocError> {
         match capability.source {
-            Source::Object(number) => match self.text.kind(number) {
-                Some(kind) => reach.add_object(self.text.object_name(number), kind, capability),
+            Source::Object(number) => match self.text.objects.get(number) {
+                Some(object) => reach.add_object(object, capability),
                 None => Ok(()),
             },
             Source::Interrupt(number) => match self.text.interrupts.get(number) {
@@ -187,7 +205,8 @@ impl<'n> Scene<'n, '_> {
         thread: &SourceThread<'n>,
     ) -> Result<(), AllocError> {
         for page in self.holdings.mapped_under(thread.root) {
-            reach.add_page(self.text.object_name(page.frame), page)?;
+            let is_device = self.text.is_device(page.frame);
+            reach.add_page(self.text.object_name(page.frame), is_device, page)?;
         }
         Ok(())
     }
@@ -226,7 +245,8 @@ impl<'n> Scene<'n, '_> {
         self.add_handler(&mut reach, thread)?;
         if let Some(buffer) = thread.buffer {
             let name = self.text.object_name(buffer.frame);
-            reach.add(Thing::to(Deed::Buffer, name), buffer.line)?;
+            let is_device = self.text.is_device(buffer.frame);
+            reach.add(Thing::to_page(Deed::Buffer, name, is_device), buffer.line)?;
         }
         Ok(reach)
     }

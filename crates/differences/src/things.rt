@@ -35,10 +35,12 @@ pub(crate) struct Thing<'n> {
     pub(crate) name: &'n str,
     /// The badge, the size, the line of an interrupt, or the address of a capability; else 0.
     pub(crate) number: u32,
+    /// Whether it is done to a device page, whose words the world writes and reads.
+    pub(crate) is_device: bool,
 }
 
 impl Deed {
-    /// What precedes the name.
+    /// What precedes the name, and before it what says of a page that it is one.
     fn words(self) -> &'static str {
         match self {
             Deed::Send => "send to ",
@@ -54,11 +56,21 @@ impl Deed {
             Deed::MapToWrite => "map to write ",
             Deed::MapTable => "map the page table ",
             Deed::MapUnder => "map under ",
-            Deed::Read => "read the page ",
-            Deed::Write => "write the page ",
-            Deed::Execute => "execute the page ",
+            Deed::Read => "read the ",
+            Deed::Write => "write the ",
+            Deed::Execute => "execute the ",
             Deed::ReportFaults => "report its faults to ",
             Deed::Buffer => "pass long messages in ",
+        }
+    }
+
+    /// What says of a page, before its name, that it is one.
+    fn page_words(self, is_device: bool) -> &'static str {
+        match self {
+            Deed::Read | Deed::Write | Deed::Execute if is_device => "device page ",
+            Deed::Read | Deed::Write | Deed::Execute => "page ",
+            _ if is_device => "the device page ",
+            _ => "",
         }
     }
 }
@@ -70,12 +82,24 @@ impl<'n> Thing<'n> {
             deed,
             name,
             number: 0,
+            is_device: false,
+        }
+    }
+
+    /// A deed that is done to a page, which may be a device page.
+    pub(crate) fn to_page(deed: Deed, name: &'n str, is_device: bool) -> Self {
+        Thing {
+            is_device,
+            ..Thing::to(deed, name)
         }
     }
 
     /// A deed with a number.
     pub(crate) fn with_number(deed: Deed, name: &'n str, number: u32) -> Self {
-        Thing { deed, name, number }
+        Thing {
+            number,
+            ..Thing::to(deed, name)
+        }
     }
 
     /// The same with a call in place of a message, if this is a message.
@@ -92,6 +116,7 @@ impl<'n> Thing<'n> {
     /// Puts it after `may`.
     pub(crate) fn put(&self, text: &mut String) -> Result<(), AllocError> {
         text.push_str(self.deed.words())?;
+        text.push_str(self.deed.page_words(self.is_device))?;
         text.push_str(self.name)?;
         let number = self.number;
         match self.deed {

@@ -67,6 +67,11 @@ const ROWS: &str = "
 @ 7 object pool u untyped 14
 + server: may make objects of pool, 16384 bytes (line 19)
 - server: may no longer make objects of pool, 8192 bytes
+@ 6 object both u frame 1
++ client: may read the device page both (line 21)
++ server: may read the device page both (line 21)
+- client: may no longer read the page both
+- server: may no longer read the page both
 @ 19 cap cs2 3 both 3 0
 + server: may map to read both (line 19)
 + server: may map to write both (line 19)
