@@ -151,6 +151,14 @@ fn report_room(
     )
 }
 
+/// Reports that a device page, which is declared on this line, is mapped to execute.
+fn report_device_code(to: &mut String, name: &str, line: u64) -> Result<(), AllocError> {
+    write!(
+        to,
+        "`{name}` is a device page (line {line}), which the world writes: it cannot be executed\n"
+    )
+}
+
 /// Reports that a frame of code is mapped on another line, too.
 fn report_other_mapping(to: &mut String, name: &str, line: u64) -> Result<(), AllocError> {
     write!(
@@ -583,6 +591,9 @@ impl Items<'_, '_, '_, '_, '_, '_> {
         };
         self.push_line(to, frame.line)?;
         let name = self.source.object_name(frame.frame);
+        if let Some(line) = self.device_line(frame.frame) {
+            return report_device_code(to, name, line);
+        }
         if frame.rights == 7 {
             return write!(
                 to,
@@ -590,6 +601,14 @@ impl Items<'_, '_, '_, '_, '_, '_> {
             );
         }
         self.report_shared_code(to, &frame, name)
+    }
+
+    /// The line that declares an object, if it is a device page.
+    fn device_line(&self, object: usize) -> Option<u64> {
+        match self.source.objects.get(object) {
+            Some(object) if object.is_device => Some(object.line),
+            _ => None,
+        }
     }
 
     /// Reports what else a frame of code is used for.

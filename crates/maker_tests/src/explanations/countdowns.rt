@@ -2,6 +2,7 @@
 
 use crate::explanations::rows::check;
 use std::test::Fail;
+use test_sessions::with_line;
 
 /// The text, which is accepted.
 const TEXT: &str = "memory 16 4
@@ -148,6 +149,18 @@ text:14: WritableCode: `map vs 0x1000 code 7`: `code` is mapped to write and to 
 @ 16 thread main cs 28 vs 100 35 0 start 0x2000
 text:16: BadThread: `thread main cs 28 vs 100 35 0 start 0x2000`: thread main has 9 instructions from 0x2000 on, and the page 0x2000 is not mapped under `vs` with execute (4)
 ";
+
+/// What is refused of a device page.
+const IN_DEVICES: &str = "
+@ 6 object page u frame 1
+text:15: WritableCode: `map vs 0x2000 page 4`: `page` is a device page (line 6), which the world writes: it cannot be executed
+";
+
+#[test]
+fn a_device_page_is_not_executed(rt: HostRuntime) -> Result<(), Fail> {
+    let executed = with_line(rt.alloc(), TEXT, 15, "map vs 0x2000 page 4")?;
+    check(&rt, executed.as_str(), IN_DEVICES)
+}
 
 #[test]
 fn mistakes_in_declarations(rt: HostRuntime) -> Result<(), Fail> {
