@@ -85,6 +85,9 @@ impl Unfit {
 /// How many terms a measure has at most.
 const MOST_TERMS: usize = 4;
 
+/// How many slots a record notes at most.
+const MOST_SLOTS: usize = model::MOST_SLOTS as usize;
+
 /// The greatest constant and budget.
 const GREATEST: u64 = 1 << 62;
 
@@ -325,6 +328,46 @@ impl BareThread<'_, '_> {
         }
     }
 
+    /// The changes of slots that a record at a point notes. Where they are more than a record has there is none, unless the point
+    /// needs one.
+    fn noted_changes(
+        &self,
+        table: &Table<'_, '_>,
+        point: u32,
+    ) -> Result<Option<Vec<NotedSlot>>, Fault> {
+        let changes = self.changes_at(table, point)?;
+        if changes.len() <= MOST_SLOTS {
+            return Ok(Some(changes));
+        }
+        match self.effort {
+            Effort::Least | Effort::AllRanges => Err(Fault::At {
+                point,
+                reason: Reason::TooManySlots,
+            }),
+            Effort::AllPoints => Ok(None),
+        }
+    }
+
+    /// The record at a point with this cost and these ranges, if it has one.
+    fn noted_record(
+        &self,
+        table: &Table<'_, '_>,
+        point: u32,
+        cost: &Form,
+        bounds: Bounds,
+    ) -> Result<Option<Record>, Fault> {
+        match self.noted_changes(table, point)? {
+            Some(changes) => Ok(Some(Record {
+                point,
+                constant: cost.constant,
+                terms: terms_of(self.alloc, cost, point)?,
+                bounds,
+                changes,
+            })),
+            None => Ok(None),
+        }
+    }
+
     /// The records at all marked points.
     fn records(
         &self,
@@ -341,13 +384,9 @@ impl BareThread<'_, '_> {
                 cost_at(costs, point),
                 bounds_needed(graph, needs, point),
             ) {
-                records.push(Record {
-                    point,
-                    constant: cost.constant,
-                    terms: terms_of(graph.alloc, &cost, point)?,
-                    bounds,
-                    changes: self.changes_at(table, point)?,
-                })?;
+                if let Some(record) = self.noted_record(table, point, &cost, bounds)? {
+                    records.push(record)?;
+                }
             }
         }
         Ok(records)

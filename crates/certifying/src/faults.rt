@@ -14,6 +14,8 @@ pub enum Reason {
     SlotsDiffer,
     /// No measure is found that falls over the loop that begins there.
     NoMeasure,
+    /// It needs a record, in which more slots would have to be noted than a record has.
+    TooManySlots,
     /// It has a record already.
     NotBare,
 }

@@ -3,7 +3,7 @@
 use crate::loops::Loop;
 use crate::scenes::Scene;
 use certifying::{Finding, Reason, ThreadFindings};
-use model::{Point, Refusal};
+use model::{MOST_SLOTS, Point, Refusal};
 use program_rules::AtPoint;
 use source_gaps::push_place;
 use std::alloc::AllocError;
@@ -32,6 +32,16 @@ impl Scene<'_, '_, '_, '_, '_, '_, '_> {
         self.report_loop(to, &of)
     }
 
+    /// Reports that a record at a point would have more slots than a record has.
+    fn report_many_slots(&self, to: &mut String, point: u32) -> Result<(), AllocError> {
+        self.push_rule(to, point, "TooManySlots")?;
+        self.push_head(to, point)?;
+        write!(
+            to,
+            "more than {MOST_SLOTS} slots would have to be noted at this point\n  a record is needed there: let at most {MOST_SLOTS} slots differ from what the image lists\n"
+        )
+    }
+
     /// Reports what is wrong at a point.
     fn report_finding(&self, to: &mut String, finding: &Finding) -> Result<(), AllocError> {
         let point = finding.point;
@@ -45,6 +55,7 @@ impl Scene<'_, '_, '_, '_, '_, '_, '_> {
                 self.report_named(to, point, Refusal::CapNotThere(at), "SlotsDiffer")
             }
             Reason::NoMeasure => self.report_unmeasured(to, finding),
+            Reason::TooManySlots => self.report_many_slots(to, point),
             Reason::NotBare => Ok(()),
         }
     }

@@ -3,5 +3,6 @@
 mod answers;
 mod delays;
 mod loops;
+mod noted_slots;
 mod rows;
 mod samples;

@@ -14,7 +14,7 @@ const BEFORE: &str = "an older text";
 
 /// Asserts that certifying a text is refused, that its report on standard error begins so after the name of its file, and
 /// that the target stays as it was.
-fn is_refused<R: Files + Input + Env + Clock + AllocGlobal + Abort>(
+pub(crate) fn is_refused<R: Files + Input + Env + Clock + AllocGlobal + Abort>(
     rt: &R,
     name: &str,
     text: &str,
