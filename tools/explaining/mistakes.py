@@ -30,6 +30,7 @@ DECLARATIONS = [
     ("count", {14: "map vs 0x1000 code 7"}, {14: ["WritableCode", "`code`", "write and to execute"]}),
     ("count", {15: "map vs 0x2000 code 3"}, {14: ["WritableCode", "`code`", "line 15"]}),
     ("count", {12: "cap cs 2 code 2 0"}, {14: ["WritableCode", "`code`", "line 12"]}),
+    ("count", {6: "object page u frame 1", 15: "map vs 0x2000 page 4"}, {15: ["WritableCode", "`page`", "device page", "line 6"]}),
     ("count", {16: "thread main cs 28 vs 100 auto 0 start 0x2000"}, {16: ["BadThread", "0x2000", "`vs`", "execute"]}),
     ("count", {16: "thread cs main 28 vs 100 auto 0 start 0x1000"}, {16: ["BadThread", "`cs`", "not a TCB"]}),
     ("count", {16: "thread main cs 29 vs 100 auto 0 start 0x1000"}, {16: ["BadThread", "guard word", "0x1d"]}),
