@@ -1,4 +1,5 @@
 pub mod Authorities
+pub mod CallNumbers
 pub mod ConstantMeasures
 pub mod Descents
 pub mod LookupLaws
