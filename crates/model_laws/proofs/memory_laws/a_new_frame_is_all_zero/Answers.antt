@@ -9,5 +9,6 @@ returns c = λ image t s after place byte before behind nothing is some within.
       | written was there address at ↦ let e : false ≡ true = subst (λ (o : Option ℕ). IsSome o) nothing was in cc
       | comes_with_frame missing there zero ↦ let e : Some byte ≡ Some 0 = sym is ∙ zero in some (let same : byte ≡ 0 = cc in same)
       | goes_with_frame there gone none ↦ let e : Some byte ≡ None = sym is ∙ none in cc
-      | delivered was there from to index source target delivers of_sender of_receiver low high at same ↦ let e : false ≡ true = subst (λ (o : Option ℕ). IsSome o) nothing was in cc
+      | delivered was there from to index source target delivers of_sender of_receiver low high at same ↦
+          let e : false ≡ true = subst (λ (o : Option ℕ). IsSome o) nothing was in cc
     ]
