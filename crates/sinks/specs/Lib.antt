@@ -1,1 +1,2 @@
+pub mod LineInputs
 pub mod Sinks
