@@ -104,12 +104,12 @@ module _ (image : Image) (t : Thread) (s after : State) (from to slot endpoint b
       let e : Endpoint other allowed b ≡ Endpoint endpoint r badge = sym is ∙ named-capability s (self_of image t) at slot also named ∙ holds in cc
 
   pub fault-delivers : Delivers image t s after from to → ⊥
-  fault-delivers (Delivers.sends other b at names receivers) =
+  fault-delivers (Delivers.sends other b at names takes) =
       let same = same-endpoint other names.such.allowed b names.slot names.named names.such.is in
-      let e : [] ≡ to ∷ (endpoint_at after other).receivers = sym none ∙ ap (λ (x : ℕ). (endpoint_at s x).receivers) (sym same) ∙ receivers in cc
-  fault-delivers (Delivers.receives other x at names senders is kind) =
+      let e : [] ≡ to ∷ (endpoint_at after other).receivers = sym none ∙ ap (λ (x : ℕ). (endpoint_at s x).receivers) (sym same) ∙ takes.leaves in cc
+  fault-delivers (Delivers.receives other x at names takes is kind) =
       let same = same-endpoint other names.such.allowed names.such.badge names.slot names.named names.such.is in
-      let e : first ∷ others ≡ x ∷ (endpoint_at after other).senders = sym list ∙ ap (λ (y : ℕ). (endpoint_at s y).senders) (sym same) ∙ senders in
+      let e : first ∷ others ≡ x ∷ (endpoint_at after other).senders = sym list ∙ ap (λ (y : ℕ). (endpoint_at s y).senders) (sym same) ∙ takes.leaves in
       let first_is : first ≡ x = cc in
       no-fault fault x.sent (ap (λ (y : Sender). y.sent) (sym first_is) ∙ sent) kind
   fault-delivers (Delivers.replies at right awaits goes) =

@@ -65,11 +65,11 @@ module _ (image : Image) (t : Thread) (s after : State) (from to : ℕ) where
     -- a send delivers to the first receiver
     pub sent-to : (kind : SendCall) → Asks image t s (Sends kind) → (first : ℕ) (others : List ℕ)
         → (endpoint_at s endpoint).receivers ≡ first ∷ others → Delivers image t s after from to → to ≡ first
-    sent-to kind asks first others list (Delivers.sends e b at names there) =
+    sent-to kind asks first others list (Delivers.sends e b at names takes) =
         let same : Endpoint e names.such.allowed b ≡ Endpoint endpoint r badge =
         one-endpoint image t s slot endpoint badge r names.slot e b names.such.allowed named holds names.named names.such.is in
         let here : e ≡ endpoint = cc in
-        let f : to ∷ (endpoint_at after e).receivers ≡ first ∷ others = sym there ∙ ap (λ (x : ℕ). (endpoint_at s x).receivers) here ∙ list in cc
+        let f : to ∷ (endpoint_at after e).receivers ≡ first ∷ others = sym takes.leaves ∙ ap (λ (x : ℕ). (endpoint_at s x).receivers) here ∙ list in cc
     sent-to kind asks first others list (Delivers.receives e x at names there is sort) = absurd (not-received image t s kind asks names names.such.receives)
     sent-to kind asks first others list (Delivers.replies at has waits_so goes) = absurd (no-reply alone at has)
 
@@ -77,11 +77,11 @@ module _ (image : Image) (t : Thread) (s after : State) (from to : ℕ) where
     pub received-from : (kind : ReceiveCall) → Asks image t s (Receives kind) → (first : Sender) (others : List Sender)
         → (endpoint_at s endpoint).senders ≡ first ∷ others → Delivers image t s after from to → (from ≡ first.thread) × (to ≡ self_of image t)
     received-from kind asks first others list (Delivers.sends e b at names there) = absurd (not-sent image t s kind asks names names.such.sends)
-    received-from kind asks first others list (Delivers.receives e x at names there is sort) =
+    received-from kind asks first others list (Delivers.receives e x at names takes is sort) =
         let same : Endpoint e names.such.allowed names.such.badge ≡ Endpoint endpoint r badge =
         one-endpoint image t s slot endpoint badge r names.slot e names.such.badge names.such.allowed named holds names.named names.such.is in
         let here : e ≡ endpoint = cc in
-        let f : x ∷ (endpoint_at after e).senders ≡ first ∷ others = sym there ∙ ap (λ (y : ℕ). (endpoint_at s y).senders) here ∙ list in
+        let f : x ∷ (endpoint_at after e).senders ≡ first ∷ others = sym takes.leaves ∙ ap (λ (y : ℕ). (endpoint_at s y).senders) here ∙ list in
         let g : x ≡ first = cc in
         (sym is ∙ ap (λ (y : Sender). y.thread) g, at)
     received-from kind asks first others list (Delivers.replies at has waits_so goes) = absurd (no-reply alone at has)
@@ -195,9 +195,9 @@ module _ (image : Image) (t : Thread) (s after : State) (other : ℕ) (old new :
   pub heard-all : (kind : ReceiveCall) → Asks image t s (Receives kind) → is_message first.sent ≡ true → old.status ≡ Blocked endpoint
       → after.objects endpoint ≢ None → Reason s after (self_of image t) (CallNames image t s) other old new → Arrives s after other (self_of image t)
   heard-all kind asks says waits_so stays (receiver e b c there blocked names may is comes) = absurd (not-sent image t s kind asks names names.such.sends)
-  heard-all kind asks says waits_so stays (sender e x there same blocked names is comes) =
+  heard-all kind asks says waits_so stays (sender e x takes same blocked names is comes) =
       let here : e ≡ endpoint = blocked_is e endpoint old blocked waits_so in
-      let f : x ∷ (endpoint_at after e).senders ≡ first ∷ others = sym there ∙ ap (λ (y : ℕ). (endpoint_at s y).senders) here ∙ list in
+      let f : x ∷ (endpoint_at after e).senders ≡ first ∷ others = sym takes.leaves ∙ ap (λ (y : ℕ). (endpoint_at s y).senders) here ∙ list in
       let g : x ≡ first = cc in
       comes (ap (λ (y : Sender). is_message y.sent) g ∙ says)
   heard-all kind asks says waits_so stays (waiter n b there blocked names is) =

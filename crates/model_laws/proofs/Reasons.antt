@@ -1,5 +1,5 @@
 -- What no reason makes of another thread.
-use Rattle.std.proofs.Common.{ℕ, ◌≡◌, ◌≢◌, true, false, List, Option, Some, None, Ok, [], ◌∷◌, refl, sym, subst, ap, ◌∙◌}
+use Rattle.std.proofs.Common.{ℕ, ◌≡◌, ◌≢◌, true, false, List, Option, Some, None, option_map, Ok, [], ◌∷◌, refl, sym, subst, ap, ◌∙◌}
 use Rattle.std.specs.Option.{option_map_or}
 use Rattle.model.specs.declared.capabilities.Cap.{Cap}
 use Rattle.model.specs.declared.capabilities.Cap.TheVariants.{Endpoint, InterruptHandler, Notification}
@@ -10,10 +10,11 @@ use Rattle.model.specs.Capabilities.Slots.{capability_at}
 use Rattle.model.specs.Kernel.Deliveries.{MayReply, as_before, to_sender, Reason, receiver, sender, waiter, caller, faulted, set_back, once_received, by_line}
 use Rattle.model.specs.Kernel.Deliveries.{by_right, CallsTo, ReceivesFrom, SendsTo, Signals}
 use Rattle.model.specs.Kernel.Interrupts.{Signal, binding}
+use Rattle.model.specs.Kernel.Kinds.{kind_at, kind_of}
 use Rattle.model.specs.Kernel.Messages.{a0, delivered, message_between}
+use Rattle.model.specs.Kernel.Retype.{NewEndpoint, NewNotification}
 use Rattle.model.specs.Kernel.State.{State, Inactive, Runnable, Blocked, AwaitsReply, AwaitsHandler, Sender, Sent, BySend, ByCall, ByFault, ThreadState}
-use Rattle.model.specs.Kernel.State.{Object, EndpointObject, EndpointState, NotificationState, as_endpoint, as_notification, endpoint_at, new_endpoint}
-use Rattle.model.specs.Kernel.State.{new_notification, notification_at, thread_at}
+use Rattle.model.specs.Kernel.State.{Object, EndpointObject, EndpointState, as_endpoint, endpoint_at, new_endpoint, thread_at}
 use Rattle.model.specs.Kernel.Steps.{named_slot}
 use Rattle.model.specs.Machine.Effects.{advanced}
 use Rattle.model.specs.Machine.ProgramMemory.{write}
@@ -29,9 +30,9 @@ pub never_stopped : (s after : State) (self : ℕ) (Held : (SystemCall → Cap �
     → (endpoint_at s endpoint).senders ≡ [] → Reason s after self Held other old (record old { status = Inactive }) → ⊥
 never_stopped s after self Held other endpoint old waits nobody (receiver e badge c first blocked held right is comes) =
     let f : Inactive ≡ Runnable = ap (λ (t : ThreadState). t.status) is in cc
-never_stopped s after self Held other endpoint old waits nobody (sender e first there names blocked held is comes) =
+never_stopped s after self Held other endpoint old waits nobody (sender e first takes names blocked held is comes) =
     let here : e ≡ endpoint = blocked_is e endpoint old blocked waits in
-    let f : [] ≡ first ∷ (endpoint_at after e).senders = sym (ap (λ (n : ℕ). (endpoint_at s n).senders) here ∙ nobody) ∙ there in cc
+    let f : [] ≡ first ∷ (endpoint_at after e).senders = sym (ap (λ (n : ℕ). (endpoint_at s n).senders) here ∙ nobody) ∙ takes.leaves in cc
 never_stopped s after self Held other endpoint old waits nobody (waiter n badge first blocked held is) =
     let f : Inactive ≡ Runnable = ap (λ (t : ThreadState). t.status) is in cc
 never_stopped s after self Held other endpoint old waits nobody (caller right awaits is comes) =
@@ -93,9 +94,9 @@ pub receivers_badge : (s after : State) (self : ℕ) (Held : (SystemCall → Cap
     → new.registers ≡ advanced (delivered old.registers badge (message_between s self other))
 receivers_badge s after self Held other endpoint badge old new waits nobody stays badges no_signal (receiver e b c first blocked held right is comes) =
     ap (λ (t : ThreadState). t.registers) is ∙ ap (λ (n : ℕ). advanced (delivered old.registers n (message_between s self other))) (badges e b held)
-receivers_badge s after self Held other endpoint badge old new waits nobody stays badges no_signal (sender e first there names blocked held is comes) =
+receivers_badge s after self Held other endpoint badge old new waits nobody stays badges no_signal (sender e first takes names blocked held is comes) =
     let here : e ≡ endpoint = blocked_is e endpoint old blocked waits in
-    let f : [] ≡ first ∷ (endpoint_at after e).senders = sym (ap (λ (n : ℕ). (endpoint_at s n).senders) here ∙ nobody) ∙ there in absurd cc
+    let f : [] ≡ first ∷ (endpoint_at after e).senders = sym (ap (λ (n : ℕ). (endpoint_at s n).senders) here ∙ nobody) ∙ takes.leaves in absurd cc
 receivers_badge s after self Held other endpoint badge old new waits nobody stays badges no_signal (waiter n b first blocked held is) =
     absurd (no_signal n b held)
 receivers_badge s after self Held other endpoint badge old new waits nobody stays badges no_signal (caller right awaits is comes) =
@@ -237,23 +238,21 @@ longer x (y ∷ xs) is =
 pub queue-stays : (s after : State) (self : ℕ) (Held : (SystemCall → Cap → Type 0) → Type 0) (other endpoint : ℕ) (e : EndpointState) (old new : ThreadState)
     → s.objects endpoint ≡ Some (EndpointObject e) → after.objects endpoint ≡ Some (EndpointObject e) → e.senders ≡ []
     → old.status ≡ Blocked endpoint → Reason s after self Held other old new → ⊥
-queue-stays s after self Held other endpoint e old new here there nobody waits (receiver at badge c first blocked held right is comes) =
+queue-stays s after self Held other endpoint e old new here there nobody waits (receiver at badge c takes blocked held right is comes) =
     let place : at ≡ endpoint = blocked_is at endpoint old blocked waits in
     let was : (endpoint_at s at).receivers ≡ e.receivers = ap (λ (n : ℕ). (endpoint_at s n).receivers) place
     ∙ ap (λ (o : Option Object). (option_map_or (λ (x : EndpointState). x) (as_endpoint o) new_endpoint).receivers) here in
     let now : (endpoint_at after at).receivers ≡ e.receivers = ap (λ (n : ℕ). (endpoint_at after n).receivers) place
     ∙ ap (λ (o : Option Object). (option_map_or (λ (x : EndpointState). x) (as_endpoint o) new_endpoint).receivers) there in
-    longer other e.receivers (sym was ∙ first ∙ ap (λ (l : List ℕ). other ∷ l) now)
-queue-stays s after self Held other endpoint e old new here there nobody waits (sender at first listed names blocked held is comes) =
+    longer other e.receivers (sym was ∙ takes.leaves ∙ ap (λ (l : List ℕ). other ∷ l) now)
+queue-stays s after self Held other endpoint e old new here there nobody waits (sender at first takes names blocked held is comes) =
     let place : at ≡ endpoint = blocked_is at endpoint old blocked waits in
     let was : (endpoint_at s at).senders ≡ [] = ap (λ (n : ℕ). (endpoint_at s n).senders) place
     ∙ ap (λ (o : Option Object). (option_map_or (λ (x : EndpointState). x) (as_endpoint o) new_endpoint).senders) here ∙ nobody in
-    let f : [] ≡ first ∷ (endpoint_at after at).senders = sym was ∙ listed in cc
-queue-stays s after self Held other endpoint e old new here there nobody waits (waiter n badge first blocked held is) =
+    let f : [] ≡ first ∷ (endpoint_at after at).senders = sym was ∙ takes.leaves in cc
+queue-stays s after self Held other endpoint e old new here there nobody waits (waiter n badge takes blocked held is) =
     let place : n ≡ endpoint = blocked_is n endpoint old blocked waits in
-    let was : (notification_at s n).waiters ≡ [] = ap (λ (m : ℕ). (notification_at s m).waiters) place
-    ∙ ap (λ (o : Option Object). (option_map_or (λ (x : NotificationState). x) (as_notification o) new_notification).waiters) here in
-    let f : [] ≡ other ∷ (notification_at after n).waiters = sym was ∙ first in cc
+    let f : Some NewNotification ≡ Some NewEndpoint = sym takes.was ∙ ap (kind_at s) place ∙ ap (option_map kind_of) here in cc
 queue-stays s after self Held other endpoint e old new here there nobody waits (caller right awaits is comes) =
     let f : Blocked endpoint ≡ AwaitsReply = sym waits ∙ awaits in cc
 queue-stays s after self Held other endpoint e old new here there nobody waits (faulted right awaits is) =

@@ -28,11 +28,11 @@ returns-clause-lost c = λ image t s after number notification badge was gone bo
           let one : n ≡ notification = ap (λ (o : Option Signal). option_map_or (λ signal. signal.notification) o 0) e in
           let two : b ≡ badge = ap (λ (o : Option Signal). option_map_or (λ signal. signal.badge) o 0) e in
           elim told [
-            | joined empty is ↦
+            | joined there still empty is ↦
                 wrong (ap (λ (x : ℕ). (notification_at after x).word) (sym one) ∙ is
                 ∙ ap (λ (x : ℕ). bit_or (notification_at s x).word b) one ∙ ap (bit_or (notification_at s notification).word) two)
-            | IsSignalled.passed first list runs ↦
-                let f : [] ≡ first ∷ (notification_at after n).waiters = sym (ap (λ (x : ℕ). (notification_at s x).waiters) one ∙ nobody) ∙ list in cc
+            | IsSignalled.passed first takes runs ↦
+                let f : [] ≡ first ∷ (notification_at after n).waiters = sym (ap (λ (x : ℕ). (notification_at s x).waiters) one ∙ nobody) ∙ takes.leaves in cc
           ]
     ]
 
