@@ -1,25 +1,38 @@
-//! What authority rules out, part by part: who delivers and who gets it, the registers of each reason, rights, numbers of calls, lines, ticks and the world.
+//! What authority rules out, part by part: who delivers and who gets it, the registers of each reason, what ends, rights, numbers of calls, lines,
+//! instructions, ticks and the world.
 
-ghost use Rattle.std.specs.Prelude.{ℕ, ◌≡◌, ◌≢◌, ◌+◌, ◌*◌, ◌^◌, ◌<◌, ◌≤◌, ◌⊎◌, true, false, bit_or, [], ◌∷◌, Contains, List, Option, Some, None, Ok, Err};
+ghost use Rattle.std.specs.Prelude.{ℕ, ℤ, ◌≡◌, ◌≢◌, ◌+◌, ◌*◌, ◌%◌, ◌^◌, ◌<◌, ◌≤◌, ◌⊎◌, true, false, bit_or, [], ◌∷◌, Contains, List, Option, Some, None, Ok, Err};
 ghost use Rattle.model.specs.declared.capabilities.Cap.TheVariants.{Empty, Endpoint, Frame, InterruptHandler, Notification, Untyped};
 ghost use Rattle.model.specs.declared.events.Event.TheVariants.{Irq, Read, Step, Tick, Write};
+ghost use Rattle.model.specs.declared.instructions.Access.TheVariants as accesses;
+ghost use Rattle.model.specs.declared.instructions.AccessSize.TheVariants.{Word};
+ghost use Rattle.model.specs.declared.instructions.ImmediateOp.TheVariants.{Addi};
+ghost use Rattle.model.specs.declared.instructions.Instr.TheVariants.{Ecall, Immediate, Store};
+ghost use Rattle.model.specs.declared.instructions.Instr.{Instr};
+ghost use Rattle.model.specs.declared.instructions.Register.{Register};
+ghost use Rattle.model.specs.declared.instructions.StoreOp.TheVariants.{Sb};
+ghost use Rattle.model.specs.declared.instructions.StoreOp.{StoreOp};
 ghost use Rattle.model.specs.declared.lookup_failures.LookupFailure.{LookupFailure};
 ghost use Rattle.model.specs.declared.rights.Rights.{Rights};
 ghost use Rattle.model.specs.declared.system_calls.ReceiveCall.{ReceiveCall};
 ghost use Rattle.model.specs.declared.system_calls.SendCall.{SendCall};
 ghost use Rattle.model.specs.declared.system_calls.SystemCall.TheVariants.{Receives, Replies, Sends};
-ghost use Rattle.model.specs.Acceptance.Authority.{IsWoken, MakesCall, OwnStep, StaysWithin, WithinAuthority, self_of};
-ghost use Rattle.model.specs.Kernel.Deliveries.{is_message};
+ghost use Rattle.model.specs.Acceptance.Authority.{IsWoken, MakesCall, OwnStep, StaysWithin, WithinAuthority, computed, self_of};
+ghost use Rattle.model.specs.Kernel.Deliveries.{is_message, woken};
 ghost use Rattle.model.specs.Capabilities.Rights.{may_read, may_write, rights};
 ghost use Rattle.model.specs.Capabilities.Slots.{capability_at};
 ghost use Rattle.model.specs.Images.Image.{Image, Thread};
+ghost use Rattle.model.specs.Kernel.AddressSpaces.{content_of};
 ghost use Rattle.model.specs.Kernel.Interrupts.{binding};
+ghost use Rattle.model.specs.Kernel.Kinds.{kind_at};
 ghost use Rattle.model.specs.Kernel.Messages.{a0, buffer_of, delivered, length_between, message_between, register_words};
+ghost use Rattle.model.specs.Kernel.Retype.{NewEndpoint, NewNotification};
 ghost use Rattle.model.specs.Kernel.Scheduling.{current};
 ghost use Rattle.model.specs.Kernel.State.{State, Runnable, Blocked, AwaitsReply, Sender, EndpointObject, EndpointState, FrameObject, NotificationObject, NotificationState, ThreadObject, ThreadState, endpoint_at, notification_at, thread_at};
-ghost use Rattle.model.specs.Kernel.Steps.{named_slot, place_of};
-ghost use Rattle.model.specs.Machine.Effects.{advanced};
-ghost use Rattle.model.specs.Machine.ProgramMemory.{write};
+ghost use Rattle.model.specs.Kernel.Steps.{named_slot, place_of, registers_of};
+ghost use Rattle.model.specs.Machine.Decoding.{decoded};
+ghost use Rattle.model.specs.Machine.Effects.{advanced, plus};
+ghost use Rattle.model.specs.Machine.ProgramMemory.{loaded, read, write};
 ghost use Rattle.model_laws.specs.Scenarios.{Asks, ChangesUnwritten, HoldsOnly};
 
 /// By a message the bytes of nobody's buffer change but the first receiver's, to nothing but what the first sender's holds; and a reply
@@ -86,6 +99,26 @@ pub fn all_words_of_a_message_come()
         → after.objects other ≡ Some (ThreadObject new) → old ≢ new → buffer_of s (self_of image t) ≡ Some source
         → buffer_of s other ≡ Some target → 4 * register_words ≤ index → index < 4 * length_between s (self_of image t) other
         → after.bytes (target + index) ≢ s.bytes (source + index) → WithinAuthority image t s after → ⊥ }
+{}
+
+/// What ends delivers nothing: who waits at what is no queue after the step is at its call again, as it was; through what is no endpoint then no
+/// byte of a message comes, and no right to reply; and no interrupt is taken for what is no notification then, or was none. It checks `is` of
+/// `TakesReceiver`, `TakesSender` and `TakesWaiter`, and the kinds of `IsSignalled.joined`.
+pub fn a_queue_that_ends_delivers_nothing()
+    ensures waits { (image : Image) (t : Thread) (s after : State) (other queue : ℕ) (old new : ThreadState) → other ≢ self_of image t
+        → s.objects other ≡ Some (ThreadObject old) → old.status ≡ Blocked queue → kind_at after queue ≢ Some NewEndpoint
+        → kind_at after queue ≢ Some NewNotification → after.objects other ≡ Some (ThreadObject new) → old ≢ new → new ≢ woken old old.registers
+        → WithinAuthority image t s after → ⊥ }
+    ensures bytes { (image : Image) (t : Thread) (s after : State) (place slot endpoint badge : ℕ) (r : Rights) → ChangesUnwritten image t s after place
+        → named_slot s (self_of image t) ≡ Ok slot → capability_at s.slots slot ≡ Endpoint endpoint r badge
+        → (thread_at s (self_of image t)).caller ≡ None → kind_at after endpoint ≢ Some NewEndpoint → WithinAuthority image t s after → ⊥ }
+    ensures right { (image : Image) (t : Thread) (s after : State) (slot endpoint badge third : ℕ) (r : Rights) (old new : ThreadState)
+        → named_slot s (self_of image t) ≡ Ok slot → capability_at s.slots slot ≡ Endpoint endpoint r badge → kind_at after endpoint ≢ Some NewEndpoint
+        → s.objects (self_of image t) ≡ Some (ThreadObject old) → after.objects (self_of image t) ≡ Some (ThreadObject new)
+        → old.caller ≡ None → new.caller ≡ Some third → WithinAuthority image t s after → ⊥ }
+    ensures line { (image : Image) (t : Thread) (s after : State) (number notification badge : ℕ) → s.pending number ≡ true → after.pending number ≡ false
+        → binding s number ≡ Some (record { notification = notification; badge = badge })
+        → (kind_at s notification ≢ Some NewNotification) ⊎ (kind_at after notification ≢ Some NewNotification) → WithinAuthority image t s after → ⊥ }
 {}
 
 /// A frame ends only inside untyped memory that the thread holds. It checks `ObjectChange.ends`.
@@ -157,6 +190,30 @@ pub fn a_step_is_of_its_instruction()
         → s.pending number ≢ after.pending number → StaysWithin image s Step after → ⊥ }
     ensures awake { (image : Image) (s after : State) (self priority other : ℕ) → current s ≡ Some self → IsWoken s after priority other
         → s.ready priority ≡ [] → after.ready priority ≡ [] → StaysWithin image s Step after → ⊥ }
+{}
+
+/// The instruction at the pc that is no system call is done: `addi` leaves its sum in its register, a store of a byte the low byte of its register
+/// in the place that the address names, and every other byte as it was; and what is no store leaves all bytes. It checks `ComputesAlone`.
+pub fn an_instruction_does_what_it_spells()
+    ensures whole { (image : Image) (s after : State) (self word : ℕ) (instruction : Instr) → current s ≡ Some self
+        → loaded (content_of s self) accesses.Fetch Word (registers_of s self).pc ≡ Ok word → decoded word ≡ Some instruction → instruction ≢ Ecall
+        → after ≢ computed s self instruction → StaysWithin image s Step after → ⊥ }
+    ensures sum { (image : Image) (s after : State) (self word : ℕ) (rd rs1 : Register) (immediate : ℤ) → current s ≡ Some self
+        → loaded (content_of s self) accesses.Fetch Word (registers_of s self).pc ≡ Ok word → decoded word ≡ Some (Immediate Addi rd rs1 immediate)
+        → registers_of after self ≢ advanced (write (registers_of s self) rd (plus (read (registers_of s self) rs1) immediate))
+        → StaysWithin image s Step after → ⊥ }
+    ensures byte { (image : Image) (s after : State) (self word place old : ℕ) (rs1 rs2 : Register) (offset : ℤ) → current s ≡ Some self
+        → loaded (content_of s self) accesses.Fetch Word (registers_of s self).pc ≡ Ok word → decoded word ≡ Some (Store Sb rs1 rs2 offset)
+        → (content_of s self).place accesses.Store (plus (read (registers_of s self) rs1) offset) ≡ Some place → s.bytes place ≡ Some old
+        → after.bytes place ≢ Some (read (registers_of s self) rs2 % 2 ^ 8) → StaysWithin image s Step after → ⊥ }
+    ensures beside { (image : Image) (s after : State) (self word place other : ℕ) (rs1 rs2 : Register) (offset : ℤ) → current s ≡ Some self
+        → loaded (content_of s self) accesses.Fetch Word (registers_of s self).pc ≡ Ok word → decoded word ≡ Some (Store Sb rs1 rs2 offset)
+        → (content_of s self).place accesses.Store (plus (read (registers_of s self) rs1) offset) ≡ Some place → other ≢ place
+        → s.bytes other ≢ after.bytes other → StaysWithin image s Step after → ⊥ }
+    ensures bytes { (image : Image) (s after : State) (self word place : ℕ) (instruction : Instr) → current s ≡ Some self
+        → loaded (content_of s self) accesses.Fetch Word (registers_of s self).pc ≡ Ok word → decoded word ≡ Some instruction → instruction ≢ Ecall
+        → ((op : StoreOp) (rs1 rs2 : Register) (offset : ℤ) → instruction ≢ Store op rs1 rs2 offset) → s.bytes place ≢ after.bytes place
+        → StaysWithin image s Step after → ⊥ }
 {}
 
 /// A tick changes no byte and no slot, an interrupt no slot. They are named outright (`StaysWithin`).
