@@ -7,27 +7,40 @@ use crate::places::bytes_of;
 use crate::sections::{put_bindings, put_declarations};
 use crate::thread_lines::put_thread;
 use image_reading::{ImageRef, read};
-use model::ImageHeader;
+use model::{ImageHeader, ObjectEntry};
 use std::alloc::{AllocError, Global};
 
 /// The number for no object: no buffer.
 const NO_OBJECT: u32 = u32::MAX;
 
-/// What is counted of the threads of an image.
+/// What is counted of the objects and threads of an image.
 #[derive(Clone, Copy)]
 struct Totals {
+    /// How many frames are device pages.
+    devices: u32,
     /// The words of all programs.
     words: u64,
     /// How many threads have a message buffer.
     buffers: u32,
 }
 
-/// What is counted of the threads of an image.
+/// Whether an object is a device page.
+fn is_device(object: &ObjectEntry) -> bool {
+    object.kind == 6 && object.size == 1
+}
+
+/// What is counted of the objects and threads of an image.
 fn totals_of(image: &ImageRef<'_>) -> Totals {
     let mut totals = Totals {
+        devices: 0,
         words: 0,
         buffers: 0,
     };
+    for object in image.objects() {
+        if is_device(&object) {
+            totals.devices = totals.devices.saturating_add(1);
+        }
+    }
     for thread in image.threads() {
         let header = thread.header();
         totals.words = totals.words.saturating_add(u64::from(header.words));
@@ -38,9 +51,11 @@ fn totals_of(image: &ImageRef<'_>) -> Totals {
     totals
 }
 
-/// The version of the image that a text with so many promises and buffers describes.
+/// The version of the image that a text with so many device pages, buffers and promises describes.
 fn version_listed(header: &ImageHeader, totals: Totals) -> u32 {
-    if totals.buffers > 0 {
+    if totals.devices > 0 {
+        4
+    } else if totals.buffers > 0 {
         3
     } else if header.promises > 0 {
         2

@@ -38,7 +38,8 @@ fn put_object(
     let untyped = entry.untyped;
     let kind = kind_word(entry.kind);
     write!(text, "object o{number} u{untyped} {kind}")?;
-    if matches!(entry.kind, 1 | 5) {
+    // Of untyped memory, a CNode or a device page.
+    if entry.size != 0 {
         let size = entry.size;
         write!(text, " {size}")?;
     }
