@@ -5,6 +5,7 @@ use crate::images::{bell, solo, with_word, worker};
 use listed_images::{ListFault, Refusal, list};
 use std::alloc::Global;
 use std::test::Fail;
+use test_sessions::with_line;
 
 /// Each kind of line, a CNode that is reached by another, and a word that is no instruction.
 const TEXT: &str = "memory 16 4
@@ -117,6 +118,22 @@ fn an_image_has_its_list(rt: HostRuntime) -> Result<(), Fail> {
     let bytes = bytes_of(rt.alloc(), TEXT)?;
     let listed = list_of(rt.alloc(), bytes.as_slice())?;
     assert_eq!(&rt; listed.as_str(), LIST);
+    Ok(())
+}
+
+/// Neither a device page nor version 4 adds a byte to version 3.
+#[test]
+fn a_device_page_is_listed_with_its_size(rt: HostRuntime) -> Result<(), Fail> {
+    let text = with_line(rt.alloc(), TEXT, 6, "object words u frame 1")?;
+    let bytes = bytes_of(rt.alloc(), text.as_str())?;
+    let listed = list_of(rt.alloc(), bytes.as_slice())?;
+    let file = "# the file: 548 bytes of version 4";
+    let want = with_line(rt.alloc(), LIST, 4, file)?;
+    let page = "object o3 u0 frame 1 # at 0x8000b000, 4096 bytes";
+    let want = with_line(rt.alloc(), want.as_str(), 9, page)?;
+    assert_eq!(&rt; listed.as_str(), want.as_str());
+    let again = bytes_of(rt.alloc(), listed.as_str())?;
+    assert!(&rt; again.as_slice() == bytes.as_slice());
     Ok(())
 }
 

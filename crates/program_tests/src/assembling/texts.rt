@@ -21,6 +21,17 @@ fn a_buffer_is_of_version_3(rt: HostRuntime) -> Result<(), Fail> {
     Ok(())
 }
 
+/// The version is the second word of the file.
+#[test]
+fn a_device_page_is_of_version_4(rt: HostRuntime) -> Result<(), Fail> {
+    let text = with_line(rt.alloc(), SOLO, 6, "object data u frame 1")?;
+    let bytes = bytes_of(rt.alloc(), text.as_str())?;
+    assert_eq!(rt; bytes.get(4).copied(), Some(4));
+    let without = bytes_of(rt.alloc(), SOLO)?;
+    assert_eq!(rt; without.get(4).copied(), Some(1));
+    Ok(())
+}
+
 #[test]
 fn lines_end_in_two_ways(rt: HostRuntime) -> Result<(), Fail> {
     let bytes = bytes_of(rt.alloc(), SOLO)?;
@@ -73,6 +84,7 @@ const WITHOUT_IMAGE: &str = "
     3 4 | memory 16 4/untyped u 0 4//
     1 1 | untyped u 0 4
     1 1 | memory 16
+    1 1 | promise none 0 0 1 1 2 2 3 3 4 4 5 5 6 6 7 7 8 8 9 9
     5 4 | memory 16 4/untyped u 0 15/object e u endpoint/promise e 0 0/promise e 1 1
 ";
 
@@ -103,7 +115,8 @@ const AT_FAULT: &str = "
     3 3 | untyped u 0 4
     3 1 | object code u
     3 1 | object code u frame 0 0
-    3 4 | object code u frame 1
+    3 4 | object code u frame 2
+    4 4 | object vs u root 1
     3 2 | object code v frame
     3 1 | object boot u frame
     4 3 | object code u root
@@ -143,6 +156,8 @@ const AT_FAULT: &str = "
     15 2 | promise u 0 0
     15 4 | promise bell 0 0x10000000
     15 4 | promise bell 0 0 2 1
+    15 4 | promise bell 0 0 1 1 2 2 3 3 4 4 5 5 6 6 7 7 8 8 9 9
+    15 2 | promise none 0 0 1 1 2 2 3 3 4 4 5 5 6 6 7 7 8 8 9 9
     16 1 | thread main cs 28 vs 100 24 0 start
     16 1 | thread main cs 28 vs 100 24 0 start 0x1000 0
     16 4 | thread main cs 28 vs 256 24 0 start 0x1000
