@@ -14,6 +14,7 @@ const ROWS: &str = "
     0|object cs u cnode 4
     0|object a_1 u frame
     0|object b u tcb 0
+    0|object b u frame 1
     0|irq line 3 bell 1
     0|cap cs 1 bell 2 0
     0|table vs 0 pt
@@ -21,6 +22,7 @@ const ROWS: &str = "
     0|data f 1 0xfFfFffFF 003
     0|promise p 0 0xFFFFFFF
     0|promise p 1 1 0 0xFFFFFFFF 2 2 3 3 4 4 5 5 6 6 7 7 8 8
+    0|promise p 0 0 1 1 2 2 3 3 4 4 5 5 6 6 7 7 8 8 9 9
     0|thread main cs 28 vs 100 24 0 start 0x1000
     0|buffer f
     0|end
@@ -78,7 +80,7 @@ const ROWS: &str = "
     4|untyped u 0x100000000 4
     4|untyped u 0 3
     4|object o u cnode
-    4|object o u frame 1
+    4|object o u frame 2
     4|irq l 64 b 1
     4|irq l 1 b 0x10000000
     4|map v 0 f 8
@@ -87,7 +89,6 @@ const ROWS: &str = "
     4|promise p 0 0x10000000
     4|promise p 0 0 2 1
     4|promise p 0 0 0 0x100000000
-    4|promise p 0 0 1 1 2 2 3 3 4 4 5 5 6 6 7 7 8 8 9 9
     4|reg x0 1
     4|reg x1 0
     4|range x1 2 1
