@@ -8,5 +8,7 @@ mod KeptBytes
 mod Left
 mod Members
 mod Messages
+mod SameEntries
 mod Signals
 mod Views
+pub mod Laws

@@ -39,7 +39,7 @@ use Rattle.soundness.specs.boot_laws.Standing.{StandApart}
 
 -- ---- what a listed capability names
 
-named-limited : (c : Cap) (word payload : ℕ) → object_named (limited c word payload) ≡ object_named c
+pub named-limited : (c : Cap) (word payload : ℕ) → object_named (limited c word payload) ≡ object_named c
 named-limited Empty w p = refl
 named-limited (Untyped a b u) w p = refl
 named-limited (Endpoint a r g) w p = refl
@@ -52,7 +52,7 @@ named-limited (RootTable a) w p = refl
 named-limited InterruptControl w p = refl
 named-limited (InterruptHandler n) w p = refl
 
-named-mapped : (c : Cap) (m : Option TableMapping) → object_named (with_table_mapping c m) ≡ object_named c
+pub named-mapped : (c : Cap) (m : Option TableMapping) → object_named (with_table_mapping c m) ≡ object_named c
 named-mapped Empty m = refl
 named-mapped (Untyped a b u) m = refl
 named-mapped (Endpoint a r g) m = refl
@@ -66,11 +66,11 @@ named-mapped InterruptControl m = refl
 named-mapped (InterruptHandler n) m = refl
 
 -- untyped memory apart from what was used of it
-abbrev memory_of : Cap → Option (ℕ × ℕ)
+abbrev pub memory_of : Cap → Option (ℕ × ℕ)
 memory_of (Untyped offset bits watermark) = Some (offset, bits)
 memory_of _ = None
 
-memory-limited : (c : Cap) (word payload : ℕ) → memory_of (limited c word payload) ≡ memory_of c
+pub memory-limited : (c : Cap) (word payload : ℕ) → memory_of (limited c word payload) ≡ memory_of c
 memory-limited Empty w p = refl
 memory-limited (Untyped a b u) w p = refl
 memory-limited (Endpoint a r g) w p = refl
@@ -83,7 +83,7 @@ memory-limited (RootTable a) w p = refl
 memory-limited InterruptControl w p = refl
 memory-limited (InterruptHandler n) w p = refl
 
-memory-mapped : (c : Cap) (m : Option TableMapping) → memory_of (with_table_mapping c m) ≡ memory_of c
+pub memory-mapped : (c : Cap) (m : Option TableMapping) → memory_of (with_table_mapping c m) ≡ memory_of c
 memory-mapped Empty m = refl
 memory-mapped (Untyped a b u) m = refl
 memory-mapped (Endpoint a r g) m = refl
@@ -141,7 +141,7 @@ module _ {A : Type 0} (what : Cap → Option A) (on_limited : (c : Cap) (w p : �
       from-handler None clash = none-some value (sym on_empty ∙ clash)
       from-handler (Some i) clash = none-some value (sym (on_handler i.line) ∙ clash)
 
-first-names : (kind k : NewObject) (offset o : ℕ) → object_named (first_capability kind offset) ≡ Some (k, o) → (kind ≡ k) × (offset ≡ o)
+pub first-names : (kind k : NewObject) (offset o : ℕ) → object_named (first_capability kind offset) ≡ Some (k, o) → (kind ≡ k) × (offset ≡ o)
 first-names (NewUntyped b) k offset o is = absurd (none-some (k, o) is)
 first-names NewThread k offset o is = let same = same_Some (NewThread, offset) (k, o) is in (ap (λ p. p.0) same, ap (λ p. p.1) same)
 first-names NewEndpoint k offset o is = let same = same_Some (NewEndpoint, offset) (k, o) is in (ap (λ p. p.0) same, ap (λ p. p.1) same)
@@ -151,7 +151,7 @@ first-names NewFrame k offset o is = let same = same_Some (NewFrame, offset) (k,
 first-names NewPageTable k offset o is = let same = same_Some (NewPageTable, offset) (k, o) is in (ap (λ p. p.0) same, ap (λ p. p.1) same)
 first-names NewRootTable k offset o is = let same = same_Some (NewRootTable, offset) (k, o) is in (ap (λ p. p.0) same, ap (λ p. p.1) same)
 
-first-memory : (kind : NewObject) (offset o b : ℕ) → memory_of (first_capability kind offset) ≡ Some (o, b) → (kind ≡ NewUntyped b) × (offset ≡ o)
+pub first-memory : (kind : NewObject) (offset o b : ℕ) → memory_of (first_capability kind offset) ≡ Some (o, b) → (kind ≡ NewUntyped b) × (offset ≡ o)
 first-memory (NewUntyped bits) offset o b is =
     let same = same_Some (offset, bits) (o, b) is in (ap (λ (p : ℕ × ℕ). NewUntyped p.1) same, ap (λ (p : ℕ × ℕ). p.0) same)
 first-memory NewThread offset o b is = absurd (none-some (o, b) is)
@@ -188,7 +188,7 @@ queue-rights InterruptControl w p k o is queue = absurd (none-some (k, o) is)
 queue-rights (InterruptHandler n) w p k o is queue = absurd (none-some (k, o) is)
 
 -- a bit of what is covered is one of what covers
-keeps-bit : (l c m : ℕ) → bit_and l c ≡ c → not (bit_and c m == 0) ≡ true → not (bit_and l m == 0) ≡ true
+pub keeps-bit : (l c m : ℕ) → bit_and l c ≡ c → not (bit_and c m == 0) ≡ true → not (bit_and l m == 0) ≡ true
 keeps-bit l c m covers set = elim (eqb_tells (bit_and l m) 0) [
   | inr apart ↦ ap not apart.0
   | inl none ↦
@@ -199,7 +199,7 @@ keeps-bit l c m covers set = elim (eqb_tells (bit_and l m) 0) [
 
 -- ---- what is held is listed
 
-any-second : (a b c d : Bool) → b ≡ true → (a || b || c || d) ≡ true
+pub any-second : (a b c d : Bool) → b ≡ true → (a || b || c || d) ≡ true
 any-second true b c d is = refl
 any-second false true c d is = refl
 any-second false false c d is = absurd (false≢true is)

@@ -16,13 +16,13 @@ use Rattle.model.specs.declared.entries.InterruptEntry.{InterruptEntry}
 use Rattle.model.specs.declared.entries.TableEntry.{TableEntry}
 use Rattle.model.specs.declared.events.Event.{Event}
 use Rattle.model.specs.Acceptance.Accepted.{IsAccepted}
-use Rattle.model.specs.Acceptance.Authority.{Covers, rights_of}
+use Rattle.model.specs.Acceptance.Authority.{Covers, IsOwnSlot, rights_of}
 use Rattle.model.specs.Acceptance.Devices.{KeepsDevices}
 use Rattle.model.specs.Acceptance.NotedStates.{NotedSlot, image_slots, listed_slot}
 use Rattle.model.specs.Acceptance.ThreadRules.{is_member, reached}
 use Rattle.model.specs.Capabilities.CapabilityKinds.{with_table_mapping}
 use Rattle.model.specs.Capabilities.Slots.{capability_at, is_empty}
-use Rattle.model.specs.Images.Described.{described, limited, listed_capability, original, source_capability, with_table}
+use Rattle.model.specs.Images.Described.{Numbered, described, limited, listed_capability, numbered_threads, original, source_capability, with_table}
 use Rattle.model.specs.Images.Image.{Image, Thread}
 use Rattle.model.specs.Images.Places.{is_handler, interrupt_of, offset_of, type_at}
 use Rattle.model.specs.Kernel.AddressSpaces.{page_size, region_pages}
@@ -185,9 +185,16 @@ is-full InterruptControl full = refl
 is-full (InterruptHandler n) full = refl
 
 module _ (bytes : List ℕ) (image : Image) (accepted : IsAccepted bytes image) where
-  given-at-start : SlotsAreAsListed → AllHoldGiven image (described image)
+  -- what a slot of a thread holds there is listed
+  pub record HoldsListed (t : Thread) (slot : ℕ) : Type 0 where
+    pub entry : CapabilityEntry
+    pub listed : IsListedFor image t entry
+    pub is : listed_capability image entry ≡ capability_at (described image).slots slot
+
+  pub listed-at-start : SlotsAreAsListed → (t : Numbered) (slot : ℕ) → Contains (numbered_threads image) t → IsOwnSlot image t.thread slot
+      → capability_at (described image).slots slot ≢ Empty → HoldsListed t.thread slot
   unfolding image_slots
-  given-at-start as_listed t slot there own full =
+  listed-at-start as_listed t slot there own full =
       let fits = accepted.spelled.fits in
       let well = accepted.formed in
       let slots = (described image).slots in
@@ -196,9 +203,17 @@ module _ (bytes : List ℕ) (image : Image) (accepted : IsAccepted bytes image) 
       let among = subst (λ (l : List NotedSlot). Contains l of.n) (as_listed image t.thread fits well at) of.there in
       let place = contained (image_slots image t.thread) of.n among in
       let from = comes-from image (λ c. is_member c.cnode (reached image t.thread)) image.capabilities of.n place.0 place.1 in
-      let same : listed_capability image from.entry ≡ capability_at slots slot = ap (λ (n : NotedSlot). n.capability) from.is ∙ of.capability in
-      given-listed image t.thread from.entry (record { listed = contains image.capabilities from.place from.entry from.at; member = from.passes })
-      (capability_at slots slot) same (sym (ap is_control same) ∙ listed-plain image from.entry) full
+      record {
+        entry = from.entry;
+        listed = record { listed = contains image.capabilities from.place from.entry from.at; member = from.passes };
+        is = ap (λ (n : NotedSlot). n.capability) from.is ∙ of.capability;
+      }
+
+  pub given-at-start : SlotsAreAsListed → AllHoldGiven image (described image)
+  given-at-start as_listed t slot there own full =
+      let from = listed-at-start as_listed t slot there own full in
+      given-listed image t.thread from.entry from.listed (capability_at (described image).slots slot) from.is
+      (sym (ap is_control from.is) ∙ listed-plain image from.entry) full
 
   -- ---- any events
 
