@@ -1,6 +1,7 @@
 pub mod authority
 pub mod calls
 pub mod facts
+pub mod integrity
 pub mod invocations
 pub mod kept
 pub mod lookups

@@ -17,6 +17,7 @@ use Rattle.model.specs.Kernel.Waits.{KeepsBudget, is_error, is_fault}
 use Rattle.soundness.specs.boot_laws.Standing.{StandApart}
 use Rattle.headline.specs.Throughout.{AllStandThroughout}
 use Rattle.headline.specs.facts.Standing.{AllStand}
+use Rattle.headline.specs.integrity.Runs.{HasIntegrity}
 use Rattle.headline.specs.moves.Steps.{GoesWell}
 
 -- what the kernel does over events, from the state that an image describes
@@ -25,8 +26,8 @@ trace_of image events = trace (described image) events
 
 -- The bytes are an accepted image. It boots with no kernel error into the state that it describes, each object inside its untyped
 -- memory and no two on one another. Over the events no line of the kernel's trace is a fault or an error, no stretch of a thread is longer
--- than its budget, each event changes only what authority lets it, each state is sound, and each message that waits at an endpoint keeps what the
--- image promises there.
+-- than its budget, each event changes only what authority lets it, and all together only what the threads that ran may change by the image, each state is
+-- sound, and each message that waits at an endpoint keeps what the image promises there.
 pub record IsSafeRun (bytes : List ℕ) (image : Image) (events : List Event) : Type 0 where
   pub accepted : IsAccepted bytes image
   pub devices : All (KeepsDevices image) events
@@ -37,6 +38,7 @@ pub record IsSafeRun (bytes : List ℕ) (image : Image) (events : List Event) : 
   pub budgets : (t : Thread) → Contains image.threads t → KeepsBudget (offset_of image t.header.tcb) t.header.budget (trace_of image events)
   pub within : (before : List Event) (event : Event) (later : List Event) → events ≡ before ++ event ∷ later
       → StaysWithin image (state_after (described image) before) event (step (state_after (described image) before) event).0
+  pub integrity : HasIntegrity image events
   pub sound : (before later : List Event) → events ≡ before ++ later → IsSound (state_after (described image) before)
   pub promises : (before later : List Event) → events ≡ before ++ later → KeepsPromises image (state_after (described image) before)
 

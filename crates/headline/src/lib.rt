@@ -8,6 +8,7 @@ pub mod authority;
 mod budget_laws;
 pub mod calls;
 mod event_laws;
+pub mod integrity;
 pub mod invocations;
 pub mod kept;
 pub mod lookups;

@@ -26,6 +26,7 @@ returns c = λ bytes image events accepted devices.
       within = λ before event later is.
           c.events_stay_within_authority.ensures bytes image before event accepted
           (all-front (KeepsDevices image) events before (event ∷ later) devices is);
+      integrity = c.runs_have_integrity.ensures bytes image events accepted devices;
       sound = λ before later is.
           (c.events_go_well.ensures bytes image before accepted (all-front (KeepsDevices image) events before later devices is)).stand.sound;
       promises = λ before later is.
