@@ -21,6 +21,11 @@ no_step : (s : State) → trace s [] ≡ []
 unfolding trace
 no_step s = refl
 
+-- no event leaves the state
+pub no_event : (s : State) (all : List Event) (done : ℕ) → length all ≤ done → state_after s (drop done all) ≡ s
+unfolding state_after
+no_event s all done end = ap (λ (events : List Event). state_after s events) (drop_of_length-le all end)
+
 -- there is no label after the last event
 pub no_label : (s : State) (all : List Event) (done : ℕ) → length all ≤ done → trace s (drop done all) ≡ []
 no_label s all done end = ap (λ (events : List Event). trace s events) (drop_of_length-le all end) ∙ no_step s
@@ -30,6 +35,25 @@ steps-first : (s : State) (n : ℕ) (rest : List Event)
 unfolding trace state_after
 steps-first s zero rest = refl
 steps-first s (suc n) rest = ap (λ (labels : List Label). (step s Step).1 ∷ labels) (steps-first (step s Step).0 n rest)
+
+-- events after steps
+steps-after : (s : State) (n : ℕ) (rest : List Event) → state_after s (replicate n Step ++ rest) ≡ state_after (state_after s (replicate n Step)) rest
+unfolding state_after
+steps-after s zero rest = refl
+steps-after s (suc n) rest = steps-after (step s Step).0 n rest
+
+-- what is left after some steps
+pub steps_done : (s after : State) (left : List Event) (n : ℕ) → left ≡ replicate n Step ++ drop n left → after ≡ state_after s (replicate n Step)
+    → state_after s left ≡ state_after after (drop n left)
+steps_done s after left n is goes =
+    ap (λ (events : List Event). state_after s events) is ∙ steps-after s n (drop n left) ∙ ap (λ (t : State). state_after t (drop n left)) (sym goes)
+
+-- what is left after an event
+pub event_done : (s after : State) (left : List Event) (event : Event) → left ≡ event ∷ drop 1 left → after ≡ (step s event).0
+    → state_after s left ≡ state_after after (drop 1 left)
+unfolding state_after
+event_done s after left event is goes =
+    ap (λ (events : List Event). state_after s events) is ∙ ap (λ (t : State). state_after t (drop 1 left)) (sym goes)
 
 kept-lines : (labels : List Label) → flat_map ended labels ≡ lines_of labels
 unfolding lines_of

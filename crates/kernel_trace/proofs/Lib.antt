@@ -1,2 +1,3 @@
+mod AnsweredLines
 mod KernelTraces
 mod PutLines

@@ -1,7 +1,7 @@
 -- Putting the lines of a trace, one after another.
 use Rattle.std.proofs.Common.{◌≡◌, ◌∙◌, inl, inr, ℕ, zero, suc, ◌+◌, ◌-◌, ◌^◌, List, [], ◌∷◌, ◌++◌, length, take, Option, Result, Ok, Err, refl, sym}
 use Rattle.std.proofs.Common.{ap, subst, append_assoc, arith}
-use Rattle.std.specs.Prelude.{OnErr, min}
+use Rattle.std.specs.Prelude.{OnErr, OnOk, min}
 use Rattle.std.proofs.Math.Nat.{min-eq_left, min-eq_right}
 use Rattle.std.proofs.lemmas.Bool.{cases_lt}
 use Rattle.std.proofs.lemmas.Grind.{flat_map-append}
@@ -111,3 +111,17 @@ failed old new is = elim (cases_lt (old + 1) (2 ^ 64)) [
 pub on_err : {A E : Type 0} (P : Type 0) (r : Result A E) → P → OnErr r P
 on_err P (Ok x) p = tt
 on_err P (Err e) p = p
+
+-- a claim on what was done that holds anyway
+pub on_ok : {A E : Type 0} (P : Type 0) (r : Result A E) → P → OnOk r P
+on_ok P (Ok x) p = p
+on_ok P (Err e) p = tt
+
+-- what follows from a claim on what was done, or on an error
+pub map_ok : {A E : Type 0} {P Q : Type 0} (r : Result A E) → (P → Q) → OnOk r P → OnOk r Q
+map_ok (Ok x) f p = f p
+map_ok (Err e) f p = tt
+
+pub map_err : {A E : Type 0} {P Q : Type 0} (r : Result A E) → (P → Q) → OnErr r P → OnErr r Q
+map_err (Ok x) f p = tt
+map_err (Err e) f p = f p

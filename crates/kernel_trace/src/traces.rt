@@ -2,7 +2,7 @@
 
 ghost use Rattle.std.specs.Prelude.{ℕ, ◌≡◌, ◌+◌, ◌<◌, ◌≤◌, ◌++◌, OnErr, OnOk, if◌then◌else◌, drop, is_ok, length, replicate};
 ghost use Rattle.kernel_machine.specs.Setups.{state_in};
-ghost use Rattle.model.specs.Kernel.Steps.{trace};
+ghost use Rattle.model.specs.Kernel.Steps.{state_after, trace};
 ghost use Rattle.kernel_trace.specs.Lines.{Failed, PutsFront, lines_of};
 ghost use Rattle.sinks.specs.Sinks.{Grows, GrowsByBeginning, one_more};
 
@@ -24,6 +24,8 @@ pub fn put_trace<S: Sink>(
     events: &[Event],
     sink: &mut S,
 ) -> Result<(), SinkFault>
+    ensures state { OnOk result (state_in system.new ≡ state_after (state_in system.old) events.now) }
+    ensures kept { OnOk result (S.failures sink.new ≡ S.failures sink.old) }
     ensures ok { OnOk result (Grows (S.contents sink.old) (S.contents sink.new) (lines_of (trace (state_in system.old) events.now))) }
     ensures err { OnErr result (GrowsByBeginning (S.contents sink.old) (S.contents sink.new) (lines_of (trace (state_in system.old) events.now))) }
     ensures failed { OnErr result (Failed (S.failures sink.old) (S.failures sink.new)) }
@@ -39,7 +41,7 @@ pub fn put_trace<S: Sink>(
 }
 
 /// Puts the lines that are held, if there is no room for another one.
-fn make_room<S: Sink>(sink: &mut S, lines: &mut HeldLines) -> Result<(), SinkFault>
+pub(crate) fn make_room<S: Sink>(sink: &mut S, lines: &mut HeldLines) -> Result<(), SinkFault>
     ensures ok { OnOk result (PutsFront (S.contents sink.old) (S.contents sink.new) lines.old.bytes lines.new.bytes) }
     ensures room { OnOk result (length lines.new.bytes + 33 ≤ 8192) }
     ensures err { OnErr result (GrowsByBeginning (S.contents sink.old) (S.contents sink.new) lines.old.bytes) }
@@ -58,6 +60,7 @@ fn go_on(system: &mut System, left: &[Event], lines: &mut HeldLines) -> usize
     requires { length lines.old.bytes + 33 ≤ 8192 }
     ensures some { 0 < length left.now → 0 < result }
     ensures within { result ≤ length left.now }
+    ensures state { state_after (state_in system.old) left.now ≡ state_after (state_in system.new) (drop result left.now) }
     ensures lines { lines.old.bytes ++ lines_of (trace (state_in system.old) left.now)
         ≡ lines.new.bytes ++ lines_of (trace (state_in system.new) (drop result left.now)) }
 {

@@ -1,12 +1,13 @@
 -- By the laws on lines that are held and put.
-use Rattle.std.proofs.Common.{◌≡◌, ◌∙◌, ◌+◌, ◌-◌, ◌++◌, ◌≤◌, ℕ, List, ap, arith, drop, length, subst, take}
+use Rattle.std.proofs.Common.{◌≡◌, ◌∙◌, ◌+◌, ◌-◌, ◌++◌, ◌≤◌, ℕ, List, ap, arith, drop, length, subst, sym, take}
 use Rattle.std.proofs.lemmas.List.{drop-drop, length-drop, take_all}
 use Rattle.kernel_machine.specs.Setups.{state_in}
 use Rattle.model.specs.declared.events.Event.{Event}
-use Rattle.model.specs.Kernel.Steps.{trace}
+use Rattle.model.specs.Kernel.State.{State}
+use Rattle.model.specs.Kernel.Steps.{state_after, trace}
 use Rattle.kernel_trace.specs.Lines.{lines_of}
 use Rattle.sinks.specs.Sinks.{Grows, GrowsByBeginning}
-use Rattle.kernel_trace.proofs.KernelTraces.{no_label}
+use Rattle.kernel_trace.proofs.KernelTraces.{no_event, no_label}
 use Rattle.kernel_trace.proofs.PutLines.{all_put, front_put, more_held, on_err, stopped}
 use Rattle.kernel_trace.proofs.traces.put_trace.Goals as goal
 
@@ -41,7 +42,9 @@ events-preserved g c =
     let lines = subst (λ (events : List Event). held ++ lines_of (trace now events) ≡ more ++ lines_of (trace after (drop count events))) whole
     c.go_on-done.ensures.lines in
     let same = lines ∙ ap (λ (events : List Event). more ++ lines_of (trace after events)) (drop-drop count done all) in
+    let goes = subst (λ (events : List Event). state_after now events ≡ state_after after (drop count events)) whole c.go_on-done.ensures.state in
     record {
+      goes = c.events.invariant.goes ∙ goes ∙ ap (λ (events : List Event). state_after after events) (drop-drop count done all);
       within = omega (arith, within, length-drop done all, c.events.invariant.within);
       put = more_held labels old left (trace after (drop (done + count) all)) held more new room same;
       counted = c.in_ok-make_room.ensures.counted ∙ c.events.invariant.counted;
@@ -68,3 +71,9 @@ returns-clause-ok g c =
     all_put (trace (state_in c.args.system.now) all) (g.S.Sink.contents c.args.sink.now) (trace now (drop done all)) c.events.lines.bytes mid new
     c.events.invariant.put (no_label now all done (omega (arith, c.events-test.false)))
     (subst (λ (t : List ℕ). Grows mid new t) c.as_slice.ensures c.in_ok-put_all.ensures.ok)
+
+pub returns-clause-state : goal.returns-clause-state
+returns-clause-state g c =
+    let all = c.args.events.now in
+    let now = state_in c.events.system in
+    sym (c.events.invariant.goes ∙ no_event now all c.events.done (omega (arith, c.events-test.false)))
