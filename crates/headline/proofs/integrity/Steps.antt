@@ -1,5 +1,5 @@
 -- What the step of a thread changes, it may change by the image, or who gets its message may: a thread that has run.
-use Rattle.std.proofs.Common.{ℕ, ◌≡◌, ◌≢◌, ◌∙◌, ◌+◌, ◌-◌, ◌^◌, ◌<◌, ◌≤◌, ◌++◌, ◌⊎◌, inl, inr, Bool, true, List, [], ◌∷◌, Some, option_map, pow_pos, refl, sym}
+use Rattle.std.proofs.Common.{ℕ, ◌≡◌, ◌≢◌, ◌∙◌, ◌+◌, ◌^◌, ◌<◌, ◌≤◌, ◌++◌, ◌⊎◌, inl, inr, Bool, true, List, [], ◌∷◌, Some, option_map, pow_pos, refl, sym}
 use Rattle.std.proofs.Common.{ap, append_assoc, arith}
 use Rattle.std.specs.Prelude.{Contains}
 use Rattle.std.proofs.lemmas.Bool.{or_right}

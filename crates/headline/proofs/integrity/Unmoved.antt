@@ -13,7 +13,7 @@ use Rattle.model.specs.Acceptance.ThreadInvariants.{ThreadInvariant, runs as run
 use Rattle.model.specs.Images.Described.{Numbered, listed_thread, start_registers}
 use Rattle.model.specs.Images.Image.{Image}
 use Rattle.model.specs.Kernel.Deliveries.{Reason, receiver, sender, waiter, caller, faulted, set_back}
-use Rattle.model.specs.Kernel.Scheduling.{current, head_of, is_runnable, tick}
+use Rattle.model.specs.Kernel.Scheduling.{current, head_of, is_runnable}
 use Rattle.model.specs.Kernel.Soundness.{IsSound, waiting_at}
 use Rattle.model.specs.Kernel.State.{State, Status, Inactive, Runnable, Blocked, AwaitsReply, AwaitsHandler, Object, ThreadObject, NotificationObject}
 use Rattle.model.specs.Kernel.State.{NotificationState, ThreadState, as_notification, as_thread, new_notification, new_thread, notification_at, thread_at}
