@@ -14,4 +14,5 @@ pub mod Reasons
 pub mod Removals
 pub mod RemovedInSentences
 pub mod UsedRights
+pub mod Vault
 pub mod WaitLaws
