@@ -1,3 +1,5 @@
 pub mod Calm
+pub mod DeviceStarts
 pub mod Endings
+pub mod KeptEvents
 pub mod Refusals

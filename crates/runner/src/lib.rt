@@ -4,10 +4,12 @@
 
 mod building;
 mod commands;
+mod device_pages;
 mod running;
 mod unverified;
 
 pub use commands::{command, command_line, refusal_line};
+pub use device_pages::{DevicePages, first_outside};
 pub use running::{RunFault, run};
 pub use sinks::{EventsFault, MemorySink, Sink, SinkFault, WriterSink, events, put_all};
 pub use unverified::run_unverified;
