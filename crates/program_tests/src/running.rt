@@ -4,6 +4,7 @@ mod builds;
 mod edges;
 mod event_lines;
 mod outputs;
+mod outside;
 mod sessions;
 mod unverified;
 mod usage;

@@ -24,7 +24,7 @@ use Rattle.model.specs.Images.Image.{promised_word_format}
 use Rattle.model.specs.Images.Image.{anything, below, between, capability_format, content_format, frame_format, header_format, image_with}
 use Rattle.model.specs.Images.Image.{interrupt_format, is_constant, magic, names_parent, no_parent, not_zero, object_format, pair_key, range_format}
 use Rattle.model.specs.Images.Image.{ranges_format, record_format, record_header_format, records_format, register_format, registers_format, sections_format}
-use Rattle.model.specs.Images.Image.{size_fits, slot_format, slots_format, table_format, term_format, terms_format, thread_format, thread_header_format}
+use Rattle.model.specs.Images.Image.{size_fits_in, slot_format, slots_format, table_format, term_format, terms_format, thread_format, thread_header_format}
 use Rattle.model.specs.Images.Image.{untyped_format, whole_image, words_format}
 
 abbrev refused : {A : Type 0} → Refusal → Result A Refusal
@@ -235,12 +235,12 @@ untyped_calm : IsCalm untyped_format
 unfolding untyped_format
 untyped_calm = named_calm _ _ _ (both_calm _ _ (field_calm anything) (λ (a : ℕ). field_calm (between 4 24)))
 
-object_calm : (untypeds least : ℕ) → IsCalm (object_format untypeds least)
+object_calm : (version untypeds least : ℕ) → IsCalm (object_format version untypeds least)
 unfolding object_format
-object_calm untypeds least = named_calm _ _ _
+object_calm version untypeds least = named_calm _ _ _
     (both_calm _ _ (field_calm (λ n. leb least n && ltb n untypeds)) (λ (a : ℕ).
     both_calm _ _ (field_calm (between 1 8)) (λ (kind : ℕ).
-    field_calm (size_fits kind))))
+    field_calm (size_fits_in version kind))))
 
 capability_calm : (objects interrupts least : ℕ) → IsCalm (capability_format objects interrupts least)
 unfolding capability_format
@@ -298,7 +298,8 @@ unfolding sections_format
 sections_calm =
     both_calm _ _ header_calm (λ (header : ImageHeader).
     both_calm _ _ (ordered_calm 0 (λ _. untyped_format) (λ _. 0) header.untypeds (λ k. untyped_calm)) (λ (a : List UntypedEntry).
-    both_calm _ _ (ordered_calm 0 (object_format header.untypeds) (λ e. e.untyped) header.objects (object_calm header.untypeds)) (λ (b : List ObjectEntry).
+    both_calm _ _ (ordered_calm 0 (object_format header.version header.untypeds) (λ e. e.untyped) header.objects
+    (object_calm header.version header.untypeds)) (λ (b : List ObjectEntry).
     both_calm _ _ (ordered_calm 0 (capability_format header.objects header.interrupts) (λ e. pair_key e.cnode e.index + 1) header.capabilities
     (capability_calm header.objects header.interrupts)) (λ (c : List CapabilityEntry).
     both_calm _ _ (ordered_calm 0 (interrupt_format header.objects) (λ e. e.line + 1) header.interrupts (interrupt_calm header.objects))

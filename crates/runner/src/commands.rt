@@ -38,6 +38,8 @@ pub enum Failure<'a> {
     Boot(BootFault),
     /// The list of events is refused at this line.
     Events(u64),
+    /// The event of this index, from 0, is the first that is outside the device pages of the image.
+    Outside(usize),
     /// The text of an image is refused.
     Source(SourceFault),
 }
@@ -109,11 +111,12 @@ impl From<Refusal> for Failure<'_> {
 }
 
 impl From<RunFault> for Failure<'_> {
-    ghost from_gives = { λ fault failure. (fault ≡ RunFault.Output → failure ≡ Failure.Output) × (fault ≡ RunFault.OutOfMemory → failure ≡ Failure.Memory) × ((refusal : Refusal) → fault ≡ RunFault.Refused refusal → refusal ≢ Refusal.OutOfMemory → failure ≡ Failure.Image refusal) × ((boot : BootFault) → fault ≡ RunFault.Boot boot → failure ≡ Failure.Boot boot) };
+    ghost from_gives = { λ fault failure. (fault ≡ RunFault.Output → failure ≡ Failure.Output) × (fault ≡ RunFault.OutOfMemory → failure ≡ Failure.Memory) × ((refusal : Refusal) → fault ≡ RunFault.Refused refusal → refusal ≢ Refusal.OutOfMemory → failure ≡ Failure.Image refusal) × ((index : ℕ) → fault ≡ RunFault.Outside index → failure ≡ Failure.Outside index) × ((boot : BootFault) → fault ≡ RunFault.Boot boot → failure ≡ Failure.Boot boot) };
 
     fn from(fault: RunFault) -> Self {
         match fault {
             RunFault::Refused(refusal) => Failure::from(refusal),
+            RunFault::Outside(index) => Failure::Outside(index),
             RunFault::Boot(fault) => Failure::Boot(fault),
             RunFault::Output => Failure::Output,
             RunFault::OutOfMemory => Failure::Memory,
@@ -217,6 +220,7 @@ fn report<W: Sink, E: Sink>(alloc: Global, failure: Failure, output: &mut W, err
         Failure::Image(refusal) => refused(refusal_line(alloc, refusal), output, errors),
         Failure::Boot(fault) => refused(boot_line(alloc, fault), output, errors),
         Failure::Events(line) => refused(format!(in alloc; "events line {line}\n"), output, errors),
+        Failure::Outside(index) => refused(outside_line(alloc, index), output, errors),
         Failure::Source(SourceFault { line, kind }) => {
             refused(format!(in alloc; "source {line} {kind}\n"), output, errors)
         }
@@ -239,6 +243,16 @@ pub fn refusal_line(alloc: Global, refusal: Refusal) -> Result<String, AllocErro
         }
         _ => format!(in alloc; "refused {number} {name} {first} {second}\n"),
     }
+}
+
+/// The line of an event that is outside the device pages, by its index from 0: events are counted from 1 there.
+///
+/// # Errors
+///
+/// Memory is refused.
+pub fn outside_line(alloc: Global, index: usize) -> Result<String, AllocError> {
+    let number = index.saturating_add(1);
+    format!(in alloc; "events outside {number}\n")
 }
 
 /// The line of an image that does not boot.

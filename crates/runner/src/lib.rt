@@ -8,7 +8,7 @@ mod device_pages;
 mod running;
 mod unverified;
 
-pub use commands::{command, command_line, refusal_line};
+pub use commands::{command, command_line, outside_line, refusal_line};
 pub use device_pages::{DevicePages, first_outside};
 pub use running::{RunFault, run};
 pub use sinks::{EventsFault, MemorySink, Sink, SinkFault, WriterSink, events, put_all};

@@ -1,6 +1,6 @@
 //! A run: an image is verified and booted, and each event puts a line.
 
-ghost use Rattle.std.specs.Prelude.{◌≡◌, ◌≢◌, Err, IfErr, OnErr, OnOk, Some};
+ghost use Rattle.std.specs.Prelude.{ℕ, ◌≡◌, ◌≢◌, Err, IfErr, OnErr, OnOk, Some};
 ghost use Rattle.kernel_machine.specs.Setups.{state_in};
 ghost use Rattle.model.specs.Acceptance.Accepted.{first_breach};
 ghost use Rattle.model.specs.Images.Format.{reading};
@@ -10,9 +10,10 @@ ghost use Rattle.model.specs.declared.boot_faults.BootFault.{BootFault};
 ghost use Rattle.model.specs.declared.refusals.Refusal.{Refusal};
 ghost use Rattle.runner.specs.declared.running.RunFault.TheVariants.{Output, OutOfMemory};
 ghost use Rattle.kernel_trace.specs.Lines.{Failed, lines_of};
-ghost use Rattle.runner.specs.Running.{PutsAll, PutsSome, boot_fault_of, fault_of};
+ghost use Rattle.runner.specs.Running.{IsOutside, PutsAll, PutsSome, boot_fault_of, fault_of};
 ghost use Rattle.sinks.specs.Sinks.{Grows, GrowsByBeginning};
 
+use crate::device_pages::first_outside;
 use headline::accepted_images_run_safely;
 use kernel::System;
 use kernel_trace::put_trace;
@@ -29,6 +30,9 @@ pub enum RunFault {
     /// The image is not accepted. Nothing was put.
     #[error("the image is refused: {0:?}")]
     Refused(Refusal),
+    /// The event of this index, from 0, is the first that is outside the device pages of the image. Nothing was put.
+    #[error("event {0} is outside the image's device pages")]
+    Outside(usize),
     /// The image does not boot. Nothing was put.
     #[error("the image does not boot: {0:?}")]
     Boot(BootFault),
@@ -78,7 +82,7 @@ impl From<BootFault> for RunFault {
     }
 }
 
-/// Verifies the image, boots it, and puts one line for each event.
+/// Verifies the image, boots it, and puts one line for each event. What the world stores and looks at lies in its device pages.
 ///
 /// # Errors
 ///
@@ -94,6 +98,8 @@ pub fn run<S: Sink>(
     ensures ok { OnOk result (PutsAll bytes.now events.now (S.contents sink.old) (S.contents sink.new)) }
     // A refusal is the first breach, and nothing is put.
     ensures refused { (refusal : Refusal) → result ≡ Err (RunFault.Refused refusal) → (first_breach bytes.now ≡ Some refusal) × (sink.new ≡ sink.old) }
+    // What is outside is the first event that does not keep to the device pages of the image, which is accepted, and nothing is put.
+    ensures outside { (index : ℕ) → result ≡ Err (RunFault.Outside index) → IsOutside bytes.now events.now index × (sink.new ≡ sink.old) }
     // An image that cannot be read is refused for the first reason, and nothing is put.
     ensures unread { IfErr (reading whole_image bytes.now) (λ refusal. (result ≡ Err (RunFault.Refused refusal)) × (sink.new ≡ sink.old)) }
     // Where memory is refused, nothing is put.
@@ -106,6 +112,9 @@ pub fn run<S: Sink>(
     ensures boots { (fault : BootFault) → result ≢ Err (RunFault.Boot fault) }
 {
     let accepted = verify(alloc, bytes)?;
+    if let Some(index) = first_outside(alloc, accepted.image(), events)? {
+        return Err(RunFault::Outside(index));
+    }
     let system = boot(alloc, &accepted)?;
     accepted_images_run_safely();
     put_lines(system, events, sink)

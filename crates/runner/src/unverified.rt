@@ -1,13 +1,15 @@
 //! A run of an image that is not verified.
 
-ghost use Rattle.std.specs.Prelude.{◌≡◌, ◌≢◌, Err, IfErr, OnOk};
+ghost use Rattle.std.specs.Prelude.{ℕ, ◌≡◌, ◌≢◌, ◌⊎◌, Err, IfErr, IfOk, IfSome, OnOk};
 ghost use Rattle.model.specs.Images.Format.{reading};
 ghost use Rattle.model.specs.Images.Image.{whole_image};
 ghost use Rattle.model.specs.declared.boot_faults.BootFault.{BootFault};
 ghost use Rattle.model.specs.declared.refusals.Refusal.{Refusal};
 ghost use Rattle.kernel_trace.specs.Lines.{Failed};
-ghost use Rattle.runner.specs.Unverified.{FailsToBoot, PutsTrace, PutsTraceBeginning};
+ghost use Rattle.runner.specs.Devices.{first_outside};
+ghost use Rattle.runner.specs.Unverified.{FailsToBoot, PutsTrace, PutsTraceBeginning, ReadsOutside};
 
+use crate::device_pages::first_outside;
 use crate::running::{RunFault, put_lines};
 use image::read;
 use loader::boot_unverified;
@@ -35,6 +37,10 @@ pub fn run_unverified<S: Sink>(
     ensures refused { (refusal : Refusal) → result ≡ Err (RunFault.Refused refusal) → (reading whole_image bytes.now ≡ Err refusal) × (sink.new ≡ sink.old) }
     // What cannot be read is refused for the first reason, and nothing is put.
     ensures unread { IfErr (reading whole_image bytes.now) (λ refusal. (result ≡ Err (RunFault.Refused refusal)) × (sink.new ≡ sink.old)) }
+    // What is outside is the first event that does not keep to the device pages of the image that is read, and nothing is put.
+    ensures outside { (index : ℕ) → result ≡ Err (RunFault.Outside index) → ReadsOutside bytes.now events.now index × (sink.new ≡ sink.old) }
+    // Where there is such an event, nothing else is answered but that memory is refused.
+    ensures inside { IfOk (reading whole_image bytes.now) (λ image. IfSome (first_outside image events.now) (λ index. (result ≡ Err (RunFault.Outside index)) ⊎ (result ≡ Err RunFault.OutOfMemory))) }
     // The image that is read does not boot, for this reason, and nothing is put.
     ensures boot { (fault : BootFault) → result ≡ Err (RunFault.Boot fault) → FailsToBoot bytes.now fault × (sink.new ≡ sink.old) }
     // Where memory is refused, nothing is put.
@@ -47,6 +53,9 @@ pub fn run_unverified<S: Sink>(
     ensures room { result ≢ Err (RunFault.Boot BootFault.OutOfMemory) }
 {
     let image = read(bytes)?;
+    if let Some(index) = first_outside(alloc, &image, events)? {
+        return Err(RunFault::Outside(index));
+    }
     let system = boot_unverified(alloc, &image)?;
     put_lines(system, events, sink)
 }

@@ -30,6 +30,7 @@ impl From<EventsFault> for ToolFault<'_> {
 fn not_run(name: &str, fault: RunFault) -> ToolFault<'_> {
     match fault {
         RunFault::Refused(refusal) => ToolFault::Image(refusal),
+        RunFault::Outside(index) => ToolFault::Outside(index),
         RunFault::Boot(_) => ToolFault::Disagreement(name),
         RunFault::Output | RunFault::OutOfMemory => ToolFault::Memory,
     }

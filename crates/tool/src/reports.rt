@@ -6,7 +6,7 @@ use console::{
 use drawing::DrawingFault;
 use explaining::ExplainFault;
 use model::Refusal;
-use runner::refusal_line;
+use runner::{outside_line, refusal_line};
 use sinks::{Sink, SinkFault, put_all};
 use std::alloc::{AllocError, Global};
 use tool_requests::NoRequest;
@@ -32,6 +32,8 @@ pub(crate) enum ToolFault<'a> {
     Image(Refusal),
     /// The list of events is refused at this line.
     Events(u64),
+    /// The event of this index, from 0, is the first that is outside the device pages of the image.
+    Outside(usize),
     /// This line of a file is none of a text.
     Unread { file: &'a str, line: u64 },
     /// Two parts of the program disagree on a text, whose file this is.
@@ -181,6 +183,7 @@ fn refused_line(alloc: Global, fault: ToolFault<'_>) -> Result<String, AllocErro
     match fault {
         ToolFault::Image(refusal) => refusal_line(alloc, refusal),
         ToolFault::Events(line) => format!(in alloc; "events line {line}\n"),
+        ToolFault::Outside(index) => outside_line(alloc, index),
         ToolFault::Unread { file, line } => format!(in alloc;
             "{file}:{line}: Malformed: not read\n"
         ),

@@ -54,10 +54,11 @@ fn a_record_may_note_an_empty_slot(rt: HostRuntime) -> Result<(), Fail> {
 const ROWS: &str = "
     # The header: 16 to 24 memory bits, a boot radix of at most 11 of 16, and its counts. Memory may be more.
     0 0x5359534E | refused 1 Magic 0 0
-    # As version 2 or 3 its one thread is read as one promise, and the first word of its untyped memory as how many threads there are.
+    # As version 2, 3 or 4 its one thread is read as one promise, and the first word of its untyped memory as how many threads there are.
     4 2 | refused 5 Limit 48 0
     4 3 | refused 5 Limit 48 0
-    4 4 | refused 2 Version 0 0
+    4 4 | refused 5 Limit 48 0
+    4 5 | refused 2 Version 0 0
     8 15 | refused 5 Limit 8 0
     8 17 | accepted
     12 12 | refused 5 Limit 12 0

@@ -1,5 +1,5 @@
 -- What cannot be read is reported as it is, what does not boot is no refusal, and after the lines there is no other fault than the sink's.
-use Rattle.std.proofs.Common.{◌≡◌, ◌∙◌, sym}
+use Rattle.std.proofs.Common.{◌≡◌, ◌∙◌, inl, inr, Some, Err, refl, sym, ap}
 use Rattle.std.proofs.lemmas.Result.{err_from_is_err_and}
 use Rattle.kernel_machine.specs.Setups.{state_in}
 use Rattle.model.specs.declared.boot_faults.BootFault.TheVariants as boot_faults
@@ -8,9 +8,9 @@ use Rattle.model.specs.Kernel.Steps.{trace}
 use Rattle.kernel_trace.specs.Lines.{Failed, lines_of}
 use Rattle.runner.specs.Running.{boot_fault_of, fault_of}
 use Rattle.runner.specs.Unverified.{BootsInto, PutsTrace}
-use Rattle.runner.specs.declared.running.RunFault.TheVariants.{Boot, Output, OutOfMemory, Refused}
+use Rattle.runner.specs.declared.running.RunFault.TheVariants.{Boot, Output, OutOfMemory, Outside, Refused}
 use Rattle.sinks.specs.Sinks.{Grows, GrowsByBeginning}
-use Rattle.runner.proofs.Endings.{boot-tells, fault-is, is-output, of-err, on-ok, refusal-tells}
+use Rattle.runner.proofs.Endings.{boot-tells, fault-is, is-output, of-each, of-err, of-found, of-none, of-read, of-unread, on-ok, refusal-tells, same-index}
 use Rattle.runner.proofs.Refusals.{first-told, tells}
 use Rattle.runner.proofs.unverified.run_unverified.Goals as goal
 
@@ -111,3 +111,49 @@ returns-clause-enough g c = λ is.
 pub returns-clause-room : goal.returns-clause-room
 returns-clause-room g c = λ is.
     let clash : Boot boot_faults.OutOfMemory ≡ Output = is-output c.put_lines.result (Boot boot_faults.OutOfMemory) c.put_lines.ensures.only is in cc
+
+pub returns-clause-outside : goal.returns-clause-outside
+returns-clause-outside g c = λ index is.
+    let clash : Outside index ≡ Output = is-output c.put_lines.result (Outside index) c.put_lines.ensures.only is in absurd cc
+
+pub returns-in_err-image-clause-outside : goal.returns-in_err-image-clause-outside
+returns-in_err-image-clause-outside g c = λ index is.
+    let e = c.in_err-image.field-0.0 in
+    let p = err_from_is_err_and c.from_residual.result c.from_residual.ensures.1 in
+    absurd ((refusal-tells e).no-outside index (fault-is c.from_residual.result p.0 (fault_of e) (Outside index) p.1 p.2 is))
+
+pub returns-in-Some-clause-outside : goal.returns-in-Some-clause-outside
+returns-in-Some-clause-outside g c = λ index is.
+    let image = c.in_ok-image.image in
+    let same = same-index c.in-Some.index index is in
+    ((image, sym c.read.ensures ∙ c.in_ok-image.was, sym c.in_ok-index.ensures ∙ c.in-Some.is ∙ ap Some same), refl)
+
+pub returns-in_err-system-clause-outside : goal.returns-in_err-system-clause-outside
+returns-in_err-system-clause-outside g c = λ index is.
+    let e = c.in_err-system.field-0.0 in
+    let p = err_from_is_err_and c.from_residual-in_err-system.result c.from_residual-in_err-system.ensures.1 in
+    absurd ((boot-tells e).no-outside index (fault-is c.from_residual-in_err-system.result p.0 (boot_fault_of e) (Outside index) p.1 p.2 is))
+
+-- ---- where an event is outside
+
+pub returns-in_err-image-clause-inside : goal.returns-in_err-image-clause-inside
+returns-in_err-image-clause-inside g c = of-unread _ c.in_err-image.field-0.0 _ (sym c.read.ensures ∙ c.in_err-image.was)
+
+pub returns-in_err-index-clause-inside : goal.returns-in_err-index-clause-inside
+returns-in_err-index-clause-inside g c =
+    let p = err_from_is_err_and c.from_residual-in_err-index.result c.from_residual-in_err-index.ensures.1 in
+    let wanted : c.from_residual-in_err-index.result ≡ Err OutOfMemory = p.1 ∙ ap Err p.2 in
+    of-read _ c.in_ok-image.image _ (sym c.read.ensures ∙ c.in_ok-image.was) (of-each _ _ (λ index. inr wanted))
+
+pub returns-in-Some-clause-inside : goal.returns-in-Some-clause-inside
+returns-in-Some-clause-inside g c =
+    of-read _ c.in_ok-image.image _ (sym c.read.ensures ∙ c.in_ok-image.was)
+    (of-found _ c.in-Some.index _ (sym c.in_ok-index.ensures ∙ c.in-Some.is) (inl refl))
+
+pub returns-in_err-system-clause-inside : goal.returns-in_err-system-clause-inside
+returns-in_err-system-clause-inside g c =
+    of-read _ c.in_ok-image.image _ (sym c.read.ensures ∙ c.in_ok-image.was) (of-none _ _ (sym c.in_ok-index.ensures ∙ c.in_default.is))
+
+pub returns-clause-inside : goal.returns-clause-inside
+returns-clause-inside g c =
+    of-read _ c.in_ok-image.image _ (sym c.read.ensures ∙ c.in_ok-image.was) (of-none _ _ (sym c.in_ok-index.ensures ∙ c.in_default.is))
