@@ -1,6 +1,5 @@
 -- Messages that keep the promise of an endpoint or break it, and threads that wait with them.
-use Rattle.std.specs.Prelude.{ℕ, false, List, [], ◌∷◌, length}
-use Rattle.std.specs.Prelude.{Some, None}
+use Rattle.std.specs.Prelude.{ℕ, false, Some, None, List, [], ◌∷◌, length}
 use Rattle.model.specs.Images.Image.{Image}
 use Rattle.model.specs.Kernel.Messages.{Message}
 use Rattle.model.specs.Kernel.State.{State, Blocked, EndpointObject, Sender, Sent, ThreadObject, put}

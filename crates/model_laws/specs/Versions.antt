@@ -1,11 +1,10 @@
 -- Parts of images, for rows on what each version of image files has.
-use Rattle.std.specs.Prelude.{ℕ, Bool, List, [], ◌∷◌, length, map}
+use Rattle.std.specs.Prelude.{ℕ, pos, Bool, [], ◌∷◌, length}
 use Rattle.model.specs.declared.entries.ImageHeader.{ImageHeader}
 use Rattle.model.specs.declared.entries.ObjectEntry.{ObjectEntry}
 use Rattle.model.specs.declared.entries.ThreadHeader.{ThreadHeader}
 use Rattle.model.specs.Images.Image.{Thread, header_format, no_buffer, object_format, thread_header_format}
 use Rattle.model_laws.specs.Solo.{short_thread}
-use Rattle.std.specs.Prelude.{pos}
 
 abbrev pub an_object : ℕ → ℕ → ObjectEntry
 an_object kind size = record { untyped = 0; kind = kind; size = size }
