@@ -2,7 +2,6 @@
 use Rattle.std.specs.Prelude.{ℕ, pos, Bool, [], ◌∷◌, length}
 use Rattle.model.specs.declared.entries.ImageHeader.{ImageHeader}
 use Rattle.model.specs.declared.entries.ObjectEntry.{ObjectEntry}
-use Rattle.model.specs.declared.entries.ThreadHeader.{ThreadHeader}
 use Rattle.model.specs.Images.Image.{Thread, header_format, no_buffer, object_format, thread_header_format}
 use Rattle.model_laws.specs.Solo.{short_thread}
 
