@@ -1,13 +1,13 @@
 -- The lines of events that are asked for.
-use Rattle.std.proofs.Common.{◌≡◌, ◌∙◌, ◌⊎◌, inl, inr, drop, ℕ, zero, suc, ◌+◌, ◌-◌, ◌<◌, ◌≤◌, List, [], ◌∷◌, ◌++◌, Bool, true, false, Option, Some, None, length, refl, sym, ap, subst}
-use Rattle.std.proofs.Common.{append_assoc, arith}
+use Rattle.std.proofs.Common.{◌≡◌, ◌∙◌, ◌⊎◌, inl, inr, drop, ℕ, zero, suc, ◌+◌, ◌<◌, ◌≤◌, List, [], ◌∷◌, ◌++◌, Option, Some, None, refl, sym, ap, subst}
+use Rattle.std.proofs.Common.{arith}
 use Rattle.std.specs.Prelude.{is_some, replicate, take, if◌then◌else◌}
 use Rattle.std.proofs.lemmas.List.{append-nil}
 use Rattle.std.specs.Option.{option_map_or}
 use Rattle.model.specs.declared.events.Event.{Event}
 use Rattle.model.specs.declared.events.Event.TheVariants.{Step}
 use Rattle.model.specs.declared.labels.Label.{Label}
-use Rattle.model.specs.declared.labels.Label.TheVariants.{Idle}
+use Rattle.model.specs.declared.labels.Label.TheVariants.{Idle, Ticked, Raised, Wrote, Showed, Ran}
 use Rattle.model.specs.Kernel.Scheduling.{current}
 use Rattle.model.specs.Kernel.State.{State}
 use Rattle.model.specs.Kernel.Steps.{ran, state_after, step, trace}
@@ -61,6 +61,15 @@ settles s n (Some thread) is = (
 pub settled-none : (s : State) → settling 0 s ≡ []
 unfolding settling
 settled-none s = refl
+
+-- whether a label is that of a step in which no thread ran
+pub is-idle : (label : Label) → (label ≡ Idle) ⊎ (label ≡ Idle → ⊥)
+is-idle Idle = inl refl
+is-idle Ticked = inr (λ same. absurd cc)
+is-idle (Raised number) = inr (λ same. absurd cc)
+is-idle (Wrote address word) = inr (λ same. absurd cc)
+is-idle (Showed address word) = inr (λ same. absurd cc)
+is-idle (Ran thread pc outcome) = inr (λ same. absurd cc)
 
 -- what is left after a step
 pub settle-next : (s : State) (left rest : ℕ) → 0 < left → ((step s Step).1 ≡ Idle → rest ≡ 0) → (((step s Step).1 ≡ Idle → ⊥) → rest + 1 ≡ left)

@@ -1,6 +1,6 @@
 //! The lines of the events that a line asks for, all of them out when the call returns.
 
-ghost use Rattle.std.specs.Prelude.{◌≡◌, ◌+◌, ◌<◌, ◌≤◌, ◌++◌, OnErr, OnOk, length, replicate};
+ghost use Rattle.std.specs.Prelude.{◌≡◌, ◌≢◌, ◌+◌, ◌<◌, OnErr, OnOk, replicate};
 ghost use Rattle.kernel_machine.specs.Setups.{state_in};
 ghost use Rattle.model.specs.Kernel.Steps.{state_after, trace};
 ghost use Rattle.kernel_trace.specs.Asked.{asked_events, settling};
@@ -80,22 +80,18 @@ fn put_settled<S: Sink>(system: &mut System, most: u32, sink: &mut S) -> Result<
     let mut left = most;
     'steps: while left > 0 {
         make_room(sink, &mut lines)?;
-        left = step_on(system, left, &mut lines);
+        let label = system.step(Event::Step);
+        lines.put(label);
+        left = left_after(label, left);
     }
     put_all(sink, lines.bytes.as_slice())
 }
 
-/// Makes a step of those that are left, and holds its line. The answer is how many are left after it: none, if no thread ran.
-fn step_on(system: &mut System, left: u32, lines: &mut HeldLines) -> u32
-    requires { length lines.old.bytes + 33 ≤ 8192 }
-    ensures fewer { 0 < left → result < left }
-    ensures lines { 0 < left → lines.old.bytes ++ lines_of (trace (state_in system.old) (settling left (state_in system.old)))
-        ≡ lines.new.bytes ++ lines_of (trace (state_in system.new) (settling result (state_in system.new))) }
-    ensures state { 0 < left → state_after (state_in system.old) (settling left (state_in system.old))
-        ≡ state_after (state_in system.new) (settling result (state_in system.new)) }
+/// How many steps are left after one with this label: none, if no thread ran.
+fn left_after(label: Label, left: u32) -> u32
+    ensures idle { label ≡ Label.Idle → result ≡ 0 }
+    ensures more { label ≢ Label.Idle → 0 < left → result + 1 ≡ left }
 {
-    let label = system.step(Event::Step);
-    lines.put(label);
     match label {
         Label::Idle => 0,
         _ => left.saturating_sub(1),

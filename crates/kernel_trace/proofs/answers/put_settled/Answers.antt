@@ -2,12 +2,13 @@
 use Rattle.std.proofs.Common.{◌≡◌, ◌∙◌, ◌<◌, ◌++◌, ℕ, List, ap, arith, subst, sym}
 use Rattle.kernel_machine.specs.Setups.{state_in}
 use Rattle.model.specs.declared.events.Event.{Event}
+use Rattle.model.specs.declared.events.Event.TheVariants.{Step}
 use Rattle.model.specs.Kernel.State.{State}
-use Rattle.model.specs.Kernel.Steps.{state_after, trace}
+use Rattle.model.specs.Kernel.Steps.{state_after, step, trace}
 use Rattle.kernel_trace.specs.Asked.{settling}
 use Rattle.kernel_trace.specs.Lines.{lines_of}
 use Rattle.sinks.specs.Sinks.{Grows, GrowsByBeginning}
-use Rattle.kernel_trace.proofs.AnsweredLines.{after-none, settled-none, trace-none}
+use Rattle.kernel_trace.proofs.AnsweredLines.{after-none, is-idle, settle-next, settle_done, settle_held, settled-none, trace-none}
 use Rattle.kernel_trace.proofs.PutLines.{all_put, front_put, map_err, map_ok, more_held, on_err, on_ok, stopped}
 use Rattle.kernel_trace.proofs.answers.put_settled.Goals as goal
 
@@ -25,19 +26,23 @@ pub steps-preserved : goal.steps-preserved
 steps-preserved g c =
     let start = state_in c.args.system.now in
     let now = state_in c.steps.system in
-    let after = state_in c.step_on-left.new.system in
+    let after = state_in c.step-label.new.self in
+    let rest = c.left_after-left.result in
     let labels = trace start (settling c.args.most start) in
     let old = g.S.Sink.contents c.args.sink.now in
     let new = g.S.Sink.contents c.make_room.new.sink in
     let held = c.make_room.new.lines.bytes in
     let left = trace now (settling c.steps.left now) in
     let some = c.steps-test.true in
+    let gives = c.step-label.ensures.label in
+    let settled = settle-next now c.steps.left rest some (λ idle. c.left_after-left.ensures.idle (gives ∙ idle))
+    (λ runs. c.left_after-left.ensures.more (λ idle. runs (sym gives ∙ idle)) some) (is-idle (step now Step).1) in
     let room = front_put labels old left c.steps.lines.bytes held (g.S.Sink.contents c.steps.sink) new c.steps.invariant.put
     c.in_ok-make_room.ensures.ok in
     record {
-      put = more_held labels old left (trace after (settling c.step_on-left.result after)) held c.step_on-left.new.lines.bytes new room
-          (c.step_on-left.ensures.lines some);
-      goes = c.steps.invariant.goes ∙ c.step_on-left.ensures.state some;
+      put = more_held labels old left (trace after (settling rest after)) held c.put.new.self.bytes new room
+          (settle_held now after c.step-label.result c.steps.left rest held c.put.new.self.bytes c.step-label.ensures.state gives c.put.ensures settled);
+      goes = c.steps.invariant.goes ∙ settle_done now after c.steps.left rest c.step-label.ensures.state settled;
       counted = c.in_ok-make_room.ensures.counted ∙ c.steps.invariant.counted;
     }
 
