@@ -6,3 +6,7 @@ pub use Rattle.headline.proofs.steps.Laws.{IsGiven, RunsAlong, branch-content, g
 pub use Rattle.headline.proofs.RunningLabels.{runs-within}
 pub use Rattle.headline.proofs.invocations.OtherSlots.{boot-kept}
 pub use Rattle.headline.proofs.Fronts.{all-front}
+pub use Rattle.headline.proofs.moves.Laws.{call-leaves, held-there, named-here}
+pub use Rattle.headline.proofs.invocations.AllRuns.{either-invokes}
+pub use Rattle.headline.proofs.invocations.InvocationSteps.{invocation-leaves}
+pub use Rattle.headline.proofs.invocations.TwoThreads.{one-owner}
