@@ -42,7 +42,7 @@ use Rattle.response.specs.Weights.{waits_for_no_message}
 use Rattle.response.proofs.Sole.{TakesWord, sole-takes}
 use Rattle.response.proofs.Waiting.{one-left}
 
-asked-is : (image : Image) (t : Numbered) (point : ℕ) (state : PointState) → instruction_at t.thread point ≡ Some Ecall
+pub asked-is : (image : Image) (t : Numbered) (point : ℕ) (state : PointState) → instruction_at t.thread point ≡ Some Ecall
     → asked_at image t.thread point state ≡ asked_known (call_of (range_of state.ranges a7).low) (capability_named image t.thread state)
 unfolding asked_at
 asked-is image t point state ecall = ap (λ (o : Option Instr). asked_of image t.thread state o) ecall

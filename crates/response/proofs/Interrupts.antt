@@ -65,7 +65,7 @@ thread-same image priority w s after labels later t same counts =
 
 -- ---- what a binding names
 
-names-bound : (c : Cap) (bound : Signal) → signal_of c ≡ Some bound → Names NewNotification bound.notification c
+pub names-bound : (c : Cap) (bound : Signal) → signal_of c ≡ Some bound → Names NewNotification bound.notification c
 names-bound (Notification offset r badge) bound is =
     let same : record { notification = offset; badge = badge } ≡ bound = cc in ap (λ (b : Signal). Some (NewNotification, b.notification)) same
 names-bound Empty bound is = let e : None ≡ Some bound = is in absurd cc

@@ -63,7 +63,7 @@ module _ (image : Image) (priority : ℕ) (w : Weights) (s : State) (labels : Li
     → is_runnable (thread_at s (tcb_of image t)).status ≡ true → ⊥)
     (bound : (number : ℕ) → Contains irq_lines number → binding s number ≡ binding (described image) number) (is_taken : ℕ → Bool)
     (taken : (queue : ℕ) (n : NotificationState) → is_taken queue ≡ true → s.objects queue ≡ Some (NotificationObject n) → n.word ≡ 0) where
-  nothing-left : (t : Numbered) → Contains (numbered_threads image) t → left_of_thread image priority w s labels t ≤ 0
+  pub nothing-left : (t : Numbered) → Contains (numbered_threads image) t → left_of_thread image priority w s labels t ≤ 0
   nothing-left t listed = elim (is_of_level priority t) as (λ b. is_of_level priority t ≡ b → (if b && is_runnable (thread_at s (tcb_of image t)).status
       then t.thread.header.budget - open_count (tcb_of image t) labels + w.still t.number (point_now image s t) else 0) ≤ 0) [
         | true ↦ λ level. elim (is_runnable (thread_at s (tcb_of image t)).status) as (λ b. is_runnable (thread_at s (tcb_of image t)).status ≡ b → (if b
@@ -74,7 +74,7 @@ module _ (image : Image) (priority : ℕ) (w : Weights) (s : State) (labels : Li
         | false ↦ λ _. omega arith
       ] refl
 
-  none-total : {A : Type 0} (xs : List A) → total (λ _. 0) xs ≡ 0
+  pub none-total : {A : Type 0} (xs : List A) → total (λ _. 0) xs ≡ 0
   none-total [] = refl
   none-total (x ∷ xs) = let rest = none-total xs in omega (arith, rest)
 
@@ -90,7 +90,7 @@ module _ (image : Image) (priority : ℕ) (w : Weights) (s : State) (labels : Li
   word-there queue here (Some PageTableObject) is = refl
   word-there queue here (Some RootTableObject) is = refl
 
-  a-word : (p : Price) → left_of_word w s p ≤ (if is_taken p.object then 0 else p.price)
+  pub a-word : (p : Price) → left_of_word w s p ≤ (if is_taken p.object then 0 else p.price)
   a-word p = elim (is_taken p.object) as (λ b. is_taken p.object ≡ b → left_of_word w s p ≤ (if b then 0 else p.price)) [
     | true ↦ λ here.
         let none : left_of_word w s p ≡ 0 = ap (λ (k : ℕ). if k == 0 then 0 else p.price) (word-there p.object here (s.objects p.object) refl) in
@@ -98,7 +98,7 @@ module _ (image : Image) (priority : ℕ) (w : Weights) (s : State) (labels : Li
     | false ↦ λ _. elim ((notification_at s p.object).word == 0) as (λ b. (if b then 0 else p.price) ≤ p.price) [ true ↦ omega arith | false ↦ omega arith ]
   ] refl
 
-  a-line : (number : ℕ) → Contains irq_lines number → left_of_line w s number ≤ line_price w (described image) number
+  pub a-line : (number : ℕ) → Contains irq_lines number → left_of_line w s number ≤ line_price w (described image) number
   a-line number among =
       let same : line_price w s number ≡ line_price w (described image) number =
       ap (λ (b : Option Signal). option_map_or (λ x. price_of w x.notification) b 0) (bound number among) in

@@ -24,7 +24,7 @@ runs-not-blocked : (own one : ThreadState) (queue : ℕ) → own.status ≡ Runn
 runs-not-blocked own one queue may rests same = let clash : Runnable ≡ Blocked queue = sym may ∙ sym (ap (λ (u : ThreadState). u.status) same)
     ∙ rests in absurd cc
 
-same-thread : (o : Option Object) (a b : ThreadState) → o ≡ Some (ThreadObject a) → o ≡ Some (ThreadObject b) → a ≡ b
+pub same-thread : (o : Option Object) (a b : ThreadState) → o ≡ Some (ThreadObject a) → o ≡ Some (ThreadObject b) → a ≡ b
 same-thread o a b first second =
     let both : Some (ThreadObject a) ≡ Some (ThreadObject b) = sym first ∙ second in
     let inside : ThreadObject a ≡ ThreadObject b = cc in cc

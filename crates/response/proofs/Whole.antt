@@ -31,7 +31,7 @@ range-below from zero x k inside is = absurd (omega (arith, inside))
 range-below from (suc count) x zero inside is = let same : from ≡ x = is in omega (arith, same)
 range-below from (suc count) x (suc k) inside is = let less = range-below (from + 1) count x k (omega (arith, inside)) is in omega (arith, less)
 
-few-lines : (number : ℕ) → Contains irq_lines number → number < 64
+pub few-lines : (number : ℕ) → Contains irq_lines number → number < 64
 unfolding irq_lines
 few-lines number among = let less = range-below 0 64 number among.0 among.1 among.2 in omega (arith, less)
 

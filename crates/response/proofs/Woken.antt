@@ -1,14 +1,10 @@
 -- What a thread is worth that takes from a notification, once it runs again: at most the notification's price.
-use Rattle.std.proofs.Common.{ℕ, ◌≡◌, ◌∙◌, ◌+◌, ◌-◌, ◌*◌, ◌/◌, ◌%◌, ◌^◌, ◌<◌, ◌≤◌, true, Option, Result, List, [], ◌∷◌, refl, sym, ap, subst, arith}
+use Rattle.std.proofs.Common.{ℕ, ◌≡◌, ◌∙◌, ◌+◌, ◌-◌, ◌*◌, ◌/◌, ◌%◌, ◌^◌, ◌≤◌, true, List, ap, subst, arith}
 use Rattle.std.specs.Prelude.{Contains}
 use Rattle.std.proofs.lemmas.Bool.{leb-true}
-use Rattle.model.specs.declared.instructions.Instr.{Instr}
 use Rattle.model.specs.declared.labels.Label.{Label}
-use Rattle.model.specs.declared.refusals.Refusal.{Refusal}
 use Rattle.model.specs.Acceptance.Accepted.{IsAccepted}
-use Rattle.model.specs.Acceptance.CallRules.{AfterCall}
-use Rattle.model.specs.Acceptance.PointRules.{ProgramEdge, call_edge, call_edges, edges_at}
-use Rattle.model.specs.Acceptance.PointStates.{address_of, instruction_at}
+use Rattle.model.specs.Acceptance.PointStates.{address_of}
 use Rattle.model.specs.Images.Described.{Numbered, numbered_threads}
 use Rattle.model.specs.Images.Image.{Image}
 use Rattle.model.specs.Kernel.State.{State}
@@ -17,9 +13,7 @@ use Rattle.response.specs.Asking.{Asked}
 use Rattle.response.specs.Laws.{WaitsToTake}
 use Rattle.response.specs.Levels.{is_of_level}
 use Rattle.response.specs.Weights.{Leads, Pays, Weights, pays_for, price_of}
-
-one-on : (base words point : ℕ) → base + 4 * words ≤ 2 ^ 31 → point + 1 < words → (base + 4 * point + 4) % 2 ^ 32 ≡ base + 4 * (point + 1)
-one-on base words point ends inside = omega (arith, ends, inside)
+use Rattle.response.proofs.CallLeads.{call-leads, next-address, next-inside}
 
 -- the point of an address
 pub point-of : (base point : ℕ) → (base + 4 * point - base) / 4 ≡ point
@@ -31,35 +25,15 @@ module _ (laws : Laws) (bytes : List ℕ) (image : Image) (accepted : IsAccepted
   abbrev point : ℕ
   point = waits.point
 
-  inside : point + 1 < t.thread.header.words
-  inside = (laws.lead bytes image t point waits.state waits.left accepted listed waits.stands.inside waits.stands.known waits.ecall waits.call).inside
-
   -- where its program goes on
   pub next-pc : (waits.own.registers.pc + 4) % 2 ^ 32 ≡ address_of t.thread (point + 1)
   next-pc =
       ap (λ (n : ℕ). (n + 4) % 2 ^ 32) waits.stands.pc
-      ∙ one-on t.thread.header.base t.thread.header.words point (laws.ends bytes image t accepted listed) inside
-
-  the-edge : ProgramEdge
-  the-edge = call_edge (address_of t.thread point) waits.state.ranges waits.left
-
-  edges-are : edges_at image t point waits.state (instruction_at t.thread point) ≡ the-edge ∷ []
-  unfolding edges_at the-edge
-  edges-are =
-      ap (λ (o : Option Instr). edges_at image t point waits.state o) waits.ecall
-      ∙ ap (λ (o : Option (Result AfterCall Refusal)). call_edges (address_of t.thread point) waits.state.ranges o) waits.call
+      ∙ next-address t.thread.header.base t.thread.header.words point (laws.ends bytes image t accepted listed)
+      (next-inside laws bytes image accepted t listed point waits.state waits.left waits.stands.inside waits.stands.known waits.ecall waits.call)
 
   goes-on : Leads image t point waits.state (point + 1)
-  unfolding the-edge
-  goes-on = record {
-    edge = the-edge;
-    among = subst (λ (l : List ProgramEdge). Contains l the-edge) (sym edges-are) (0, omega arith, refl);
-    inside = inside;
-    target = four-on t.thread.header.base point;
-  }
-    where
-      four-on : (base point : ℕ) → base + 4 * point + 4 ≡ base + 4 * (point + 1)
-      four-on base point = omega arith
+  goes-on = call-leads laws bytes image accepted t listed point waits.state waits.left waits.stands.inside waits.stands.known waits.ecall waits.call
 
   -- its budget, and what it has still to set going, are paid
   pub taker-paid : is_of_level priority t ≡ true → t.thread.header.budget + w.still t.number (point + 1) ≤ price_of w queue

@@ -16,7 +16,7 @@ use Rattle.model.specs.Acceptance.NotedStates.{PointState}
 use Rattle.model.specs.Acceptance.PointStates.{Known, call_at, instruction_at, noted}
 use Rattle.model.specs.Kernel.Steps.{state_after, step, trace}
 use Rattle.model.specs.Kernel.Waits.{open_count}
-use Rattle.response.specs.Asking.{Takes, asked_at}
+use Rattle.response.specs.Asking.{Rings, Takes, asked_at}
 use Rattle.model.specs.Kernel.Interrupts.{binding}
 use Rattle.headline.specs.invocations.Invoking.{Invokes}
 use Rattle.headline.specs.moves.Steps.{MakesCall}
@@ -26,7 +26,7 @@ use Rattle.headline.specs.steps.Points.{ReachesNoCall}
 use Rattle.response.specs.Left.{at_rest, left, line_price}
 use Rattle.response.specs.Levels.{HasItsPriority, KeepsLevel, KeepsLevelOnceRested, is_level_label, is_of_level}
 use Rattle.response.specs.Rates.{Keeps, Rate, cost_of, costs_within}
-use Rattle.response.specs.Weights.{Pays, Weights, waits_for_no_message}
+use Rattle.response.specs.Weights.{Pays, Weights, price_of, waits_for_no_message, waits_for_notifications_alone}
 
 -- threads of an accepted image keep the priorities that it gives them
 abbrev pub PrioritiesStay : Type 0
@@ -238,5 +238,45 @@ LevelsRestLater =
     → IsAccepted bytes image → All (KeepsDevices image) events → Pays image priority w → AreTakenAlone image priority is_taken → HaveRates image w rates
     → CallsAreWork image priority w
     → StepsBelowRest image priority w most
+    → at_rest image w is_taken ≤ most → Keeps rates events → most + costs_within rates (line_price w (described image)) n ≤ n
+    → KeepsLevelOnceRested image priority n events
+
+-- ---- levels that wait for notifications alone
+
+-- such a step takes 1 off where no thread of the level has anything to do with an endpoint
+abbrev pub NotificationCallsAreWork : Type 0
+NotificationCallsAreWork =
+    (bytes : List ℕ) (image : Image) (priority : ℕ) (w : Weights) → IsAccepted bytes image → Pays image priority w
+    → waits_for_notifications_alone image priority ≡ true → CallsAreWork image priority w
+
+-- what a thread below rings is left too, where a thread of the level rests that takes from it alone: no word is counted there
+abbrev pub RingsFit : Image → ℕ → Weights → (ℕ → Bool) → ℕ → Type 0
+RingsFit image priority w is_taken most =
+    (t : Numbered) (point : ℕ) (state : PointState) (object : ℕ) → Contains (numbered_threads image) t → is_of_level priority t ≡ false
+    → point < t.thread.header.words → noted image t point ≡ Known state → asked_at image t.thread point state ≡ Rings object → is_taken object ≡ true
+    → at_rest image w is_taken + price_of w object ≤ most
+
+-- after a step of another thread no more than this is left
+abbrev pub NotificationStepsBelowRest : Type 0
+NotificationStepsBelowRest =
+    (bytes : List ℕ) (image : Image) (priority : ℕ) (w : Weights) (is_taken : ℕ → Bool) (most : ℕ) → IsAccepted bytes image → Pays image priority w
+    → waits_for_notifications_alone image priority ≡ true → AreTakenAlone image priority is_taken → RingsFit image priority w is_taken most
+    → at_rest image w is_taken ≤ most → StepsBelowRest image priority w most
+
+-- So: no more than n steps on end are of the level, where all that may be left at the start and at rest, and come within n steps, is at most n.
+abbrev pub NotificationLevelsRestWithin : Type 0
+NotificationLevelsRestWithin =
+    (bytes : List ℕ) (image : Image) (priority : ℕ) (w : Weights) (rates : List Rate) (is_taken : ℕ → Bool) (most n : ℕ) (events : List Event)
+    → IsAccepted bytes image → All (KeepsDevices image) events → Pays image priority w → waits_for_notifications_alone image priority ≡ true
+    → AreTakenAlone image priority is_taken → RingsFit image priority w is_taken most → HaveRates image w rates
+    → left_after image priority w [] ≤ most → at_rest image w is_taken ≤ most → Keeps rates events
+    → most + costs_within rates (line_price w (described image)) n ≤ n → KeepsLevel image priority n events
+
+-- and once the level has rested, whatever was left at the start
+abbrev pub NotificationLevelsRestLater : Type 0
+NotificationLevelsRestLater =
+    (bytes : List ℕ) (image : Image) (priority : ℕ) (w : Weights) (rates : List Rate) (is_taken : ℕ → Bool) (most n : ℕ) (events : List Event)
+    → IsAccepted bytes image → All (KeepsDevices image) events → Pays image priority w → waits_for_notifications_alone image priority ≡ true
+    → AreTakenAlone image priority is_taken → RingsFit image priority w is_taken most → HaveRates image w rates
     → at_rest image w is_taken ≤ most → Keeps rates events → most + costs_within rates (line_price w (described image)) n ≤ n
     → KeepsLevelOnceRested image priority n events

@@ -1,14 +1,16 @@
 -- Weights: what it costs a level that a notification or an endpoint is rung or sent to, and what a thread has still to set going from a point on
 -- to its next wait; and when they pay for all that the threads of the level ask.
-use Rattle.std.specs.Prelude.{ℕ, ◌≡◌, ◌==◌, ◌+◌, ◌≤◌, ◌<◌, Bool, true, false, nat_le, find, map, Contains, List, if◌then◌else◌}
+use Rattle.std.specs.Prelude.{ℕ, ◌≡◌, ◌==◌, ◌+◌, ◌≤◌, ◌<◌, ◌||◌, Bool, true, false, nat_le, not, find, map, Contains, List, if◌then◌else◌}
+use Rattle.std.specs.List.{list_all, range_with_len}
 use Rattle.std.specs.Option.{option_map_or}
 use Rattle.model.specs.Acceptance.NotedStates.{PointState}
 use Rattle.model.specs.Acceptance.PointRules.{ProgramEdge, edges_at}
-use Rattle.model.specs.Acceptance.PointStates.{Known, address_of, instruction_at, noted}
+use Rattle.model.specs.Acceptance.PointStates.{Known, Missing, Noted, Unmeasured, address_of, instruction_at, noted}
 use Rattle.model.specs.Images.Described.{Numbered, numbered_threads}
 use Rattle.model.specs.Images.Image.{Image}
 use Rattle.model.specs.Shared.Lists.{times_in}
 use Rattle.response.specs.Asking.{Asked, Takes, Polls, Rings, Acknowledges, Accepts, Looks, SendsTo, Calls, Tries, Answers, Asks_nothing, asked_at}
+use Rattle.response.specs.Asking.{asks_no_endpoint}
 use Rattle.response.specs.Levels.{is_of_level}
 
 -- what it costs the level that something comes to an object
@@ -72,3 +74,18 @@ abbrev pub TakesAlone : Image → ℕ → Type 0
 TakesAlone image priority =
     (t : Numbered) (point : ℕ) (state : PointState) → Contains (numbered_threads image) t → is_of_level priority t ≡ true
     → point < t.thread.header.words → noted image t point ≡ Known state → waits_for_no_message (asked_at image t.thread point state) ≡ true
+
+-- ---- a test of that, and a little more: no thread of the level has anything to do with an endpoint
+
+abbrev pub where_known : (PointState → Bool) → Noted → Bool
+where_known test (Known state) = test state
+where_known test Missing = true
+where_known test Unmeasured = true
+
+abbrev pub meets_no_endpoint : Image → Numbered → Bool
+meets_no_endpoint image t =
+    list_all (λ point. where_known (λ state. asks_no_endpoint (asked_at image t.thread point state)) (noted image t point))
+    (range_with_len 0 t.thread.header.words)
+
+abbrev pub waits_for_notifications_alone : Image → ℕ → Bool
+waits_for_notifications_alone image priority = list_all (λ t. not (is_of_level priority t) || meets_no_endpoint image t) (numbered_threads image)

@@ -2,17 +2,24 @@
 //! is the contract of a function that does nothing.
 #![tactic(auto)]
 
-ghost use Rattle.response.specs.Laws.{BindingsStay, NoWordAtRest, InterruptsBeyond, InvocationsRingNothing, LevelsRestWithin, EconomiesBound, EconomiesBoundLater, LevelsRestLater, InterruptsCost, LevelsAreSeen, LevelsRun, PlainStepsAreWork, PrioritiesStay, TicksLeaveTheWork, WaitersTake, WhoRunsHasLeft, WritesLeaveTheWork, LooksLeaveTheWork};
+ghost use Rattle.headline.specs.invocations.Laws.{Laws};
+ghost use Rattle.response.specs.Laws.{NotificationCallsAreWork, NotificationLevelsRestLater, NotificationLevelsRestWithin, NotificationStepsBelowRest, BindingsStay, NoWordAtRest, InterruptsBeyond, InvocationsRingNothing, LevelsRestWithin, EconomiesBound, EconomiesBoundLater, LevelsRestLater, InterruptsCost, LevelsAreSeen, LevelsRun, PlainStepsAreWork, PrioritiesStay, TicksLeaveTheWork, WaitersTake, WhoRunsHasLeft, WritesLeaveTheWork, LooksLeaveTheWork};
 
 use headline::authority::{
     a_tick_stays_within_authority, an_interrupt_stays_within_authority,
     events_stay_within_authority,
 };
-use headline::invocations::events_go_well;
+use headline::invocations::{
+    changed_slots_keep_all_standing, copies_go_well, deletes_go_well, events_go_well,
+    invocations_leave_a_parent_to_each_slot, maps_go_well, mints_go_well, moves_go_well,
+    retypes_go_well, revokes_go_well, steps_go_well, threads_mirror_what_is_noted, unmaps_go_well,
+};
 use headline::kept::threads_have_their_own_blocks;
 use headline::measure_facts::{least_values_are_least, measures_of_points_name_registers};
 use headline::moves::laws_below;
+use headline::parts::threads_are_told_apart;
 use headline::starts::threads_are_as_listed;
+use soundness::an_acknowledgement_keeps_soundness;
 
 /// Threads keep the priorities that the image gives them.
 pub fn priorities_stay()
@@ -133,4 +140,62 @@ pub fn no_word_at_rest()
 {
     events_go_well();
     laws_below();
+}
+
+/// The laws of the crate below on single invocations, together.
+fn laws_on_invocations()
+    ensures { Laws }
+{
+    laws_below();
+    an_acknowledgement_keeps_soundness();
+    threads_mirror_what_is_noted();
+    copies_go_well();
+    mints_go_well();
+    moves_go_well();
+    deletes_go_well();
+    revokes_go_well();
+    retypes_go_well();
+    maps_go_well();
+    unmaps_go_well();
+    invocations_leave_a_parent_to_each_slot();
+    changed_slots_keep_all_standing();
+}
+
+/// Where no thread of a level has anything to do with an endpoint, a system call of one of them takes 1 off what is left, at least.
+pub fn notification_calls_are_work()
+    ensures { NotificationCallsAreWork }
+{
+    laws_on_invocations();
+    steps_go_well();
+    events_go_well();
+    events_stay_within_authority();
+    threads_are_told_apart();
+    waiters_take();
+    bindings_stay();
+    who_runs_has_left();
+}
+
+/// After a step of another thread no more is left than at rest, and what that rings.
+pub fn notification_steps_below_rest()
+    ensures { NotificationStepsBelowRest }
+{
+    laws_on_invocations();
+    steps_go_well();
+    events_go_well();
+    events_stay_within_authority();
+    threads_are_told_apart();
+    waiters_take();
+    bindings_stay();
+    levels_run();
+    no_word_at_rest();
+}
+
+/// The bound of stage one for levels that wait for notifications alone, without premises on steps.
+pub fn notification_levels_rest_within()
+    ensures start { NotificationLevelsRestWithin }
+    ensures later { NotificationLevelsRestLater }
+{
+    notification_calls_are_work();
+    notification_steps_below_rest();
+    levels_rest_within();
 }
