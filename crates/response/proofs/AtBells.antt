@@ -1,4 +1,4 @@
--- A thread that has nothing to do with endpoints: where it does not run it waits in the queue of a notification. So nobody but a signal
+-- A thread that waits for no message: where it does not run it waits in the queue of a notification. So nobody but a signal
 -- wakes it, by what a step of another thread may change.
 use Rattle.std.proofs.Common.{ℕ, ◌≡◌, ◌≢◌, ◌∙◌, ◌⊎◌, ◌<◌, inl, inr, true, false, Option, Some, None, option_map, Ok, List, [], ◌∷◌, refl}
 use Rattle.std.proofs.Common.{sym, ap, subst, arith}
@@ -34,31 +34,17 @@ use Rattle.headline.proofs.Laws.{held-there, one-owner}
 use Rattle.headline.specs.facts.Standing.{AllStand}
 use Rattle.headline.specs.facts.Waiting.{NamesQueue, QueuesSo, SendsAs, WaitsSo, behind_reply, behind_signal}
 use Rattle.headline.specs.moves.Laws.{Laws}
-use Rattle.response.specs.Asking.{Asked, Takes, Polls, Rings, Acknowledges, Accepts, Looks, SendsTo, Calls, Tries, Answers, Asks_nothing, asked_at, asked_known}
-use Rattle.response.specs.Asking.{asks_no_endpoint, capability_named}
+use Rattle.response.specs.Asking.{asked_at, asked_known, capability_named}
 use Rattle.response.specs.Weights.{waits_for_no_message}
 use Rattle.response.proofs.AtRest.{asked-is}
 use Rattle.response.proofs.Sole.{TakesWord, sole-takes}
 use Rattle.response.proofs.Waiting.{one-left, same-thread}
 
--- no point of the thread has anything to do with an endpoint
-abbrev pub MeetsNoEndpoint : Image → Numbered → Type 0
-MeetsNoEndpoint image t =
+-- no point of the thread waits for a message
+abbrev pub WaitsForNoMessage : Image → Numbered → Type 0
+WaitsForNoMessage image t =
     (point : ℕ) (state : PointState) → point < t.thread.header.words → noted image t point ≡ Known state
-    → asks_no_endpoint (asked_at image t.thread point state) ≡ true
-
-no-message : (asked : Asked) → asks_no_endpoint asked ≡ true → waits_for_no_message asked ≡ true
-no-message (Takes o) is = refl
-no-message (Polls o) is = refl
-no-message (Rings o) is = refl
-no-message (Acknowledges number) is = refl
-no-message (Accepts o replies) is = absurd (let clash : false ≡ true = is in cc)
-no-message (Looks o) is = refl
-no-message (SendsTo o) is = absurd (let clash : false ≡ true = is in cc)
-no-message (Calls o) is = absurd (let clash : false ≡ true = is in cc)
-no-message (Tries o) is = refl
-no-message Answers is = refl
-no-message Asks_nothing is = refl
+    → waits_for_no_message (asked_at image t.thread point state) ≡ true
 
 -- it waits in a queue, and a word is what it waits for
 pub record WaitsAtBell (image : Image) (t : Numbered) (s : State) (own : ThreadState) : Type 0 where
@@ -73,7 +59,7 @@ pub record WaitsAtBell (image : Image) (t : Numbered) (s : State) (own : ThreadS
   pub so : QueuesSo image t s state left queue
 
 module _ (laws : Laws) (bytes : List ℕ) (image : Image) (s : State) (labels : List Label) (accepted : IsAccepted bytes image) (all : AllStand image s labels)
-    (t : Numbered) (listed : Contains (numbered_threads image) t) (quiet : MeetsNoEndpoint image t) where
+    (t : Numbered) (listed : Contains (numbered_threads image) t) (quiet : WaitsForNoMessage image t) where
   module _ (own : ThreadState) (point : ℕ) (state : PointState) (stands : StandsAt image t s own point state) (asks : WaitsThere image t point state) where
     takes : TakesWord image t.thread (point_of t point) state asks.1.0 asks.1.2 laws.receives laws.sends laws.others
         (asked_known (call_of (range_of state.ranges a7).low) (capability_named image t.thread state))
@@ -81,8 +67,7 @@ module _ (laws : Laws) (bytes : List ℕ) (image : Image) (s : State) (labels : 
         let allowed = laws.allowed bytes image t point state accepted listed stands.inside stands.known asks.0 in
         sole-takes image t.thread (point_of t point) state asks.1.0 asks.1.2 laws.receives laws.sends laws.others
         (allowed.is ∙ ap (λ (a : AfterCall). Ok a) (one-left (sym allowed.at ∙ asks.1.1)))
-        (sym (ap waits_for_no_message (asked-is image t point state asks.0)) ∙ no-message (asked_at image t.thread point state)
-        (quiet point state stands.inside stands.known))
+        (sym (ap waits_for_no_message (asked-is image t point state asks.0)) ∙ quiet point state stands.inside stands.known)
 
     no-reply : asks.1.0 ≡ behind_reply state → ⊥
     no-reply is_reply =
@@ -140,7 +125,7 @@ one-queue both = cc
 module _ (laws : Laws) (bytes : List ℕ) (image : Image) (s after : State) (labels later : List Label) (accepted : IsAccepted bytes image)
     (all : AllStand image s labels) (behind : AllStand image after later) (told : (a b : ThreadState) → (a ≡ b) ⊎ (a ≢ b)) (t : Numbered)
     (running : Contains (numbered_threads image) t) (within : WithinAuthority image t.thread s after) (u : Numbered)
-    (listed : Contains (numbered_threads image) u) (quiet : MeetsNoEndpoint image u) (other : tcb_of image u ≢ tcb_of image t) where
+    (listed : Contains (numbered_threads image) u) (quiet : WaitsForNoMessage image u) (other : tcb_of image u ≢ tcb_of image t) where
   module _ (before : ThreadState) (was : s.objects (tcb_of image u) ≡ Some (ThreadObject before)) (w : WaitsAtBell image u s before) where
     not-written : (xs : List Register) → w.left.written ≡ xs → (a0 ∷ [] ≡ xs → ⊥) → ⊥
     not-written xs is differs = differs (sym (ap (λ (a : AfterCall). a.written) w.answer) ∙ is)

@@ -26,7 +26,7 @@ use Rattle.response.specs.Left.{at_rest, irq_lines, left, left_of_line, left_of_
 use Rattle.response.specs.Levels.{is_of_level}
 use Rattle.response.specs.Weights.{Pays, Price, Weights, price_of}
 use Rattle.response.proofs.AskedNow.{asked_now}
-use Rattle.response.proofs.AtBells.{MeetsNoEndpoint}
+use Rattle.response.proofs.AtBells.{WaitsForNoMessage}
 use Rattle.response.proofs.Costs.{total-less}
 use Rattle.response.proofs.Interrupts.{word-of}
 use Rattle.response.proofs.LevelCalls.{found-price, line-pays, lines-kept}
@@ -52,7 +52,7 @@ module _ (laws : Laws) (bytes : List ℕ) (image : Image) (accepted : IsAccepted
     (s after : State) (labels later : List Label) (all : AllStand image s labels) (behind : AllStand image after later)
     (told : (a b : ThreadState) → (a ≡ b) ⊎ (a ≢ b)) (t : Numbered) (listed : Contains (numbered_threads image) t)
     (within : WithinAuthority image t.thread s after)
-    (quiet : (u : Numbered) → Contains (numbered_threads image) u → is_of_level priority u ≡ true → MeetsNoEndpoint image u)
+    (quiet : (u : Numbered) → Contains (numbered_threads image) u → is_of_level priority u ≡ true → WaitsForNoMessage image u)
     (takes : (u : Numbered) (queue : ℕ) (n : NotificationState) (others : List ℕ) → Contains (numbered_threads image) u
     → s.objects queue ≡ Some (NotificationObject n) → n.waiters ≡ tcb_of image u ∷ others → WaitsToTake image u s labels queue)
     (counts : (thread : ℕ) → thread ≢ tcb_of image t → open_count thread later ≡ open_count thread labels)

@@ -23,13 +23,12 @@ use Rattle.headline.specs.facts.Standing.{AllStand}
 use Rattle.headline.specs.moves.Laws.{Laws}
 use Rattle.headline.specs.moves.Moving.{CallsAt}
 use Rattle.response.specs.Asking.{asked_at, Asked, Takes, Polls, Rings, Acknowledges, Accepts, Looks, SendsTo, Calls, Tries, Answers, Asks_nothing}
-use Rattle.response.specs.Asking.{asks_no_endpoint}
 use Rattle.response.specs.Laws.{WaitsToTake}
 use Rattle.response.specs.Left.{irq_lines, left, left_of_line, left_of_thread, left_of_word, line_price, point_now, total}
 use Rattle.response.specs.Levels.{is_of_level}
-use Rattle.response.specs.Weights.{Pays, Price, Weights, pays_for, price_of}
+use Rattle.response.specs.Weights.{Pays, Price, Weights, pays_for, price_of, waits_for_no_message}
 use Rattle.response.proofs.AskedNow.{asked_now, may_wait}
-use Rattle.response.proofs.AtBells.{MeetsNoEndpoint}
+use Rattle.response.proofs.AtBells.{WaitsForNoMessage}
 use Rattle.response.proofs.CallLeads.{call-leads, next-address, next-inside}
 use Rattle.response.proofs.Costs.{total-less}
 use Rattle.response.proofs.Interrupts.{word-of}
@@ -49,17 +48,17 @@ abbrev ring_cost : Weights → Asked → ℕ
 ring_cost w (Rings o) = price_of w o
 ring_cost w _ = 0
 
-ring-paid : (w : Weights) (budget here next : ℕ) (asked : Asked) → asks_no_endpoint asked ≡ true → may_wait asked ≡ false
+ring-paid : (w : Weights) (budget here next : ℕ) (asked : Asked) → waits_for_no_message asked ≡ true → may_wait asked ≡ false
     → pays_for w budget here next asked ≡ true → next + ring_cost w asked ≤ here
 ring-paid w budget here next (Takes o) none free paid = absurd (let clash : true ≡ false = free in cc)
 ring-paid w budget here next (Polls o) none free paid = let less = leb-true next here paid in omega (arith, less)
 ring-paid w budget here next (Rings o) none free paid = let less = leb-true (price_of w o + next) here paid in omega (arith, less)
 ring-paid w budget here next (Acknowledges number) none free paid = let less = leb-true next here paid in omega (arith, less)
 ring-paid w budget here next (Accepts o replies) none free paid = absurd (let clash : false ≡ true = none in cc)
-ring-paid w budget here next (Looks o) none free paid = absurd (let clash : false ≡ true = none in cc)
+ring-paid w budget here next (Looks o) none free paid = let less = leb-true next here paid in omega (arith, less)
 ring-paid w budget here next (SendsTo o) none free paid = absurd (let clash : false ≡ true = none in cc)
 ring-paid w budget here next (Calls o) none free paid = absurd (let clash : false ≡ true = none in cc)
-ring-paid w budget here next (Tries o) none free paid = absurd (let clash : false ≡ true = none in cc)
+ring-paid w budget here next (Tries o) none free paid = let less = leb-true (price_of w o + next) here paid in omega (arith, less)
 ring-paid w budget here next Answers none free paid = let less = leb-true next here paid in omega (arith, less)
 ring-paid w budget here next Asks_nothing none free paid = let less = leb-true next here paid in omega (arith, less)
 
@@ -155,7 +154,7 @@ module _ (laws : Laws) (bytes : List ℕ) (image : Image) (accepted : IsAccepted
     (s after : State) (labels later : List Label) (all : AllStand image s labels) (behind : AllStand image after later)
     (told : (a b : ThreadState) → (a ≡ b) ⊎ (a ≢ b)) (t : Numbered) (listed : Contains (numbered_threads image) t)
     (within : WithinAuthority image t.thread s after)
-    (quiet : (u : Numbered) → Contains (numbered_threads image) u → is_of_level priority u ≡ true → MeetsNoEndpoint image u)
+    (quiet : (u : Numbered) → Contains (numbered_threads image) u → is_of_level priority u ≡ true → WaitsForNoMessage image u)
     (takes : (u : Numbered) (queue : ℕ) (n : NotificationState) (others : List ℕ) → Contains (numbered_threads image) u
     → s.objects queue ≡ Some (NotificationObject n) → n.waiters ≡ tcb_of image u ∷ others → WaitsToTake image u s labels queue)
     (counts : (thread : ℕ) → thread ≢ tcb_of image t → open_count thread later ≡ open_count thread labels)
@@ -188,8 +187,8 @@ module _ (laws : Laws) (bytes : List ℕ) (image : Image) (accepted : IsAccepted
   asked-is : asked_at image t.thread point state ≡ asked
   asked-is = asks-so laws bytes image s labels accepted t listed own point state answer at
 
-  none : asks_no_endpoint asked ≡ true
-  none = sym (ap asks_no_endpoint asked-is) ∙ quiet t listed level point state at.stands.inside at.stands.known
+  none : waits_for_no_message asked ≡ true
+  none = sym (ap waits_for_no_message asked-is) ∙ quiet t listed level point state at.stands.inside at.stands.known
 
   paid : pays_for w t.thread.header.budget here next asked ≡ true
   paid = subst (λ (a : Asked). pays_for w t.thread.header.budget here next a ≡ true) asked-is
@@ -350,16 +349,16 @@ module _ (laws : Laws) (bytes : List ℕ) (image : Image) (accepted : IsAccepted
       | rests now ↦ rests-so now
     ]
 
-  by-asked : (a : Asked) → asked ≡ a → asks_no_endpoint a ≡ true → Falls
+  by-asked : (a : Asked) → asked ≡ a → waits_for_no_message a ≡ true → Falls
   by-asked (Takes o) is _ = takes-so o is
   by-asked (Polls o) is _ = passes-so (ap may_wait is)
   by-asked (Rings o) is _ = passes-so (ap may_wait is)
   by-asked (Acknowledges number) is _ = passes-so (ap may_wait is)
   by-asked (Accepts o replies) is never = absurd (let clash : false ≡ true = never in cc)
-  by-asked (Looks o) is never = absurd (let clash : false ≡ true = never in cc)
+  by-asked (Looks o) is _ = passes-so (ap may_wait is)
   by-asked (SendsTo o) is never = absurd (let clash : false ≡ true = never in cc)
   by-asked (Calls o) is never = absurd (let clash : false ≡ true = never in cc)
-  by-asked (Tries o) is never = absurd (let clash : false ≡ true = never in cc)
+  by-asked (Tries o) is _ = passes-so (ap may_wait is)
   by-asked Answers is _ = passes-so (ap may_wait is)
   by-asked Asks_nothing is _ = passes-so (ap may_wait is)
 

@@ -36,13 +36,13 @@ use Rattle.headline.specs.invocations.Laws.{AnyStepGoesWell, Laws}
 use Rattle.headline.specs.moves.Moving.{CallsAt}
 use Rattle.headline.specs.moves.Steps.{GoesWell, MakesCall}
 use Rattle.headline.specs.steps.Points.{ReachesNoCall}
-use Rattle.response.specs.Asking.{Takes, asks_no_endpoint}
+use Rattle.response.specs.Asking.{Takes}
 use Rattle.response.specs.Laws.{RingsFit, WaitsToTake}
 use Rattle.response.specs.Left.{at_rest, irq_lines, left}
 use Rattle.response.specs.Levels.{is_of_level}
-use Rattle.response.specs.Weights.{Pays, Weights}
+use Rattle.response.specs.Weights.{Pays, Weights, waits_for_no_message}
 use Rattle.response.proofs.AskedNow.{asked_now, may_wait, waits-none}
-use Rattle.response.proofs.AtBells.{MeetsNoEndpoint}
+use Rattle.response.proofs.AtBells.{WaitsForNoMessage}
 use Rattle.response.proofs.BelowRests.{call-rests}
 use Rattle.response.proofs.Interrupts.{put-at, put-off, thread-of, word-of}
 use Rattle.response.proofs.LevelCalls.{call-falls}
@@ -55,7 +55,7 @@ use Rattle.response.proofs.Taken.{call-takes}
 
 module _ (laws : Laws) (steps : AnyStepGoesWell) (told : (a b : ThreadState) → (a ≡ b) ⊎ (a ≢ b)) (bytes : List ℕ) (image : Image)
     (accepted : IsAccepted bytes image) (priority : ℕ) (w : Weights) (pays : Pays image priority w)
-    (quiet : (u : Numbered) → Contains (numbered_threads image) u → is_of_level priority u ≡ true → MeetsNoEndpoint image u) (s : State) (labels : List Label)
+    (quiet : (u : Numbered) → Contains (numbered_threads image) u → is_of_level priority u ≡ true → WaitsForNoMessage image u) (s : State) (labels : List Label)
     (all : AllStand image s labels) (stay : StaysWithin image s Step (step s Step).0)
     (takes : (u : Numbered) (queue : ℕ) (n : NotificationState) (others : List ℕ) → Contains (numbered_threads image) u
     → s.objects queue ≡ Some (NotificationObject n) → n.waiters ≡ tcb_of image u ∷ others → WaitsToTake image u s labels queue)
@@ -97,9 +97,9 @@ module _ (laws : Laws) (steps : AnyStepGoesWell) (told : (a b : ThreadState) →
           ∙ ap (λ (b : Bool). if b then 0 else open_count tcb labels + 1)
           (ap is_wait label-is ∙ waits-none s tcb (same-names s tcb mine at.there at.status 0 0) free)
 
-      none : is_of_level priority t ≡ true → asks_no_endpoint (asked_now s tcb) ≡ true
+      none : is_of_level priority t ≡ true → waits_for_no_message (asked_now s tcb) ≡ true
       none level =
-          sym (ap asks_no_endpoint (asks-so laws.below bytes image s labels accepted t listed mine point state answer at))
+          sym (ap waits_for_no_message (asks-so laws.below bytes image s labels accepted t listed mine point state answer at))
           ∙ quiet t listed level point state at.stands.inside at.stands.known
 
       notes : (slot o : ℕ) (r : Rights) (badge : ℕ) → named_slot s tcb ≡ Ok slot → capability_at s.slots slot ≡ Notification o r badge

@@ -24,7 +24,7 @@ use Rattle.response.specs.Laws.{AreTakenAlone, RingsFit, RunsOfLevel, TakesFromO
 use Rattle.response.specs.Left.{at_rest, left}
 use Rattle.response.specs.Levels.{is_of_level}
 use Rattle.response.specs.Weights.{Pays, Weights}
-use Rattle.response.proofs.AtBells.{MeetsNoEndpoint}
+use Rattle.response.proofs.AtBells.{WaitsForNoMessage}
 use Rattle.response.proofs.OneCall.{call-below, plain-below}
 use Rattle.response.proofs.Whole.{few-lines}
 
@@ -34,7 +34,7 @@ keeps-more image events devices = All-push (KeepsDevices image) events Step devi
 
 module _ (laws : Laws) (steps : AnyStepGoesWell) (told : (a b : ThreadState) → (a ≡ b) ⊎ (a ≢ b)) (bytes : List ℕ) (image : Image)
     (accepted : IsAccepted bytes image) (priority : ℕ) (w : Weights) (pays : Pays image priority w)
-    (quiet : (u : Numbered) → Contains (numbered_threads image) u → is_of_level priority u ≡ true → MeetsNoEndpoint image u) (events : List Event)
+    (quiet : (u : Numbered) → Contains (numbered_threads image) u → is_of_level priority u ≡ true → WaitsForNoMessage image u) (events : List Event)
     (all : AllStand image (state_after (described image) events) (trace (described image) events))
     (stay : StaysWithin image (state_after (described image) events) Step (step (state_after (described image) events) Step).0)
     (takes : (u : Numbered) (queue : ℕ) (n : NotificationState) (others : List ℕ) → Contains (numbered_threads image) u

@@ -18,25 +18,32 @@ use Rattle.model.specs.declared.system_calls.SendCall.{SendCall}
 use Rattle.model.specs.declared.system_calls.SendCall.TheVariants.{Calling, Sending, Trying}
 use Rattle.model.specs.declared.system_calls.SystemCall.{SystemCall}
 use Rattle.model.specs.declared.system_calls.SystemCall.TheVariants.{Sends, Receives, RepliesAndReceives, Replies, Yields, PutsCharacter}
-use Rattle.model.specs.Capabilities.Rights.{may_read, may_write}
+use Rattle.model.specs.Capabilities.Rights.{may_grant_reply, may_read, may_write}
 use Rattle.model.specs.declared.rights.Rights.{Rights}
 use Rattle.model.specs.Capabilities.Lookup.{called_slot}
 use Rattle.model.specs.Capabilities.Slots.{Slots, capability_at}
 use Rattle.model.specs.Shared.Labels.{error_number}
-use Rattle.model.specs.Kernel.Messages.{Message, a0, a1, a7, bytes_between, deliver_word, info_word, message_between, passes, passes_with, replied}
+use Rattle.model.specs.Kernel.Messages.{Message, a0, a1, a7, bytes_between, deliver_word, info_word, message_between, passes, passes_with}
+use Rattle.model.specs.Kernel.Messages.{replied}
 use Rattle.model.specs.Kernel.Messages.{reply, resumption, signal, signals, wait, waits_for_signal, with_caller}
-use Rattle.model.specs.Kernel.Messages.{with_registers, delivered, poll}
+use Rattle.model.specs.Kernel.Messages.{with_registers, delivered, poll, bytes_sent, deliver_sent, message_to, received_waiting, receives, tries_to_send}
+use Rattle.model.specs.Kernel.Messages.{try_to_receive, word_registers, write_words}
 use Rattle.model.specs.Kernel.Scheduling.{block, full_slice, is_runnable, unready, wake, yielded}
+use Rattle.model.specs.Kernel.State.{ByCall, ByFault, BySend, EndpointObject, EndpointState, Sender, Sent, as_endpoint, endpoint_at, new_endpoint}
+use Rattle.model.specs.Kernel.State.{with_endpoint}
 use Rattle.model.specs.Kernel.State.{AwaitsHandler, AwaitsReply, Blocked, Inactive, NotificationObject, NotificationState, Object, Runnable, State, Status}
-use Rattle.model.specs.Kernel.State.{ThreadObject, ThreadState, notification_at, thread_at, with_notification, cspace_slot}
+use Rattle.model.specs.Kernel.State.{ThreadObject, ThreadState, notification_at, thread_at, with_notification}
+use Rattle.model.specs.Kernel.State.{cspace_slot}
 use Rattle.model.specs.Kernel.Steps.{Done, answered, call_of, calls, calls_known, lacks_capability, named_slot, receive_by, receive_named}
+use Rattle.model.specs.Kernel.Steps.{receive_on_endpoint, send_on, sender}
 use Rattle.model.specs.Kernel.Steps.{receive_on_notification, refused, registers_of, send_by, send_named, sends_nothing, signal_on, system_call}
 use Rattle.model.specs.Kernel.Waits.{is_fault}
 use Rattle.model.specs.Machine.Effects.{advanced}
 use Rattle.model.specs.Machine.ProgramMemory.{RegisterFile, read, write}
 use Rattle.headline.specs.calls.Messages.{IsInvoked}
 use Rattle.response.specs.Asking.{asked_by}
-use Rattle.response.specs.Asking.{asked_known, asked_to_receive, asked_to_send, asks_no_endpoint, capability_found}
+use Rattle.response.specs.Asking.{asked_known, asked_to_receive, asked_to_send, capability_found}
+use Rattle.response.specs.Weights.{waits_for_no_message}
 use Rattle.response.proofs.AskedNow.{NamesAsBefore, asked_now}
 use Rattle.response.proofs.Interrupts.{put-at, put-off, thread-of, word-of}
 
@@ -131,6 +138,12 @@ replied-slots s x caller Runnable message = refl
 replied-slots s x caller (Blocked queue) message = refl
 
 -- ---- the calls of a thread that runs
+
+-- whoever waits at an endpoint is another one
+pub record OthersWait (s : State) (e x : ℕ) : Type 0 where
+  pub apart : e ≢ x
+  pub receivers : (y : ℕ) (others : List ℕ) → (endpoint_at s e).receivers ≡ y ∷ others → x ≢ y
+  pub senders : (first : Sender) (others : List Sender) → (endpoint_at s e).senders ≡ first ∷ others → x ≢ first.thread
 
 module _ (s : State) (x : ℕ) (own : ThreadState) (there : s.objects x ≡ Some (ThreadObject own)) (status : own.status ≡ Runnable) (address place : ℕ) where
   at-own : thread_at s x ≡ own
@@ -269,6 +282,85 @@ module _ (s : State) (x : ℕ) (own : ThreadState) (there : s.objects x ≡ Some
       | false ↦ taken-pc
     ]
 
+  -- ---- calls at an endpoint that do not wait
+
+  -- a delivery leaves the pc
+  words-pc : (r : RegisterFile) (registers : List Register) (words : List ℕ) → (write_words r registers words).pc ≡ r.pc
+  words-pc r registers [] = refl
+  words-pc r [] (word ∷ words) = refl
+  words-pc r (y ∷ registers) (word ∷ words) = words-pc (write r y word) registers words ∙ write-pc r y word
+
+  delivered-pc : (r : RegisterFile) (badge : ℕ) (message : Message) → (delivered r badge message).pc ≡ r.pc
+  delivered-pc r badge message =
+      let info = info_word message.label message.count in
+      words-pc (write (write r a0 badge) a1 info) word_registers message.words ∙ write-pc (write r a0 badge) a1 info ∙ write-pc r a0 badge
+
+  module _ (e : ℕ) (apart : e ≢ x) where
+    -- NBSend: whoever receives is another one
+    tries : (badge : ℕ) (grants : Bool) (l : List ℕ) → ((y : ℕ) (others : List ℕ) → l ≡ y ∷ others → x ≢ y)
+        → pc_at (tries_to_send s e (sender x BySend badge grants) l) x ≡ (pc_at s x + 4) % 2 ^ 32
+    tries badge grants [] first = passes-pc s x
+    tries badge grants (y ∷ others) first =
+        let other = first y others refl in
+        let mine = sender x BySend badge grants in
+        let fewer = with_endpoint s e (record (endpoint_at s e) { receivers = others }) in
+        let one : State = record fewer { bytes = bytes_sent fewer mine BySend y } in
+        let message = message_to fewer mine BySend y in
+        let two = with_registers one y (delivered (thread_at one y).registers badge message) in
+        let three = passes two y in
+        passes-pc (wake three y) x
+        ∙ ap (λ (k : ℕ). (k + 4) % 2 ^ 32) (elsewhere-pc s (wake three y) x
+        (put-off three.objects y x (Some (ThreadObject (record (thread_at three y) { status = Runnable; slice = full_slice }))) other
+        ∙ put-off two.objects y x (Some (ThreadObject (record (thread_at two y) { registers = advanced (thread_at two y).registers }))) other
+        ∙ put-off one.objects y x (Some (ThreadObject (record (thread_at one y) { registers = delivered (thread_at one y).registers badge message }))) other
+        ∙ put-off s.objects e x (Some (EndpointObject (record (endpoint_at s e) { receivers = others }))) (λ same. apart (sym same))))
+
+    -- NBRecv: whoever sends is another one
+    blocks-pc : (m : State) (y : ℕ) (some : Status) → x ≢ y → pc_at (block m y some) x ≡ pc_at m x
+    blocks-pc m y some other = elsewhere-pc m (block m y some) x (put-off m.objects y x (Some (ThreadObject (record (thread_at m y) { status = some }))) other)
+
+    caller-pc : (m : State) (caller : Option ℕ) → pc_at (with_caller m x caller) x ≡ pc_at m x
+    caller-pc m caller = ap (λ (o : Option Object). (thread-of o).registers.pc)
+        (put-at m.objects x (Some (ThreadObject (record (thread_at m x) { caller = caller }))))
+
+    received-pc : (m : State) (first : Sender) (kind : Sent) → x ≢ first.thread → pc_at (received_waiting m first kind x) x ≡ pc_at m x
+    received-pc m first BySend other =
+        let y = first.thread in
+        let one = passes m y in
+        elsewhere-pc m (wake one y) x
+        (put-off one.objects y x (Some (ThreadObject (record (thread_at one y) { status = Runnable; slice = full_slice }))) other
+        ∙ put-off m.objects y x (Some (ThreadObject (record (thread_at m y) { registers = advanced (thread_at m y).registers }))) other)
+    received-pc m first ByCall other = elim first.grant_reply
+        as (λ b. pc_at (if b then with_caller (block m first.thread AwaitsReply) x (Some first.thread) else block m first.thread Inactive) x ≡ pc_at m x) [
+          | true ↦ caller-pc (block m first.thread AwaitsReply) (Some first.thread) ∙ blocks-pc m first.thread AwaitsReply other
+          | false ↦ blocks-pc m first.thread Inactive other
+        ]
+    received-pc m first (ByFault fault) other =
+        caller-pc (block m first.thread AwaitsHandler) (Some first.thread) ∙ blocks-pc m first.thread AwaitsHandler other
+
+    looks : (l : List Sender) → ((first : Sender) (others : List Sender) → l ≡ first ∷ others → x ≢ first.thread)
+        → pc_at (receives ready e x (deliver_word ready x 0) l) x ≡ (pc_at s x + 4) % 2 ^ 32
+    looks [] sends = word-pc ready x 0 ∙ ap (λ (k : ℕ). (k + 4) % 2 ^ 32) (caller-pc s None)
+    looks (first ∷ others) sends =
+        let fewer = with_endpoint ready e (record (endpoint_at ready e) { senders = others }) in
+        let one : State = record fewer { bytes = bytes_sent fewer first first.sent x } in
+        let message = message_to fewer first first.sent x in
+        received-pc (deliver_sent fewer first x) first first.sent (sends first others refl)
+        ∙ passes_with-pc one x (delivered (thread_at one x).registers first.badge message) (delivered-pc (thread_at one x).registers first.badge message)
+        ∙ ap (λ (k : ℕ). (k + 4) % 2 ^ 32)
+        (elsewhere-pc ready fewer x
+        (put-off ready.objects e x (Some (EndpointObject (record (endpoint_at ready e) { senders = others }))) (λ same. apart (sym same)))
+        ∙ caller-pc s None)
+
+    -- its own right to reply is in no endpoint
+    same-senders : (endpoint_at ready e).senders ≡ (endpoint_at s e).senders
+    same-senders = ap (λ (o : Option Object). (option_map_or (λ (u : EndpointState). u) (as_endpoint o) new_endpoint).senders)
+        (put-off s.objects x e (Some (ThreadObject (record (thread_at s x) { caller = None }))) apart)
+
+    pub looks-on : ((first : Sender) (others : List Sender) → (endpoint_at s e).senders ≡ first ∷ others → x ≢ first.thread)
+        → pc_at (try_to_receive s e x) x ≡ (pc_at s x + 4) % 2 ^ 32
+    looks-on sends = looks (endpoint_at ready e).senders (λ first others is. sends first others (sym same-senders ∙ is))
+
   -- ---- whatever it names
 
   faulted : (done : Done) → is_fault (Ran address place done.1) ≡ true → Fine done
@@ -279,7 +371,8 @@ module _ (s : State) (x : ℕ) (own : ThreadState) (there : s.objects x ≡ Some
   either-fine false one other first second = second
 
   module _ (bells : (slot o : ℕ) (r : Rights) (badge : ℕ) → named_slot s x ≡ Ok slot → capability_at s.slots slot ≡ Notification o r badge
-      → (o ≢ x) × ((w : ℕ) (others : List ℕ) → (notification_at s o).waiters ≡ w ∷ others → x ≢ w)) where
+      → (o ≢ x) × ((w : ℕ) (others : List ℕ) → (notification_at s o).waiters ≡ w ∷ others → x ≢ w))
+      (doors : (slot e : ℕ) (r : Rights) (badge : ℕ) → named_slot s x ≡ Ok slot → capability_at s.slots slot ≡ Endpoint e r badge → OthersWait s e x) where
     signalled : (kind : SendCall) (slot o : ℕ) (r : Rights) (badge : ℕ) → named_slot s x ≡ Ok slot → capability_at s.slots slot ≡ Notification o r badge
         → Fine (send_by s x kind slot (Notification o r badge))
     signalled kind slot o r badge named is =
@@ -292,10 +385,14 @@ module _ (s : State) (x : ℕ) (own : ThreadState) (there : s.objects x ≡ Some
         (λ free runs. answered-pc s x kind (error_number InvalidCapability))
 
     sent-fine : (kind : SendCall) (slot : ℕ) (c : Cap) → named_slot s x ≡ Ok slot → capability_at s.slots slot ≡ c
-        → asks_no_endpoint (asked_to_send kind c) ≡ true → (IsInvoked c → ⊥) → Fine (send_by s x kind slot c)
+        → waits_for_no_message (asked_to_send kind c) ≡ true → (IsInvoked c → ⊥) → Fine (send_by s x kind slot c)
     sent-fine Calling slot (Endpoint o r badge) named is none quiet = let clash : false ≡ true = none in absurd cc
     sent-fine Sending slot (Endpoint o r badge) named is none quiet = let clash : false ≡ true = none in absurd cc
-    sent-fine Trying slot (Endpoint o r badge) named is none quiet = let clash : false ≡ true = none in absurd cc
+    sent-fine Trying slot (Endpoint e r badge) named is none quiet =
+        let others = doors slot e r badge named is in
+        either-fine (may_write r) (send_on s x Trying e badge (may_grant_reply r)) (refused s x Trying InvalidCapability)
+        (λ free runs. tries e others.apart badge (may_grant_reply r) (endpoint_at s e).receivers others.receivers)
+        (λ free runs. answered-pc s x Trying (error_number InvalidCapability))
     sent-fine kind slot (Notification o r badge) named is none quiet = signalled kind slot o r badge named is
     sent-fine kind slot Empty named is none quiet = absurd (quiet tt)
     sent-fine kind slot (Untyped offset bits watermark) named is none quiet = absurd (quiet tt)
@@ -307,7 +404,8 @@ module _ (s : State) (x : ℕ) (own : ThreadState) (there : s.objects x ≡ Some
     sent-fine kind slot InterruptControl named is none quiet = absurd (quiet tt)
     sent-fine kind slot (InterruptHandler irq_line) named is none quiet = absurd (quiet tt)
 
-    by-slot : (kind : SendCall) (r : Result ℕ LookupFailure) → named_slot s x ≡ r → asks_no_endpoint (asked_to_send kind (capability_found s.slots r)) ≡ true
+    by-slot : (kind : SendCall) (r : Result ℕ LookupFailure) → named_slot s x ≡ r
+        → waits_for_no_message (asked_to_send kind (capability_found s.slots r)) ≡ true
         → ((slot : ℕ) → named_slot s x ≡ Ok slot → IsInvoked (capability_at s.slots slot) → ⊥) → Fine (send_named s x kind r)
     by-slot kind (Ok slot) named none quiet = sent-fine kind slot (capability_at s.slots slot) named refl none (quiet slot named)
     by-slot Calling (Err failure) named none quiet = faulted (sends_nothing s x Calling failure) refl
@@ -320,52 +418,57 @@ module _ (s : State) (x : ℕ) (own : ThreadState) (there : s.objects x ≡ Some
       by-kind Receiving o apart runs = TakesAt.pc (waits-on m o apart runs) ∙ ap (λ (k : ℕ). (k + 4) % 2 ^ 32) same
       by-kind Polling o apart runs = polls-on m o apart ∙ ap (λ (k : ℕ). (k + 4) % 2 ^ 32) same
 
-      received-fine : (replies : Bool) (kind : ReceiveCall) (slot : ℕ) (c : Cap) → named_slot s x ≡ Ok slot → capability_at s.slots slot ≡ c
-          → asks_no_endpoint (asked_to_receive replies kind c) ≡ true → Fine (receive_by m x kind c)
-      received-fine replies Receiving slot (Endpoint o r badge) named is none = let clash : false ≡ true = none in absurd cc
-      received-fine replies Polling slot (Endpoint o r badge) named is none = let clash : false ≡ true = none in absurd cc
-      received-fine replies kind slot (Notification o r badge) named is none =
+      received-fine : (replies : Bool) (kind : ReceiveCall) → (kind ≡ Polling → m ≡ s) → (slot : ℕ) (c : Cap) → named_slot s x ≡ Ok slot
+          → capability_at s.slots slot ≡ c
+          → waits_for_no_message (asked_to_receive replies kind c) ≡ true → Fine (receive_by m x kind c)
+      received-fine replies Receiving polls slot (Endpoint o r badge) named is none = let clash : false ≡ true = none in absurd cc
+      received-fine replies Polling polls slot (Endpoint e r badge) named is none =
+          let others = doors slot e r badge named is in
+          subst (λ (z : State). Fine (receive_by z x Polling (Endpoint e r badge))) (sym (polls refl))
+          (either-fine (may_read r) (receive_on_endpoint s x Polling e) (lacks_capability s x 1 MissingCapability)
+          (λ free runs. looks-on e others.apart others.senders) (faulted (lacks_capability s x 1 MissingCapability) refl))
+      received-fine replies kind polls slot (Notification o r badge) named is none =
           either-fine (may_read r) (receive_on_notification m x kind o) (lacks_capability m x 1 MissingCapability)
           (λ free. by-kind kind o (bells slot o r badge named is).0) (faulted (lacks_capability m x 1 MissingCapability) refl)
-      received-fine replies kind slot Empty named is none = faulted (lacks_capability m x 1 MissingCapability) refl
-      received-fine replies kind slot (Untyped offset bits watermark) named is none = faulted (lacks_capability m x 1 MissingCapability) refl
-      received-fine replies kind slot (CNode offset radix guard) named is none = faulted (lacks_capability m x 1 MissingCapability) refl
-      received-fine replies kind slot (Frame offset r mapping) named is none = faulted (lacks_capability m x 1 MissingCapability) refl
-      received-fine replies kind slot (PageTable offset mapping) named is none = faulted (lacks_capability m x 1 MissingCapability) refl
-      received-fine replies kind slot (Tcb offset) named is none = faulted (lacks_capability m x 1 MissingCapability) refl
-      received-fine replies kind slot (RootTable offset) named is none = faulted (lacks_capability m x 1 MissingCapability) refl
-      received-fine replies kind slot InterruptControl named is none = faulted (lacks_capability m x 1 MissingCapability) refl
-      received-fine replies kind slot (InterruptHandler irq_line) named is none = faulted (lacks_capability m x 1 MissingCapability) refl
+      received-fine replies kind polls slot Empty named is none = faulted (lacks_capability m x 1 MissingCapability) refl
+      received-fine replies kind polls slot (Untyped offset bits watermark) named is none = faulted (lacks_capability m x 1 MissingCapability) refl
+      received-fine replies kind polls slot (CNode offset radix guard) named is none = faulted (lacks_capability m x 1 MissingCapability) refl
+      received-fine replies kind polls slot (Frame offset r mapping) named is none = faulted (lacks_capability m x 1 MissingCapability) refl
+      received-fine replies kind polls slot (PageTable offset mapping) named is none = faulted (lacks_capability m x 1 MissingCapability) refl
+      received-fine replies kind polls slot (Tcb offset) named is none = faulted (lacks_capability m x 1 MissingCapability) refl
+      received-fine replies kind polls slot (RootTable offset) named is none = faulted (lacks_capability m x 1 MissingCapability) refl
+      received-fine replies kind polls slot InterruptControl named is none = faulted (lacks_capability m x 1 MissingCapability) refl
+      received-fine replies kind polls slot (InterruptHandler irq_line) named is none = faulted (lacks_capability m x 1 MissingCapability) refl
 
-      received-by : (replies : Bool) (kind : ReceiveCall) (r : Result ℕ LookupFailure) → named_slot s x ≡ r
-          → asks_no_endpoint (asked_to_receive replies kind (capability_found s.slots r)) ≡ true → Fine (receive_named m x kind r)
-      received-by replies kind (Ok slot) named none =
+      received-by : (replies : Bool) (kind : ReceiveCall) → (kind ≡ Polling → m ≡ s) → (r : Result ℕ LookupFailure) → named_slot s x ≡ r
+          → waits_for_no_message (asked_to_receive replies kind (capability_found s.slots r)) ≡ true → Fine (receive_named m x kind r)
+      received-by replies kind polls (Ok slot) named none =
           subst (λ (c : Cap). Fine (receive_by m x kind c)) (ap (λ (all : Slots). capability_at all slot) (sym slots))
-          (received-fine replies kind slot (capability_at s.slots slot) named refl none)
-      received-by replies kind (Err failure) named none = faulted (lacks_capability m x 1 failure) refl
+          (received-fine replies kind polls slot (capability_at s.slots slot) named refl none)
+      received-by replies kind polls (Err failure) named none = faulted (lacks_capability m x 1 failure) refl
 
     replied-pc : pc_at (reply s x) x ≡ pc_at s x
     replied-pc = ap (λ (r : RegisterFile). r.pc) (reply-left.registers ∙ sym (ap (λ (u : ThreadState). u.registers) at-own))
 
-    called-fine : (call : SystemCall) → asks_no_endpoint (asked_by call (capability_found s.slots (named_slot s x))) ≡ true
+    called-fine : (call : SystemCall) → waits_for_no_message (asked_by call (capability_found s.slots (named_slot s x))) ≡ true
         → ((kind : SendCall) (slot : ℕ) → call ≡ Sends kind → named_slot s x ≡ Ok slot → IsInvoked (capability_at s.slots slot) → ⊥) → Fine (calls s x call)
     called-fine (Sends kind) none quiet = by-slot kind (named_slot s x) refl none (λ slot. quiet kind slot refl)
-    called-fine (Receives kind) none quiet = received-by s refl refl false kind (named_slot s x) refl none
+    called-fine (Receives kind) none quiet = received-by s refl refl false kind (λ _. refl) (named_slot s x) refl none
     called-fine RepliesAndReceives none quiet =
         subst (λ (r : Result ℕ LookupFailure). Fine (receive_named (reply s x) x Receiving r)) (sym same-names.named)
-        (received-by (reply s x) replied-pc reply-left.slots true Receiving (named_slot s x) refl none)
+        (received-by (reply s x) replied-pc reply-left.slots true Receiving (λ clash. absurd cc) (named_slot s x) refl none)
     called-fine Replies none quiet = λ free runs. passes-pc (reply s x) x ∙ ap (λ (k : ℕ). (k + 4) % 2 ^ 32) replied-pc
     called-fine Yields none quiet = λ free runs. yielded-pc (passes s x) x ∙ passes-pc s x
     called-fine PutsCharacter none quiet = λ free runs. passes-pc s x
 
-    by-number : (number : ℕ) (call : Option SystemCall) → asks_no_endpoint (asked_known call (capability_found s.slots (named_slot s x))) ≡ true
+    by-number : (number : ℕ) (call : Option SystemCall) → waits_for_no_message (asked_known call (capability_found s.slots (named_slot s x))) ≡ true
         → ((kind : SendCall) (slot : ℕ) → call ≡ Some (Sends kind) → named_slot s x ≡ Ok slot → IsInvoked (capability_at s.slots slot) → ⊥)
         → Fine (calls_known s x number call)
     by-number number (Some call) none quiet = called-fine call none (λ kind slot is. quiet kind slot (ap Some is))
     by-number number None none quiet = faulted (calls_known s x number None) refl
 
     -- after a call that invokes nothing
-    pub call-goes-on : asks_no_endpoint (asked_now s x) ≡ true
+    pub call-goes-on : waits_for_no_message (asked_now s x) ≡ true
         → ((kind : SendCall) (slot : ℕ) → call_of (read (registers_of s x) a7) ≡ Some (Sends kind) → named_slot s x ≡ Ok slot
         → IsInvoked (capability_at s.slots slot) → ⊥) → is_fault (Ran address place (system_call s x).1) ≡ false
         → is_runnable (thread_at (system_call s x).0 x).status ≡ true → pc_at (system_call s x).0 x ≡ (pc_at s x + 4) % 2 ^ 32

@@ -1,9 +1,10 @@
--- Where a thread is after its own step, if that makes a system call which has nothing to do with an endpoint: at the next instruction, or it waits.
-use Rattle.std.proofs.Common.{ℕ, ◌≡◌, ◌≢◌, ◌∙◌, ◌+◌, ◌%◌, ◌^◌, inl, inr, true, false, if◌then◌else◌, Option, Some, None, Result, Ok, List, ◌∷◌, refl}
+-- Where a thread is after its own step, if that makes a system call which waits for no message: at the next instruction, or it waits.
+use Rattle.std.proofs.Common.{ℕ, ◌≡◌, ◌≢◌, ◌∙◌, ◌+◌, ◌++◌, ◌%◌, ◌^◌, map, inl, inr, true, false, if◌then◌else◌, Option, Some, None, Result, Ok, List, [], ◌∷◌}
+use Rattle.std.proofs.Common.{refl}
 use Rattle.std.proofs.Common.{sym, ap, subst}
 use Rattle.std.specs.Prelude.{Contains, is_some}
 use Rattle.std.specs.Option.{option_map_or}
-use Rattle.model.specs.declared.capabilities.Cap.TheVariants.{Notification}
+use Rattle.model.specs.declared.capabilities.Cap.TheVariants.{Endpoint, Notification}
 use Rattle.model.specs.declared.errors.KError.{KError}
 use Rattle.model.specs.declared.events.Event.TheVariants.{Step}
 use Rattle.model.specs.declared.invocations.CNodeCall.TheVariants.{Copy, Mint, Move, Mutate, Delete, Revoke}
@@ -26,16 +27,16 @@ use Rattle.model.specs.Kernel.Interrupts.{Signal, acknowledge, binding, interrup
 use Rattle.model.specs.Kernel.Invocations.{perform}
 use Rattle.model.specs.Kernel.Kinds.{object_named}
 use Rattle.model.specs.Kernel.Messages.{passes}
-use Rattle.model.specs.Kernel.Retype.{NewNotification}
+use Rattle.model.specs.Kernel.Retype.{NewEndpoint, NewNotification}
 use Rattle.model.specs.Kernel.Scheduling.{current, is_runnable}
 use Rattle.model.specs.Kernel.Soundness.{waiting_at}
 use Rattle.model.specs.Kernel.State.{Blocked, NotificationObject, NotificationState, Runnable, State, ThreadObject, ThreadState, as_thread, binding_slot}
 use Rattle.model.specs.Kernel.State.{new_thread}
-use Rattle.model.specs.Kernel.State.{notification_at, put, thread_at}
+use Rattle.model.specs.Kernel.State.{EndpointObject, EndpointState, Object, Sender, as_endpoint, endpoint_at, new_endpoint, notification_at, put, thread_at}
 use Rattle.model.specs.Kernel.Steps.{Done, answered, completed, memory_base, named_slot, ran, registers_of, runs, runs_decoded, runs_fetched, step, system_call}
 use Rattle.model.specs.Kernel.Waits.{is_fault}
 use Rattle.model.specs.Machine.Effects.{effect}
-use Rattle.soundness.proofs.Laws.{notification-kind}
+use Rattle.soundness.proofs.Laws.{endpoint-kind, notification-kind}
 use Rattle.headline.proofs.Laws.{Waits, either-invokes, first-waits, invocation-leaves}
 use Rattle.headline.specs.facts.Standing.{AllStand}
 use Rattle.headline.specs.invocations.Invoking.{Invokes}
@@ -45,10 +46,10 @@ use Rattle.headline.specs.invocations.Performed.{InvokesWell, MayInvoke}
 use Rattle.headline.specs.invocations.Running.{Runs}
 use Rattle.headline.specs.moves.Moving.{CallsAt}
 use Rattle.headline.specs.moves.Steps.{InvokesNothing, MakesCall}
-use Rattle.response.specs.Asking.{asks_no_endpoint}
+use Rattle.response.specs.Weights.{waits_for_no_message}
 use Rattle.response.proofs.AskedNow.{asked_now}
 use Rattle.response.proofs.Interrupts.{names-bound}
-use Rattle.response.proofs.OwnCalls.{answered-pc, call-goes-on, elsewhere-pc, passes-pc, pc_at, signals-there}
+use Rattle.response.proofs.OwnCalls.{OthersWait, answered-pc, call-goes-on, elsewhere-pc, passes-pc, pc_at, signals-there}
 use Rattle.response.proofs.Rises.{waiters-of}
 use Rattle.response.proofs.Waiting.{same-thread}
 use Rattle.typestate.specs.Calls.{call_on}
@@ -97,6 +98,40 @@ module _ (laws : Laws) (bytes : List ℕ) (image : Image) (s : State) (labels : 
   bells-apart slot o r badge named is =
       let found = notification-kind (s.objects o) (all.sound.memory.named slot NewNotification o (ap object_named is)) in
       bell-apart o found.0 found.1
+
+  -- so is whoever waits at an endpoint
+  queued-apart : (e x : ℕ) (others : List ℕ) → waiting_at (s.objects e) ≡ x ∷ others → tcb ≢ x
+  queued-apart e x others first same =
+      let waits : Waits s x e = first-waits s all.sound e x others first in
+      let alike : own ≡ waits.own = same-thread (s.objects x) own waits.own (ap s.objects (sym same) ∙ there) waits.is in
+      let clash : Runnable ≡ Blocked e = sym status ∙ ap (λ (u : ThreadState). u.status) alike ∙ waits.blocked in
+      absurd cc
+
+  door-apart : (e : ℕ) (q : EndpointState) → s.objects e ≡ Some (EndpointObject q) → OthersWait s e tcb
+  door-apart e q is = record {
+    apart = λ same. absurd (let clash : Some (EndpointObject q) ≡ Some (ThreadObject own) = sym is ∙ ap s.objects same ∙ there in cc);
+    receivers = λ y others first.
+        let head : q.receivers ≡ y ∷ others = sym (ap (λ (u : EndpointState). u.receivers) at_q) ∙ first in
+        queued-apart e y others (ap waiting_at is ∙ ap (λ (l : List Sender). map (λ (z : Sender). z.thread) l ++ q.receivers) (nobody y others head) ∙ head);
+    senders = λ first others head.
+        queued-apart e first.thread (map (λ (z : Sender). z.thread) others ++ q.receivers)
+        (ap waiting_at is ∙ ap (λ (l : List Sender). map (λ (z : Sender). z.thread) l ++ q.receivers)
+        (sym (ap (λ (u : EndpointState). u.senders) at_q) ∙ head));
+  }
+    where
+      at_q : endpoint_at s e ≡ q
+      at_q = ap (λ (o : Option Object). option_map_or (λ (u : EndpointState). u) (as_endpoint o) new_endpoint) is
+
+      nobody : (y : ℕ) (others : List ℕ) → q.receivers ≡ y ∷ others → q.senders ≡ []
+      nobody y others head = elim (all.sound.threads.one_sided e q is) [
+        | inl none ↦ none
+        | inr none ↦ absurd (let clash : ◌≡◌ {A = List ℕ} [] (y ∷ others) = sym none ∙ head in cc)
+      ]
+
+  doors-apart : (slot e : ℕ) (r : Rights) (badge : ℕ) → named_slot s tcb ≡ Ok slot → capability_at s.slots slot ≡ Endpoint e r badge → OthersWait s e tcb
+  doors-apart slot e r badge named is =
+      let found = endpoint-kind (s.objects e) (all.sound.memory.named slot NewEndpoint e (ap object_named is)) in
+      door-apart e found.0 found.1
 
   -- ---- an invocation
 
@@ -205,11 +240,11 @@ module _ (laws : Laws) (bytes : List ℕ) (image : Image) (s : State) (labels : 
     abbrev GoesOn : State → Type 0
     GoesOn after = is_runnable (thread_at after tcb).status ≡ true → pc_at after tcb ≡ (pc_at s tcb + 4) % 2 ^ 32
 
-    quiet-goes : asks_no_endpoint (asked_now s tcb) ≡ true → is_fault (step s Step).1 ≡ false → InvokesNothing s tcb → GoesOn (step s Step).0
+    quiet-goes : waits_for_no_message (asked_now s tcb) ≡ true → is_fault (step s Step).1 ≡ false → InvokesNothing s tcb → GoesOn (step s Step).0
     quiet-goes none free nothing =
         let is = stepped s tcb now makes in
         subst GoesOn (sym (ap (λ (x : State × Label). x.0) is))
-        (call-goes-on s tcb own there status (memory_base + tcb) (registers_of s tcb).pc bells-apart none nothing
+        (call-goes-on s tcb own there status (memory_base + tcb) (registers_of s tcb).pc bells-apart doors-apart none nothing
         (sym (ap (λ (x : State × Label). is_fault x.1) is) ∙ free))
 
     invoked-goes : Invokes s tcb → GoesOn (step s Step).0
@@ -225,7 +260,7 @@ module _ (laws : Laws) (bytes : List ℕ) (image : Image) (s : State) (labels : 
             let same : own_now ≡ own = same-thread (s.objects tcb) own_now own at.there there in
             stays-pc point state left (subst (λ (u : ThreadState). CallsAt image t s labels u point state left) same at) slot c may after made
 
-    pub goes-on : asks_no_endpoint (asked_now s (tcb_of image t)) ≡ true → is_fault (step s Step).1 ≡ false
+    pub goes-on : waits_for_no_message (asked_now s (tcb_of image t)) ≡ true → is_fault (step s Step).1 ≡ false
         → is_runnable (thread_at (step s Step).0 (tcb_of image t)).status ≡ true
         → pc_at (step s Step).0 (tcb_of image t) ≡ (pc_at s (tcb_of image t) + 4) % 2 ^ 32
     goes-on none free = elim (either-invokes s tcb) [

@@ -22,7 +22,7 @@ use Rattle.response.specs.Left.{left_of_thread, left_of_word, point_now, total}
 use Rattle.response.specs.Levels.{is_of_level}
 use Rattle.response.specs.Weights.{Pays, Price, Weights, price_of}
 use Rattle.response.proofs.AskedNow.{asked_now}
-use Rattle.response.proofs.AtBells.{LeftAs, MeetsNoEndpoint, as_before, left-as, rung}
+use Rattle.response.proofs.AtBells.{LeftAs, WaitsForNoMessage, as_before, left-as, rung}
 use Rattle.response.proofs.Costs.{total-less}
 use Rattle.response.proofs.Interrupts.{thread-of, thread-same}
 use Rattle.response.proofs.Rung.{WordChange, fell, joined, rung_by, same, signals-rung, word-changes}
@@ -48,7 +48,7 @@ module _ (laws : Laws) (bytes : List ℕ) (image : Image) (accepted : IsAccepted
     (s after : State) (labels later : List Label) (all : AllStand image s labels) (behind : AllStand image after later)
     (told : (a b : ThreadState) → (a ≡ b) ⊎ (a ≢ b)) (t : Numbered) (listed : Contains (numbered_threads image) t)
     (within : WithinAuthority image t.thread s after)
-    (quiet : (u : Numbered) → Contains (numbered_threads image) u → is_of_level priority u ≡ true → MeetsNoEndpoint image u)
+    (quiet : (u : Numbered) → Contains (numbered_threads image) u → is_of_level priority u ≡ true → WaitsForNoMessage image u)
     (takes : (u : Numbered) (queue : ℕ) (n : NotificationState) (others : List ℕ) → Contains (numbered_threads image) u
     → s.objects queue ≡ Some (NotificationObject n) → n.waiters ≡ tcb_of image u ∷ others → WaitsToTake image u s labels queue)
     (counts : (thread : ℕ) → thread ≢ tcb_of image t → open_count thread later ≡ open_count thread labels) where

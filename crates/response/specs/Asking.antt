@@ -86,14 +86,3 @@ asked_of image t state _ = Asks_nothing
 
 unfoldable pub asked_at : Image → Thread → ℕ → PointState → Asked
 asked_at image t point state = asked_of image t state (instruction_at t point)
-
--- ---- endpoints
-
--- it has nothing to do with an endpoint
-abbrev pub asks_no_endpoint : Asked → Bool
-asks_no_endpoint (Accepts o replies) = false
-asks_no_endpoint (Looks o) = false
-asks_no_endpoint (SendsTo o) = false
-asks_no_endpoint (Calls o) = false
-asks_no_endpoint (Tries o) = false
-asks_no_endpoint _ = true

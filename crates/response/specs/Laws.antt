@@ -243,7 +243,7 @@ LevelsRestLater =
 
 -- ---- levels that wait for notifications alone
 
--- such a step takes 1 off where no thread of the level has anything to do with an endpoint
+-- such a step takes 1 off where no thread of the level waits for a message
 abbrev pub NotificationCallsAreWork : Type 0
 NotificationCallsAreWork =
     (bytes : List ℕ) (image : Image) (priority : ℕ) (w : Weights) → IsAccepted bytes image → Pays image priority w

@@ -10,7 +10,6 @@ use Rattle.model.specs.Images.Described.{Numbered, numbered_threads}
 use Rattle.model.specs.Images.Image.{Image}
 use Rattle.model.specs.Shared.Lists.{times_in}
 use Rattle.response.specs.Asking.{Asked, Takes, Polls, Rings, Acknowledges, Accepts, Looks, SendsTo, Calls, Tries, Answers, Asks_nothing, asked_at}
-use Rattle.response.specs.Asking.{asks_no_endpoint}
 use Rattle.response.specs.Levels.{is_of_level}
 
 -- what it costs the level that something comes to an object
@@ -75,17 +74,17 @@ TakesAlone image priority =
     (t : Numbered) (point : ℕ) (state : PointState) → Contains (numbered_threads image) t → is_of_level priority t ≡ true
     → point < t.thread.header.words → noted image t point ≡ Known state → waits_for_no_message (asked_at image t.thread point state) ≡ true
 
--- ---- a test of that, and a little more: no thread of the level has anything to do with an endpoint
+-- ---- a test of that
 
 abbrev pub where_known : (PointState → Bool) → Noted → Bool
 where_known test (Known state) = test state
 where_known test Missing = true
 where_known test Unmeasured = true
 
-abbrev pub meets_no_endpoint : Image → Numbered → Bool
-meets_no_endpoint image t =
-    list_all (λ point. where_known (λ state. asks_no_endpoint (asked_at image t.thread point state)) (noted image t point))
+abbrev pub takes_alone : Image → Numbered → Bool
+takes_alone image t =
+    list_all (λ point. where_known (λ state. waits_for_no_message (asked_at image t.thread point state)) (noted image t point))
     (range_with_len 0 t.thread.header.words)
 
 abbrev pub waits_for_notifications_alone : Image → ℕ → Bool
-waits_for_notifications_alone image priority = list_all (λ t. not (is_of_level priority t) || meets_no_endpoint image t) (numbered_threads image)
+waits_for_notifications_alone image priority = list_all (λ t. not (is_of_level priority t) || takes_alone image t) (numbered_threads image)

@@ -161,7 +161,7 @@ fn laws_on_invocations()
     changed_slots_keep_all_standing();
 }
 
-/// Where no thread of a level has anything to do with an endpoint, a system call of one of them takes 1 off what is left, at least.
+/// Where no thread of a level waits for a message, a system call of one of them takes 1 off what is left, at least.
 pub fn notification_calls_are_work()
     ensures { NotificationCallsAreWork }
 {
