@@ -173,6 +173,15 @@ fn searched_in_vain(first: NotCertified) -> NotCertified {
     }
 }
 
+/// Why a text gets no certificates for which this is the reason at last: what the verifier found at first comes before it.
+fn first_fault(first: Option<NotCertified>, last: NotCertified) -> NotCertified {
+    match (first, last) {
+        (_, NotCertified::OutOfMemory) => NotCertified::OutOfMemory,
+        (Some(first), _) => searched_in_vain(first),
+        (None, last) => last,
+    }
+}
+
 /// What is found for a text without certificates, if the verifier accepts it. Where it refuses that, more is noted.
 fn searched<P: Progress>(
     alloc: Global,
@@ -183,7 +192,10 @@ fn searched<P: Progress>(
 ) -> Result<Vec<Draft>, NotCertified> {
     let mut first = None;
     'efforts: for effort in [Effort::Least, Effort::AllRanges, Effort::AllPoints] {
-        let drafts = drafts_of(alloc, bare, layout, effort)?;
+        let drafts = match drafts_of(alloc, bare, layout, effort) {
+            Ok(drafts) => drafts,
+            Err(fault) => return Err(first_fault(first, fault)),
+        };
         progress.reach(Stage::Found);
         match judged(alloc, text, layout, drafts.as_slice()) {
             Ok(_) => return Ok(drafts),
