@@ -89,6 +89,22 @@ for name in sys.argv[1:]:
         well_formed(read(file.read()))' "$room/large.img" "$room/count.img"
 }
 
+# The gallery's key store declares what `crates/model_laws` says of it.
+declares_key_store() {
+    PYTHONDONTWRITEBYTECODE=1 PYTHONPATH=tools/damage python3 -c '
+import re
+from pathlib import Path
+from rules import ALL_ONES, read
+image = read(Path("samples/gallery/key_store.img").read_bytes())
+said = Path("crates/model_laws/specs/GalleryKeyStore.antt").read_text(encoding="utf-8")
+for name in "untypeds", "objects", "capabilities", "interrupts", "tables", "frames":
+    entries = re.findall(r"record \{ (.*?) \}", re.search(rf"^  {name} =(.*?)\[\];", said, re.M | re.S).group(1))
+    assert [tuple(int(field.split(" = ")[1], 0) for field in it.split("; ")) for it in entries] == image.__dict__[name], name
+assert f"objects = {len(image.objects)} }}" in said
+threads = [tuple(map(int, it)) for it in re.findall(r"_with = placed (\d+) (\d+) (\d+)", said)]
+assert [(*it, ALL_ONES) for it in threads] == [(t.tcb, t.cnode, t.root, t.buffer) for t in image.threads], threads'
+}
+
 # Twenty texts of loops, which are texts: their images are made, apart from the product.
 makes_loops() {
     mkdir "$room/loops" && python3 tools/certify/loops.py "$room/loops" 20 &&
@@ -136,6 +152,7 @@ part_with python3 "tools/buffers/systems.py" reckons_buffers
 part_with python3 "tools/integrity/check.py" python3 tools/integrity/check.py write "$room/integrity"
 part_with python3 "tools/hostile/crowd.py" makes_crowd
 part_with python3 "tools/large_images/make.py" makes_large_image
+part_with python3 "crates/model_laws/specs/GalleryKeyStore.antt" declares_key_store
 part_with python3 "tools/certify/loops.py" makes_loops
 part_with cc "tools/memory/refuse_nth.c" compiles_c
 part_with "python3 riscv64-unknown-elf-as qemu-riscv32" "tools/rv32i_table.py" same_rows

@@ -2,6 +2,7 @@ pub mod Authorities
 pub mod CallNumbers
 pub mod ConstantMeasures
 pub mod Descents
+pub mod GalleryKeyStore
 pub mod LookupLaws
 pub mod MessageBytes
 pub mod MovedRanges

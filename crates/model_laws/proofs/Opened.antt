@@ -58,6 +58,7 @@ use Rattle.model_laws.specs.Worker.{loop_image, loop_with, reading_with, two_poo
 use Rattle.model_laws.specs.Variants.{with_radix, with_untyped, with_capability, with_interrupt, with_table, with_frames, with_content, with_thread}
 use Rattle.model_laws.specs.Variants.{with_other_root, with_tables}
 use Rattle.model_laws.specs.Programs.{entered_at, program}
+use Rattle.model_laws.specs.GalleryKeyStore.{key_store}
 use Rattle.model_laws.specs.Vault.{client, store, vault, vault_bytes}
 use Rattle.headline.specs.integrity.Runs.{has_frame_at, has_memory_at}
 use Rattle.headline.specs.parts.Parts.{changes}
@@ -83,5 +84,5 @@ unfolding digits format_many_read format_many_spelling format_many_fit image_hea
     bootcalls_operations listing_listing_lines listing_listing steps_system_call steps_runs steps_step steps_trace steps_after bytes_of solo solo_image
     loop_image loop_with booted_or solo_events two_threads yielding with_radix with_untyped with_capability with_interrupt with_table with_frames with_content
     with_thread with_other_root with_tables program entered_at reading_with two_pools has_frame_at has_memory_at changes
-    vault_bytes vault store client
+    vault_bytes key_store vault store client
 opened = tt
