@@ -100,7 +100,8 @@ said = Path("crates/model_laws/specs/GalleryKeyStore.antt").read_text(encoding="
 for name in "untypeds", "objects", "capabilities", "interrupts", "tables", "frames":
     entries = re.findall(r"record \{ (.*?) \}", re.search(rf"^  {name} =(.*?)\[\];", said, re.M | re.S).group(1))
     assert [tuple(int(field.split(" = ")[1], 0) for field in it.split("; ")) for it in entries] == image.__dict__[name], name
-assert f"objects = {len(image.objects)} }}" in said
+counts = f"untypeds = {len(image.untypeds)}; objects = {len(image.objects)}; interrupts = {len(image.interrupts)}; frames = {len(image.frames)} }}"
+assert f"memory_bits = {image.bits}; boot_radix = {image.radix}; {counts}" in said
 threads = [tuple(map(int, it)) for it in re.findall(r"_with = placed (\d+) (\d+) (\d+)", said)]
 assert [(*it, ALL_ONES) for it in threads] == [(t.tcb, t.cnode, t.root, t.buffer) for t in image.threads], threads'
 }

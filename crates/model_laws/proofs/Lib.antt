@@ -7,6 +7,7 @@ pub mod LookupLaws
 pub mod MessageBytes
 pub mod MovedRanges
 pub mod Narrow
+pub mod NoBytes
 pub mod Opened
 pub mod Placements
 pub mod RangesKept

@@ -15,11 +15,11 @@ use Rattle.model.specs.Kernel.Steps.{place_of}
 use Rattle.headline.specs.integrity.Runs.{HasIntegrity, HasRun, last_of, may_write_at}
 use Rattle.model_laws.specs.Vault.{OnlyClientRuns, client, vault}
 
-bytes : (a b : Option ℕ) → (a ≢ b → ⊥) → a ≡ b
-bytes None None never = refl
-bytes None (Some b) never = absurd (never (λ same. none-some b same))
-bytes (Some a) None never = absurd (never (λ same. none-some a (sym same)))
-bytes (Some a) (Some b) never = elim (eqb_tells a b) [
+pub bytes-same : (a b : Option ℕ) → (a ≢ b → ⊥) → a ≡ b
+bytes-same None None never = refl
+bytes-same None (Some b) never = absurd (never (λ same. none-some b same))
+bytes-same (Some a) None never = absurd (never (λ same. none-some a (sym same)))
+bytes-same (Some a) (Some b) never = elim (eqb_tells a b) [
   | inl same ↦ ap (λ (n : ℕ). Some n) same.1
   | inr apart ↦ absurd (never (λ same. apart.1 (same_Some a b same)))
 ]
@@ -33,7 +33,7 @@ pub stays : (image : Image) (events : List Event) (place : ℕ) → HasIntegrity
     → ((t : Thread) → Contains image.threads t → HasRun image events t → may_write_at image t place ≡ false)
     → ((place : ℕ) → is_device_word image place ≡ false) → (last_of image events).bytes place ≡ (described image).bytes place
 stays image events place integrity devices nobody none =
-    bytes ((last_of image events).bytes place) ((described image).bytes place) (λ differs. elim (integrity.bytes place differs) [
+    bytes-same ((last_of image events).bytes place) ((described image).bytes place) (λ differs. elim (integrity.bytes place differs) [
       | inl r ↦ false≢true (sym (nobody r.thread r.listed r.ran) ∙ r.passes)
       | inr w ↦ false≢true (sym (none (place_of w.address))
           ∙ among (KeepsDevices image) w.before (Write w.address w.word) w.later (subst (All (KeepsDevices image)) w.is devices))

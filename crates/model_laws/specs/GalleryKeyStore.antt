@@ -1,11 +1,15 @@
 -- What samples/gallery/key_store.txt declares: a vault that keeps a key in a page which it makes in memory of its own, a user that asks it for
 -- signatures, and an admin that has the key changed. It is said for any programs, and for any other fields of the image.
-use Rattle.std.specs.Prelude.{ℕ, ◌≡◌, ◌&&◌, Bool, false, nat_le, nat_lt, All, List, [], ◌∷◌}
+use Rattle.std.specs.Prelude.{ℕ, ◌≡◌, ◌≢◌, ◌&&◌, Some, Bool, false, nat_le, nat_lt, All, List, [], ◌∷◌}
 use Rattle.model.specs.declared.events.Event.{Event}
+use Rattle.model.specs.declared.events.Event.TheVariants.{Step}
 use Rattle.model.specs.Acceptance.Accepted.{IsAccepted}
+use Rattle.model.specs.Acceptance.Authority.{self_of}
 use Rattle.model.specs.Acceptance.Devices.{KeepsDevices}
 use Rattle.model.specs.Images.Described.{described}
 use Rattle.model.specs.Images.Image.{Image, Thread, no_buffer}
+use Rattle.model.specs.Kernel.Scheduling.{current}
+use Rattle.model.specs.Kernel.Steps.{step}
 use Rattle.headline.specs.integrity.Runs.{HasRun, last_of}
 
 -- a thread with this control block, CNode and root table, and with no message buffer; all else of it is another's
@@ -25,7 +29,7 @@ admin_with = placed 12 15 8
 -- code, root table and page table of each; the control blocks; the CNodes; the endpoint; and the clients' notifications.
 unfoldable pub key_store : Image → Thread → Thread → Thread → Image
 key_store rest vault user admin = record rest {
-  header = record rest.header { objects = 19 };
+  header = record rest.header { memory_bits = 17; boot_radix = 6; untypeds = 1; objects = 19; interrupts = 2; frames = 3 };
   untypeds = record { offset = 0x10000; bits = 16 } ∷ [];
   objects =
       record { untyped = 0; kind = 1; size = 12 }
@@ -67,3 +71,11 @@ PoolWaitsForTheVault =
     (bytes : List ℕ) (rest : Image) (vault user admin : Thread) (events : List Event) (place : ℕ) → IsAccepted bytes (key_store rest vault user admin)
     → All (KeepsDevices (key_store rest vault user admin)) events → (HasRun (key_store rest vault user admin) events (vault_with vault) → ⊥)
     → (last_of (key_store rest vault user admin) events).bytes place ≡ (described (key_store rest vault user admin)).bytes place
+
+-- after any events no step changes a byte but one of the vault: so no client changes a key, whatever it does
+abbrev pub ClientsChangeNoByte : Type 0
+ClientsChangeNoByte =
+    (bytes : List ℕ) (rest : Image) (vault user admin : Thread) (events : List Event) (place : ℕ) → IsAccepted bytes (key_store rest vault user admin)
+    → All (KeepsDevices (key_store rest vault user admin)) events
+    → current (last_of (key_store rest vault user admin) events) ≢ Some (self_of (key_store rest vault user admin) (vault_with vault))
+    → (step (last_of (key_store rest vault user admin) events) Step).0.bytes place ≡ (last_of (key_store rest vault user admin) events).bytes place

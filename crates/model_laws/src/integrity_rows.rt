@@ -8,10 +8,13 @@ ghost use Rattle.model.specs.Acceptance.Devices.{KeepsDevices, is_device_word};
 ghost use Rattle.model.specs.Images.Described.{described};
 ghost use Rattle.model.specs.Images.Image.{Image, Thread};
 ghost use Rattle.model.specs.Images.Places.{offset_of};
-ghost use Rattle.model_laws.specs.GalleryKeyStore.{OtherBytesStay, PoolWaitsForTheVault, admin_with, is_of_keys, key_store, user_with, vault_with};
+ghost use Rattle.model_laws.specs.GalleryKeyStore.{ClientsChangeNoByte, OtherBytesStay, PoolWaitsForTheVault, admin_with, is_of_keys, key_store, user_with, vault_with};
 ghost use Rattle.model_laws.specs.Vault.{OnlyClientRuns, client, store, vault, vault_bytes};
 
+use headline::authority::events_stay_within_authority;
 use headline::integrity::runs_have_integrity;
+use headline::invocations::events_go_well;
+use headline::parts::threads_never_hold_more;
 
 /// The image has no breach.
 #[tactic(auto, unfolding(crate::proofs::Opened::opened))]
@@ -53,4 +56,13 @@ pub fn only_the_vaults_pool_changes()
 {
     clients_may_not_write_keys();
     runs_have_integrity();
+}
+
+/// At any moment of any run of the gallery's key store, whatever the programs, a step of the user or of the admin changes no byte.
+pub fn clients_change_no_byte()
+    ensures { ClientsChangeNoByte }
+{
+    events_go_well();
+    threads_never_hold_more();
+    events_stay_within_authority();
 }

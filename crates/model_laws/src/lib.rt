@@ -129,6 +129,7 @@ pub use image_rows::solo_reads_what_it_writes;
 pub use image_rows::solo_stands_behind_the_boot_area;
 pub use integrity_rows::a_client_changes_no_key;
 pub use integrity_rows::a_client_may_write_nowhere;
+pub use integrity_rows::clients_change_no_byte;
 pub use integrity_rows::clients_may_not_write_keys;
 pub use integrity_rows::only_the_vaults_pool_changes;
 pub use integrity_rows::the_vault_is_accepted;
