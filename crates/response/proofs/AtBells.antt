@@ -114,7 +114,7 @@ pub data LeftAs (image : Image) (t u : Numbered) (s after : State) : Type 0 wher
       → s.objects (tcb_of image u) ≡ Some (ThreadObject before)
       → after.objects (tcb_of image u) ≡ Some (ThreadObject (woken before (advanced (write before.registers a0 badge)))) → LeftAs image t u s after
 
-there-is : (image : Image) (t : Numbered) (s : State) (labels : List Label) → ThreadInvariant image t s labels
+pub there-is : (image : Image) (t : Numbered) (s : State) (labels : List Label) → ThreadInvariant image t s labels
     → (own : ThreadState) × (s.objects (tcb_of image t) ≡ Some (ThreadObject own))
 there-is image t s labels (runs own point state there status stands budget) = (own, there)
 there-is image t s labels (waits own point state there status stands asks none) = (own, there)

@@ -36,8 +36,10 @@ use Rattle.headline.proofs.Laws.{at-place}
 use Rattle.headline.specs.facts.Standing.{AllStand}
 use Rattle.headline.specs.facts.Waiting.{QueuesSo, WaitsSo, behind_reply}
 use Rattle.headline.specs.moves.Laws.{Laws}
-use Rattle.response.specs.Asking.{asked_at, asked_known, asked_of, capability_found, capability_named}
-use Rattle.response.specs.Laws.{TakesFromOne}
+use Rattle.response.specs.Asking.{Takes, asked_at, asked_known, asked_of, capability_found, capability_named}
+use Rattle.model.specs.Kernel.Waits.{open_count}
+use Rattle.response.specs.Laws.{WaitsToTake}
+use Rattle.response.specs.Resting.{TakesFromOne}
 use Rattle.response.specs.Weights.{waits_for_no_message}
 use Rattle.response.proofs.Sole.{TakesWord, sole-takes}
 use Rattle.response.proofs.Waiting.{one-left}
@@ -48,26 +50,10 @@ unfolding asked_at
 asked-is image t point state ecall = ap (λ (o : Option Instr). asked_of image t.thread state o) ecall
 
 module _ (laws : Laws) (bytes : List ℕ) (image : Image) (s : State) (labels : List Label) (accepted : IsAccepted bytes image) (all : AllStand image s labels)
-    (t : Numbered) (listed : Contains (numbered_threads image) t) (queue : ℕ) (one : TakesFromOne image t queue) (n : NotificationState)
-    (is : s.objects queue ≡ Some (NotificationObject n)) where
-  -- who is in its queue
-  word-none : (own : ThreadState) → s.objects (tcb_of image t) ≡ Some (ThreadObject own) → own.status ≡ Blocked queue → n.word ≡ 0
-  word-none own there status =
-      let waits_here : waits_at s (tcb_of image t) queue ≡ true =
-      ap (λ (o : Option Object). option_map_or (λ u. is_blocked_on queue u.status) (as_thread o) false) there
-      ∙ ap (is_blocked_on queue) status ∙ eq-eqb queue queue refl in
-      let law = all.sound.threads.queued (tcb_of image t) queue in
-      let counts : times_in n.waiters (tcb_of image t) ≡ 1 =
-      ap (λ (l : List ℕ). times_in l (tcb_of image t)) (sym (ap waiting_at is)) ∙ law ∙ ap (λ (b : Bool). if b then 1 else 0) waits_here in
-      elim (all.sound.threads.idle queue n is) [
-        | inl nobody ↦ absurd (let none : times_in n.waiters (tcb_of image t) ≡ 0 = ap (λ (l : List ℕ). times_in l (tcb_of image t)) nobody
-            in omega (arith, counts, none))
-        | inr none ↦ none
-      ]
-
+    (t : Numbered) (listed : Contains (numbered_threads image) t) (queue : ℕ) (one : TakesFromOne image t queue) where
   module _ (own : ThreadState) (point : ℕ) (state : PointState) (there : s.objects (tcb_of image t) ≡ Some (ThreadObject own))
-      (stands : StandsAt image t s own point state) (asks : WaitsThere image t point state) where
-    left : AfterCall
+      (stands : StandsAt image t s own point state) (asks : WaitsThere image t point state) (none : open_count (tcb_of image t) labels ≡ 0) where
+    abbrev left : AfterCall
     left = asks.1.0
 
     takes : TakesWord image t.thread (point_of t point) state asks.1.0 asks.1.2 laws.receives laws.sends laws.others
@@ -107,20 +93,55 @@ module _ (laws : Laws) (bytes : List ℕ) (image : Image) (s : State) (labels : 
         let clash : ◌≡◌ {A = List Register} (a0 ∷ []) message_registers =
         ap (λ (a : AfterCall). a.written) (sym (TakesWord.answer takes)) ∙ ap (λ (a : AfterCall). a.written) is_reply in absurd cc
 
-    by-status : (status : Status) → own.status ≡ status → WaitsSo image t s state asks.1.0 status → IsWaiting status → n.word ≡ 0
-    by-status Inactive so none waiting = absurd none
-    by-status Runnable so none waiting = absurd waiting
-    by-status (Blocked other) so queued waiting = word-none own there (so ∙ ap Blocked (in-queue other queued))
+    by-status : (status : Status) → own.status ≡ status → WaitsSo image t s state asks.1.0 status → IsWaiting status → WaitsToTake image t s labels queue
+    by-status Inactive so never waiting = absurd never
+    by-status Runnable so never waiting = absurd waiting
+    by-status (Blocked other) so queued waiting = record {
+      own = own;
+      there = there;
+      status = so ∙ ap Blocked (in-queue other queued);
+      point = point;
+      state = state;
+      stands = stands;
+      ecall = asks.0;
+      left = left;
+      call = asks.1.1;
+      asks = asked-is image t point state asks.0 ∙ TakesWord.takes takes ∙ ap Takes its-own;
+      none = none;
+    }
     by-status AwaitsReply so reply waiting = absurd (no-reply reply)
-    by-status AwaitsHandler so none waiting = absurd none
+    by-status AwaitsHandler so never waiting = absurd never
 
-  by-invariant : is_runnable (thread_at s (tcb_of image t)).status ≡ false → ThreadInvariant image t s labels → n.word ≡ 0
+  by-invariant : is_runnable (thread_at s (tcb_of image t)).status ≡ false → ThreadInvariant image t s labels → WaitsToTake image t s labels queue
   by-invariant rests (runs own point state there status stands budget) =
       absurd (let clash : false ≡ true = sym rests ∙ ap (λ (u : ThreadState). is_runnable u.status) (at-place s (tcb_of image t) own there)
       ∙ ap is_runnable status in cc)
   by-invariant rests (waits own point state there status stands asks none) =
-      by-status own point state there stands asks own.status refl
+      by-status own point state there stands asks none own.status refl
       (all.wait t listed own point state asks.1.0 there stands.inside stands.pc stands.known asks.1.1) status
 
-  pub no-word : is_runnable (thread_at s (tcb_of image t)).status ≡ false → n.word ≡ 0
-  no-word rests = by-invariant rests (all.stand t listed)
+  -- where it does not run it waits there
+  pub rests-to-take : is_runnable (thread_at s (tcb_of image t)).status ≡ false → WaitsToTake image t s labels queue
+  rests-to-take rests = by-invariant rests (all.stand t listed)
+
+  module _ (n : NotificationState) (is : s.objects queue ≡ Some (NotificationObject n)) where
+    -- it is among those who wait there
+    pub counts : WaitsToTake image t s labels queue → times_in n.waiters (tcb_of image t) ≡ 1
+    counts w =
+        let waits_here : waits_at s (tcb_of image t) queue ≡ true =
+        ap (λ (o : Option Object). option_map_or (λ u. is_blocked_on queue u.status) (as_thread o) false) w.there
+        ∙ ap (is_blocked_on queue) w.status ∙ eq-eqb queue queue refl in
+        let law = all.sound.threads.queued (tcb_of image t) queue in
+        ap (λ (l : List ℕ). times_in l (tcb_of image t)) (sym (ap waiting_at is)) ∙ law ∙ ap (λ (b : Bool). if b then 1 else 0) waits_here
+
+    pub some-wait : WaitsToTake image t s labels queue → n.waiters ≡ [] → ⊥
+    some-wait w nobody =
+        let one_there = counts w in
+        let none : times_in n.waiters (tcb_of image t) ≡ 0 = ap (λ (l : List ℕ). times_in l (tcb_of image t)) nobody in
+        omega (arith, one_there, none)
+
+    pub no-word : is_runnable (thread_at s (tcb_of image t)).status ≡ false → n.word ≡ 0
+    no-word rests = elim (all.sound.threads.idle queue n is) [
+      | inl nobody ↦ absurd (some-wait (rests-to-take rests) nobody)
+      | inr none ↦ none
+    ]

@@ -62,6 +62,8 @@ module _ (laws : Laws) (bytes : List ℕ) (image : Image) (accepted : IsAccepted
     (rests : (u : Numbered) → Contains (numbered_threads image) u → is_of_level priority u ≡ true
     → is_runnable (thread_at s (tcb_of image u)).status ≡ true → ⊥) (is_taken : ℕ → Bool)
     (taken : (queue : ℕ) (n : NotificationState) → is_taken queue ≡ true → s.objects queue ≡ Some (NotificationObject n) → n.word ≡ 0)
+    (is_open : ℕ → Bool)
+    (silent : (number : ℕ) → Contains irq_lines number → is_open number ≡ true → s.pending number ≡ false)
     (own : ThreadState) (point : ℕ) (state : PointState) (answer : AfterCall) (at : CallsAt image t s labels own point state answer) where
   abbrev tcb : ℕ
   tcb = tcb_of image t
@@ -85,23 +87,27 @@ module _ (laws : Laws) (bytes : List ℕ) (image : Image) (accepted : IsAccepted
   -- ---- at rest, before the step
 
   before-none : (u : Numbered) → Contains (numbered_threads image) u → before_of u ≤ 0
-  before-none u among = nothing-left image priority w s labels rests described_so is_taken taken u among
+  before-none u among = nothing-left image priority w s labels rests described_so is_taken taken is_open silent u among
 
   threads-before : total before_of (numbered_threads image) ≤ 0
   threads-before =
       let less = total-less before_of (λ _. 0) (numbered_threads image) before-none in
-      let none = none-total image priority w s labels rests described_so is_taken taken (numbered_threads image) in
+      let none = none-total image priority w s labels rests described_so is_taken taken is_open silent (numbered_threads image) in
       omega (arith, less, none)
 
   word-before : (p : Price) → left_of_word w s p ≤ fixed p
-  word-before p = a-word image priority w s labels rests described_so is_taken taken p
+  word-before p = a-word image priority w s labels rests described_so is_taken taken is_open silent p
 
   words-before : total (left_of_word w s) w.prices ≤ total fixed w.prices
   words-before = total-less (left_of_word w s) fixed w.prices (λ p _. word-before p)
 
-  lines-before : total (left_of_line w s) irq_lines ≤ total (line_price w (described image)) irq_lines
-  lines-before = total-less (left_of_line w s) (line_price w (described image)) irq_lines
-      (λ n among. a-line image priority w s labels rests described_so is_taken taken n among)
+  -- what may be pending on a line
+  abbrev fixed_line : ℕ → ℕ
+  fixed_line number = if is_open number then 0 else line_price w (described image) number
+
+  lines-before : total (left_of_line w s) irq_lines ≤ total fixed_line irq_lines
+  lines-before = total-less (left_of_line w s) fixed_line irq_lines
+      (λ n among. a-line image priority w s labels rests described_so is_taken taken is_open silent n among)
 
   own-none : after_of t ≡ 0
   own-none = below-none laws bytes image accepted priority w pays s after labels later all behind told t listed within quiet takes counts t below
@@ -119,7 +125,7 @@ module _ (laws : Laws) (bytes : List ℕ) (image : Image) (accepted : IsAccepted
 
   -- ---- where it rings nothing, or a line pays
 
-  quietly : ((o : ℕ) → asked ≡ Rings o → ⊥) → left image priority w after later ≤ at_rest image w is_taken
+  quietly : ((o : ℕ) → asked ≡ Rings o → ⊥) → left image priority w after later ≤ at_rest image w is_taken is_open
   unfolding left
   quietly never =
       let line = (line-pays image w s after bound pends asked never).pays in
@@ -138,7 +144,7 @@ module _ (laws : Laws) (bytes : List ℕ) (image : Image) (accepted : IsAccepted
     same-bell : (other : ℕ) → rung_by s after asked ≡ Some other → other ≡ o
     same-bell other so = one-some (sym so ∙ signalled)
 
-    rung : left image priority w after later ≤ at_rest image w is_taken + price_of w o
+    rung : left image priority w after later ≤ at_rest image w is_taken is_open + price_of w o
     unfolding left
     rung =
         let cost : rung_cost w (rung_by s after asked) ≡ price_of w o = ap (rung_cost w) signalled in
@@ -176,7 +182,7 @@ module _ (laws : Laws) (bytes : List ℕ) (image : Image) (accepted : IsAccepted
       Fits = total after_of (numbered_threads image) + total word_after w.prices ≤ total fixed w.prices
 
       zero-sum : total {A = Numbered} (λ _. 0) (numbered_threads image) ≡ 0
-      zero-sum = none-total image priority w s labels rests described_so is_taken taken (numbered_threads image)
+      zero-sum = none-total image priority w s labels rests described_so is_taken taken is_open silent (numbered_threads image)
 
       sets : (notification_at s o).waiters ≡ [] → Fits
       sets nobody =
@@ -267,7 +273,7 @@ module _ (laws : Laws) (bytes : List ℕ) (image : Image) (accepted : IsAccepted
       by-waiters [] nobody = sets nobody
       by-waiters (x ∷ rest) first = wakes x rest first
 
-      counted : left image priority w after later ≤ at_rest image w is_taken
+      counted : left image priority w after later ≤ at_rest image w is_taken is_open
       unfolding left
       counted =
           let fits = by-waiters (notification_at s o).waiters refl in
@@ -277,7 +283,7 @@ module _ (laws : Laws) (bytes : List ℕ) (image : Image) (accepted : IsAccepted
 
   -- ---- whatever it asks
 
-  module _ (most : ℕ) (fit : RingsFit image priority w is_taken most) (rest : at_rest image w is_taken ≤ most) where
+  module _ (most : ℕ) (fit : RingsFit image priority w is_taken is_open most) (rest : at_rest image w is_taken is_open ≤ most) where
     abbrev Rests : Type 0
     Rests = left image priority w after later ≤ most
 

@@ -258,7 +258,7 @@ module _ (laws : Laws) (bytes : List ℕ) (image : Image) (accepted : IsAccepted
         at-next =
             ap (λ (k : ℕ). (k - t.thread.header.base) / 4)
             (ap (λ (y : ℕ). (thread_at woke y).registers.pc) here ∙ woke-pc ∙ ap (λ (z : ThreadState). (z.registers.pc + 4) % 2 ^ 32) same-own
-            ∙ next-pc laws bytes image accepted priority w pays s labels t listed bound.notification waits)
+            ∙ next-pc laws bytes image accepted s labels t listed bound.notification waits)
             ∙ point-of t.thread.header.base (waits.point + 1)
 
         taker-costs : left_of_thread image priority w woke later t ≤ price_of w bound.notification
@@ -266,7 +266,7 @@ module _ (laws : Laws) (bytes : List ℕ) (image : Image) (accepted : IsAccepted
             then t.thread.header.budget - open_count (tcb_of image t) later + w.still t.number (point_now image woke t) else 0)
             ≤ price_of w bound.notification) [
               | true ↦ λ level.
-                  let paid = taker-paid laws bytes image accepted priority w pays s labels t listed bound.notification waits level in
+                  let paid = taker-paid laws bytes image accepted s labels t listed bound.notification waits priority w pays level in
                   let still = ap (λ (k : ℕ). w.still t.number k) at-next in
                   elim (is_runnable (thread_at woke (tcb_of image t)).status) as (λ b. (if b
                   then t.thread.header.budget - open_count (tcb_of image t) later + w.still t.number (point_now image woke t) else 0)

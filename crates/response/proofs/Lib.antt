@@ -1,3 +1,4 @@
+pub mod EachEvent
 pub mod Priorities
 pub mod Running
 pub mod Runs
@@ -34,3 +35,11 @@ pub mod BelowRests
 pub mod OneCall
 pub mod OneMore
 pub mod Quietly
+pub mod CallLabels
+pub mod Marks
+pub mod Tended
+pub mod PlainPoints
+pub mod AckCalls
+pub mod TendedSteps
+pub mod TendedLines
+pub mod ComesToRest

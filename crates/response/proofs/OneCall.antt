@@ -1,16 +1,13 @@
 -- One step more: a system call of a thread of the level, and any step of another one.
-use Rattle.std.proofs.Common.{ℕ, ◌≡◌, ◌≢◌, ◌∙◌, ◌⊎◌, ◌==◌, ◌+◌, ◌<◌, ◌≤◌, ◌++◌, inl, inr, Bool, true, false, if◌then◌else◌, Option, Some, Ok, List, [], ◌∷◌}
-use Rattle.std.proofs.Common.{refl}
+use Rattle.std.proofs.Common.{ℕ, ◌≡◌, ◌≢◌, ◌∙◌, ◌⊎◌, ◌==◌, ◌+◌, ◌<◌, ◌≤◌, ◌++◌, inl, inr, Bool, true, false, Option, Some, Ok, List, [], ◌∷◌}
 use Rattle.std.proofs.Common.{sym, ap, subst, arith}
 use Rattle.std.specs.Prelude.{Contains}
-use Rattle.std.proofs.lemmas.Bool.{eq-eqb, ne_eqb}
 use Rattle.std.proofs.lemmas.Bool.Decides.{eqb_tells}
 use Rattle.model.specs.declared.capabilities.Cap.TheVariants.{Notification}
 use Rattle.model.specs.declared.events.Event.{Event}
 use Rattle.model.specs.declared.events.Event.TheVariants.{Step}
 use Rattle.model.specs.declared.instructions.Instr.{Instr}
 use Rattle.model.specs.declared.labels.Label.{Label}
-use Rattle.model.specs.declared.labels.Label.TheVariants.{Ran}
 use Rattle.model.specs.declared.rights.Rights.{Rights}
 use Rattle.model.specs.Acceptance.Accepted.{IsAccepted}
 use Rattle.model.specs.Acceptance.Authority.{StaysWithin, computed}
@@ -27,10 +24,10 @@ use Rattle.model.specs.Kernel.Retype.{NewNotification}
 use Rattle.model.specs.Kernel.Scheduling.{current, is_runnable}
 use Rattle.model.specs.Kernel.State.{NotificationObject, NotificationState, Object, State, ThreadObject, ThreadState, notification_at, thread_at}
 use Rattle.model.specs.Kernel.Steps.{memory_base, named_slot, registers_of, state_after, step, system_call, trace}
-use Rattle.model.specs.Kernel.Waits.{is_fault, is_of, is_wait, open_count}
+use Rattle.model.specs.Kernel.Waits.{is_fault, open_count}
 use Rattle.model.specs.Machine.Effects.{effect}
 use Rattle.soundness.proofs.Laws.{notification-kind}
-use Rattle.headline.proofs.Laws.{call-leaves, other-label, own-label, state-next, trace-next}
+use Rattle.headline.proofs.Laws.{call-leaves, state-next, trace-next}
 use Rattle.headline.specs.facts.Standing.{AllStand}
 use Rattle.headline.specs.invocations.Laws.{AnyStepGoesWell, Laws}
 use Rattle.headline.specs.moves.Moving.{CallsAt}
@@ -41,15 +38,15 @@ use Rattle.response.specs.Laws.{RingsFit, WaitsToTake}
 use Rattle.response.specs.Left.{at_rest, irq_lines, left}
 use Rattle.response.specs.Levels.{is_of_level}
 use Rattle.response.specs.Weights.{Pays, Weights, waits_for_no_message}
-use Rattle.response.proofs.AskedNow.{asked_now, may_wait, waits-none}
+use Rattle.response.proofs.AskedNow.{asked_now}
 use Rattle.response.proofs.AtBells.{WaitsForNoMessage}
 use Rattle.response.proofs.BelowRests.{call-rests}
+use Rattle.response.proofs.CallLabels.{called-is, called-label, others-count, own-count}
 use Rattle.response.proofs.Interrupts.{put-at, put-off, thread-of, word-of}
 use Rattle.response.proofs.LevelCalls.{call-falls}
 use Rattle.response.proofs.NamedNow.{asks-so}
 use Rattle.response.proofs.OwnAuthority.{OwnAuthority, own-authority}
-use Rattle.response.proofs.OwnCalls.{same-names}
-use Rattle.response.proofs.OwnSteps.{bells-apart, goes-on, stepped}
+use Rattle.response.proofs.OwnSteps.{bells-apart, goes-on}
 use Rattle.response.proofs.Stage.{rest-left}
 use Rattle.response.proofs.Taken.{call-takes}
 
@@ -79,24 +76,13 @@ module _ (laws : Laws) (steps : AnyStepGoesWell) (told : (a b : ThreadState) →
   -- ---- a system call
 
   module _ (makes : MakesCall s (tcb_of image t)) where
-    label-is : (step s Step).1 ≡ Ran (memory_base + tcb) (registers_of s tcb).pc (system_call s tcb).1
-    label-is = ap (λ (x : State × Label). x.1) (stepped s tcb now makes)
+    counts : (thread : ℕ) → thread ≢ tcb → open_count thread later ≡ open_count thread labels
+    counts = others-count image s labels t now makes
 
     after-is : after ≡ (system_call s tcb).0
-    after-is = ap (λ (x : State × Label). x.0) (stepped s tcb now makes)
-
-    counts : (thread : ℕ) → thread ≢ tcb → open_count thread later ≡ open_count thread labels
-    counts thread apart =
-        other-label thread labels (step s Step).1
-        (ap (is_of thread) label-is ∙ ne_eqb (memory_base + tcb) (memory_base + thread) (λ same. apart (omega (arith, same))))
+    after-is = called-is image s labels t now makes
 
     module _ (mine : ThreadState) (point : ℕ) (state : PointState) (answer : AfterCall) (at : CallsAt image t s labels mine point state answer) where
-      count : may_wait (asked_now s tcb) ≡ false → open_count tcb later ≡ open_count tcb labels + 1
-      count free =
-          own-label tcb labels (step s Step).1 (ap (is_of tcb) label-is ∙ eq-eqb (memory_base + tcb) (memory_base + tcb) refl)
-          ∙ ap (λ (b : Bool). if b then 0 else open_count tcb labels + 1)
-          (ap is_wait label-is ∙ waits-none s tcb (same-names s tcb mine at.there at.status 0 0) free)
-
       none : is_of_level priority t ≡ true → waits_for_no_message (asked_now s tcb) ≡ true
       none level =
           sym (ap waits_for_no_message (asks-so laws.below bytes image s labels accepted t listed mine point state answer at))
@@ -111,14 +97,15 @@ module _ (laws : Laws) (steps : AnyStepGoesWell) (told : (a b : ThreadState) →
       taken o asks runs =
           let both = call-takes s tcb mine at.there at.status (memory_base + tcb) (registers_of s tcb).pc
           (bells-apart laws bytes image s labels accepted all t listed mine at.there at.status) notes o asks
-          (sym (ap is_fault label-is) ∙ well.faults) (sym (ap (λ (x : State). is_runnable (thread_at x tcb).status) after-is) ∙ runs) in
+          (sym (ap is_fault (called-label image s labels t now makes)) ∙ well.faults) (sym (ap (λ (x : State). is_runnable (thread_at x tcb).status)
+          after-is) ∙ runs) in
           (both.0, ap (λ (x : State). word-of (x.objects o)) after-is ∙ both.1)
 
       falls-at : is_of_level priority t ≡ true → open_count tcb labels + 1 ≤ t.thread.header.budget
           → left image priority w after later + 1 ≤ left image priority w s labels
       falls-at level spent =
           call-falls laws.below bytes image accepted priority w pays s after labels later all well.stands told t listed own.within quiet takes counts bound
-          level mine point state answer at count
+          level mine point state answer at (own-count image s labels t now makes mine point state answer at)
           (goes-on laws bytes image s labels accepted all t listed mine at.there at.status now makes (none level) well.faults) taken spent
 
     pub falls-so : is_of_level priority t ≡ true → open_count (tcb_of image t) labels + 1 ≤ t.thread.header.budget
@@ -135,13 +122,15 @@ module _ (laws : Laws) (steps : AnyStepGoesWell) (told : (a b : ThreadState) →
       (rests : (u : Numbered) → Contains (numbered_threads image) u → is_of_level priority u ≡ true
       → is_runnable (thread_at s (tcb_of image u)).status ≡ true → ⊥) (is_taken : ℕ → Bool)
       (taken : (queue : ℕ) (n : NotificationState) → is_taken queue ≡ true → s.objects queue ≡ Some (NotificationObject n) → n.word ≡ 0)
-      (most : ℕ) (fit : RingsFit image priority w is_taken most) (rest : at_rest image w is_taken ≤ most) where
+      (is_open : ℕ → Bool)
+      (silent : (number : ℕ) → Contains irq_lines number → is_open number ≡ true → s.pending number ≡ false)
+      (most : ℕ) (fit : RingsFit image priority w is_taken is_open most) (rest : at_rest image w is_taken is_open ≤ most) where
     pub call-below : MakesCall s (tcb_of image t) → left image priority w (step s Step).0 (labels ++ (step s Step).1 ∷ []) ≤ most
     call-below makes =
         call-leaves laws.below bytes image t s labels accepted all listed now makes (λ _. left image priority w after later ≤ most)
         (λ mine point state answer call at _ _ rule.
         call-rests laws.below bytes image accepted priority w pays s after labels later all well.stands told t listed own.within quiet takes (counts makes)
-        bound described_so below rests is_taken taken mine point state answer at most fit rest)
+        bound described_so below rests is_taken taken is_open silent mine point state answer at most fit rest)
 
     -- an instruction changes the thread's registers, and bytes
     module _ (instruction : Instr) where
@@ -171,8 +160,8 @@ module _ (laws : Laws) (steps : AnyStepGoesWell) (told : (a b : ThreadState) →
         | inr apart ↦ taken queue n here (sym (put-off s.objects tcb queue (Some (ThreadObject new)) apart.1) ∙ is)
       ]
 
-      moved-rests : left image priority w moved later ≤ at_rest image w is_taken
-      moved-rests = rest-left image priority w moved later still-rests described_so is_taken still-taken
+      moved-rests : left image priority w moved later ≤ at_rest image w is_taken is_open
+      moved-rests = rest-left image priority w moved later still-rests described_so is_taken still-taken is_open silent
 
     pub plain-below : ReachesNoCall s (tcb_of image t) → left image priority w (step s Step).0 (labels ++ (step s Step).1 ∷ []) ≤ most
     plain-below free =

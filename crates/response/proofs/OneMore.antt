@@ -20,8 +20,9 @@ use Rattle.headline.specs.facts.Standing.{AllStand}
 use Rattle.headline.specs.invocations.Laws.{AnyStepGoesWell, Laws}
 use Rattle.headline.specs.moves.Steps.{MakesCall}
 use Rattle.headline.specs.steps.Points.{ReachesNoCall}
-use Rattle.response.specs.Laws.{AreTakenAlone, RingsFit, RunsOfLevel, TakesFromOne, WaitsToTake}
-use Rattle.response.specs.Left.{at_rest, left}
+use Rattle.response.specs.Laws.{RingsFit, RunsOfLevel, WaitsToTake}
+use Rattle.response.specs.Left.{at_rest, irq_lines, left}
+use Rattle.response.specs.Resting.{AreAcknowledged, AreTakenAlone, IsAcknowledged, TakesFromOne}
 use Rattle.response.specs.Levels.{is_of_level}
 use Rattle.response.specs.Weights.{Pays, Weights}
 use Rattle.response.proofs.AtBells.{WaitsForNoMessage}
@@ -47,11 +48,15 @@ module _ (laws : Laws) (steps : AnyStepGoesWell) (told : (a b : ThreadState) →
     (below : is_of_level priority t ≡ false)
     (level-runs : (u : Numbered) → Contains (numbered_threads image) u → is_of_level priority u ≡ true
     → is_runnable (thread_at (state_after (described image) events) (tcb_of image u)).status ≡ true
-    → RunsOfLevel image priority (state_after (described image) events)) (is_taken : ℕ → Bool) (alone : AreTakenAlone image priority is_taken)
+    → RunsOfLevel image priority (state_after (described image) events)) (is_taken is_open : ℕ → Bool) (alone : AreTakenAlone image priority is_taken)
+    (acknowledged : AreAcknowledged image priority is_open)
     (words : (u : Numbered) (queue : ℕ) (n : NotificationState) → Contains (numbered_threads image) u → TakesFromOne image u queue
     → is_runnable (thread_at (state_after (described image) events) (tcb_of image u)).status ≡ false
-    → (state_after (described image) events).objects queue ≡ Some (NotificationObject n) → n.word ≡ 0) (most : ℕ)
-    (fit : RingsFit image priority w is_taken most) (rest : at_rest image w is_taken ≤ most) where
+    → (state_after (described image) events).objects queue ≡ Some (NotificationObject n) → n.word ≡ 0)
+    (lines : (number : ℕ) → number < 64 → (a : IsAcknowledged image priority number)
+    → is_runnable (thread_at (state_after (described image) events) (tcb_of image a.thread)).status ≡ false
+    → (state_after (described image) events).pending number ≡ false) (most : ℕ)
+    (fit : RingsFit image priority w is_taken is_open most) (rest : at_rest image w is_taken is_open ≤ most) where
   abbrev s : State
   s = state_after (described image) events
 
@@ -72,29 +77,32 @@ module _ (laws : Laws) (steps : AnyStepGoesWell) (told : (a b : ThreadState) →
       let clash : false ≡ true = sym below ∙ ap (is_of_level priority) (sym (same-thread r.thread r.listed r.runs)) ∙ r.level in
       absurd cc
 
+  stops : (u : Numbered) → Contains (numbered_threads image) u → is_of_level priority u ≡ true → is_runnable (thread_at s (tcb_of image u)).status ≡ false
+  stops u among level = elim (is_runnable (thread_at s (tcb_of image u)).status)
+      as (λ b. is_runnable (thread_at s (tcb_of image u)).status ≡ b → b ≡ false) [
+        | true ↦ λ may. absurd (rests u among level may)
+        | false ↦ λ _. refl
+      ] refl
+
   taken : (queue : ℕ) (n : NotificationState) → is_taken queue ≡ true → s.objects queue ≡ Some (NotificationObject n) → n.word ≡ 0
-  taken queue n here is =
-      let who = alone queue here in
-      words who.0 queue n who.1 who.3 (stops who.0 who.1 who.2) is
-    where
-      stops : (u : Numbered) → Contains (numbered_threads image) u → is_of_level priority u ≡ true
-          → is_runnable (thread_at s (tcb_of image u)).status ≡ false
-      stops u among level = elim (is_runnable (thread_at s (tcb_of image u)).status)
-          as (λ b. is_runnable (thread_at s (tcb_of image u)).status ≡ b → b ≡ false) [
-            | true ↦ λ may. absurd (rests u among level may)
-            | false ↦ λ _. refl
-          ] refl
+  taken queue n here is = let who = alone queue here in words who.0 queue n who.1 who.3 (stops who.0 who.1 who.2) is
+
+  silent : (number : ℕ) → Contains irq_lines number → is_open number ≡ true → s.pending number ≡ false
+  silent number among here =
+      let few = few-lines number among in
+      let a = acknowledged number few here in
+      lines number few a (stops a.thread a.listed a.level)
 
   abbrev Rests : Type 0
   Rests = left image priority w (step s Step).0 (labels ++ (step s Step).1 ∷ []) ≤ most
 
   calls : MakesCall s (tcb_of image t) → Rests
   calls = call-below laws steps told bytes image accepted priority w pays quiet s labels all stay takes bound t listed now
-      (λ number among. described_so number (few-lines number among)) below rests is_taken taken most fit rest
+      (λ number among. described_so number (few-lines number among)) below rests is_taken taken is_open silent most fit rest
 
   plain : ReachesNoCall s (tcb_of image t) → Rests
   plain = plain-below laws steps told bytes image accepted priority w pays quiet s labels all stay takes bound t listed now
-      (λ number among. described_so number (few-lines number among)) below rests is_taken taken most fit rest
+      (λ number among. described_so number (few-lines number among)) below rests is_taken taken is_open silent most fit rest
 
   pub step-below : left image priority w (step (state_after (described image) events) Step).0
       (trace (described image) events ++ (step (state_after (described image) events) Step).1 ∷ []) ≤ most

@@ -66,7 +66,7 @@ passes_with-pc s x r same =
     (put-at s.objects x (Some (ThreadObject (record (thread_at s x) { registers = r }))))
     ∙ ap (λ (n : ℕ). (n + 4) % 2 ^ 32) same
 
-word-pc : (s : State) (x word : ℕ) → pc_at (deliver_word s x word) x ≡ (pc_at s x + 4) % 2 ^ 32
+pub word-pc : (s : State) (x word : ℕ) → pc_at (deliver_word s x word) x ≡ (pc_at s x + 4) % 2 ^ 32
 word-pc s x word = passes_with-pc s x (write (thread_at s x).registers a0 word) (write-pc (thread_at s x).registers a0 word)
 
 pub answered-pc : (s : State) (x : ℕ) (kind : SendCall) (number : ℕ) → pc_at (answered s x kind number) x ≡ (pc_at s x + 4) % 2 ^ 32

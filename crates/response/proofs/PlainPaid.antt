@@ -1,33 +1,28 @@
 -- A step that makes no system call goes along an edge, which the weights pay for.
-use Rattle.std.proofs.Common.{ℕ, ◌≡◌, ◌∙◌, ◌+◌, ◌≤◌, ◌++◌, true, Some, List, [], ◌∷◌, sym, ap, subst}
+use Rattle.std.proofs.Common.{ℕ, ◌≡◌, ◌∙◌, ◌+◌, ◌≤◌, ◌++◌, true, Some, List, [], ◌∷◌, sym, subst}
 use Rattle.std.specs.Prelude.{Contains}
 use Rattle.std.proofs.lemmas.Bool.{leb-true}
 use Rattle.model.specs.declared.events.Event.{Event}
 use Rattle.model.specs.declared.events.Event.TheVariants.{Step}
-use Rattle.model.specs.declared.instructions.Access.TheVariants.{Fetch}
-use Rattle.model.specs.declared.instructions.AccessSize.TheVariants.{Word}
-use Rattle.model.specs.declared.instructions.Instr.TheVariants.{Ecall}
 use Rattle.model.specs.declared.labels.Label.{Label}
 use Rattle.model.specs.declared.labels.Label.TheVariants.{Ran}
 use Rattle.model.specs.declared.labels.Outcome.TheVariants.{Plain}
-use Rattle.model.specs.Acceptance.PointStates.{address_of, instruction_at}
 use Rattle.model.specs.Acceptance.ThreadInvariants.{tcb_of}
 use Rattle.model.specs.Images.Described.{Numbered, described, numbered_threads}
 use Rattle.model.specs.Images.Image.{Image}
-use Rattle.model.specs.Kernel.AddressSpaces.{content_of}
 use Rattle.model.specs.Kernel.Scheduling.{current}
-use Rattle.model.specs.Kernel.State.{State, ThreadState}
+use Rattle.model.specs.Kernel.State.{State}
 use Rattle.model.specs.Kernel.Steps.{memory_base, registers_of, state_after, step, trace}
 use Rattle.model.specs.Kernel.Waits.{open_count}
-use Rattle.model.specs.Machine.ProgramMemory.{loaded}
-use Rattle.headline.proofs.Laws.{IsGiven, RunsAlong, at-place, goes-along, state-next, trace-next}
+use Rattle.headline.proofs.Laws.{IsGiven, RunsAlong, goes-along, state-next, trace-next}
 use Rattle.headline.specs.facts.Standing.{AllStand}
 use Rattle.headline.specs.steps.Points.{ReachesNoCall}
 use Rattle.response.specs.Asking.{Asked}
 use Rattle.response.specs.Left.{left}
 use Rattle.response.specs.Levels.{is_of_level}
 use Rattle.response.specs.Weights.{Pays, Weights, pays_for}
-use Rattle.response.proofs.PlainWork.{plain-falls, plainly-asked}
+use Rattle.response.proofs.PlainPoints.{asks-none}
+use Rattle.response.proofs.PlainWork.{plain-falls}
 
 module _ (image : Image) (priority : ℕ) (w : Weights) (pays : Pays image priority w) (events : List Event) (t : Numbered) (g : IsGiven image t)
     (listed : Contains (numbered_threads image) t) (level : is_of_level priority t ≡ true) where
@@ -45,13 +40,6 @@ module _ (image : Image) (priority : ℕ) (w : Weights) (pays : Pays image prior
     run : RunsAlong image t s
     run = goes-along image t s labels g all.sound now free (all.stand t listed)
 
-    no-call : instruction_at t.thread (RunsAlong.point run) ≡ Some Ecall → ⊥
-    no-call call =
-        let stands = RunsAlong.stands run in
-        let pc : (registers_of s (tcb_of image t)).pc ≡ address_of t.thread (RunsAlong.point run) =
-        ap (λ (u : ThreadState). u.registers.pc) (at-place s (tcb_of image t) (RunsAlong.own run) (RunsAlong.there run)) ∙ stands.pc in
-        free _ (ap (loaded (content_of s (tcb_of image t)) Fetch Word) pc ∙ stands.program (RunsAlong.point run) stands.inside) call
-
     pub plain-paid : left image priority w (state_after (described image) (events ++ Step ∷ [])) (trace (described image) (events ++ Step ∷ [])) + 1
         ≤ left image priority w (state_after (described image) events) (trace (described image) events)
     plain-paid =
@@ -60,7 +48,7 @@ module _ (image : Image) (priority : ℕ) (w : Weights) (pays : Pays image prior
         let point = RunsAlong.point run in
         let still = leb-true (w.still t.number goes.next) (w.still t.number point)
         (subst (λ (a : Asked). pays_for w t.thread.header.budget (w.still t.number point) (w.still t.number goes.next) a ≡ true)
-        (plainly-asked image t.thread point (RunsAlong.state run) no-call)
+        (asks-none image t s run free)
         (pays.points t point (RunsAlong.state run) goes.next listed level stands.inside stands.known
         (record { edge = goes.edge; among = goes.among; inside = goes.inside; target = goes.target }))) in
         let falls = plain-falls image priority w s labels t listed level (RunsAlong.own run) (RunsAlong.there run)

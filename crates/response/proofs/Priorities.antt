@@ -1,6 +1,6 @@
 -- No event changes a priority: what authority lets it change is never one.
 use Rattle.std.proofs.Common.{ℕ, ◌≡◌, ◌≢◌, ◌∙◌, ◌++◌, ◌==◌, inl, inr, true, false, if◌then◌else◌, Option, Some, None, List, [], ◌∷◌, All, refl, sym, ap}
-use Rattle.std.proofs.Common.{subst, append_assoc}
+use Rattle.std.proofs.Common.{subst}
 use Rattle.std.specs.Prelude.{Contains}
 use Rattle.std.proofs.lemmas.Bool.Decides.{eqb_tells}
 use Rattle.model.specs.declared.capabilities.Cap.{Cap}
@@ -22,10 +22,11 @@ use Rattle.model.specs.Kernel.Steps.{place_of, state_after, step}
 use Rattle.model.specs.declared.labels.Label.{Label}
 use Rattle.soundness.specs.Machines.{SameBesideBytes}
 use Rattle.soundness.proofs.Laws.{written-beside}
-use Rattle.headline.proofs.Laws.{all-front, state-next}
+use Rattle.headline.proofs.Laws.{state-next}
 use Rattle.headline.specs.authority.Events.{InterruptChange, WithinInterrupt, WithinTick, joins, passes_on, wakes}
 use Rattle.headline.specs.facts.Standing.{AllStand}
 use Rattle.response.specs.Levels.{HasItsPriority}
+use Rattle.response.proofs.EachEvent.{holds-after}
 
 -- ---- objects
 
@@ -154,13 +155,6 @@ module _ (ticks : (s : State) → IsSound s → WithinTick s (tick s))
             ∙ has.priority;
       }
 
-  pub stays-from : (before rest : List Event) → All (KeepsDevices image) (before ++ rest) → HasItsPriority image t (state_after start before)
-      → HasItsPriority image t (state_after (state_after start before) rest)
-  unfolding state_after
-  stays-from before [] devices has = has
-  stays-from before (event ∷ rest) devices has =
-      let further = subst (All (KeepsDevices image)) (sym (append_assoc before (event ∷ []) rest)) devices in
-      let later = stays-from (before ++ event ∷ []) rest further (subst (HasItsPriority image t) (sym (state-next start before event))
-      (one-more before event (all-front (KeepsDevices image) (before ++ event ∷ rest) before (event ∷ rest) devices refl)
-      (all-front (KeepsDevices image) ((before ++ event ∷ []) ++ rest) (before ++ event ∷ []) rest further refl) has)) in
-      subst (λ (s : State). HasItsPriority image t (state_after s rest)) (state-next start before event) later
+  pub stays : HasItsPriority image t (described image) → (events : List Event) → All (KeepsDevices image) events
+      → HasItsPriority image t (state_after (described image) events)
+  stays = holds-after image (HasItsPriority image t) one-more

@@ -75,9 +75,9 @@ module _ (laws : Laws) (bytes : List ℕ) (image : Image) (accepted : IsAccepted
       (if b && is_runnable (thread_at after (tcb_of image u)).status
       then u.thread.header.budget - open_count (tcb_of image u) later + w.still u.number (point_now image after u) else 0) ≤ price_of w o) [
         | true ↦ λ level.
-            let paid = taker-paid laws bytes image accepted priority w pays s labels u among o waits level in
+            let paid = taker-paid laws bytes image accepted s labels u among o waits priority w pays level in
             let at_next : point_now image after u ≡ waits.point + 1 =
-            ap (λ (k : ℕ). (k - u.thread.header.base) / 4) (pc ∙ next-pc laws bytes image accepted priority w pays s labels u among o waits)
+            ap (λ (k : ℕ). (k - u.thread.header.base) / 4) (pc ∙ next-pc laws bytes image accepted s labels u among o waits)
             ∙ point-of u.thread.header.base (waits.point + 1) in
             let still = ap (λ (k : ℕ). w.still u.number k) at_next in
             elim (is_runnable (thread_at after (tcb_of image u)).status) as (λ b. (if b

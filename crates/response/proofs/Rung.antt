@@ -38,7 +38,7 @@ module _ (image : Image) (t : Thread) (s after : State) (valid : (slot : ℕ) �
   self = self_of image t
 
   -- what the thread asks is what its call asks of the capability that it names
-  asks-of : (Such : SystemCall → Cap → Type 0) (names : CallNames image t s Such)
+  pub asks-of : (Such : SystemCall → Cap → Type 0) (names : CallNames image t s Such)
       → asked_now s (self_of image t) ≡ asked_by names.call (capability_at s.slots names.slot)
   asks-of Such names =
       ap (λ (o : Option SystemCall). asked_known o (capability_found s.slots (named_slot s self))) names.asks

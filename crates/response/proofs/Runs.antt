@@ -41,8 +41,16 @@ none-of image priority (t ∷ threads) =
     (elim (is_of_level priority t) as (λ b. b && false ≡ false) [ true ↦ refl | false ↦ refl ])
     ∙ none-of image priority threads
 
+-- one event more
+pub count-next : (image : Image) (priority : ℕ) (before : List Event) (event : Event)
+    → open_run image priority (trace (described image) (before ++ event ∷ []))
+    ≡ count_level image priority (open_run image priority (trace (described image) before)) (step (state_after (described image) before) event).1
+count-next image priority before event =
+    ap (λ (l : List Label). open_run image priority l) (trace-next (described image) before event)
+    ∙ open-more image priority (trace (described image) before) (step (state_after (described image) before) event).1
+
 -- the label of a step of the level counts, and that of another begins anew
-step-counts : (image : Image) (priority count : ℕ) (s : State)
+pub step-counts : (image : Image) (priority count : ℕ) (s : State)
     → count_level image priority count (step s Step).1 ≡ (if is_level_label image priority (step s Step).1 then count + 1 else 0)
 unfolding step
 step-counts image priority count s = by-current (current s)
@@ -72,12 +80,6 @@ module _ (image : Image) (priority : ℕ) (rates : List Rate) (price : ℕ → �
     work : count before + left before ≤ most + paid_in rates price run
     few : count before ≤ n
 
-  count-next : (before : List Event) (event : Event)
-      → count (before ++ event ∷ []) ≡ count_level image priority (count before) (step (state_after start before) event).1
-  count-next before event =
-      ap (λ (l : List Label). open_run image priority l) (trace-next start before event)
-      ∙ open-more image priority (trace start before) (step (state_after start before) event).1
-
   -- what the interrupts of a run cost
   paid-few : (front run later : List Event) → events ≡ front ++ run ++ later → paid_in rates price run ≤ costs_within rates price (steps_in run)
   paid-few front run later is = paid-within rates price run (λ r at. keeps r at front run later is)
@@ -89,7 +91,7 @@ module _ (image : Image) (priority : ℕ) (rates : List Rate) (price : ℕ → �
   one-tick : (before later : List Event) → events ≡ before ++ Tick ∷ later → IsPaid before → IsPaid (before ++ Tick ∷ [])
   unfolding step
   one-tick before later is p =
-      let same : count (before ++ Tick ∷ []) ≡ count before = count-next before Tick in
+      let same : count (before ++ Tick ∷ []) ≡ count before = count-next image priority before Tick in
       let less = e.ticks before later is in
       let steps = steps-more (IsPaid.run p) Tick in
       let paid = paid-more rates price (IsPaid.run p) Tick in
@@ -109,7 +111,7 @@ module _ (image : Image) (priority : ℕ) (rates : List Rate) (price : ℕ → �
       → IsPaid (before ++ Write address word ∷ [])
   unfolding step
   one-write before later address word is p =
-      let same : count (before ++ Write address word ∷ []) ≡ count before = count-next before (Write address word) in
+      let same : count (before ++ Write address word ∷ []) ≡ count before = count-next image priority before (Write address word) in
       let less = e.writes before later address word is in
       let steps = steps-more (IsPaid.run p) (Write address word) in
       let paid = paid-more rates price (IsPaid.run p) (Write address word) in
@@ -128,7 +130,7 @@ module _ (image : Image) (priority : ℕ) (rates : List Rate) (price : ℕ → �
   one-look : (before later : List Event) (address : ℕ) → events ≡ before ++ Read address ∷ later → IsPaid before → IsPaid (before ++ Read address ∷ [])
   unfolding step
   one-look before later address is p =
-      let same : count (before ++ Read address ∷ []) ≡ count before = count-next before (Read address) in
+      let same : count (before ++ Read address ∷ []) ≡ count before = count-next image priority before (Read address) in
       let less = e.reads before later address is in
       let steps = steps-more (IsPaid.run p) (Read address) in
       let paid = paid-more rates price (IsPaid.run p) (Read address) in
@@ -147,7 +149,7 @@ module _ (image : Image) (priority : ℕ) (rates : List Rate) (price : ℕ → �
   one-raise : (before later : List Event) (number : ℕ) → events ≡ before ++ Irq number ∷ later → IsPaid before → IsPaid (before ++ Irq number ∷ [])
   unfolding step
   one-raise before later number is p =
-      let same : count (before ++ Irq number ∷ []) ≡ count before = count-next before (Irq number) in
+      let same : count (before ++ Irq number ∷ []) ≡ count before = count-next image priority before (Irq number) in
       let less = e.raises before later number is in
       let steps = steps-more (IsPaid.run p) (Irq number) in
       let paid = paid-more rates price (IsPaid.run p) (Irq number) in
@@ -167,7 +169,7 @@ module _ (image : Image) (priority : ℕ) (rates : List Rate) (price : ℕ → �
   other-step : (before later : List Event) → events ≡ before ++ Step ∷ later
       → is_level_label image priority (step (state_after start before) Step).1 ≡ false → IsPaid (before ++ Step ∷ [])
   other-step before later is other =
-      let none : count (before ++ Step ∷ []) ≡ 0 = count-next before Step ∙ step-counts image priority (count before) (state_after start before)
+      let none : count (before ++ Step ∷ []) ≡ 0 = count-next image priority before Step ∙ step-counts image priority (count before) (state_after start before)
       ∙ ap (λ (b : Bool). if b then count before + 1 else 0) other in
       let less = e.rests before later is other in
       record {
@@ -182,7 +184,8 @@ module _ (image : Image) (priority : ℕ) (rates : List Rate) (price : ℕ → �
   level-step : (before later : List Event) → events ≡ before ++ Step ∷ later
       → is_level_label image priority (step (state_after start before) Step).1 ≡ true → IsPaid before → IsPaid (before ++ Step ∷ [])
   level-step before later is own p =
-      let more : count (before ++ Step ∷ []) ≡ count before + 1 = count-next before Step ∙ step-counts image priority (count before) (state_after start before)
+      let more : count (before ++ Step ∷ []) ≡ count before + 1 = count-next image priority before Step
+      ∙ step-counts image priority (count before) (state_after start before)
       ∙ ap (λ (b : Bool). if b then count before + 1 else 0) own in
       let falls = e.falls before later is own in
       let steps = steps-more (IsPaid.run p) Step in

@@ -62,7 +62,9 @@ module _ (image : Image) (priority : ℕ) (w : Weights) (s : State) (labels : Li
     (rests : (t : Numbered) → Contains (numbered_threads image) t → is_of_level priority t ≡ true
     → is_runnable (thread_at s (tcb_of image t)).status ≡ true → ⊥)
     (bound : (number : ℕ) → Contains irq_lines number → binding s number ≡ binding (described image) number) (is_taken : ℕ → Bool)
-    (taken : (queue : ℕ) (n : NotificationState) → is_taken queue ≡ true → s.objects queue ≡ Some (NotificationObject n) → n.word ≡ 0) where
+    (taken : (queue : ℕ) (n : NotificationState) → is_taken queue ≡ true → s.objects queue ≡ Some (NotificationObject n) → n.word ≡ 0)
+    (is_open : ℕ → Bool)
+    (silent : (number : ℕ) → Contains irq_lines number → is_open number ≡ true → s.pending number ≡ false) where
   pub nothing-left : (t : Numbered) → Contains (numbered_threads image) t → left_of_thread image priority w s labels t ≤ 0
   nothing-left t listed = elim (is_of_level priority t) as (λ b. is_of_level priority t ≡ b → (if b && is_runnable (thread_at s (tcb_of image t)).status
       then t.thread.header.budget - open_count (tcb_of image t) labels + w.still t.number (point_now image s t) else 0) ≤ 0) [
@@ -98,18 +100,23 @@ module _ (image : Image) (priority : ℕ) (w : Weights) (s : State) (labels : Li
     | false ↦ λ _. elim ((notification_at s p.object).word == 0) as (λ b. (if b then 0 else p.price) ≤ p.price) [ true ↦ omega arith | false ↦ omega arith ]
   ] refl
 
-  pub a-line : (number : ℕ) → Contains irq_lines number → left_of_line w s number ≤ line_price w (described image) number
+  pub a-line : (number : ℕ) → Contains irq_lines number → left_of_line w s number ≤ (if is_open number then 0 else line_price w (described image) number)
   a-line number among =
       let same : line_price w s number ≡ line_price w (described image) number =
       ap (λ (b : Option Signal). option_map_or (λ x. price_of w x.notification) b 0) (bound number among) in
-      elim (s.pending number) as (λ b. (if b then line_price w s number else 0) ≤ line_price w (described image) number)
-      [ true ↦ omega (arith, same) | false ↦ omega arith ]
+      elim (is_open number) as (λ b. is_open number ≡ b → left_of_line w s number ≤ (if b then 0 else line_price w (described image) number)) [
+        | true ↦ λ here.
+            let none : left_of_line w s number ≡ 0 = ap (λ (b : Bool). if b then line_price w s number else 0) (silent number among here) in
+            omega (arith, none)
+        | false ↦ λ _. elim (s.pending number) as (λ b. (if b then line_price w s number else 0) ≤ line_price w (described image) number)
+            [ true ↦ omega (arith, same) | false ↦ omega arith ]
+      ] refl
 
-  pub rest-left : left image priority w s labels ≤ at_rest image w is_taken
+  pub rest-left : left image priority w s labels ≤ at_rest image w is_taken is_open
   unfolding left
   rest-left =
       let threads = total-less (left_of_thread image priority w s labels) (λ _. 0) (numbered_threads image) nothing-left in
       let none = none-total (numbered_threads image) in
       let words = total-less (left_of_word w s) (λ p. if is_taken p.object then 0 else p.price) w.prices (λ p at. a-word p) in
-      let lines = total-less (left_of_line w s) (line_price w (described image)) irq_lines a-line in
+      let lines = total-less (left_of_line w s) (λ number. if is_open number then 0 else line_price w (described image) number) irq_lines a-line in
       omega (arith, threads, none, words, lines)

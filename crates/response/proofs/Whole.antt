@@ -19,7 +19,8 @@ use Rattle.model.specs.Kernel.Steps.{state_after, step, trace}
 use Rattle.headline.proofs.Laws.{all-front, idle-is, state-next, step-cases}
 use Rattle.headline.specs.facts.Standing.{AllStand}
 use Rattle.headline.specs.steps.Points.{ReachesNoCall}
-use Rattle.response.specs.Laws.{AreTakenAlone, TakesFromOne, CallsAreWork, Economy, HaveRates, RunsOfLevel, StepsBelowRest, left_after}
+use Rattle.response.specs.Resting.{AreAcknowledged, AreTakenAlone, IsAcknowledged, TakesFromOne}
+use Rattle.response.specs.Laws.{CallsAreWork, Economy, HaveRates, RunsOfLevel, StepsBelowRest, left_after}
 use Rattle.response.specs.Left.{at_rest, irq_lines, left, line_price}
 use Rattle.response.specs.Levels.{is_level_label, is_of_level}
 use Rattle.response.specs.Rates.{Rate, cost_of}
@@ -35,8 +36,8 @@ pub few-lines : (number : ℕ) → Contains irq_lines number → number < 64
 unfolding irq_lines
 few-lines number among = let less = range-below 0 64 number among.0 among.1 among.2 in omega (arith, less)
 
-module _ (image : Image) (priority : ℕ) (w : Weights) (rates : List Rate) (most : ℕ) (events : List Event) (is_taken : ℕ
-    → Bool) (rest : at_rest image w is_taken ≤ most)
+module _ (image : Image) (priority : ℕ) (w : Weights) (rates : List Rate) (most : ℕ) (events : List Event)
+    (is_taken is_open : ℕ → Bool) (rest : at_rest image w is_taken is_open ≤ most)
     (devices : All (KeepsDevices image) events)
     (stand : (before : List Event) → All (KeepsDevices image) before → (labels : List Label) × AllStand image (state_after (described image) before) labels)
     (own : (u t : Numbered) → Contains (numbered_threads image) u → Contains (numbered_threads image) t → tcb_of image u ≡ tcb_of image t → u ≡ t)
@@ -57,11 +58,14 @@ module _ (image : Image) (priority : ℕ) (w : Weights) (rates : List Rate) (mos
     ≤ left_after image priority w before + line_price w (state_after (described image) before) number)
     (beyond : (before : List Event) → All (KeepsDevices image) before → (number : ℕ) → nat_lt 63 number ≡ true
     → left_after image priority w (before ++ Irq number ∷ []) ≤ left_after image priority w before + 0)
-    (have : HaveRates image w rates) (alone : AreTakenAlone image priority is_taken)
+    (have : HaveRates image w rates) (alone : AreTakenAlone image priority is_taken) (acknowledged : AreAcknowledged image priority is_open)
     (words : (before : List Event) → All (KeepsDevices image) before → (t : Numbered) (queue : ℕ) (n : NotificationState)
     → Contains (numbered_threads image) t → TakesFromOne image t queue
     → is_runnable (thread_at (state_after (described image) before) (tcb_of image t)).status ≡ false
-    → (state_after (described image) before).objects queue ≡ Some (NotificationObject n) → n.word ≡ 0) where
+    → (state_after (described image) before).objects queue ≡ Some (NotificationObject n) → n.word ≡ 0)
+    (lines : (before : List Event) → All (KeepsDevices image) before → (number : ℕ) → number < 64 → (a : IsAcknowledged image priority number)
+    → is_runnable (thread_at (state_after (described image) before) (tcb_of image a.thread)).status ≡ false
+    → (state_after (described image) before).pending number ≡ false) where
   abbrev behind : List Event → State
   behind before = state_after (described image) before
 
@@ -91,30 +95,32 @@ module _ (image : Image) (priority : ℕ) (w : Weights) (rates : List Rate) (mos
       let later = trace (described image) (before ++ Step ∷ []) in
       let same : behind before ≡ state_after (described image) (before ++ Step ∷ []) =
       sym (ap (λ (x : State × Label). x.0) (idle-is (behind before) none)) ∙ sym (state-next (described image) before Step) in
-      let less = subst (λ (x : State). left image priority w x later ≤ at_rest image w is_taken) same
+      let less = subst (λ (x : State). left image priority w x later ≤ at_rest image w is_taken is_open) same
       (rest-left image priority w (behind before) later
       (λ t listed level may. nobody (level-runs before kept t listed level may))
-      (λ number among. bound before kept number (few-lines number among)) is_taken (λ queue n here at. no-word-there queue n here at)) in
+      (λ number among. bound before kept number (few-lines number among)) is_taken (λ queue n here at. no-word-there queue n here at) is_open
+      (λ number among here. silent number among here)) in
       omega (arith, less, rest)
     where
-      no-word-there : (queue : ℕ) (n : NotificationState) → is_taken queue ≡ true → (behind before).objects queue ≡ Some (NotificationObject n) → n.word ≡ 0
-      no-word-there queue n here at =
-          let who = alone queue here in
-          words before kept who.0 queue n who.1 who.3 (rests who.0 who.1 who.2) at
-        where
-          rests : (t : Numbered) → Contains (numbered_threads image) t → is_of_level priority t ≡ true
-              → is_runnable (thread_at (behind before) (tcb_of image t)).status ≡ false
-          rests t listed level = elim (is_runnable (thread_at (behind before) (tcb_of image t)).status) as
-              (λ b. is_runnable (thread_at (behind before) (tcb_of image t)).status ≡ b → b ≡ false) [
-                | true ↦ λ may. absurd (nobody-runs (level-runs before kept t listed level may))
-                | false ↦ λ _. refl
-              ] refl
-            where
-              nobody-runs : RunsOfLevel image priority (behind before) → ⊥
-              nobody-runs r = let clash : ◌≡◌ {A = Option ℕ} None (Some (tcb_of image r.thread)) = sym none ∙ r.runs in absurd cc
-
       nobody : RunsOfLevel image priority (behind before) → ⊥
       nobody r = let clash : ◌≡◌ {A = Option ℕ} None (Some (tcb_of image r.thread)) = sym none ∙ r.runs in absurd cc
+
+      rests : (t : Numbered) → Contains (numbered_threads image) t → is_of_level priority t ≡ true
+          → is_runnable (thread_at (behind before) (tcb_of image t)).status ≡ false
+      rests t listed level = elim (is_runnable (thread_at (behind before) (tcb_of image t)).status) as
+          (λ b. is_runnable (thread_at (behind before) (tcb_of image t)).status ≡ b → b ≡ false) [
+            | true ↦ λ may. absurd (nobody (level-runs before kept t listed level may))
+            | false ↦ λ _. refl
+          ] refl
+
+      no-word-there : (queue : ℕ) (n : NotificationState) → is_taken queue ≡ true → (behind before).objects queue ≡ Some (NotificationObject n) → n.word ≡ 0
+      no-word-there queue n here at = let who = alone queue here in words before kept who.0 queue n who.1 who.3 (rests who.0 who.1 who.2) at
+
+      silent : (number : ℕ) → Contains irq_lines number → is_open number ≡ true → (behind before).pending number ≡ false
+      silent number among here =
+          let few = few-lines number among in
+          let a = acknowledged number few here in
+          lines before kept number few a (rests a.thread a.listed a.level)
 
   rests-so : (before : List Event) → All (KeepsDevices image) before → is_level_label image priority (step (behind before) Step).1 ≡ false
       → left_after image priority w (before ++ Step ∷ []) ≤ most

@@ -19,9 +19,8 @@ use Rattle.response.proofs.CallLeads.{call-leads, next-address, next-inside}
 pub point-of : (base point : ℕ) → (base + 4 * point - base) / 4 ≡ point
 point-of base point = omega arith
 
-module _ (laws : Laws) (bytes : List ℕ) (image : Image) (accepted : IsAccepted bytes image) (priority : ℕ) (w : Weights) (pays : Pays image priority w)
-    (s : State) (labels : List Label) (t : Numbered) (listed : Contains (numbered_threads image) t) (queue : ℕ)
-    (waits : WaitsToTake image t s labels queue) where
+module _ (laws : Laws) (bytes : List ℕ) (image : Image) (accepted : IsAccepted bytes image) (s : State) (labels : List Label) (t : Numbered)
+    (listed : Contains (numbered_threads image) t) (queue : ℕ) (waits : WaitsToTake image t s labels queue) where
   abbrev point : ℕ
   point = waits.point
 
@@ -32,12 +31,13 @@ module _ (laws : Laws) (bytes : List ℕ) (image : Image) (accepted : IsAccepted
       ∙ next-address t.thread.header.base t.thread.header.words point (laws.ends bytes image t accepted listed)
       (next-inside laws bytes image accepted t listed point waits.state waits.left waits.stands.inside waits.stands.known waits.ecall waits.call)
 
-  goes-on : Leads image t point waits.state (point + 1)
+  pub goes-on : Leads image t point waits.state (point + 1)
   goes-on = call-leads laws bytes image accepted t listed point waits.state waits.left waits.stands.inside waits.stands.known waits.ecall waits.call
 
   -- its budget, and what it has still to set going, are paid
-  pub taker-paid : is_of_level priority t ≡ true → t.thread.header.budget + w.still t.number (point + 1) ≤ price_of w queue
-  taker-paid level =
-      leb-true (t.thread.header.budget + w.still t.number (point + 1)) (price_of w queue)
-      (subst (λ (a : Asked). pays_for w t.thread.header.budget (w.still t.number point) (w.still t.number (point + 1)) a ≡ true) waits.asks
-      (pays.points t point waits.state (point + 1) listed level waits.stands.inside waits.stands.known goes-on))
+  module _ (priority : ℕ) (w : Weights) (pays : Pays image priority w) where
+    pub taker-paid : is_of_level priority t ≡ true → t.thread.header.budget + w.still t.number (waits.point + 1) ≤ price_of w queue
+    taker-paid level =
+        leb-true (t.thread.header.budget + w.still t.number (point + 1)) (price_of w queue)
+        (subst (λ (a : Asked). pays_for w t.thread.header.budget (w.still t.number point) (w.still t.number (point + 1)) a ≡ true) waits.asks
+        (pays.points t point waits.state (point + 1) listed level waits.stands.inside waits.stands.known goes-on))

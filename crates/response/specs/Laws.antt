@@ -23,10 +23,12 @@ use Rattle.headline.specs.moves.Steps.{MakesCall}
 use Rattle.model.specs.declared.capabilities.Cap.TheVariants.{InterruptHandler}
 use Rattle.model.specs.Capabilities.Slots.{capability_at}
 use Rattle.headline.specs.steps.Points.{ReachesNoCall}
+use Rattle.response.specs.DealtWith.{HoldsWithin, IsDealtWith, KeepsLevelOver, Rests}
 use Rattle.response.specs.Left.{at_rest, left, line_price}
 use Rattle.response.specs.Levels.{HasItsPriority, KeepsLevel, KeepsLevelOnceRested, is_level_label, is_of_level}
-use Rattle.response.specs.Rates.{Keeps, Rate, cost_of, costs_within}
-use Rattle.response.specs.Weights.{Pays, Weights, price_of, waits_for_no_message, waits_for_notifications_alone}
+use Rattle.response.specs.Resting.{AreAcknowledged, AreTakenAlone, IsAcknowledged, TakesFromOne}
+use Rattle.response.specs.Rates.{Keeps, Rate, cost_of, costs_within, steps_in}
+use Rattle.response.specs.Weights.{Pays, Weights, price_of, waits_for_notifications_alone}
 
 -- threads of an accepted image keep the priorities that it gives them
 abbrev pub PrioritiesStay : Type 0
@@ -174,13 +176,6 @@ InvocationsRingNothing =
 
 -- ---- at rest
 
--- the thread takes from this notification alone, and waits for no message
-abbrev pub TakesFromOne : Image → Numbered → ℕ → Type 0
-TakesFromOne image t queue =
-    (point : ℕ) (state : PointState) → point < t.thread.header.words → noted image t point ≡ Known state
-    → (waits_for_no_message (asked_at image t.thread point state) ≡ true)
-    × ((other : ℕ) → asked_at image t.thread point state ≡ Takes other → other ≡ queue)
-
 -- where such a thread rests, no word stands at its notification
 abbrev pub NoWordAtRest : Type 0
 NoWordAtRest =
@@ -190,10 +185,20 @@ NoWordAtRest =
     → is_runnable (thread_at (state_after (described image) events) (tcb_of image t)).status ≡ false
     → (state_after (described image) events).objects queue ≡ Some (NotificationObject n) → n.word ≡ 0
 
--- at each of these objects some thread of the level takes that takes from nothing else
-abbrev pub AreTakenAlone : Image → ℕ → (ℕ → Bool) → Type 0
-AreTakenAlone image priority is_taken =
-    (queue : ℕ) → is_taken queue ≡ true → (t : Numbered) × Contains (numbered_threads image) t × (is_of_level priority t ≡ true) × TakesFromOne image t queue
+-- where the thread rests that acknowledges a line, the line is dealt with
+abbrev pub AcknowledgedLinesRest : Type 0
+AcknowledgedLinesRest =
+    (bytes : List ℕ) (image : Image) (priority number : ℕ) (events : List Event) → IsAccepted bytes image → All (KeepsDevices image) events → number < 64
+    → (a : IsAcknowledged image priority number)
+    → is_runnable (thread_at (state_after (described image) events) (tcb_of image a.thread)).status ≡ false
+    → IsDealtWith image priority number a (state_after (described image) events)
+
+-- where no more than so many steps on end are of the level, it rests within as many
+abbrev pub LevelsComeToRest : Type 0
+LevelsComeToRest =
+    (bytes : List ℕ) (image : Image) (priority n : ℕ) (events before window later : List Event) → IsAccepted bytes image → All (KeepsDevices image) events
+    → KeepsLevelOver image priority n before window → events ≡ before ++ window ++ later → n < steps_in window
+    → HoldsWithin image n before window (Rests image priority)
 
 -- ---- the whole of stage one, but for two laws
 
@@ -224,21 +229,21 @@ HaveRates image w rates =
 -- With these two: no more than n steps on end are of the level, where all that may be left at the start and at rest, and come within n steps, is at most n.
 abbrev pub LevelsRestWithin : Type 0
 LevelsRestWithin =
-    (bytes : List ℕ) (image : Image) (priority : ℕ) (w : Weights) (rates : List Rate) (is_taken : ℕ → Bool) (most n : ℕ) (events : List Event)
-    → IsAccepted bytes image → All (KeepsDevices image) events → Pays image priority w → AreTakenAlone image priority is_taken → HaveRates image w rates
-    → CallsAreWork image priority w
+    (bytes : List ℕ) (image : Image) (priority : ℕ) (w : Weights) (rates : List Rate) (is_taken is_open : ℕ → Bool) (most n : ℕ) (events : List Event)
+    → IsAccepted bytes image → All (KeepsDevices image) events → Pays image priority w → AreTakenAlone image priority is_taken
+    → AreAcknowledged image priority is_open → HaveRates image w rates → CallsAreWork image priority w
     → StepsBelowRest image priority w most
-    → left_after image priority w [] ≤ most → at_rest image w is_taken ≤ most → Keeps rates events
+    → left_after image priority w [] ≤ most → at_rest image w is_taken is_open ≤ most → Keeps rates events
     → most + costs_within rates (line_price w (described image)) n ≤ n → KeepsLevel image priority n events
 
 -- and once the level has rested, whatever was left at the start
 abbrev pub LevelsRestLater : Type 0
 LevelsRestLater =
-    (bytes : List ℕ) (image : Image) (priority : ℕ) (w : Weights) (rates : List Rate) (is_taken : ℕ → Bool) (most n : ℕ) (events : List Event)
-    → IsAccepted bytes image → All (KeepsDevices image) events → Pays image priority w → AreTakenAlone image priority is_taken → HaveRates image w rates
-    → CallsAreWork image priority w
+    (bytes : List ℕ) (image : Image) (priority : ℕ) (w : Weights) (rates : List Rate) (is_taken is_open : ℕ → Bool) (most n : ℕ) (events : List Event)
+    → IsAccepted bytes image → All (KeepsDevices image) events → Pays image priority w → AreTakenAlone image priority is_taken
+    → AreAcknowledged image priority is_open → HaveRates image w rates → CallsAreWork image priority w
     → StepsBelowRest image priority w most
-    → at_rest image w is_taken ≤ most → Keeps rates events → most + costs_within rates (line_price w (described image)) n ≤ n
+    → at_rest image w is_taken is_open ≤ most → Keeps rates events → most + costs_within rates (line_price w (described image)) n ≤ n
     → KeepsLevelOnceRested image priority n events
 
 -- ---- levels that wait for notifications alone
@@ -250,33 +255,60 @@ NotificationCallsAreWork =
     → waits_for_notifications_alone image priority ≡ true → CallsAreWork image priority w
 
 -- what a thread below rings is left too, where a thread of the level rests that takes from it alone: no word is counted there
-abbrev pub RingsFit : Image → ℕ → Weights → (ℕ → Bool) → ℕ → Type 0
-RingsFit image priority w is_taken most =
+abbrev pub RingsFit : Image → ℕ → Weights → (ℕ → Bool) → (ℕ → Bool) → ℕ → Type 0
+RingsFit image priority w is_taken is_open most =
     (t : Numbered) (point : ℕ) (state : PointState) (object : ℕ) → Contains (numbered_threads image) t → is_of_level priority t ≡ false
     → point < t.thread.header.words → noted image t point ≡ Known state → asked_at image t.thread point state ≡ Rings object → is_taken object ≡ true
-    → at_rest image w is_taken + price_of w object ≤ most
+    → at_rest image w is_taken is_open + price_of w object ≤ most
 
 -- after a step of another thread no more than this is left
 abbrev pub NotificationStepsBelowRest : Type 0
 NotificationStepsBelowRest =
-    (bytes : List ℕ) (image : Image) (priority : ℕ) (w : Weights) (is_taken : ℕ → Bool) (most : ℕ) → IsAccepted bytes image → Pays image priority w
-    → waits_for_notifications_alone image priority ≡ true → AreTakenAlone image priority is_taken → RingsFit image priority w is_taken most
-    → at_rest image w is_taken ≤ most → StepsBelowRest image priority w most
+    (bytes : List ℕ) (image : Image) (priority : ℕ) (w : Weights) (is_taken is_open : ℕ → Bool) (most : ℕ) → IsAccepted bytes image → Pays image priority w
+    → waits_for_notifications_alone image priority ≡ true → AreTakenAlone image priority is_taken → AreAcknowledged image priority is_open
+    → RingsFit image priority w is_taken is_open most
+    → at_rest image w is_taken is_open ≤ most → StepsBelowRest image priority w most
 
 -- So: no more than n steps on end are of the level, where all that may be left at the start and at rest, and come within n steps, is at most n.
 abbrev pub NotificationLevelsRestWithin : Type 0
 NotificationLevelsRestWithin =
-    (bytes : List ℕ) (image : Image) (priority : ℕ) (w : Weights) (rates : List Rate) (is_taken : ℕ → Bool) (most n : ℕ) (events : List Event)
+    (bytes : List ℕ) (image : Image) (priority : ℕ) (w : Weights) (rates : List Rate) (is_taken is_open : ℕ → Bool) (most n : ℕ) (events : List Event)
     → IsAccepted bytes image → All (KeepsDevices image) events → Pays image priority w → waits_for_notifications_alone image priority ≡ true
-    → AreTakenAlone image priority is_taken → RingsFit image priority w is_taken most → HaveRates image w rates
-    → left_after image priority w [] ≤ most → at_rest image w is_taken ≤ most → Keeps rates events
+    → AreTakenAlone image priority is_taken → AreAcknowledged image priority is_open → RingsFit image priority w is_taken is_open most → HaveRates image w rates
+    → left_after image priority w [] ≤ most → at_rest image w is_taken is_open ≤ most → Keeps rates events
     → most + costs_within rates (line_price w (described image)) n ≤ n → KeepsLevel image priority n events
 
 -- and once the level has rested, whatever was left at the start
 abbrev pub NotificationLevelsRestLater : Type 0
 NotificationLevelsRestLater =
-    (bytes : List ℕ) (image : Image) (priority : ℕ) (w : Weights) (rates : List Rate) (is_taken : ℕ → Bool) (most n : ℕ) (events : List Event)
+    (bytes : List ℕ) (image : Image) (priority : ℕ) (w : Weights) (rates : List Rate) (is_taken is_open : ℕ → Bool) (most n : ℕ) (events : List Event)
     → IsAccepted bytes image → All (KeepsDevices image) events → Pays image priority w → waits_for_notifications_alone image priority ≡ true
-    → AreTakenAlone image priority is_taken → RingsFit image priority w is_taken most → HaveRates image w rates
-    → at_rest image w is_taken ≤ most → Keeps rates events → most + costs_within rates (line_price w (described image)) n ≤ n
+    → AreTakenAlone image priority is_taken → AreAcknowledged image priority is_open → RingsFit image priority w is_taken is_open most → HaveRates image w rates
+    → at_rest image w is_taken is_open ≤ most → Keeps rates events → most + costs_within rates (line_price w (described image)) n ≤ n
     → KeepsLevelOnceRested image priority n events
+
+-- ---- dealt with
+
+-- So from any moment on, as that after an interrupt, each acknowledged line is dealt with within n steps.
+abbrev pub LinesAreDealtWith : Type 0
+LinesAreDealtWith =
+    (bytes : List ℕ) (image : Image) (priority : ℕ) (w : Weights) (rates : List Rate) (is_taken is_open : ℕ → Bool) (most n : ℕ) (events : List Event)
+    → IsAccepted bytes image → All (KeepsDevices image) events → Pays image priority w → waits_for_notifications_alone image priority ≡ true
+    → AreTakenAlone image priority is_taken → (acknowledged : AreAcknowledged image priority is_open) → RingsFit image priority w is_taken is_open most
+    → HaveRates image w rates → left_after image priority w [] ≤ most → at_rest image w is_taken is_open ≤ most → Keeps rates events
+    → most + costs_within rates (line_price w (described image)) n ≤ n
+    → (number : ℕ) (few : number < 64) (here : is_open number ≡ true) (before window later : List Event) → events ≡ before ++ window ++ later
+    → n < steps_in window → HoldsWithin image n before window (IsDealtWith image priority number (acknowledged number few here))
+
+-- and once the level has rested, whatever was left at the start
+abbrev pub LinesAreDealtWithLater : Type 0
+LinesAreDealtWithLater =
+    (bytes : List ℕ) (image : Image) (priority : ℕ) (w : Weights) (rates : List Rate) (is_taken is_open : ℕ → Bool) (most n : ℕ) (events : List Event)
+    → IsAccepted bytes image → All (KeepsDevices image) events → Pays image priority w → waits_for_notifications_alone image priority ≡ true
+    → AreTakenAlone image priority is_taken → (acknowledged : AreAcknowledged image priority is_open) → RingsFit image priority w is_taken is_open most
+    → HaveRates image w rates → at_rest image w is_taken is_open ≤ most → Keeps rates events
+    → most + costs_within rates (line_price w (described image)) n ≤ n
+    → (number : ℕ) (few : number < 64) (here : is_open number ≡ true) (first more window later : List Event)
+    → is_level_label image priority (step (state_after (described image) first) Step).1 ≡ false
+    → events ≡ ((first ++ Step ∷ []) ++ more) ++ window ++ later → n < steps_in window
+    → HoldsWithin image n ((first ++ Step ∷ []) ++ more) window (IsDealtWith image priority number (acknowledged number few here))

@@ -51,6 +51,9 @@ left image priority w s labels =
     total (left_of_thread image priority w s labels) (numbered_threads image) + total (left_of_word w s) w.prices
     + total (left_of_line w s) irq_lines
 
--- what may be left where no thread of the level is ready: words at all objects but those at which a thread rests, and all lines pending
-abbrev pub at_rest : Image → Weights → (ℕ → Bool) → ℕ
-at_rest image w is_taken = total (λ p. if is_taken p.object then 0 else p.price) w.prices + total (line_price w (described image)) irq_lines
+-- what may be left where no thread of the level is ready: words at all objects but those at which a thread rests, and all lines pending but
+-- those that are acknowledged
+abbrev pub at_rest : Image → Weights → (ℕ → Bool) → (ℕ → Bool) → ℕ
+at_rest image w is_taken is_open =
+    total (λ p. if is_taken p.object then 0 else p.price) w.prices
+    + total (λ number. if is_open number then 0 else line_price w (described image) number) irq_lines

@@ -1,9 +1,9 @@
-//! Response bounds: for how many steps on end a level of threads runs, the threads of a priority and above. There is no code here yet: each law
-//! is the contract of a function that does nothing.
+//! Response bounds: for how many steps on end a level of threads runs, the threads of a priority and above, and after how many a line is dealt
+//! with. There is no code here yet: each law is the contract of a function that does nothing.
 #![tactic(auto)]
 
 ghost use Rattle.headline.specs.invocations.Laws.{Laws};
-ghost use Rattle.response.specs.Laws.{NotificationCallsAreWork, NotificationLevelsRestLater, NotificationLevelsRestWithin, NotificationStepsBelowRest, BindingsStay, NoWordAtRest, InterruptsBeyond, InvocationsRingNothing, LevelsRestWithin, EconomiesBound, EconomiesBoundLater, LevelsRestLater, InterruptsCost, LevelsAreSeen, LevelsRun, PlainStepsAreWork, PrioritiesStay, TicksLeaveTheWork, WaitersTake, WhoRunsHasLeft, WritesLeaveTheWork, LooksLeaveTheWork};
+ghost use Rattle.response.specs.Laws.{AcknowledgedLinesRest, LevelsComeToRest, LinesAreDealtWith, LinesAreDealtWithLater, NotificationCallsAreWork, NotificationLevelsRestLater, NotificationLevelsRestWithin, NotificationStepsBelowRest, BindingsStay, NoWordAtRest, InterruptsBeyond, InvocationsRingNothing, LevelsRestWithin, EconomiesBound, EconomiesBoundLater, LevelsRestLater, InterruptsCost, LevelsAreSeen, LevelsRun, PlainStepsAreWork, PrioritiesStay, TicksLeaveTheWork, WaitersTake, WhoRunsHasLeft, WritesLeaveTheWork, LooksLeaveTheWork};
 
 use headline::authority::{
     a_tick_stays_within_authority, an_interrupt_stays_within_authority,
@@ -118,6 +118,7 @@ pub fn levels_rest_within()
     threads_have_their_own_blocks();
     bindings_stay();
     no_word_at_rest();
+    acknowledged_lines_rest();
     levels_run();
     levels_are_seen();
     plain_steps_are_work();
@@ -140,6 +141,22 @@ pub fn no_word_at_rest()
 {
     events_go_well();
     laws_below();
+}
+
+/// Where the thread rests that acknowledges a line on each way from one take to the next, the line is dealt with.
+pub fn acknowledged_lines_rest()
+    ensures { AcknowledgedLinesRest }
+{
+    laws_on_invocations();
+    steps_go_well();
+    events_go_well();
+    events_stay_within_authority();
+    a_tick_stays_within_authority();
+    an_interrupt_stays_within_authority();
+    threads_are_told_apart();
+    measures_of_points_name_registers();
+    waiters_take();
+    bindings_stay();
 }
 
 /// The laws of the crate below on single invocations, together.
@@ -188,6 +205,7 @@ pub fn notification_steps_below_rest()
     bindings_stay();
     levels_run();
     no_word_at_rest();
+    acknowledged_lines_rest();
 }
 
 /// The bound of stage one for levels that wait for notifications alone, without premises on steps.
@@ -198,4 +216,22 @@ pub fn notification_levels_rest_within()
     notification_calls_are_work();
     notification_steps_below_rest();
     levels_rest_within();
+}
+
+/// Where no more than so many steps on end are of a level, it rests within as many.
+pub fn levels_come_to_rest()
+    ensures { LevelsComeToRest }
+{
+    levels_run();
+    levels_are_seen();
+}
+
+/// Each acknowledged line of a level that waits for notifications alone is dealt with within its bound.
+pub fn lines_are_dealt_with()
+    ensures start { LinesAreDealtWith }
+    ensures later { LinesAreDealtWithLater }
+{
+    notification_levels_rest_within();
+    levels_come_to_rest();
+    acknowledged_lines_rest();
 }
