@@ -43,3 +43,4 @@ pub mod AckCalls
 pub mod TendedSteps
 pub mod TendedLines
 pub mod ComesToRest
+pub mod Passing

@@ -17,7 +17,7 @@ all-there test [] x k inside at is = absurd (omega (arith, inside))
 all-there test (y ∷ ys) x zero inside at is = subst (λ z. test z ≡ true) at (and_parts (test y) (list_all test ys) is).0
 all-there test (y ∷ ys) x (suc k) inside at is = all-there test ys x k (omega (arith, inside)) at (and_parts (test y) (list_all test ys) is).1
 
-all-at : {A : Type 0} (test : A → Bool) (xs : List A) (x : A) → Contains xs x → list_all test xs ≡ true → test x ≡ true
+pub all-at : {A : Type 0} (test : A → Bool) (xs : List A) (x : A) → Contains xs x → list_all test xs ≡ true → test x ≡ true
 all-at test xs x at is = all-there test xs x at.0 at.1 at.2 is
 
 pub meets-none : (image : Image) (priority : ℕ) → waits_for_notifications_alone image priority ≡ true → (t : Numbered) → Contains (numbered_threads image) t

@@ -15,7 +15,7 @@ use Rattle.response.specs.Left.{total}
 times-here : (n place : ℕ) (rest : List ℕ) → n ≡ place → times_in (n ∷ rest) place ≡ times_in rest place + 1
 times-here n place rest same = ap (λ (b : Bool). if b then times_in rest place + 1 else times_in rest place) (eq-eqb n place same)
 
-times-other : (n place : ℕ) (rest : List ℕ) → n ≢ place → times_in (n ∷ rest) place ≡ times_in rest place
+pub times-other : (n place : ℕ) (rest : List ℕ) → n ≢ place → times_in (n ∷ rest) place ≡ times_in rest place
 times-other n place rest apart = ap (λ (b : Bool). if b then times_in rest place + 1 else times_in rest place) (ne_eqb n place apart)
 
 pub further : {A : Type 0} (x y : A) (xs : List A) → Contains xs y → Contains (x ∷ xs) y

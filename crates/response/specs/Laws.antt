@@ -27,6 +27,7 @@ use Rattle.response.specs.DealtWith.{HoldsWithin, IsDealtWith, KeepsLevelOver, R
 use Rattle.response.specs.Left.{at_rest, left, line_price}
 use Rattle.response.specs.Levels.{HasItsPriority, KeepsLevel, KeepsLevelOnceRested, is_level_label, is_of_level}
 use Rattle.response.specs.Resting.{AreAcknowledged, AreTakenAlone, IsAcknowledged, TakesFromOne}
+use Rattle.response.specs.Responding.{DealsOnceRested, DealsWithin, RespondsOnceRested, RespondsWithin, Response, is_open_by, passes, passes_rested}
 use Rattle.response.specs.Rates.{Keeps, Rate, cost_of, costs_within, steps_in}
 use Rattle.response.specs.Weights.{Pays, Weights, price_of, waits_for_notifications_alone}
 
@@ -312,3 +313,27 @@ LinesAreDealtWithLater =
     → is_level_label image priority (step (state_after (described image) first) Step).1 ≡ false
     → events ≡ ((first ++ Step ∷ []) ++ more) ++ window ++ later → n < steps_in window
     → HoldsWithin image n ((first ++ Step ∷ []) ++ more) window (IsDealtWith image priority number (acknowledged number few here))
+
+-- ---- tested
+
+-- So it is where a response passes the test,
+abbrev pub ResponsesHold : Type 0
+ResponsesHold =
+    (bytes : List ℕ) (image : Image) (priority : ℕ) (rates : List Rate) (r : Response) → IsAccepted bytes image → passes image priority rates r ≡ true
+    → RespondsWithin bytes priority rates r.steps
+
+abbrev pub RestedResponsesHold : Type 0
+RestedResponsesHold =
+    (bytes : List ℕ) (image : Image) (priority : ℕ) (rates : List Rate) (r : Response) → IsAccepted bytes image
+    → passes_rested image priority rates r ≡ true → RespondsOnceRested bytes priority rates r.steps
+
+-- and its lines are dealt with
+abbrev pub ResponsesDeal : Type 0
+ResponsesDeal =
+    (bytes : List ℕ) (image : Image) (priority : ℕ) (rates : List Rate) (r : Response) (number : ℕ) → IsAccepted bytes image
+    → passes image priority rates r ≡ true → number < 64 → is_open_by r number ≡ true → DealsWithin bytes priority rates r.steps number
+
+abbrev pub RestedResponsesDeal : Type 0
+RestedResponsesDeal =
+    (bytes : List ℕ) (image : Image) (priority : ℕ) (rates : List Rate) (r : Response) (number : ℕ) → IsAccepted bytes image
+    → passes_rested image priority rates r ≡ true → number < 64 → is_open_by r number ≡ true → DealsOnceRested bytes priority rates r.steps number

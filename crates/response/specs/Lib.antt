@@ -5,4 +5,5 @@ pub mod Left
 pub mod Resting
 pub mod Rates
 pub mod DealtWith
+pub mod Responding
 pub mod Laws

@@ -3,7 +3,7 @@
 #![tactic(auto)]
 
 ghost use Rattle.headline.specs.invocations.Laws.{Laws};
-ghost use Rattle.response.specs.Laws.{AcknowledgedLinesRest, LevelsComeToRest, LinesAreDealtWith, LinesAreDealtWithLater, NotificationCallsAreWork, NotificationLevelsRestLater, NotificationLevelsRestWithin, NotificationStepsBelowRest, BindingsStay, NoWordAtRest, InterruptsBeyond, InvocationsRingNothing, LevelsRestWithin, EconomiesBound, EconomiesBoundLater, LevelsRestLater, InterruptsCost, LevelsAreSeen, LevelsRun, PlainStepsAreWork, PrioritiesStay, TicksLeaveTheWork, WaitersTake, WhoRunsHasLeft, WritesLeaveTheWork, LooksLeaveTheWork};
+ghost use Rattle.response.specs.Laws.{AcknowledgedLinesRest, LevelsComeToRest, LinesAreDealtWith, LinesAreDealtWithLater, ResponsesDeal, ResponsesHold, RestedResponsesDeal, RestedResponsesHold, NotificationCallsAreWork, NotificationLevelsRestLater, NotificationLevelsRestWithin, NotificationStepsBelowRest, BindingsStay, NoWordAtRest, InterruptsBeyond, InvocationsRingNothing, LevelsRestWithin, EconomiesBound, EconomiesBoundLater, LevelsRestLater, InterruptsCost, LevelsAreSeen, LevelsRun, PlainStepsAreWork, PrioritiesStay, TicksLeaveTheWork, WaitersTake, WhoRunsHasLeft, WritesLeaveTheWork, LooksLeaveTheWork};
 
 use headline::authority::{
     a_tick_stays_within_authority, an_interrupt_stays_within_authority,
@@ -234,4 +234,16 @@ pub fn lines_are_dealt_with()
     notification_levels_rest_within();
     levels_come_to_rest();
     acknowledged_lines_rest();
+}
+
+/// A response that passes its test holds: no more steps on end are of the level than it says, and each line that it opens is dealt with within as many.
+pub fn tested_responses_hold()
+    ensures steps { ResponsesHold }
+    ensures rested_steps { RestedResponsesHold }
+    ensures lines { ResponsesDeal }
+    ensures rested_lines { RestedResponsesDeal }
+{
+    threads_have_their_own_blocks();
+    notification_levels_rest_within();
+    lines_are_dealt_with();
 }
