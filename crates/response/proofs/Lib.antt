@@ -44,3 +44,5 @@ pub mod TendedSteps
 pub mod TendedLines
 pub mod ComesToRest
 pub mod Passing
+pub mod Ways
+pub mod Masks

@@ -26,10 +26,10 @@ use Rattle.headline.specs.steps.Points.{ReachesNoCall}
 use Rattle.response.specs.DealtWith.{HoldsWithin, IsDealtWith, KeepsLevelOver, Rests}
 use Rattle.response.specs.Left.{at_rest, left, line_price}
 use Rattle.response.specs.Levels.{HasItsPriority, KeepsLevel, KeepsLevelOnceRested, is_level_label, is_of_level}
-use Rattle.response.specs.Resting.{AreAcknowledged, AreTakenAlone, IsAcknowledged, TakesFromOne}
+use Rattle.response.specs.Resting.{AreAcknowledged, AreTakenAlone, IsAcknowledged, Skips, TakesFromOne}
 use Rattle.response.specs.Responding.{DealsOnceRested, DealsWithin, RespondsOnceRested, RespondsWithin, Response, is_open_by, passes, passes_rested}
 use Rattle.response.specs.Rates.{Keeps, Rate, cost_of, costs_within, steps_in}
-use Rattle.response.specs.Weights.{Pays, Weights, price_of, waits_for_notifications_alone}
+use Rattle.response.specs.Weights.{Leads, Pays, Weights, price_of, waits_for_notifications_alone}
 
 -- threads of an accepted image keep the priorities that it gives them
 abbrev pub PrioritiesStay : Type 0
@@ -194,12 +194,27 @@ AcknowledgedLinesRest =
     → is_runnable (thread_at (state_after (described image) events) (tcb_of image a.thread)).status ≡ false
     → IsDealtWith image priority number a (state_after (described image) events)
 
+-- an interrupt masks its line: so what is dealt with after it was acknowledged after it
+abbrev pub InterruptsMask : Type 0
+InterruptsMask =
+    (bytes : List ℕ) (image : Image) (priority number : ℕ) (events : List Event) → IsAccepted bytes image → All (KeepsDevices image) events → number < 64
+    → IsAcknowledged image priority number → (state_after (described image) (events ++ Irq number ∷ [])).masked number ≡ true
+
 -- where no more than so many steps on end are of the level, it rests within as many
 abbrev pub LevelsComeToRest : Type 0
 LevelsComeToRest =
     (bytes : List ℕ) (image : Image) (priority n : ℕ) (events before window later : List Event) → IsAccepted bytes image → All (KeepsDevices image) events
     → KeepsLevelOver image priority n before window → events ≡ before ++ window ++ later → n < steps_in window
     → HoldsWithin image n before window (Rests image priority)
+
+-- no way leads around the acknowledgement, from one take to the next
+abbrev pub NoWaySkips : Type 0
+NoWaySkips =
+    (image : Image) (priority number : ℕ) (a : IsAcknowledged image priority number) (first next last : ℕ) (before behind : PointState) (one other : ℕ)
+    → first < a.thread.thread.header.words → noted image a.thread first ≡ Known before → asked_at image a.thread.thread first before ≡ Takes one
+    → Leads image a.thread first before next → Skips image a.thread number next last
+    → last < a.thread.thread.header.words → noted image a.thread last ≡ Known behind → asked_at image a.thread.thread last behind ≡ Takes other
+    → (after : ℕ) → Leads image a.thread last behind after → ⊥
 
 -- ---- the whole of stage one, but for two laws
 

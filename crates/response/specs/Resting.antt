@@ -64,3 +64,9 @@ pub record IsAcknowledged (image : Image) (priority number : ℕ) : Type 0 where
 -- each of these lines is
 abbrev pub AreAcknowledged : Image → ℕ → (ℕ → Bool) → Type 0
 AreAcknowledged image priority is_open = (number : ℕ) → number < 64 → is_open number ≡ true → IsAcknowledged image priority number
+
+-- a way from a point of a program to another one on which the line is not acknowledged
+pub data Skips (image : Image) (t : Numbered) (number first : ℕ) : ℕ → Type 0 where
+  there : (last : ℕ) → last ≡ first → Skips image t number first last
+  further_on : (last point : ℕ) (state : PointState) → point < t.thread.header.words → noted image t point ≡ Known state → Leads image t point state last
+      → asked_at image t.thread point state ≢ Acknowledges number → Skips image t number first point → Skips image t number first last

@@ -3,7 +3,7 @@
 #![tactic(auto)]
 
 ghost use Rattle.headline.specs.invocations.Laws.{Laws};
-ghost use Rattle.response.specs.Laws.{AcknowledgedLinesRest, LevelsComeToRest, LinesAreDealtWith, LinesAreDealtWithLater, ResponsesDeal, ResponsesHold, RestedResponsesDeal, RestedResponsesHold, NotificationCallsAreWork, NotificationLevelsRestLater, NotificationLevelsRestWithin, NotificationStepsBelowRest, BindingsStay, NoWordAtRest, InterruptsBeyond, InvocationsRingNothing, LevelsRestWithin, EconomiesBound, EconomiesBoundLater, LevelsRestLater, InterruptsCost, LevelsAreSeen, LevelsRun, PlainStepsAreWork, PrioritiesStay, TicksLeaveTheWork, WaitersTake, WhoRunsHasLeft, WritesLeaveTheWork, LooksLeaveTheWork};
+ghost use Rattle.response.specs.Laws.{AcknowledgedLinesRest, LevelsComeToRest, LinesAreDealtWith, LinesAreDealtWithLater, InterruptsMask, NoWaySkips, ResponsesDeal, ResponsesHold, RestedResponsesDeal, RestedResponsesHold, NotificationCallsAreWork, NotificationLevelsRestLater, NotificationLevelsRestWithin, NotificationStepsBelowRest, BindingsStay, NoWordAtRest, InterruptsBeyond, InvocationsRingNothing, LevelsRestWithin, EconomiesBound, EconomiesBoundLater, LevelsRestLater, InterruptsCost, LevelsAreSeen, LevelsRun, PlainStepsAreWork, PrioritiesStay, TicksLeaveTheWork, WaitersTake, WhoRunsHasLeft, WritesLeaveTheWork, LooksLeaveTheWork};
 
 use headline::authority::{
     a_tick_stays_within_authority, an_interrupt_stays_within_authority,
@@ -158,6 +158,19 @@ pub fn acknowledged_lines_rest()
     waiters_take();
     bindings_stay();
 }
+
+/// An interrupt masks its line, which only an acknowledgement opens.
+pub fn interrupts_mask_their_lines()
+    ensures { InterruptsMask }
+{
+    events_stay_within_authority();
+    bindings_stay();
+}
+
+/// A thread that acknowledges a line has no way around the acknowledgement from one take to the next.
+pub fn no_way_skips_an_acknowledgement()
+    ensures { NoWaySkips }
+{}
 
 /// The laws of the crate below on single invocations, together.
 fn laws_on_invocations()
