@@ -1,6 +1,6 @@
 //! Lines of events that come one after another, as from standard input.
 
-ghost use Rattle.std.specs.Prelude.{List, None, Option, Some, take};
+ghost use Rattle.std.specs.Prelude.{List, None, Option, Some, drop};
 ghost use Rattle.sinks.specs.LineInputs.{Gives};
 ghost use Rattle.sinks.specs.declared.event_lines.EventLine.{EventLine};
 
@@ -24,8 +24,8 @@ pub enum LineFault {
 
 /// Gives lines of events, one after another.
 pub trait EventLines {
-    /// The lines that it gave so far, where they are known.
-    ghost given: { Self → Option (List EventLine) };
+    /// The lines that are to come, where they are known.
+    ghost left: { Self → Option (List EventLine) };
 
     /// The next line, or none at the end.
     ///
@@ -33,7 +33,7 @@ pub trait EventLines {
     ///
     /// There is a line, and it is none of a list of events; or the input cannot be read.
     fn next_line(&mut self) -> Result<Option<EventLine>, LineFault>
-        ensures { Gives (given self.old) (given self.new) result };
+        ensures { Gives (left self.old) (left self.new) result };
 }
 
 /// The lines of a list in memory.
@@ -51,7 +51,7 @@ impl<'a> ListedLines<'a> {
 }
 
 impl EventLines for ListedLines<'_> {
-    ghost given = { λ listed. Some (take listed.done listed.lines.now) };
+    ghost left = { λ listed. Some (drop listed.done listed.lines.now) };
 
     fn next_line(&mut self) -> Result<Option<EventLine>, LineFault> {
         match self.lines.get(self.done) {
@@ -92,18 +92,22 @@ impl<R: Read + Drop> ReaderLines<R> {
     /// What the first line says of what is held, if the whole of it was read. It is taken away.
     fn held_line(&mut self) -> Option<Result<EventLine, LineFault>> {
         let end = self.held().iter().position(|byte| *byte == b'\n')?;
-        let line = self.line_to(end);
+        let line = self.line_to(end.saturating_add(1));
         self.from = self.from.saturating_add(end).saturating_add(1);
         Some(line)
     }
 
-    /// What a line says that has so many bytes.
+    /// What a line says that has so many bytes, with its line feed if it has one.
     fn line_to(&self, length: usize) -> Result<EventLine, LineFault> {
-        if length > LONGEST_LINE {
+        let piece = self.held().get(..length).unwrap_or(&[]);
+        let text = match piece {
+            [text @ .., b'\n'] => text,
+            text => text,
+        };
+        if text.len() > LONGEST_LINE {
             return Err(LineFault::Malformed);
         }
-        let line = self.held().get(..length).unwrap_or(&[]);
-        event_line(without_end(line)).ok_or(LineFault::Malformed)
+        event_line(without_end(piece)).ok_or(LineFault::Malformed)
     }
 
     /// Reads more, after what is held. The answer is whether there was more.
@@ -139,7 +143,7 @@ impl<R: Read + Drop> ReaderLines<R> {
 }
 
 impl<R: Read + Drop> EventLines for ReaderLines<R> {
-    ghost given = { λ _. None };
+    ghost left = { λ _. None };
 
     fn next_line(&mut self) -> Result<Option<EventLine>, LineFault> {
         'reads: for _ in 0..=LONGEST_LINE + 1 {
