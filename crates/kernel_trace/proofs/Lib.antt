@@ -1,3 +1,4 @@
 mod AnsweredLines
 mod KernelTraces
+pub mod Laws
 mod PutLines
