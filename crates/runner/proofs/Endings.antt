@@ -11,7 +11,7 @@ use Rattle.runner.specs.declared.running.RunFault.{RunFault}
 use Rattle.runner.specs.declared.running.RunFault.TheVariants.{Boot, Output, OutOfMemory, Outside, Refused}
 
 -- what an answer without a fault says, said otherwise
-pub on-ok : {T : Type 0} (r : Result T RunFault) (P Q : Type 0) → (P → Q) → OnOk r P → OnOk r Q
+pub on-ok : {T E : Type 0} (r : Result T E) (P Q : Type 0) → (P → Q) → OnOk r P → OnOk r Q
 on-ok (Ok x) P Q says p = says p
 on-ok (Err fault) P Q says p = tt
 

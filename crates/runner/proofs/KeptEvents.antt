@@ -32,7 +32,7 @@ module _ (image : Image) where
   pub none-outside : (events : List Event) → list_any is_of_world events ≡ false → first_outside image events ≡ None
   none-outside events none = position_from-zero is_out events ∙ none-from 0 events none
 
-  keeps : (event : Event) → is_kept image event ≡ true → KeepsDevices image event
+  pub keeps : (event : Event) → is_kept image event ≡ true → KeepsDevices image event
   keeps Step is = tt
   keeps Tick is = tt
   keeps (Irq number) is = tt

@@ -33,6 +33,18 @@ pub tells : {T R : Type 0} (S : Type 0) (bytes : List ℕ) (e : Refusal) (x : Re
 tells {T} {R} S bytes e x fault sink same x-is fault-is =
     tells-of {T = T} {R = R} S (reading whole_image bytes) e x fault sink (told bytes) same x-is fault-is
 
+alone : (r : Result Image Refusal) (P : Refusal → Type 0) (Q : Type 0) → IfErr r (λ refusal. P refusal × Q) → IfErr r P
+alone (Ok image) P Q both = tt
+alone (Err refusal) P Q both = both.0
+
+-- the same of the answer alone
+pub tells-alone : {T : Type 0} (S : Type 0) (bytes : List ℕ) (e : Refusal) (x : Result T RunFault) (fault : RunFault)
+    → IfErr (reading whole_image bytes) (λ refusal. ◌≡◌ {A = Result S Refusal} (Err e) (Err refusal)) → x ≡ Err fault → fault ≡ fault_of e
+    → IfErr (reading whole_image bytes) (λ refusal. x ≡ Err (Refused refusal))
+tells-alone {T} S bytes e x fault same x-is fault-is =
+    alone (reading whole_image bytes) (λ refusal. x ≡ Err (Refused refusal)) (bytes ≡ bytes)
+    (tells {T = T} {R = List ℕ} S bytes e x fault bytes same x-is fault-is)
+
 -- a refusal is the one of reading, where it was read so
 pub first-told : {S : Type 0} (r : Result S Refusal) (e : Refusal) → Err e ≡ r → IfErr r (λ refusal. ◌≡◌ {A = Result S Refusal} (Err e) (Err refusal))
 first-told (Ok image) e is = tt

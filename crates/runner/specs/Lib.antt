@@ -1,3 +1,4 @@
 pub mod Devices
+pub mod Live
 pub mod Running
 pub mod Unverified

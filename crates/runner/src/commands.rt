@@ -10,13 +10,16 @@ ghost use Rattle.model.specs.declared.boot_faults.BootFault.{BootFault};
 ghost use Rattle.model.specs.declared.refusals.Refusal.{Refusal};
 
 use crate::building::build;
+use crate::live_runs::{LiveFault, live, live_unverified};
 use crate::running::{RunFault, run};
 use crate::unverified::run_unverified;
 use asm::SourceFault;
 use command_line::{Request, parse};
-use console::{DONE, FileFault, WordsFault, failed, read_bytes, refused, words, wrong_words};
+use console::{
+    DONE, FileFault, STANDARD, WordsFault, failed, read_bytes, refused, words, wrong_words,
+};
 use model::{BootFault, Event, Refusal};
-use sinks::{EventsFault, Sink, SinkFault, events, put_all};
+use sinks::{EventsFault, ReaderLines, Sink, SinkFault, events, put_all};
 use std::alloc::{AllocError, Global};
 use std::convert::AsStr;
 use std::rt::{Env, Files};
@@ -28,6 +31,8 @@ pub enum Failure<'a> {
     Usage,
     /// This file cannot be read, or not be written.
     File(&'a str),
+    /// Standard input cannot be read.
+    Input,
     /// Standard output takes no more.
     Output,
     /// Memory was refused.
@@ -124,8 +129,19 @@ impl From<RunFault> for Failure<'_> {
     }
 }
 
+impl From<LiveFault> for Failure<'_> {
+    fn from(fault: LiveFault) -> Self {
+        match fault {
+            LiveFault::Start(fault) => Failure::from(fault),
+            LiveFault::Line(line) => Failure::Events(line),
+            LiveFault::Input => Failure::Input,
+            LiveFault::Output => Failure::Output,
+        }
+    }
+}
+
 /// Carries out what the words after the program's name ask for, and answers the exit status.
-pub fn command<R: Files + AllocGlobal, S: AsStr, W: Sink, E: Sink>(
+pub fn command<R: Files + Input + AllocGlobal, S: AsStr, W: Sink, E: Sink>(
     rt: &R,
     words: &[S],
     output: &mut W,
@@ -138,7 +154,7 @@ pub fn command<R: Files + AllocGlobal, S: AsStr, W: Sink, E: Sink>(
 }
 
 /// Gathers the words of the process's command line, and carries them out.
-pub fn command_line<R: Files + Env + AllocGlobal, W: Sink, E: Sink>(
+pub fn command_line<R: Files + Env + Input + AllocGlobal, W: Sink, E: Sink>(
     rt: &R,
     output: &mut W,
     errors: &mut E,
@@ -150,7 +166,7 @@ pub fn command_line<R: Files + Env + AllocGlobal, W: Sink, E: Sink>(
 }
 
 /// Carries out a request up to its failure.
-fn answer<'a, R: Files + AllocGlobal, S: AsStr, W: Sink>(
+fn answer<'a, R: Files + Input + AllocGlobal, S: AsStr, W: Sink>(
     rt: &R,
     words: &'a [S],
     output: &mut W,
@@ -192,8 +208,8 @@ fn events_in<'a, R: Files + AllocGlobal>(rt: &R, list: &'a str) -> Result<Vec<Ev
     Ok(events(rt.alloc(), text.as_slice())?)
 }
 
-/// Runs the image of a file over a list of events.
-fn run_file<'a, R: Files + AllocGlobal, W: Sink>(
+/// Runs the image of a file over a list of events, or over the lines of standard input as they come.
+fn run_file<'a, R: Files + Input + AllocGlobal, W: Sink>(
     rt: &R,
     image: &'a str,
     list: &'a str,
@@ -201,6 +217,9 @@ fn run_file<'a, R: Files + AllocGlobal, W: Sink>(
     output: &mut W,
 ) -> Result<(), Failure<'a>> {
     let bytes = read_bytes(rt, image)?;
+    if list == STANDARD {
+        return run_live(rt, bytes.as_slice(), unverified, output);
+    }
     let events = events_in(rt, list)?;
     if unverified {
         run_unverified(rt.alloc(), bytes.as_slice(), events.as_slice(), output)?;
@@ -210,11 +229,28 @@ fn run_file<'a, R: Files + AllocGlobal, W: Sink>(
     Ok(())
 }
 
+/// Runs an image over the lines of standard input.
+fn run_live<'a, R: Input + AllocGlobal, W: Sink>(
+    rt: &R,
+    bytes: &[u8],
+    unverified: bool,
+    output: &mut W,
+) -> Result<(), Failure<'a>> {
+    let mut lines = ReaderLines::new(rt.reader());
+    if unverified {
+        live_unverified(rt.alloc(), bytes, &mut lines, output)?;
+    } else {
+        live(rt.alloc(), bytes, &mut lines, output)?;
+    }
+    Ok(())
+}
+
 /// Says why a request was not carried out, and answers the exit status.
 fn report<W: Sink, E: Sink>(alloc: Global, failure: Failure, output: &mut W, errors: &mut E) -> u8 {
     match failure {
         Failure::Usage => wrong_words(errors),
         Failure::File(name) => failed(errors, b"file ", name.as_bytes()),
+        Failure::Input => failed(errors, b"input", b""),
         Failure::Output => failed(errors, b"output", b""),
         Failure::Memory => failed(errors, b"memory", b""),
         Failure::Image(refusal) => refused(refusal_line(alloc, refusal), output, errors),

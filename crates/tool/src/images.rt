@@ -17,7 +17,7 @@ pub(crate) struct Run<'a> {
 }
 
 /// Says whether an image is accepted, and returns the exit status.
-pub(crate) fn verify_image<R: Files + AllocGlobal, W: Sink, E: Sink>(
+pub(crate) fn verify_image<R: Files + Input + AllocGlobal, W: Sink, E: Sink>(
     rt: &R,
     image: &str,
     output: &mut W,
@@ -27,7 +27,7 @@ pub(crate) fn verify_image<R: Files + AllocGlobal, W: Sink, E: Sink>(
 }
 
 /// Builds the image of a text, and returns the exit status.
-pub(crate) fn build_image<R: Files + AllocGlobal, W: Sink, E: Sink>(
+pub(crate) fn build_image<R: Files + Input + AllocGlobal, W: Sink, E: Sink>(
     rt: &R,
     source: &str,
     image: &str,
@@ -38,7 +38,7 @@ pub(crate) fn build_image<R: Files + AllocGlobal, W: Sink, E: Sink>(
 }
 
 /// Runs an image with all lines, and returns the exit status.
-fn run_lines<R: Files + AllocGlobal, W: Sink, E: Sink>(
+fn run_lines<R: Files + Input + AllocGlobal, W: Sink, E: Sink>(
     rt: &R,
     run: Run<'_>,
     output: &mut W,
@@ -57,7 +57,7 @@ fn run_lines<R: Files + AllocGlobal, W: Sink, E: Sink>(
 }
 
 /// Runs an image, of which the bytes are put alone, and returns the exit status. Another line, as a refusal, goes to standard error.
-fn run_bytes<R: Files + AllocGlobal, W: Sink, E: Sink>(
+fn run_bytes<R: Files + Input + AllocGlobal, W: Sink, E: Sink>(
     rt: &R,
     run: Run<'_>,
     output: &mut W,
@@ -72,7 +72,7 @@ fn run_bytes<R: Files + AllocGlobal, W: Sink, E: Sink>(
 }
 
 /// Runs an image over a list of events, and returns the exit status.
-pub(crate) fn run_image<R: Files + AllocGlobal, W: Sink, E: Sink>(
+pub(crate) fn run_image<R: Files + Input + AllocGlobal, W: Sink, E: Sink>(
     rt: &R,
     run: Run<'_>,
     output: &mut W,

@@ -10,7 +10,10 @@ use test_sessions::{Printed, name_of, words_of};
 const ROOM: usize = 500_000;
 
 /// What the program prints for words: its output, `status` with its status, and its errors.
-pub(crate) fn answer_to<R: Files + Env + AllocGlobal>(rt: &R, words: &str) -> Result<String, Fail> {
+pub(crate) fn answer_to<R: Files + Env + Input + AllocGlobal>(
+    rt: &R,
+    words: &str,
+) -> Result<String, Fail> {
     let words = words_of(rt, words)?;
     let mut printed = Printed::new(rt.alloc(), ROOM);
     let status = command(
@@ -24,7 +27,7 @@ pub(crate) fn answer_to<R: Files + Env + AllocGlobal>(rt: &R, words: &str) -> Re
 
 /// Plays a session, line for line: after `$ microsys` are words, and after those what the program prints for them.
 /// `@` begins the name of a file.
-pub(crate) fn plays<R: Files + Env + AllocGlobal + Abort>(
+pub(crate) fn plays<R: Files + Env + Input + AllocGlobal + Abort>(
     rt: &R,
     session: &str,
 ) -> Result<(), Fail> {

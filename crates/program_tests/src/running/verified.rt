@@ -14,7 +14,7 @@ use test_sessions::{put_file, take_files};
 use verify::verify;
 
 /// Makes NAME.img by the program, of pieces of its text.
-pub(crate) fn put_image<R: Files + Env + AllocGlobal + Abort>(
+pub(crate) fn put_image<R: Files + Env + Input + AllocGlobal + Abort>(
     rt: &R,
     name: &str,
     pieces: &[&str],
@@ -32,7 +32,7 @@ pub(crate) fn put_image<R: Files + Env + AllocGlobal + Abort>(
 }
 
 /// Asserts that a run prints so many lines, of which none says `error` or `fault`.
-fn goes_on<R: Files + Env + AllocGlobal + Abort>(
+fn goes_on<R: Files + Env + Input + AllocGlobal + Abort>(
     rt: &R,
     words: &str,
     lines: usize,
@@ -46,7 +46,7 @@ fn goes_on<R: Files + Env + AllocGlobal + Abort>(
 }
 
 /// Writes a list of these events, so many times.
-fn put_events<R: Files + Env + AllocGlobal>(
+fn put_events<R: Files + Env + Input + AllocGlobal>(
     rt: &R,
     name: &str,
     events: &str,
@@ -60,7 +60,7 @@ fn put_events<R: Files + Env + AllocGlobal>(
 }
 
 /// Asserts that an image runs as solo, verified or not.
-fn counts_and_waits<R: Files + Env + AllocGlobal + Abort>(
+fn counts_and_waits<R: Files + Env + Input + AllocGlobal + Abort>(
     rt: &R,
     image: &[u8],
 ) -> Result<(), Fail> {
