@@ -3,6 +3,7 @@
 mod builds;
 mod edges;
 mod event_lines;
+mod live;
 mod outputs;
 mod outside;
 mod sessions;

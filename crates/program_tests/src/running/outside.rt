@@ -12,7 +12,7 @@ const BUDGET: usize = 260;
 /// Solo as version 4, which has two words more than version 1: how many promises there are, before how many threads, and the thread's
 /// message buffer, or 0xFFFFFFFF for none, after its fault address. Its object 3, the frame at 0x8000B000, has the size 1: it is a
 /// device page.
-fn solo_with_device(alloc: Global) -> Result<Vec<u8>, Fail> {
+pub(crate) fn solo_with_device(alloc: Global) -> Result<Vec<u8>, Fail> {
     let solo = solo(alloc)?;
     let mut image = Vec::new(alloc);
     let solo = solo.as_slice();

@@ -9,6 +9,8 @@ const ROWS: &str = "
     verify a.img | verify a.img
     run a.img a.events | run a.img a.events
     run -- - --x | run - --x
+    run a - | run a -
+    run --unverified a - | run a - unverified
     build a.txt a.img | build a.txt a.img
     run --unverified a b | run a b unverified
     run a --unverified b | run a b unverified
