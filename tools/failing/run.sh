@@ -1,7 +1,7 @@
 #!/usr/bin/env bash
-# Files that are missing, unreadable, folders or too large, and outputs that take nothing: what the program prints, and its
-# status. Usage: tools/failing/run.sh [PROGRAM], after `make build`. It is no part of the gate: it needs files and devices of
-# the system, and limits on memory.
+# Files that are missing, unreadable, folders or too large, an input that cannot be read, and outputs that take nothing: what
+# the program prints, and its status. Usage: tools/failing/run.sh [PROGRAM], after `make build`. It is no part of the gate: it
+# needs files and devices of the system, and limits on memory.
 set -u
 root="$(cd "$(dirname "$0")/../.." && pwd)"
 program="$(realpath "${1:-$root/crates/microsys/out/microsys}")"
@@ -51,12 +51,10 @@ closed() {
     "${run[@]}" "$program" "$@" >&-
 }
 in_closed_pipe() {
-    python3 - "${run[@]}" "$program" "$@" <<'PIPE'
-import os, subprocess, sys
+    python3 -c 'import os, subprocess, sys
 read, write = os.pipe()
 os.close(read)
-sys.exit(subprocess.run(sys.argv[1:], stdout=write).returncode % 256)
-PIPE
+sys.exit(subprocess.run(sys.argv[1:], stdout=write).returncode % 256)' "${run[@]}" "$program" "$@"
 }
 
 : >output
@@ -74,10 +72,13 @@ answers "4 GiB as text" 3 "" memory within_a_gibibyte build large out.img
 answers "a folder that is not there" 3 "" "file nowhere/out.img" into_file build bell.txt nowhere/out.img
 answers "a folder as image to write" 3 "" "file folder" into_file build bell.txt folder
 answers "a full device as image to write" 3 "" "file /dev/full" into_file build bell.txt /dev/full
+answers "a folder as the input of a live run" 3 "" input into_file run bell.img - <folder
+answers "a closed input of a live run" 3 "" input into_file run bell.img - <&-
 for way in on_full_device closed in_closed_pipe; do
     answers "$way, accepted" 3 "" output "$way" verify bell.img
     answers "$way, a trace" 3 "" output "$way" run bell.img bell.events
     answers "$way, a long trace" 3 "" output "$way" run bell.img long.events
+    answers "$way, a live run" 3 "" output "$way" run bell.img - <bell.events
     answers "$way, a refusal" 3 "" output "$way" verify bell.txt
     answers "$way, bad events" 3 "" output "$way" run bell.img bell.txt
 done

@@ -13,6 +13,7 @@ trap 'rm -rf "$room"' EXIT
 cc -O1 -shared -fPIC -o "$room/refuse.so" "$root/tools/memory/refuse_nth.c" -ldl
 cp "$root/samples/bell.img" "$room/refused.img"
 printf '\003' | dd of="$room/refused.img" bs=1 seek=256 conv=notrunc status=none
+bell="$root/samples/bell"
 bad=0
 
 # The status, standard output and standard error of a program with allocation $1 refused, and those after it if $2
@@ -22,7 +23,7 @@ answer() {
     shift 2
     [ "$on" = on ] && export AFTER=yes || unset AFTER
     REFUSE="$refused" LD_PRELOAD="$room/refuse.so" COUNT="$room/count" \
-        "$@" >"$room/output" 2>"$room/errors" || status=$?
+        "$@" <"$bell.events" >"$room/output" 2>"$room/errors" || status=$?
     echo "status $status"
     cat "$room/output"
     echo "--"
@@ -30,9 +31,9 @@ answer() {
 }
 
 memory="$(printf 'status 3\n--\nmemory')"
-bell="$root/samples/bell"
 for words in "verify $bell.img" "run $bell.img $bell.events" "run --unverified $bell.img $bell.events" \
-    "verify $room/refused.img" "run $room/refused.img $bell.events" "build $bell.txt $room/built.img"; do
+    "run $bell.img -" "run --unverified $bell.img -" "verify $room/refused.img" "run $room/refused.img $bell.events" \
+    "build $bell.txt $room/built.img"; do
     whole="$(answer 0 off "$program" $words)"
     asked="$(cat "$room/count")"
     told=0
