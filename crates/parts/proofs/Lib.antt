@@ -1,0 +1,3 @@
+mod Left
+mod OfThreads
+mod Outside

@@ -1,0 +1,199 @@
+//! The threads of an accepted image, with what each takes and may change.
+
+ghost use Rattle.std.specs.Prelude.{◌≡◌, ◌==◌, ◌&&◌, not, All, IfErr, IfOk, List};
+ghost use Rattle.std.specs.Int.{bit_at};
+ghost use Rattle.std.specs.List.{list_all, range_with_len};
+ghost use Rattle.headline.specs.parts.Given.{AllHoldGiven};
+ghost use Rattle.headline.specs.parts.Parts.{is_above, takes_nothing};
+ghost use Rattle.model.specs.Acceptance.Devices.{KeepsDevices};
+ghost use Rattle.model.specs.Acceptance.ThreadRules.{is_member};
+ghost use Rattle.model.specs.Images.Described.{described};
+ghost use Rattle.model.specs.Kernel.Steps.{state_after};
+ghost use Rattle.model.specs.declared.events.Event.{Event};
+ghost use Rattle.model.specs.declared.refusals.Refusal.TheVariants.{OutOfMemory};
+ghost use Rattle.parts.specs.Uses.{AreUses, is_high, is_part, is_separate, part_of};
+
+use crate::uses::{Uses, uses_of};
+use headline::parts::threads_never_hold_more;
+use image_reading::{ImageRef, header_of};
+use model::Refusal;
+use std::alloc::Global;
+use std::marker::Model;
+use verify::Accepted;
+
+/// The threads of an accepted image, with what each takes and may change. A part is a set of threads, as a word: bit N is thread N of the
+/// image, from 0 on. Bits of no thread count for nothing.
+#[derive(Drop)]
+pub struct Parts<'i, 'a> {
+    image: &'i ImageRef<'a>,
+    uses: Vec<Uses>,
+}
+
+impl<'i, 'a> Model for Parts<'i, 'a> {
+    ghost use Rattle.model.specs.Images.Image.{Image};
+    ghost use Rattle.parts.specs.Uses.{AreUses};
+
+    ghost Value = { Image };
+
+    ghost view = { λ p. p.image.now };
+
+    ghost invariant = { λ p. AreUses p.image.now 0 p.image.now.threads p.uses.items };
+}
+
+/// Whether a bit of a word is set.
+fn is_set(word: u64, bit: usize) -> bool
+    ensures { result ≡ (bit_at word bit == 1) }
+{
+    bit < 64 && word >> bit & 1 == 1
+}
+
+/// Whether a thread is of a part and has a control block.
+fn has_block(threads: u64, uses: &Uses, tcb: u32) -> bool
+    ensures { result ≡ (bit_at threads uses.now.number == 1 && uses.now.tcb == tcb) }
+{
+    is_set(threads, uses.number) && uses.tcb == tcb
+}
+
+/// Whether a control block is that of a thread of a part.
+fn is_in(all: &[Uses], threads: u64, tcb: u32) -> bool
+    ensures { result ≡ is_part threads all.now tcb }
+{
+    for uses in all {
+        if has_block(threads, uses, tcb) {
+            return true;
+        }
+    }
+    false
+}
+
+/// Whether one thread takes an object that another may change.
+fn is_taken(taker: &Uses, other: &Uses, object: u32) -> bool
+    ensures { result ≡ (is_member object taker.now.takes && is_member object other.now.changes) }
+{
+    taker.takes.contains(object) && other.changes.contains(object)
+}
+
+/// Whether one thread takes none of so many objects that another may change.
+fn is_apart(objects: u32, taker: &Uses, other: &Uses) -> bool
+    ensures { result ≡ list_all (λ object. not (is_member object taker.now.takes && is_member object other.now.changes)) (range_with_len 0 objects) }
+{
+    for object in 0..objects {
+        if is_taken(taker, other, object) {
+            return false;
+        }
+    }
+    true
+}
+
+/// Whether a thread takes nothing from another, or is not of the part, or the other is.
+fn is_separate(objects: u32, all: &[Uses], threads: u64, taker: &Uses, other: &Uses) -> bool
+    ensures { result ≡ is_separate objects threads all.now taker.now other.now }
+{
+    !is_in(all, threads, taker.tcb)
+        || is_in(all, threads, other.tcb)
+        || is_apart(objects, taker, other)
+}
+
+/// Whether a thread takes nothing from those outside of the part, or is not of the part.
+fn takes_nothing_from_all(objects: u32, all: &[Uses], threads: u64, taker: &Uses) -> bool
+    ensures { result ≡ list_all (is_separate objects threads all.now taker.now) all.now }
+{
+    for other in all {
+        if !is_separate(objects, all, threads, taker, other) {
+            return false;
+        }
+    }
+    true
+}
+
+/// Whether no thread of the part takes anything from those outside.
+fn all_take_nothing(objects: u32, all: &[Uses], threads: u64) -> bool
+    ensures { result ≡ list_all (λ taker. list_all (is_separate objects threads all.now taker) all.now) all.now }
+{
+    for taker in all {
+        if !takes_nothing_from_all(objects, all, threads, taker) {
+            return false;
+        }
+    }
+    true
+}
+
+/// Whether a thread's priority is above another's, or it is not of the part, or the other is.
+fn is_high(all: &[Uses], threads: u64, own: &Uses, other: &Uses) -> bool
+    ensures { result ≡ is_high threads all.now own.now other.now }
+{
+    !is_in(all, threads, own.tcb) || is_in(all, threads, other.tcb) || other.priority < own.priority
+}
+
+/// Whether a thread's priority is above those outside of the part, or it is not of the part.
+fn is_above_all(all: &[Uses], threads: u64, own: &Uses) -> bool
+    ensures { result ≡ list_all (is_high threads all.now own.now) all.now }
+{
+    for other in all {
+        if !is_high(all, threads, own, other) {
+            return false;
+        }
+    }
+    true
+}
+
+/// Whether all priorities of the part are above those outside.
+fn all_are_above(all: &[Uses], threads: u64) -> bool
+    ensures { result ≡ list_all (λ own. list_all (is_high threads all.now own) all.now) all.now }
+{
+    for own in all {
+        if !is_above_all(all, threads, own) {
+            return false;
+        }
+    }
+    true
+}
+
+/// What each thread takes and may change.
+fn all_uses(alloc: Global, image: &ImageRef<'_>) -> Result<Vec<Uses>, Refusal>
+    ensures uses { IfOk result (λ uses. AreUses image.now 0 image.now.threads uses.items) }
+    ensures memory { IfErr result (λ refusal. refusal ≡ OutOfMemory) }
+{
+    let mut all = Vec::new(alloc);
+    for thread in image.threads() {
+        let uses = uses_of(alloc, image, all.len(), &thread)?;
+        all.push(uses)?;
+    }
+    Ok(all)
+}
+
+/// The threads of an accepted image, with what each takes and may change. It takes time in proportion to the capabilities and mapped
+/// frames for each thread.
+///
+/// # Errors
+///
+/// Memory may be refused.
+pub fn parts_of<'i, 'a>(alloc: Global, accepted: &'i Accepted<'a>) -> Result<Parts<'i, 'a>, Refusal>
+    ensures image { IfOk result (λ image. image ≡ accepted.now) }
+    // Whatever happens, no thread ever holds more than its image lists for it.
+    ensures held { IfOk result (λ image. (events : List Event) → All (KeepsDevices accepted.now) events → AllHoldGiven accepted.now (state_after (described accepted.now) events)) }
+    ensures memory { IfErr result (λ refusal. refusal ≡ OutOfMemory) }
+{
+    threads_never_hold_more();
+    let image = accepted.image();
+    let uses = all_uses(alloc, image)?;
+    Ok(Parts { image, uses })
+}
+
+impl Parts<'_, '_> {
+    /// Whether nothing that a thread of the part takes may be changed by a thread outside of it.
+    pub fn takes_nothing(&self, threads: u64) -> bool
+        ensures { result ≡ takes_nothing self.now (part_of self.now threads) }
+    {
+        let objects = header_of(self.image).objects;
+        all_take_nothing(objects, self.uses.as_slice(), threads)
+    }
+
+    /// Whether the part's priorities are above those of all others.
+    pub fn is_above(&self, threads: u64) -> bool
+        ensures { result ≡ is_above self.now (part_of self.now threads) }
+    {
+        let _ = self.image;
+        all_are_above(self.uses.as_slice(), threads)
+    }
+}

@@ -1,0 +1,9 @@
+//! Parts of an accepted image, which are sets of its threads: what a part takes from the others.
+#![tactic(auto)]
+
+mod image_parts;
+mod outside_laws;
+mod uses;
+
+pub use image_parts::{Parts, parts_of};
+pub use outside_laws::nothing_taken_is_held_outside;

@@ -1,0 +1,221 @@
+//! What a thread takes from others and what it may change, by the numbers of the objects.
+
+ghost use Rattle.std.specs.Prelude.{ℕ, ◌≡◌, ◌==◌, ◌+◌, ◌&&◌, ◌||◌, not, IfErr, IfOk, OnOk};
+ghost use Rattle.std.specs.List.{list_any};
+ghost use Rattle.headline.specs.parts.Parts.{changes_by, takes_by};
+ghost use Rattle.model.specs.Acceptance.ThreadRules.{is_member, reached};
+ghost use Rattle.model.specs.Capabilities.Rights.{may_read, may_write, rights};
+ghost use Rattle.model.specs.Images.Described.{numbered};
+ghost use Rattle.model.specs.Images.Image.{no_buffer};
+ghost use Rattle.model.specs.declared.refusals.Refusal.TheVariants.{OutOfMemory};
+ghost use Rattle.parts.specs.Uses.{IsUse};
+
+use image_reading::{ImageRef, ThreadRef, header_of};
+use model::{CapabilityEntry, FrameEntry, Refusal};
+use std::alloc::Global;
+use thread_spaces::reached_of;
+use wellformed::{NumberSet, is_endpoint, is_frame, type_at};
+
+/// Of the rights of a capability or a mapping.
+const WRITE: u32 = 1;
+
+const READ: u32 = 2;
+
+/// The number of the frame of a thread without a message buffer.
+const NO_BUFFER: u32 = u32::MAX;
+
+/// What a thread takes and what it may change.
+#[derive(Drop)]
+pub(crate) struct Uses {
+    /// Which of the image's threads it is, from 0 on.
+    pub(crate) number: usize,
+    /// Its control block.
+    pub(crate) tcb: u32,
+    pub(crate) priority: u32,
+    /// The objects that it takes.
+    pub(crate) takes: NumberSet,
+    /// Those that it may change.
+    pub(crate) changes: NumberSet,
+}
+
+/// Puts a number into a set, if a test was passed.
+fn put_if(set: &mut NumberSet, passed: bool, number: u32) -> Result<(), Refusal>
+    ensures put { OnOk result ((n : ℕ) → is_member n set.new ≡ (is_member n set.old || (passed && number == n))) }
+    ensures memory { IfErr result (λ refusal. refusal ≡ OutOfMemory) }
+{
+    if !passed {
+        return Ok(());
+    }
+    set.insert(number)
+}
+
+/// Whether a word of rights writes.
+fn may_write(word: u32) -> bool
+    ensures { result ≡ may_write (rights word) }
+{
+    word & WRITE != 0
+}
+
+/// Whether a word of rights reads.
+fn may_read(word: u32) -> bool
+    ensures { result ≡ may_read (rights word) }
+{
+    word & READ != 0
+}
+
+/// Whether a thread takes what a capability of its own names.
+fn takes_by(image: &ImageRef<'_>, held: bool, entry: CapabilityEntry) -> bool
+    ensures { result ≡ (held && takes_by image.now entry) }
+{
+    held && (may_read(entry.rights)
+        || (is_endpoint(type_at(image, entry.source)) && may_write(entry.rights)))
+}
+
+/// Whether a thread may change what a capability of its own names.
+fn changes_by(image: &ImageRef<'_>, held: bool, entry: CapabilityEntry) -> bool
+    ensures { result ≡ (held && changes_by image.now entry) }
+{
+    held && (may_write(entry.rights)
+        || (!is_frame(type_at(image, entry.source)) && may_read(entry.rights)))
+}
+
+/// One capability that is listed more, if the thread reaches its CNode.
+fn note_capability(
+    image: &ImageRef<'_>,
+    held: bool,
+    entry: CapabilityEntry,
+    takes: &mut NumberSet,
+    changes: &mut NumberSet,
+) -> Result<(), Refusal>
+    ensures takes { OnOk result ((n : ℕ) → is_member n takes.new ≡ (is_member n takes.old || ((held && takes_by image.now entry) && entry.source == n))) }
+    ensures changes { OnOk result ((n : ℕ) → is_member n changes.new ≡ (is_member n changes.old || ((held && changes_by image.now entry) && entry.source == n))) }
+    ensures memory { IfErr result (λ refusal. refusal ≡ OutOfMemory) }
+{
+    put_if(takes, takes_by(image, held, entry), entry.source)?;
+    put_if(changes, changes_by(image, held, entry), entry.source)
+}
+
+/// The capabilities in these CNodes.
+fn note_capabilities(
+    image: &ImageRef<'_>,
+    cnodes: &NumberSet,
+    takes: &mut NumberSet,
+    changes: &mut NumberSet,
+) -> Result<(), Refusal>
+    ensures takes { OnOk result ((n : ℕ) → is_member n takes.new ≡ (is_member n takes.old || list_any (λ c. (is_member c.cnode cnodes.now && takes_by image.now c) && c.source == n) image.now.capabilities)) }
+    ensures changes { OnOk result ((n : ℕ) → is_member n changes.new ≡ (is_member n changes.old || list_any (λ c. (is_member c.cnode cnodes.now && changes_by image.now c) && c.source == n) image.now.capabilities)) }
+    ensures memory { IfErr result (λ refusal. refusal ≡ OutOfMemory) }
+{
+    for entry in image.capabilities() {
+        note_capability(image, cnodes.contains(entry.cnode), entry, takes, changes)?;
+    }
+    Ok(())
+}
+
+/// Whether a frame is mapped under a root table so that it may be written.
+fn is_written(root: u32, entry: FrameEntry) -> bool
+    ensures { result ≡ (entry.root == root && may_write (rights entry.rights)) }
+{
+    entry.root == root && may_write(entry.rights)
+}
+
+/// One frame that is mapped more, if it is so under the thread's root table.
+fn note_frame(
+    root: u32,
+    entry: FrameEntry,
+    takes: &mut NumberSet,
+    changes: &mut NumberSet,
+) -> Result<(), Refusal>
+    ensures takes { OnOk result ((n : ℕ) → is_member n takes.new ≡ (is_member n takes.old || (entry.root == root && entry.frame == n))) }
+    ensures changes { OnOk result ((n : ℕ) → is_member n changes.new ≡ (is_member n changes.old || ((entry.root == root && may_write (rights entry.rights)) && entry.frame == n))) }
+    ensures memory { IfErr result (λ refusal. refusal ≡ OutOfMemory) }
+{
+    put_if(takes, entry.root == root, entry.frame)?;
+    put_if(changes, is_written(root, entry), entry.frame)
+}
+
+/// The frames that are mapped under a root table.
+fn note_frames(
+    image: &ImageRef<'_>,
+    root: u32,
+    takes: &mut NumberSet,
+    changes: &mut NumberSet,
+) -> Result<(), Refusal>
+    ensures takes { OnOk result ((n : ℕ) → is_member n takes.new ≡ (is_member n takes.old || list_any (λ f. f.root == root && f.frame == n) image.now.frames)) }
+    ensures changes { OnOk result ((n : ℕ) → is_member n changes.new ≡ (is_member n changes.old || list_any (λ f. (f.root == root && may_write (rights f.rights)) && f.frame == n) image.now.frames)) }
+    ensures memory { IfErr result (λ refusal. refusal ≡ OutOfMemory) }
+{
+    for entry in image.frames() {
+        note_frame(root, entry, takes, changes)?;
+    }
+    Ok(())
+}
+
+/// The frame of the message buffer, if there is one.
+fn note_buffer(buffer: u32, takes: &mut NumberSet, changes: &mut NumberSet) -> Result<(), Refusal>
+    ensures takes { OnOk result ((n : ℕ) → is_member n takes.new ≡ (is_member n takes.old || (not (buffer == no_buffer) && buffer == n))) }
+    ensures changes { OnOk result ((n : ℕ) → is_member n changes.new ≡ (is_member n changes.old || (not (buffer == no_buffer) && buffer == n))) }
+    ensures memory { IfErr result (λ refusal. refusal ≡ OutOfMemory) }
+{
+    let there = buffer != NO_BUFFER;
+    put_if(takes, there, buffer)?;
+    put_if(changes, there, buffer)
+}
+
+/// The notifications of the lines whose handlers are among what capabilities name: after all objects, in the order of the lines.
+fn note_lines(
+    image: &ImageRef<'_>,
+    sources: &NumberSet,
+    changes: &mut NumberSet,
+) -> Result<(), Refusal>
+    ensures changes { OnOk result ((n : ℕ) → is_member n changes.new ≡ (is_member n changes.old || list_any (λ i. is_member (image.now.header.objects + i.0) sources.now && (i.1).notification == n) (numbered image.now.interrupts))) }
+    ensures memory { IfErr result (λ refusal. refusal ≡ OutOfMemory) }
+{
+    let header = header_of(image);
+    for number in 0..header.interrupts {
+        let is_held = sources.contains(header.objects + number);
+        put_if(changes, is_held, image.interrupt(number).notification)?;
+    }
+    Ok(())
+}
+
+/// What the capabilities in these CNodes name.
+fn sources_of(alloc: Global, image: &ImageRef<'_>, cnodes: &NumberSet) -> Result<NumberSet, Refusal>
+    ensures sources { IfOk result (λ sources. (n : ℕ) → is_member n sources ≡ list_any (λ c. is_member c.cnode cnodes.now && c.source == n) image.now.capabilities) }
+    ensures memory { IfErr result (λ refusal. refusal ≡ OutOfMemory) }
+{
+    let mut sources = NumberSet::new(alloc);
+    for entry in image.capabilities() {
+        put_if(&mut sources, cnodes.contains(entry.cnode), entry.source)?;
+    }
+    Ok(sources)
+}
+
+/// What a thread takes and what it may change.
+pub(crate) fn uses_of(
+    alloc: Global,
+    image: &ImageRef<'_>,
+    number: usize,
+    thread: &ThreadRef<'_>,
+) -> Result<Uses, Refusal>
+    ensures number { IfOk result (λ uses. uses.number ≡ number) }
+    ensures uses { IfOk result (IsUse image.now thread.now) }
+    ensures memory { IfErr result (λ refusal. refusal ≡ OutOfMemory) }
+{
+    let header = thread.header();
+    let cnodes = reached_of(alloc, image, thread)?;
+    let sources = sources_of(alloc, image, &cnodes)?;
+    let mut takes = NumberSet::new(alloc);
+    let mut changes = NumberSet::new(alloc);
+    note_frames(image, header.root, &mut takes, &mut changes)?;
+    note_capabilities(image, &cnodes, &mut takes, &mut changes)?;
+    note_buffer(header.buffer, &mut takes, &mut changes)?;
+    note_lines(image, &sources, &mut changes)?;
+    Ok(Uses {
+        number,
+        tcb: header.tcb,
+        priority: header.priority,
+        takes,
+        changes,
+    })
+}
