@@ -1,5 +1,9 @@
-//! The words of device pages, by their addresses.
+//! The words of device pages, by their addresses and by names.
 
+ghost use Rattle.std.specs.Prelude.{◌≡◌};
+ghost use Rattle.named_traces.specs.Words.{word_of_page};
+
+use crate::names::push_next;
 use indexmap::IndexMap;
 use std::alloc::{AllocError, Global};
 
@@ -7,6 +11,9 @@ use std::alloc::{AllocError, Global};
 const PAGE_BYTES: u32 = 4096;
 
 const WORD_BYTES: u32 = 4;
+
+/// The words of a page.
+const PAGE_WORDS: u32 = 1024;
 
 /// A word of a device page.
 #[derive(Clone, Copy, Debug, PartialEq, Eq)]
@@ -29,33 +36,76 @@ impl DeviceWord<'_> {
     }
 }
 
-/// The device pages of a text, by the physical addresses of their first bytes.
+/// A device page.
+#[derive(Clone, Copy, Debug, PartialEq, Eq)]
+pub struct DevicePage {
+    /// The physical address of its first byte.
+    start: u32,
+}
+
+impl DevicePage {
+    /// The physical address of the word of this number, from 0, if the page has so many.
+    pub fn word(self, index: u32) -> Option<u32>
+        ensures { result ≡ word_of_page self.start index }
+    {
+        if index < PAGE_WORDS {
+            self.start.checked_add(WORD_BYTES * index)
+        } else {
+            None
+        }
+    }
+}
+
+/// The device pages of a text.
 #[derive(Drop)]
 pub(crate) struct DevicePages<'t> {
-    pages: IndexMap<u32, &'t str>,
+    /// Their names, by the physical addresses of their first bytes.
+    names: IndexMap<u32, &'t str>,
+    /// The pages by their names.
+    pages: IndexMap<&'t str, DevicePage>,
 }
 
 impl<'t> DevicePages<'t> {
     /// No page.
     pub(crate) fn new(alloc: Global) -> Self {
         DevicePages {
+            names: IndexMap::new(alloc),
             pages: IndexMap::new(alloc),
         }
     }
 
     /// One page more.
-    pub(crate) fn add(&mut self, address: u32, name: &'t str) -> Result<(), AllocError> {
-        self.pages.insert(address, name)?;
+    pub(crate) fn add(&mut self, start: u32, name: &'t str) -> Result<(), AllocError> {
+        self.names.insert(start, name)?;
+        self.pages.insert(name, DevicePage { start })?;
         Ok(())
+    }
+
+    /// The page of this name.
+    pub(crate) fn page(&self, name: &str) -> Option<DevicePage> {
+        self.pages.get(name).copied()
     }
 
     /// The word at a physical address.
     pub(crate) fn word(&self, address: u32) -> Option<DeviceWord<'t>> {
         let place = address % PAGE_BYTES;
-        let page = self.pages.get(&address.saturating_sub(place))?;
+        let page = self.names.get(&address.saturating_sub(place))?;
         Some(DeviceWord {
             page: *page,
             index: place / WORD_BYTES,
         })
+    }
+
+    /// Whether there is one.
+    pub(crate) fn are_any(&self) -> bool {
+        !self.names.is_empty()
+    }
+
+    /// Puts the names of the pages.
+    pub(crate) fn push_names(&self, to: &mut String) -> Result<(), AllocError> {
+        for (before, name) in self.names.values().enumerate() {
+            push_next(to, before, name)?;
+        }
+        Ok(())
     }
 }

@@ -1,7 +1,8 @@
-//! The threads of a text, by the addresses of their TCBs.
+//! What a text says of the lines of a trace: its threads by the addresses of their TCBs, its device pages and its interrupt lines.
 
 use crate::addresses::addresses_of;
-use crate::device_words::{DevicePages, DeviceWord};
+use crate::device_words::{DevicePage, DevicePages, DeviceWord};
+use crate::interrupts::{Interrupts, NamedInterrupt};
 use crate::labels::LabelledLines;
 use crate::places::SourcePlace;
 use indexmap::IndexMap;
@@ -9,6 +10,9 @@ use source_texts::{
     Budgets, SourceText, SourceThread, TextFault, read, source_place, without_programs, word_at,
 };
 use std::alloc::{AllocError, Global};
+
+/// The greatest number of an interrupt line.
+const GREATEST_INTERRUPT: u32 = 63;
 
 /// A thread of a text.
 #[derive(Drop)]
@@ -28,7 +32,10 @@ pub struct TextNames<'t> {
     text: LabelledLines<'t>,
     /// The threads by the physical addresses of their TCBs.
     threads: IndexMap<u32, NamedThread<'t>>,
+    /// The addresses of the TCBs by the names of the threads.
+    tcbs: IndexMap<&'t str, u32>,
     devices: DevicePages<'t>,
+    interrupts: Interrupts<'t>,
 }
 
 /// The point of an address, where the program begins at another one.
@@ -59,19 +66,43 @@ impl<'t> TextNames<'t> {
         let mut names = TextNames {
             text: LabelledLines::of(alloc, text)?,
             threads: IndexMap::new(alloc),
+            tcbs: IndexMap::new(alloc),
             devices: DevicePages::new(alloc),
+            interrupts: Interrupts::of(alloc, &[])?,
         };
         let draft = without_programs(alloc, text)?;
         names.read_draft(alloc, &draft)?;
         Ok(names)
     }
 
-    /// The threads and device pages of a text, by the text as far as it can be read.
+    /// The threads, device pages and interrupt lines of a text, by the text as far as it can be read.
     fn read_draft(&mut self, alloc: Global, draft: &Budgets) -> Result<(), TextFault> {
         let source = read(alloc, &draft.text)?;
         let addresses = addresses_of(alloc, &source)?;
         self.add_threads(alloc, &source, &addresses, &draft.lines)?;
         self.add_devices(&source, &addresses)?;
+        self.add_interrupts(alloc, &source)?;
+        Ok(())
+    }
+
+    /// A word of a line of the text.
+    fn word(&self, line: u64, place: usize) -> &'t str {
+        word_at(self.text.line(line), place).unwrap_or("?")
+    }
+
+    /// The interrupt lines of a text: `irq NAME LINE NOTIFICATION BADGE`.
+    fn add_interrupts(&mut self, alloc: Global, source: &SourceText<'_>) -> Result<(), AllocError> {
+        let mut interrupts = Vec::new(alloc);
+        for interrupt in &source.interrupts {
+            if interrupt.number <= GREATEST_INTERRUPT {
+                interrupts.push(NamedInterrupt {
+                    name: self.word(interrupt.line, 1),
+                    bell: self.word(interrupt.line, 3),
+                    number: interrupt.number as u8,
+                })?;
+            }
+        }
+        self.interrupts = Interrupts::of(alloc, &interrupts)?;
         Ok(())
     }
 
@@ -83,7 +114,7 @@ impl<'t> TextNames<'t> {
     ) -> Result<(), AllocError> {
         for (object, address) in source.objects.iter().zip(addresses) {
             if object.is_device {
-                let name = word_at(self.text.line(object.line), 1).unwrap_or("?");
+                let name = self.word(object.line, 1);
                 self.devices.add(*address, name)?;
             }
         }
@@ -101,6 +132,7 @@ impl<'t> TextNames<'t> {
         for thread in &source.threads {
             if let Some(address) = addresses.get(thread.tcb) {
                 let named = self.named(alloc, thread, automatic)?;
+                self.tcbs.insert(named.name, *address)?;
                 self.threads.insert(*address, named)?;
             }
         }
@@ -116,7 +148,7 @@ impl<'t> TextNames<'t> {
     ) -> Result<NamedThread<'t>, AllocError> {
         let is_automatic = automatic.contains(&thread.line);
         Ok(NamedThread {
-            name: word_at(self.text.line(thread.line), 1).unwrap_or("?"),
+            name: self.word(thread.line, 1),
             budget: if is_automatic {
                 None
             } else {
@@ -131,6 +163,54 @@ impl<'t> TextNames<'t> {
     /// The thread whose TCB is at a physical address.
     pub fn thread(&self, address: u32) -> Option<&NamedThread<'t>> {
         self.threads.get(&address)
+    }
+
+    /// The physical address of the TCB of the thread of this name.
+    pub fn thread_address(&self, name: &str) -> Option<u32> {
+        self.tcbs.get(name).copied()
+    }
+
+    /// The number of the interrupt line of this name: that of the interrupt, or of its notification where it alone signals that.
+    pub fn interrupt(&self, name: &str) -> Option<u8> {
+        self.interrupts.number(name)
+    }
+
+    /// The name by which an interrupt line is shown: its own, or in the text of a description that of the bell that it alone rings.
+    pub fn interrupt_name(&self, number: u8) -> Option<&'t str> {
+        self.interrupts.name(number)
+    }
+
+    /// Whether there is an interrupt line.
+    pub fn has_interrupts(&self) -> bool {
+        self.interrupts.are_any()
+    }
+
+    /// Puts the names by which the interrupt lines are shown.
+    ///
+    /// # Errors
+    ///
+    /// Memory is refused.
+    pub fn push_interrupts(&self, to: &mut String) -> Result<(), AllocError> {
+        self.interrupts.push_names(to)
+    }
+
+    /// The device page of this name.
+    pub fn device_page(&self, name: &str) -> Option<DevicePage> {
+        self.devices.page(name)
+    }
+
+    /// Whether there is a device page.
+    pub fn has_device_pages(&self) -> bool {
+        self.devices.are_any()
+    }
+
+    /// Puts the names of the device pages.
+    ///
+    /// # Errors
+    ///
+    /// Memory is refused.
+    pub fn push_device_pages(&self, to: &mut String) -> Result<(), AllocError> {
+        self.devices.push_names(to)
     }
 
     /// The word of a device page at a physical address.

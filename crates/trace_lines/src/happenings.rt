@@ -28,7 +28,11 @@ pub enum Happening {
 
 impl Mark {
     /// Puts it as a trace has it.
-    fn push(self, to: &mut String) -> Result<(), AllocError> {
+    ///
+    /// # Errors
+    ///
+    /// Memory is refused.
+    pub fn push(self, to: &mut String) -> Result<(), AllocError> {
         match self {
             Mark::Plain => to.push_str("plain"),
             Mark::Wait => to.push_str("wait"),

@@ -5,4 +5,4 @@ mod happenings;
 mod reading;
 
 pub use happenings::{Happening, Mark};
-pub use reading::{hex_byte, told_by, without_end};
+pub use reading::{hex_byte, hex_word, ran_by, told_by, without_end};

@@ -11,8 +11,8 @@ fn hex_digit(byte: u8) -> Option<u8> {
     }
 }
 
-/// The number that hexadecimal digits spell.
-fn hex_word(digits: &[u8]) -> Option<u32> {
+/// The number below 2^32 that hexadecimal digits spell.
+pub fn hex_word(digits: &[u8]) -> Option<u32> {
     let mut value = 0u32;
     for byte in digits {
         let digit = hex_digit(*byte)?;
@@ -70,16 +70,24 @@ fn mark_of(text: &[u8]) -> Option<Mark> {
     }
 }
 
-/// An instruction that a thread ran.
-fn ran(line: &[u8]) -> Option<Happening> {
-    if line.len() < 19 || line[8] != b' ' || line[17] != b' ' {
+/// What a thread did, by the address of its instruction and what came of it.
+pub fn ran_by(thread: u32, text: &[u8]) -> Option<Happening> {
+    if text.len() < 10 || text[8] != b' ' {
         return None;
     }
     Some(Happening::Ran {
-        thread: hex_word(&line[..8])?,
-        pc: hex_word(&line[9..17])?,
-        mark: mark_of(&line[18..])?,
+        thread,
+        pc: hex_word(&text[..8])?,
+        mark: mark_of(&text[9..])?,
     })
+}
+
+/// An instruction that a thread ran.
+fn ran(line: &[u8]) -> Option<Happening> {
+    if line.len() < 9 || line[8] != b' ' {
+        return None;
+    }
+    ran_by(hex_word(&line[..8])?, &line[9..])
 }
 
 /// An address and a word, each of eight hexadecimal digits.
