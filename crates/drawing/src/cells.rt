@@ -4,6 +4,7 @@ use crate::faults::DrawingFault;
 use crate::threads::{Rest, ThreadRun};
 use crate::words::WordRun;
 use indexmap::IndexMap;
+use named_traces::TextNames;
 use std::alloc::{AllocFailed, Global};
 use trace_lines::{Happening, Mark, told_by, without_end};
 
@@ -170,8 +171,21 @@ impl Cells {
     }
 }
 
-/// The cells of the lines of a trace that are drawn.
-pub(crate) fn cells_of(alloc: Global, trace: &[u8], window: Window) -> Result<Cells, DrawingFault> {
+/// What a line of a trace says, with the names of a text if there is one.
+fn told_in(names: Option<&TextNames<'_>>, line: &[u8]) -> Option<Happening> {
+    match names {
+        Some(names) => names.told_by(line),
+        None => told_by(line),
+    }
+}
+
+/// The cells of the lines of a trace that are drawn, with the names of a text if there is one.
+pub(crate) fn cells_of(
+    alloc: Global,
+    trace: &[u8],
+    names: Option<&TextNames<'_>>,
+    window: Window,
+) -> Result<Cells, DrawingFault> {
     let mut cells = Cells {
         threads: IndexMap::new(alloc),
         words: IndexMap::new(alloc),
@@ -180,7 +194,7 @@ pub(crate) fn cells_of(alloc: Global, trace: &[u8], window: Window) -> Result<Ce
     let mut line = 0u64;
     for piece in trace.split_inclusive(|byte| *byte == b'\n') {
         line = line.saturating_add(1);
-        let Some(told) = told_by(without_end(piece)) else {
+        let Some(told) = told_in(names, without_end(piece)) else {
             return Err(DrawingFault::Malformed { line });
         };
         cells.add(line, told, window)?;

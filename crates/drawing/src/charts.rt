@@ -607,8 +607,8 @@ fn names_in<'t>(alloc: Global, text: Option<&'t str>) -> Result<Option<TextNames
 /// and ticks, interrupts and what the world writes (an arrow down) and reads (an arrow up) above; below the threads a row for each word
 /// that the world writes or reads, with its values. Long runs of one thread are drawn shorter, and what does not fit beside it is put in
 /// the next band. With the text of the image threads have their names, with the most instructions from one wait to the next and the
-/// budget, and where they wait or faulted is said by label and line. Of the events before and after those that are drawn it is read who
-/// runs.
+/// budget, where they wait or faulted is said by label and line, and the lines of the trace may have its names. Of the events before and
+/// after those that are drawn it is read who runs.
 ///
 /// # Errors
 ///
@@ -625,7 +625,7 @@ pub fn chart<S: Sink>(
         from: request.from.unwrap_or(1),
         to: request.to.unwrap_or(u64::MAX),
     };
-    let cells = cells_of(alloc, trace, window)?;
+    let cells = cells_of(alloc, trace, names.as_ref(), window)?;
     let chart = chart_of(alloc, &cells, names.as_ref())?;
     put_all(output, chart.as_bytes())?;
     Ok(())

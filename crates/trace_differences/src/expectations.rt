@@ -1,8 +1,9 @@
 //! What is expected of a trace.
 
 use crate::faults::TraceFault;
+use named_traces::TextNames;
 use std::alloc::Global;
-use trace_lines::{Happening, hex_byte, told_by};
+use trace_lines::{Happening, hex_byte};
 
 /// An event that is expected, and the line that says so.
 #[derive(Clone, Copy, Debug)]
@@ -43,14 +44,27 @@ fn byte_in(word: &[u8]) -> Option<u8> {
     }
 }
 
+/// Whether a byte parts words.
+fn parts_words(byte: u8) -> bool {
+    byte == b' ' || byte == b'\t'
+}
+
 /// Whether a line says bytes: `byte XX`, or words of two hexadecimal digits.
 fn is_of_bytes(said: &[u8]) -> bool {
-    match said {
-        [b'b', b'y', b't', b'e', b' ', ..] => true,
-        [high, low] => byte_in(&[*high, *low]).is_some(),
-        [high, low, b' ', ..] => byte_in(&[*high, *low]).is_some(),
-        _ => false,
+    match said.strip_prefix(b"byte ") {
+        Some(word) => byte_in(word.trim_ascii()).is_some(),
+        None => are_bytes(said),
     }
+}
+
+/// Whether all words of a line are of two hexadecimal digits. The first one alone may be the name of a thread.
+fn are_bytes(said: &[u8]) -> bool {
+    for word in said.split(|byte| parts_words(*byte)) {
+        if !word.is_empty() && byte_in(word).is_none() {
+            return false;
+        }
+    }
+    true
 }
 
 /// Whether the first line that says something says bytes.
@@ -64,8 +78,12 @@ fn begins_with_bytes(expected: &[u8]) -> bool {
     false
 }
 
-/// The events that are expected.
-fn events_in(alloc: Global, expected: &[u8]) -> Result<Vec<ExpectedEvent>, TraceFault> {
+/// The events that are expected, with the names of a text or without.
+fn events_in(
+    alloc: Global,
+    names: &TextNames<'_>,
+    expected: &[u8],
+) -> Result<Vec<ExpectedEvent>, TraceFault> {
     let mut events = Vec::new(alloc);
     let mut line = 0u32;
     for piece in expected.split_inclusive(|byte| *byte == b'\n') {
@@ -74,7 +92,7 @@ fn events_in(alloc: Global, expected: &[u8]) -> Result<Vec<ExpectedEvent>, Trace
         if said.is_empty() {
             continue;
         }
-        match told_by(said) {
+        match names.told_by(said) {
             Some(told) => events.push(ExpectedEvent { line, told })?,
             None => return Err(fault_on(line)),
         }
@@ -112,7 +130,7 @@ impl ByteReader {
 
     /// The words of a line.
     fn add_words(&mut self, said: &[u8]) -> Result<(), TraceFault> {
-        for word in said.split(|byte| *byte == b' ' || *byte == b'\t') {
+        for word in said.split(|byte| parts_words(*byte)) {
             if !word.is_empty() {
                 self.add_word(word)?;
             }
@@ -143,10 +161,14 @@ fn bytes_in(alloc: Global, expected: &[u8]) -> Result<Vec<ExpectedByte>, TraceFa
 }
 
 /// What is expected: by the first line that says something, bytes alone or all events.
-pub(crate) fn expectation_of(alloc: Global, expected: &[u8]) -> Result<Expectation, TraceFault> {
+pub(crate) fn expectation_of(
+    alloc: Global,
+    names: &TextNames<'_>,
+    expected: &[u8],
+) -> Result<Expectation, TraceFault> {
     if begins_with_bytes(expected) {
         Ok(Expectation::Bytes(bytes_in(alloc, expected)?))
     } else {
-        Ok(Expectation::Events(events_in(alloc, expected)?))
+        Ok(Expectation::Events(events_in(alloc, names, expected)?))
     }
 }
