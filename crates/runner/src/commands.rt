@@ -292,7 +292,11 @@ pub fn outside_line(alloc: Global, index: usize) -> Result<String, AllocError> {
 }
 
 /// The line of an image that does not boot.
-fn boot_line(alloc: Global, fault: BootFault) -> Result<String, AllocError> {
+///
+/// # Errors
+///
+/// Memory is refused.
+pub fn boot_line(alloc: Global, fault: BootFault) -> Result<String, AllocError> {
     match fault {
         BootFault::Kernel(call, error) => {
             let error = error.number();

@@ -9,7 +9,7 @@ mod live_runs;
 mod running;
 mod unverified;
 
-pub use commands::{command, command_line, outside_line, refusal_line};
+pub use commands::{boot_line, command, command_line, outside_line, refusal_line};
 pub use device_pages::{DevicePages, first_outside};
 pub use live_runs::{LiveFault, live, live_unverified};
 pub use running::{RunFault, run};

@@ -3,8 +3,9 @@
 use crate::certificate_files::certify_file;
 use crate::expected::test_file;
 use crate::explanations::explain_file;
-use crate::images::{Run, build_image, run_image, verify_image};
+use crate::images::{build_image, verify_image};
 use crate::reports::{ToolFault, report};
+use crate::runs::{Run, run_file};
 use crate::systems::{expand_file, make_file};
 use crate::views::{Period, chart_file, diff_files, draw_file, list_file};
 use console::{DONE, words};
@@ -49,20 +50,6 @@ fn answer<'a, R: Files + Input + Clock + AllocGlobal, S: AsStr, W: Sink, E: Sink
 ) -> Result<u8, ToolFault<'a>> {
     match parse_words(rt.alloc(), words)? {
         ToolRequest::Verify { image } => Ok(verify_image(rt, image, output, errors)),
-        ToolRequest::Run {
-            image,
-            events,
-            unverified,
-            bytes,
-        } => {
-            let run = Run {
-                image,
-                events,
-                unverified,
-                bytes,
-            };
-            Ok(run_image(rt, run, output, errors))
-        }
         ToolRequest::Build { source, image } => Ok(build_image(rt, source, image, output, errors)),
         ToolRequest::Test {
             system,
@@ -101,6 +88,20 @@ fn write_answer<'a, R: Files + Input + Clock + AllocGlobal, W: Sink, E: Sink>(
             to,
         } => chart_file(rt, trace, system, Period { from, to }, output),
         ToolRequest::List { image } => list_file(rt, image, output),
+        ToolRequest::Run {
+            system,
+            events,
+            unverified,
+            shown,
+        } => {
+            let run = Run {
+                system,
+                events,
+                unverified,
+                shown,
+            };
+            run_file(rt, run, output, errors)
+        }
         _ => Ok(()),
     }
 }

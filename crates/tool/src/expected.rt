@@ -1,13 +1,12 @@
 //! The command that compares the trace of a system with what is expected.
 
-use crate::certificate_files::uncertified;
-use crate::making::image_of_text;
 use crate::reports::ToolFault;
+use crate::runs::{fault_of, names_of};
+use crate::safe_runs::{NotRun, run_by_names};
 use crate::sources::{SystemText, read_system};
-use crate::systems::made_image;
+use crate::systems::image_of;
 use console::{DONE, REFUSED, read_all};
-use explaining::wants_certificates;
-use runner::{EventsFault, MemorySink, RunFault, events, run};
+use runner::{MemorySink, RunFault};
 use sinks::{Sink, put_all};
 use std::alloc::Global;
 use std::rt::Files;
@@ -17,23 +16,11 @@ use trace_differences::{TraceFault, first_difference};
 /// The most bytes of a trace: a million events with lines of at most so many bytes.
 const ROOM: usize = 100_000_000;
 
-impl From<EventsFault> for ToolFault<'_> {
-    fn from(fault: EventsFault) -> Self {
-        match fault {
-            EventsFault::Line(line) => ToolFault::Events(line),
-            EventsFault::OutOfMemory => ToolFault::Memory,
-        }
-    }
-}
-
-/// Why an image of a system of this name was not run.
-fn not_run(name: &str, fault: RunFault) -> ToolFault<'_> {
-    match fault {
-        RunFault::Refused(refusal) => ToolFault::Image(refusal),
-        RunFault::Outside(index) => ToolFault::Outside(index),
-        RunFault::Boot(_) => ToolFault::Disagreement(name),
-        RunFault::Output | RunFault::OutOfMemory => ToolFault::Memory,
-    }
+/// The bytes of a list of events, and their file.
+#[derive(Clone, Copy)]
+struct EventList<'a, 'l> {
+    file: &'a str,
+    bytes: &'l [u8],
 }
 
 /// Why the trace of a system of this name was not compared.
@@ -46,34 +33,19 @@ fn not_compared(name: &str, fault: TraceFault) -> ToolFault<'_> {
     }
 }
 
-/// The image of a system, with the certificates that are in it, or with those that are found where it wants some.
-fn image_of<'a, R: Clock + AllocGlobal, E: Sink>(
-    rt: &R,
-    system: &SystemText<'a>,
-    errors: &mut E,
-) -> Result<Vec<u8>, ToolFault<'a>> {
-    let text = system.text.as_str();
-    if wants_certificates(rt.alloc(), text)? {
-        return Ok(made_image(rt, system, errors)?.image);
-    }
-    match image_of_text(rt.alloc(), text) {
-        Ok(image) => Ok(image),
-        Err(fault) => Err(uncertified(rt.alloc(), system.name, text, fault)),
-    }
-}
-
-/// The trace of an image of a system of this name over a list of events.
+/// The trace of an image of a system over the events in a file.
 fn traced<'a>(
     alloc: Global,
-    name: &'a str,
+    system: &SystemText<'a>,
     image: &[u8],
-    list: &[u8],
+    list: EventList<'a, '_>,
 ) -> Result<MemorySink, ToolFault<'a>> {
-    let events = events(alloc, list)?;
+    let names = names_of(alloc, system)?;
     let mut trace = MemorySink::new(alloc, ROOM);
-    match run(alloc, image, events.as_slice(), &mut trace) {
+    match run_by_names(alloc, image, &names, list.bytes, &mut trace) {
         Ok(()) => Ok(trace),
-        Err(fault) => Err(not_run(name, fault)),
+        Err(NotRun::Run(RunFault::Output)) => Err(ToolFault::Memory),
+        Err(fault) => Err(fault_of(alloc, list.file, fault)),
     }
 }
 
@@ -82,10 +54,10 @@ fn compared<'a>(
     alloc: Global,
     system: &SystemText<'a>,
     image: &[u8],
-    list: &[u8],
+    list: EventList<'a, '_>,
     expected: &[u8],
 ) -> Result<Option<String>, ToolFault<'a>> {
-    let trace = traced(alloc, system.name, image, list)?;
+    let trace = traced(alloc, system, image, list)?;
     match first_difference(alloc, system.text.as_str(), trace.bytes(), expected) {
         Ok(found) => Ok(found),
         Err(fault) => Err(not_compared(system.name, fault)),
@@ -103,14 +75,17 @@ pub(crate) fn test_file<'a, R: Files + Input + Clock + AllocGlobal, W: Sink, E: 
     errors: &mut E,
 ) -> Result<u8, ToolFault<'a>> {
     let system = read_system(rt, system)?;
-    let list = read_all(rt, list)?;
+    let lines = read_all(rt, list)?;
     let expected = read_all(rt, expected)?;
     let image = image_of(rt, &system, errors)?;
     let found = compared(
         rt.alloc(),
         &system,
         image.as_slice(),
-        list.as_slice(),
+        EventList {
+            file: list,
+            bytes: lines.as_slice(),
+        },
         expected.as_slice(),
     )?;
     match found {

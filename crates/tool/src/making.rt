@@ -44,6 +44,16 @@ pub(crate) fn image_of_text(alloc: Global, text: &str) -> Result<Vec<u8>, NotCer
     Ok(bytes)
 }
 
+/// The image of a text, whether the verifier accepts it or not.
+///
+/// # Errors
+///
+/// It is no text, or memory is refused.
+pub(crate) fn image_as_written(alloc: Global, text: &str) -> Result<Vec<u8>, NotCertified> {
+    let image = assemble(alloc, text)?;
+    Ok(write(alloc, &image)?)
+}
+
 /// The image of the bytes of a text, if they are a text and the verifier accepts it.
 fn image_of(alloc: Global, text: &[u8]) -> Result<Vec<u8>, NotCertified>
     ensures accepted { IfOk result (λ bytes. IsAcceptedImage bytes.items) }

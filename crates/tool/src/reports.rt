@@ -5,8 +5,8 @@ use console::{
 };
 use drawing::DrawingFault;
 use explaining::ExplainFault;
-use model::Refusal;
-use runner::{outside_line, refusal_line};
+use model::{BootFault, Refusal};
+use runner::{boot_line, outside_line, refusal_line};
 use sinks::{Sink, SinkFault, put_all};
 use std::alloc::{AllocError, Global};
 use tool_requests::NoRequest;
@@ -30,12 +30,23 @@ pub(crate) enum ToolFault<'a> {
     Refused(String),
     /// The image is refused.
     Image(Refusal),
-    /// The list of events is refused at this line.
-    Events(u64),
+    /// The image does not boot.
+    Boot(BootFault),
+    /// This line of events is refused, for this reason.
+    Events {
+        file: &'a str,
+        line: u64,
+        why: String,
+    },
+    /// Standard input cannot be read.
+    Input,
     /// The event of this index, from 0, is the first that is outside the device pages of the image.
     Outside(usize),
     /// This line of a file is none of a text.
-    Unread { file: &'a str, line: u64 },
+    Unread {
+        file: &'a str,
+        line: u64,
+    },
     /// Two parts of the program disagree on a text, whose file this is.
     Disagreement(&'a str),
     /// This line is none of what is to be drawn.
@@ -158,6 +169,23 @@ fn complain<E: Sink>(text: &str, status: u8, errors: &mut E) -> u8 {
     }
 }
 
+/// Puts the line of events that is refused on standard output, and the reason on standard error, and returns the exit status.
+fn report_events<W: Sink, E: Sink>(
+    alloc: Global,
+    file: &str,
+    line: u64,
+    why: &str,
+    output: &mut W,
+    errors: &mut E,
+) -> u8 {
+    let file = reported_name(file);
+    let Ok(reason) = format!(in alloc; "{file}:{line}: {why}\n") else {
+        return failed(errors, b"memory", b"");
+    };
+    let status = refused(format!(in alloc; "events line {line}\n"), output, errors);
+    complain(reason.as_str(), status, errors)
+}
+
 /// Says why a request was not carried out, and returns the exit status. What is refused is reported on standard error.
 pub(crate) fn report<W: Sink, E: Sink>(
     alloc: Global,
@@ -170,11 +198,30 @@ pub(crate) fn report<W: Sink, E: Sink>(
         ToolFault::Shown(text) => show(text.as_str(), output, errors),
         ToolFault::Wrong(text) => complain(text.as_str(), USAGE, errors),
         ToolFault::Stream(fault) => report_stream(alloc, fault, errors),
+        ToolFault::Input => failed(errors, b"input", b""),
         ToolFault::Output => failed(errors, b"output", b""),
         ToolFault::Memory => failed(errors, b"memory", b""),
         ToolFault::Refused(lines) => complain(lines.as_str(), REFUSED, errors),
         ToolFault::Disagreement(file) => report_disagreement(alloc, file, errors),
+        ToolFault::Events { file, line, why } => {
+            report_events(alloc, file, line, why.as_str(), output, errors)
+        }
         fault => refused(refused_line(alloc, fault), output, errors),
+    }
+}
+
+/// What is refused, with the line of that on standard error in place of standard output.
+pub(crate) fn on_errors(alloc: Global, fault: ToolFault<'_>) -> ToolFault<'_> {
+    match fault {
+        ToolFault::Image(_)
+        | ToolFault::Boot(_)
+        | ToolFault::Events { .. }
+        | ToolFault::Outside(_)
+        | ToolFault::Unread { .. } => match refused_line(alloc, fault) {
+            Ok(line) => ToolFault::Refused(line),
+            Err(_) => ToolFault::Memory,
+        },
+        fault => fault,
     }
 }
 
@@ -182,7 +229,11 @@ pub(crate) fn report<W: Sink, E: Sink>(
 fn refused_line(alloc: Global, fault: ToolFault<'_>) -> Result<String, AllocError> {
     match fault {
         ToolFault::Image(refusal) => refusal_line(alloc, refusal),
-        ToolFault::Events(line) => format!(in alloc; "events line {line}\n"),
+        ToolFault::Boot(fault) => boot_line(alloc, fault),
+        ToolFault::Events { file, line, why } => {
+            let file = reported_name(file);
+            format!(in alloc; "events line {line}\n{file}:{line}: {why}\n")
+        }
         ToolFault::Outside(index) => outside_line(alloc, index),
         ToolFault::Unread { file, line } => format!(in alloc;
             "{file}:{line}: Malformed: not read\n"

@@ -28,6 +28,8 @@ pub(crate) struct SystemText<'a> {
     pub(crate) text: String,
     /// Notes on the description that it is from, a line for each.
     pub(crate) notes: String,
+    /// The image whose text it is, if it is that of one.
+    pub(crate) image: Option<Vec<u8>>,
     /// The line of the first program in C of the description.
     from_c: Option<u64>,
     /// The description's file.
@@ -60,6 +62,7 @@ impl<'a> SystemText<'a> {
             name,
             text,
             notes: String::new(alloc),
+            image: None,
             from_c: None,
             file: name,
         }
@@ -87,6 +90,7 @@ pub(crate) fn expanded<'a>(
             name: TEXT,
             text,
             notes,
+            image: None,
             from_c,
             file,
         }),
@@ -133,7 +137,9 @@ pub(crate) fn read_system<'a, R: Files + Input + AllocGlobal>(
 ) -> Result<SystemText<'a>, ToolFault<'a>> {
     let bytes = read_all(rt, name)?;
     if bytes.as_slice().starts_with(MAGIC) {
-        listed(rt.alloc(), bytes.as_slice())
+        let mut system = listed(rt.alloc(), bytes.as_slice())?;
+        system.image = Some(bytes);
+        Ok(system)
     } else {
         let content = text_of(rt.alloc(), bytes, name)?;
         written(rt.alloc(), name, content)

@@ -2,10 +2,11 @@
 
 use crate::certificate_files::uncertified;
 use crate::certification::NotCertified;
-use crate::making::{MadeImage, made};
+use crate::making::{MadeImage, image_of_text, made};
 use crate::reports::{ToolFault, reported_name};
 use crate::sources::{SystemText, expanded, read_system};
 use console::{STANDARD, read_stream, write_file};
+use explaining::wants_certificates;
 use progress::Told;
 use sinks::{Sink, SinkFault, put_all};
 use std::rt::Files;
@@ -98,6 +99,26 @@ pub(crate) fn made_image<'a, R: Clock + AllocGlobal, E: Sink>(
     match made_of(rt, system.text.as_str(), errors) {
         Ok(made) => Ok(made),
         Err(fault) => Err(uncertified(rt.alloc(), system.name, system.text.as_str(), fault)),
+    }
+}
+
+/// The image of a text, with the certificates that are in it, or with those that are found where it wants some.
+///
+/// # Errors
+///
+/// It is refused, with the lines that say why; or memory is refused.
+pub(crate) fn image_of<'a, R: Clock + AllocGlobal, E: Sink>(
+    rt: &R,
+    system: &SystemText<'a>,
+    errors: &mut E,
+) -> Result<Vec<u8>, ToolFault<'a>> {
+    let text = system.text.as_str();
+    if wants_certificates(rt.alloc(), text)? {
+        return Ok(made_image(rt, system, errors)?.image);
+    }
+    match image_of_text(rt.alloc(), text) {
+        Ok(image) => Ok(image),
+        Err(fault) => Err(uncertified(rt.alloc(), system.name, text, fault)),
     }
 }
 

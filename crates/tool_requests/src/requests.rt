@@ -6,6 +6,17 @@ use clap::{ArgMatches, Error};
 use std::alloc::{AllocError, Global};
 use std::convert::AsStr;
 
+/// What is put of a run.
+#[derive(Clone, Copy, Debug, PartialEq, Eq)]
+pub enum Shown {
+    /// All lines, with the names of the system.
+    Named,
+    /// All lines as `microsys` puts them.
+    Plain,
+    /// The bytes that threads print, alone.
+    Bytes,
+}
+
 /// What the program is asked to do, with the names of its files.
 #[derive(Clone, Copy)]
 pub enum ToolRequest<'a> {
@@ -13,14 +24,14 @@ pub enum ToolRequest<'a> {
     Verify {
         image: &'a str,
     },
-    /// To run an image over a list of events.
+    /// To run a system over events.
     Run {
-        image: &'a str,
+        system: &'a str,
+        /// The file of a list of events, or `-` for lines of standard input as they come.
         events: &'a str,
         /// Whether the image runs without being verified.
         unverified: bool,
-        /// Whether the bytes that threads print are put alone.
-        bytes: bool,
+        shown: Shown,
     },
     /// To build an image from its text.
     Build {
@@ -158,13 +169,24 @@ fn requested<'a>(matches: &ArgMatches<'a>) -> Option<ToolRequest<'a>> {
     }
 }
 
-/// The request to run an image.
+/// What is to be put of a run.
+fn shown_of(matches: &ArgMatches<'_>) -> Shown {
+    if matches.get_flag("bytes") {
+        Shown::Bytes
+    } else if matches.get_flag("plain") {
+        Shown::Plain
+    } else {
+        Shown::Named
+    }
+}
+
+/// The request to run a system.
 fn run<'a>(matches: &ArgMatches<'a>) -> Option<ToolRequest<'a>> {
     Some(ToolRequest::Run {
-        image: matches.get_str("IMAGE")?,
+        system: matches.get_str("SYSTEM")?,
         events: matches.get_str("EVENTS")?,
         unverified: matches.get_flag("unverified"),
-        bytes: matches.get_flag("bytes"),
+        shown: shown_of(matches),
     })
 }
 

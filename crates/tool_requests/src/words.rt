@@ -5,11 +5,15 @@ use std::alloc::{AllocError, Global};
 
 /// The version of the program, those of the images that it reads, and the kit that proves it.
 const VERSION: &str =
-    "0.1.0\nimages of versions 1 to 3\nproved with rattle-kit-13f logic dac8208d650f15bf";
+    "0.1.0\nimages of versions 1 to 4\nproved with rattle-kit-13f logic dac8208d650f15bf";
 
 /// What is said after all words.
 const STATUSES: &str =
     "`-` is standard input, or where a text or an image is written standard output.\n\nExit status: 0 done; 1 refused, with the reason; 2 wrong words; 3 a file, the output or memory.";
+
+/// What is said of a list of events.
+const EVENTS: &str =
+    "lines `step [N]`, `tick`, `irq LINE`, `write PAGE INDEX WORD` and `read PAGE INDEX`, by names or numbers; of `run` each line of standard input is answered before the next is read";
 
 /// What follows a word: `NAME` is a file, `?NAME` one that may be left out, `--NAME` a word that may be there, and `--NAME N` such a
 /// word with a number.
@@ -79,11 +83,11 @@ const MAKING: [Word<'_>; 4] = [
             },
             Argument {
                 form: "EVENTS",
-                help: "lines `step`, `step N`, `tick` and `irq N`",
+                help: EVENTS,
             },
             Argument {
                 form: "EXPECTED",
-                help: "the lines of a trace, or of bytes",
+                help: "the lines of a trace, with names or without, or of bytes",
             },
         ],
     },
@@ -101,19 +105,23 @@ const IMAGES: [Word<'_>; 3] = [
     },
     Word {
         name: "run",
-        about: "Verifies and boots an image, and prints a line for each event",
+        about: "Verifies and boots a system, and prints a line for each event, with the names of the system",
         arguments: &[
             Argument {
-                form: "IMAGE",
-                help: "the file of an image",
+                form: "SYSTEM",
+                help: "the file of a description, a text or an image",
             },
             Argument {
                 form: "EVENTS",
-                help: "lines `step`, `step N`, `tick` and `irq N`",
+                help: EVENTS,
             },
             Argument {
                 form: "--unverified",
                 help: "boots an image that is not accepted, too",
+            },
+            Argument {
+                form: "--plain",
+                help: "prints lines without names, as `microsys run` does",
             },
             Argument {
                 form: "--bytes",
