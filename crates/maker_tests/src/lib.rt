@@ -14,3 +14,5 @@ mod commands;
 mod descriptions;
 #[cfg(test)]
 mod explanations;
+#[cfg(test)]
+mod runs_by_names;
