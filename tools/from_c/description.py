@@ -18,6 +18,8 @@ WRITE, READ, EXECUTE = 1, 2, 4
 ORIGIN = re.compile(r"#[ \t]*(\S+\.sys):([0-9]+)[ \t\r]*$")
 # How many empty slots have names.
 FREE_SLOTS = 16
+# The size of a frame that is a device page.
+DEVICE_SIZE = 1
 
 
 @dataclass(frozen=True)
@@ -79,6 +81,8 @@ class Description:
     # How many slots each CNode has.
     sizes: dict[str, int] = field(default_factory=dict)
     filled: set[str] = field(default_factory=set)
+    # The lines of the device pages.
+    devices: dict[str, int] = field(default_factory=dict)
 
     def names(self, thread: Thread) -> dict[str, int]:
         """The names that the thread's program may use: CAP_NAME, the index of its CNode's slot with the object or
@@ -153,6 +157,8 @@ def declaration(words: list[str], place: Place, described: Description) -> Threa
         described.kinds[words[1]] = words[3]
         if words[3] == "cnode":
             described.sizes[words[1]] = 1 << number_of(words[4])
+        if words[3] == "frame" and len(words) > 4 and number_of(words[4]) == DEVICE_SIZE:
+            described.devices[words[1]] = place.line
     elif words[0] == "data":
         described.filled.add(words[1])
     elif words[0] == "thread":

@@ -89,11 +89,15 @@ def check_mapped(thread: Thread, part: Part, rights: int, described: Description
 
 
 def check_alone(thread: Thread, part: Part, described: Description) -> None:
-    """The frames of the part are mapped there alone, no thread can map them elsewhere, and no message is written there."""
+    """The frames of the part are mapped there alone, no thread can map them elsewhere, and neither messages nor words of
+    the world are written there."""
     at = wanted_place(thread)
     for address in part.pages() if part.size else ():
         frame = described.pages[thread.root][address].frame
         advice = f"give {part.what} a frame of its own"
+        if frame in described.devices:
+            said = f"the device page of line {described.devices[frame]}"
+            raise Fault(at, f"{part} and {said} share the frame {frame}: {advice}")
         for root, pages in described.pages.items():
             for other, page in pages.items():
                 if page.frame == frame and (root, other) != (thread.root, address):

@@ -237,6 +237,8 @@ places() {
  to 0x5fff, and \`map other 0x7000 stack 3\` of line 22 share the frame stack: give the stack of thread a frame of its own"
     lacks sort 's/^program/buffer stack\n&/' "sort.txt:24: the stack of thread, 48 bytes from 0x5fd0 to 0x5fff, and \`buffer\
  stack\` of line 23 share the frame stack: give the stack of thread a frame of its own"
+    lacks sort 's/^object stack memory frame/& 1/' "sort.txt:23: the stack of thread, 48 bytes from 0x5fd0 to 0x5fff, and the\
+ device page of line 10 share the frame stack: give the stack of thread a frame of its own"
     lacks crc32 's/^map space 0x4000.*/&\nmap space 0x7000 data 2/' "crc32.txt:24: the data of thread, 9 bytes from 0x4000\
  to 0x4008, and \`map space 0x7000 data 2\` of line 21 share the frame data: give the data of thread a frame of its own"
     lacks crc32 's/^cap slots 2.*/&\ncap slots 3 data 3 0/' "crc32.txt:24: the data of thread, 9 bytes from 0x4000 to 0x4008,\
