@@ -33,6 +33,11 @@ calls() {
     done
     [ "$("$1/bin/microsys_tool" draw "$root/samples/gallery/controller.sys")" = \
         "microsys_tool draw $root/samples/gallery/controller.sys" ] || { echo "draw of $1" && exit 1; }
+    env -u MICROSYS -u MICROSYS_TOOL PYTHONPATH="$1/share/microsys/python" python3 -B -c '
+import os, sys
+from microsys.system import _program
+for name in "microsys", "microsys_tool":
+    assert os.path.samefile(_program(name), f"{sys.argv[1]}/bin/{name}"), _program(name)' "$1" || { echo "module of $1" && exit 1; }
 }
 make -s install DESTDIR="$room/to" PREFIX=/opt/one
 mv "$room/to/opt/one" "$room/to/opt/two"

@@ -44,6 +44,8 @@ install)
     chmod 755 "$to/share/microsys/from_c/from_c.py"
     copy 644 share/microsys/from_c/include tools/from_c/include/*.h
     copy 644 share/microsys/from_c/host tools/from_c/host/*.h
+    copy 644 share/microsys/python tools/python/pyproject.toml tools/python/wheel_of_folder.py
+    copy_folder tools/python/microsys share/microsys/python/microsys
     copy_folder samples share/microsys/samples
     rm "$to/share/microsys/samples/demo.sh"
     copy_folder tools/editors share/microsys/editors

@@ -1,7 +1,7 @@
 """A run of an accepted image by the rules of the machine and the kernel alone (docs/MANUAL.md), apart from the product.
 
 The slots of a thread, and what calls do to them, are those of `tools/damage/calls.py`. Calls that an accepted program does not make
-are not reported here, nor faults.
+are not reported here, nor faults: `unverified.py` has them.
 """
 
 import os
@@ -50,7 +50,7 @@ class Runner:
 class Machine:
     def __init__(self, data):
         self.image = image = read(data)
-        well_formed(image)
+        self.prepare()
         self.threads = [Runner(image, t) for t in image.threads]
         self.ready = list(self.threads)
         # frames by their offsets; pages of the image's mappings by root and number
@@ -66,6 +66,10 @@ class Machine:
         self.receivers, self.senders, self.words = {}, {}, {}
         self.bound = {line: (image.offsets[notification], badge) for line, notification, badge in image.interrupts}
         self.masked, self.pending = set(), set()
+
+    def prepare(self):
+        """Finds where objects lie, and which CNodes each thread reaches."""
+        well_formed(self.image)
 
     # ---- memory
 
