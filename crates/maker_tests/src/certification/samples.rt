@@ -52,17 +52,17 @@ const CONTROLLER: &str =
     "memory 17 6\nuntyped u 0x10000 16\nobject control_code u frame\nobject control_space u root\n\
     object control_table u table\nobject sensor_code u frame\nobject sensor_space u root\n\
     object sensor_table u table\nobject watchdog_code u frame\nobject watchdog_space u root\n\
-    object watchdog_table u table\nobject sample u frame\nobject output u frame\nobject status u frame\n\
+    object watchdog_table u table\nobject sample u frame\nobject output u frame 1\nobject status u frame\n\
     object control u tcb\nobject sensor u tcb\nobject watchdog u tcb\nobject control_slots u cnode 4\n\
     object sensor_slots u cnode 4\nobject watchdog_slots u cnode 4\nobject beat u notification\n\
-    object ready u notification\nobject check u notification\nirq control_line 1 beat 1\n\
+    object ready u notification\nobject check u notification\nobject probe u frame 1\nirq control_line 1 beat 1\n\
     irq watchdog_line 2 check 1\nirq sensor_line 3 ready 1\ncap control_slots 1 beat 2 0\n\
     cap control_slots 2 control_line 0 0\ncap sensor_slots 1 ready 2 0\ncap sensor_slots 2 sensor_line 0 0\n\
     cap watchdog_slots 1 check 2 0\ncap watchdog_slots 2 watchdog_line 0 0\n\
     table control_space 0 control_table\ntable sensor_space 0 sensor_table\n\
     table watchdog_space 0 watchdog_table\nmap control_space 0x1000 control_code 4\n\
     map control_space 0x3000 sample 2\nmap control_space 0x4000 output 3\nmap control_space 0x5000 status 3\n\
-    map sensor_space 0x1000 sensor_code 4\nmap sensor_space 0x3000 sample 3\n\
+    map sensor_space 0x1000 sensor_code 4\nmap sensor_space 0x3000 sample 3\nmap sensor_space 0x6000 probe 2\n\
     map watchdog_space 0x1000 watchdog_code 4\nmap watchdog_space 0x5000 status 2\n\
     thread control control_slots 28 control_space 100 auto 0 wait 0x1000\nwait: addi x10 x0 1\naddi x17 x0 5\n\
     ecall\nlui x5 3\nlw x6 0(x5)\naddi x7 x0 68\nbgeu x6 x7 not_low\naddi x6 x7 0\nnot_low: addi x7 x0 132\n\
@@ -70,7 +70,7 @@ const CONTROLLER: &str =
     sw x6 0(x5)\naddi x10 x6 0\naddi x17 x0 9\necall\nlui x5 5\naddi x20 x20 1\nsw x20 0(x5)\naddi x10 x0 2\n\
     lui x11 0x12\naddi x17 x0 3\necall\njal x0 wait\nend\n\
     thread sensor sensor_slots 28 sensor_space 110 auto 0 wait 0x1000\nwait: addi x10 x0 1\naddi x17 x0 5\n\
-    ecall\naddi x20 x20 37\nandi x20 x20 255\nlui x5 3\nsw x20 0(x5)\naddi x10 x0 2\nlui x11 0x12\n\
+    ecall\nlui x5 6\nlw x6 0(x5)\nlui x5 3\nsw x6 0(x5)\naddi x10 x0 2\nlui x11 0x12\n\
     addi x17 x0 3\necall\njal x0 wait\nend\n\
     thread watchdog watchdog_slots 28 watchdog_space 120 auto 0 wait 0x1000\nwait: addi x10 x0 1\n\
     addi x17 x0 5\necall\nlui x5 5\nlw x6 0(x5)\nbne x6 x20 moved\naddi x10 x0 0x21\naddi x17 x0 9\necall\n\
