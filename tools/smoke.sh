@@ -73,6 +73,11 @@ reckons_buffers() {
     python3 tools/buffers/systems.py reckon 12
 }
 
+# Six systems with device pages, and runs in which the world errs; twenty whose threads execute such pages.
+reckons_devices() {
+    python3 tools/devices/systems.py reckon 6 && python3 tools/devices/hostile.py reckon 20
+}
+
 makes_crowd() {
     python3 tools/hostile/crowd.py "$room" && cmp "$room/crowd.txt" samples/hostile/crowd.txt &&
         cmp "$room/crowd.events" samples/hostile/crowd.events
@@ -150,6 +155,8 @@ part_with python3 "tools/traces/reckon.py" python3 tools/traces/reckon.py compar
 part_with python3 "tools/damage/reckon.py" reckons_damage
 part_with python3 "tools/promises/systems.py" reckons_promises
 part_with python3 "tools/buffers/systems.py" reckons_buffers
+part_with python3 "tools/devices" reckons_devices
+part_with python3 "tools/python/run.sh --cheap" tools/python/run.sh --cheap
 part_with python3 "tools/integrity/check.py" python3 tools/integrity/check.py write "$room/integrity"
 part_with python3 "tools/hostile/crowd.py" makes_crowd
 part_with python3 "tools/large_images/make.py" makes_large_image
@@ -164,6 +171,9 @@ part_with python3 "tools/editors/check.py" tools/editors/check.py
 part_with "crates/microsys_tool/out/microsys_tool riscv64-unknown-elf-gcc python3" "tools/make_system/run.sh --cheap" \
     tools/make_system/run.sh --cheap
 part_with "crates/microsys_tool/out/microsys_tool crates/microsys/out/microsys" "tools/described/run.sh" tools/described/run.sh
+part_with "crates/microsys_tool/out/microsys_tool crates/microsys/out/microsys" "tools/python/run.sh" tools/python/run.sh
+part_with "crates/microsys_tool/out/microsys_tool crates/microsys/out/microsys riscv64-unknown-elf-gcc" "samples/live/run.sh" \
+    samples/live/run.sh
 part_with crates/microsys/out/microsys "tools/failing/run.sh" tools/failing/run.sh
 part_with crates/microsys_tool/out/microsys_tool "tools/explaining/check.py" tools/explaining/check.py \
     crates/microsys_tool/out/microsys_tool

@@ -67,7 +67,7 @@ streams() {
 # What has no part in C is the program's, whatever it says.
 handed_over() {
     local program="${MICROSYS_TOOL:-$root/crates/microsys_tool/out/microsys_tool}" words
-    for words in "expand $root/samples/gallery/controller.sys -" "expand missing.sys -" "make one" "--help" "nothing"; do
+    for words in "expand $root/samples/gallery/controller.sys -" "expand missing.sys -" "make one" "run one" "--help" "nothing"; do
         # shellcheck disable=SC2086
         "$program" $words >"$room/own" 2>&1
         echo "status $?" >>"$room/own"
