@@ -10,13 +10,16 @@ them as message buffers. A third of 1,000 events are words that the world writes
 fault or an error, and no thread may run more instructions from one wait to the next than its budget. At the end a thread puts the bytes of
 all other pages. Every third system is quiet: nobody loads from a device page, and it runs without the writes, too; then all other lines and
 each byte outside of device pages are the same. Verdicts are reckoned by `tools/damage`, traces by `tools/traces`, both apart from the
-product. `reckon` also runs each system with a world that writes or looks wrongly in several ways, to show how many traces reveal it.
+product, which gives the same lines where the events come over a pipe. `reckon` also runs each system with a world that writes or looks
+wrongly in several ways, to show how many traces reveal it.
 """
 
 import collections
 import os
 import random
+import subprocess
 import sys
+import tempfile
 
 HERE = os.path.dirname(os.path.realpath(__file__))
 sys.path[:0] = [f"{HERE}/../damage", f"{HERE}/../traces"]
@@ -341,6 +344,15 @@ def system(seed):
     return text, "".join(f"{event}\n" for event in events), quiet
 
 
+def check_live(program, seed, data, events, lines):
+    """Asserts that the product gives the same lines where the events come over a pipe."""
+    with tempfile.NamedTemporaryFile(suffix=".img") as image:
+        image.write(data)
+        image.flush()
+        ran = subprocess.run([program, "run", image.name, "-"], input=events.encode(), capture_output=True, check=False)
+    assert ran.stdout.decode().splitlines() == lines and ran.returncode == 0, f"{seed}: another live run"
+
+
 def without_world(lines):
     """The lines of a trace or of a list of events but those of the world's writes and looks."""
     return [line for line in lines if line.split()[0] not in ("write", "read")]
@@ -455,6 +467,8 @@ def reckoned(program, seed, revealed):
         machine, lines = checked_run(data, events)
     if program:
         check_product(program, seed, (text, events), (data, wanted, lines))
+    if program and wanted == "accepted":
+        check_live(program, seed, data, events, lines)
     if wanted != "accepted":
         return wanted.split()[2]
     if quiet:

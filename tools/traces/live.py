@@ -33,7 +33,10 @@ class Live:
         self.pages = {MEMORY + place for at, place in enumerate(image.offsets) if is_device(image, at)}
         objects = re.findall(r"^object (\S+)", text, re.M)
         self.places = {name: MEMORY + place for name, place in zip(objects, image.offsets)}
-        self.interrupts = {name: int(line) for name, line in re.findall(r"^irq (\S+) (\d+)", text, re.M)}
+        # a line by its name, or by that of the bell that no other rings
+        lines = re.findall(r"^irq (\S+) (\d+) (\S+)", text, re.M)
+        rung = [bell for _, _, bell in lines]
+        self.interrupts = {name: int(line) for given, line, bell in lines for name in ([given, bell] if rung.count(bell) == 1 else [given])}
 
     def place(self, words):
         """The address of a word of a device page: an address, or a name and the number of the word."""
@@ -62,7 +65,7 @@ class Live:
         elif word == "read":
             yield self.machine.show(self.place(rest))
         elif word == "irq":
-            yield self.machine.interrupt(self.interrupts.get(rest[0]) if rest[0] in self.interrupts else int(rest[0]))
+            yield self.machine.interrupt(self.interrupts[rest[0]] if rest[0] in self.interrupts else int(rest[0]))
         elif [word, *rest] == ["tick"]:
             yield self.machine.tick()
         else:

@@ -145,7 +145,7 @@ def timed(what: str, count: int, act: Callable[[], None]) -> None:
     began = time.monotonic()
     act()
     seconds = time.monotonic() - began
-    print(f"gateway: {count} bytes {what}, {count / seconds / 1000:.0f} kB/s")
+    print(f"gateway: {count} bytes {what}, {count / seconds:.0f} a second")
 
 
 def check_to_line(office: socket.socket, line: int, data: bytes) -> None:
