@@ -15,8 +15,9 @@ from typing import Iterable, Iterator, NoReturn, Sequence
 MAGIC = b"MSYS"
 # How many steps one line asks for at most, and how many words a page has.
 MOST_STEPS, PAGE_WORDS = 1_000_000, 1024
-# How many lines are asked before they are answered: so many and their answers fit into pipes, which hold 64 KiB.
-AT_ONCE = 512
+# How many lines are asked before they are answered: so many answers fit into the smallest pipe, of a page, and the
+# program never waits to be read while it is written to.
+AT_ONCE = 128
 READ_SIZE = 1 << 20
 # What the last line begins with where the program goes no further.
 LAST_WORDS = re.compile(rb"(source|refused|boot|events) [^\n]*\n\Z")
@@ -64,6 +65,8 @@ class System:
         except BaseException:
             self._errors.close()
             raise
+        assert self._program.stdin and self._program.stdout
+        self._input, self._output = self._program.stdin, self._program.stdout
 
     def __enter__(self) -> System:
         return self
@@ -102,8 +105,8 @@ class System:
 
     def irq(self, line: int | str) -> None:
         """Raises an interrupt, by the number of its line, 0 to 63, or by its name."""
-        if isinstance(line, int) and not 0 <= line < 64:
-            raise ValueError(f"line {line}")
+        if not _is_name(line) if isinstance(line, str) else not 0 <= line < 64:
+            raise ValueError(f"line {line!r}")
         self._begin()
         self._ask([f"irq {line}"], 1)
 
@@ -160,8 +163,8 @@ class System:
         if self._errors.closed:
             return
         try:
-            self._program.stdin.close()
-            rest = self._program.stdout.read()
+            self._input.close()
+            rest = self._output.read()
             if self._program.wait() != 0:
                 self._fail(rest)
         finally:
@@ -178,12 +181,26 @@ class System:
     def _ask(self, asked: list[str], count: int, may_settle: bool = False) -> bool:
         """Asks for events, and takes up their lines: so many, or up to the first `idle`; whether that came."""
         try:
-            self._program.stdin.write("".join(f"{line}\n" for line in asked).encode())
+            answer = self._answer(asked, count, may_settle)
+        except BaseException:
+            # half an answer is no answer: who interrupts a call ends the run
+            self._stop()
+            raise
+        self._last += answer
+        self._put += _put_in(answer)
+        return answer.endswith(b"idle\n")
+
+    def _answer(self, asked: list[str], count: int, may_settle: bool) -> Bytes:
+        """Writes lines of events, and reads those of their answers."""
+        data = memoryview("".join(f"{line}\n" for line in asked).encode())
+        try:
+            while data:
+                data = data[self._input.write(data):]
         except BrokenPipeError:
-            self._fail(self._program.stdout.read())
+            self._fail(self._output.read())
         found, left = bytearray(), count
         while left > 0 and not (may_settle and found.endswith(b"idle\n")):
-            part = self._program.stdout.read(READ_SIZE)
+            part = self._output.read(READ_SIZE)
             if not part:
                 self._fail(bytes(found))
             left -= part.count(b"\n")
@@ -191,14 +208,12 @@ class System:
         answer = bytes(found)
         if LAST_WORDS.search(answer[-256:]):
             self._fail(answer)
-        self._last += answer
-        self._put += _put_in(answer)
-        return answer.endswith(b"idle\n")
+        return answer
 
     def _fail(self, said: Bytes) -> NoReturn:
         """The program has ended, or is about to: raises its words."""
-        self._program.stdin.close()
-        said += self._program.stdout.read()
+        self._input.close()
+        said += self._output.read()
         status = self._program.wait()
         last = LAST_WORDS.search(said)
         self._errors.seek(0)
@@ -210,7 +225,7 @@ class System:
         """Stops the program where it still runs."""
         if self._errors.closed:
             return
-        for end in (self._program.stdin, self._program.stdout):
+        for end in (self._input, self._output):
             end.close()
         if self._program.poll() is None:
             self._program.kill()
@@ -254,10 +269,17 @@ def _place(page: int | str, index: int) -> str:
     if not 0 <= index < PAGE_WORDS:
         raise ValueError(f"word {index} of a page of {PAGE_WORDS}")
     if isinstance(page, str):
+        if not _is_name(page):
+            raise ValueError(f"page {page!r}")
         return f"{page} {index}"
     if page % 4 or not 0 <= page < 2**32 - 4 * index:
         raise ValueError(f"address {page:#x}")
     return f"{page + 4 * index:#x}"
+
+
+def _is_name(name: str) -> bool:
+    """Whether it is one word of a line."""
+    return re.fullmatch(r"[^\s#]+", name) is not None
 
 
 def _word(word: int) -> int:

@@ -6,6 +6,7 @@ MICROSYS names what runs images and MICROSYS_TOOL what runs texts; tools/python/
 import sys
 import tempfile
 import unittest
+import unittest.mock
 from pathlib import Path
 
 ROOT = Path(__file__).resolve().parents[3]
@@ -122,7 +123,7 @@ class Ends(unittest.TestCase):
         return caught.exception.words.splitlines()[0]
 
     def test_an_image_that_is_refused(self):
-        # the rule and the place are those of samples/README.md
+        # the last field of the manual's format is cut off
         with tempfile.TemporaryDirectory() as folder:
             image = bytearray((SAMPLES / "bell.img").read_bytes())
             name = Path(folder) / "cut.img"
@@ -158,6 +159,16 @@ class Ends(unittest.TestCase):
         self.assertIsNotNone(system._program.poll())
         system.close()
 
+    def test_a_call_that_is_interrupted_ends_the_run(self):
+        def interrupted(*_):
+            raise KeyboardInterrupt
+
+        system = System(SAMPLES / "bell.img")
+        system._output = unittest.mock.Mock(wraps=system._output, read=interrupted)
+        self.assertRaises(KeyboardInterrupt, system.step, 2)
+        self.assertIsNotNone(system._program.poll())
+        self.assertEqual(self.words_of(System.step, system), "the run is closed")
+
     def test_files_and_programs_that_are_not_there(self):
         self.assertRaises(FileNotFoundError, System, SAMPLES / "nothing.img")
         self.assertRaises(FileNotFoundError, System, SAMPLES / "bell.img", SAMPLES / "nothing")
@@ -168,7 +179,8 @@ class Ends(unittest.TestCase):
                 lambda: system.write(PROBE, 1024, 0), lambda: system.write(PROBE, -1, 0), lambda: system.write(PROBE, 0, 2**32),
                 lambda: system.write(PROBE, 0, -1), lambda: system.write(PROBE + 2, 0, 0), lambda: system.read(2**32, 0),
                 lambda: system.read_words(PROBE, 1020, 5), lambda: system.irq(64), lambda: system.irq(-1), lambda: system.step(-1),
-                lambda: system.settle(0),
+                lambda: system.settle(0), lambda: system.irq("a\nstep"), lambda: system.irq(""), lambda: system.write("a b", 0, 0),
+                lambda: system.read("#", 0),
             ):
                 self.assertRaises(ValueError, act)
             # the run goes on
