@@ -38,6 +38,10 @@ import os, sys
 from microsys.system import _program
 for name in "microsys", "microsys_tool":
     assert os.path.samefile(_program(name), f"{sys.argv[1]}/bin/{name}"), _program(name)' "$1" || { echo "module of $1" && exit 1; }
+    for name in thermostat gateway key_store; do
+        python3 -B "$1/share/microsys/samples/live/$name/$name.py" "$room/none" 2>&1 | grep -q "^FileNotFoundError: .*$room/none" ||
+            { echo "$name of $1" && exit 1; }
+    done
 }
 make -s install DESTDIR="$room/to" PREFIX=/opt/one
 mv "$room/to/opt/one" "$room/to/opt/two"

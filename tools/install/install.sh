@@ -47,7 +47,7 @@ install)
     copy 644 share/microsys/python tools/python/pyproject.toml tools/python/wheel_of_folder.py
     copy_folder tools/python/microsys share/microsys/python/microsys
     copy_folder samples share/microsys/samples
-    rm "$to/share/microsys/samples/demo.sh"
+    rm "$to/share/microsys/samples/demo.sh" "$to/share/microsys/samples/live/run.sh"
     copy_folder tools/editors share/microsys/editors
     rm "$to/share/microsys/editors/check.py"
     copy 644 share/man/man1 docs/man/*.1

@@ -24,7 +24,8 @@ import zlib
 from pathlib import Path
 from typing import Callable
 
-sys.path.insert(0, str(Path(__file__).resolve().parents[3] / "tools" / "python"))
+# where the module is in the repository, and where it is installed
+sys.path[:0] = [str(Path(__file__).resolve().parents[3] / place) for place in ("tools/python", "python")]
 from microsys import System  # noqa: E402
 
 PAYLOAD, CHUNK, PIECE = 1016, 1020, 65536

@@ -18,7 +18,8 @@ import sys
 from dataclasses import dataclass
 from pathlib import Path
 
-sys.path.insert(0, str(Path(__file__).resolve().parents[3] / "tools" / "python"))
+# where the module is in the repository, and where it is installed
+sys.path[:0] = [str(Path(__file__).resolve().parents[3] / place) for place in ("tools/python", "python")]
 from microsys import System  # noqa: E402
 
 HOUR, TRACED = 3600, 600
