@@ -18,7 +18,7 @@ MOST_STEPS, PAGE_WORDS = 1_000_000, 1024
 # How many lines are asked before they are answered: so many answers fit into the smallest pipe, of a page, and the
 # program never waits to be read while it is written to.
 AT_ONCE = 128
-READ_SIZE = 1 << 20
+READ_SIZE = 1 << 16
 # What the last line begins with where the program goes no further.
 LAST_WORDS = re.compile(rb"(source|refused|boot|events) [^\n]*\n\Z")
 # Where programs are in a folder that this module is in: as they are installed, or in the repository.
@@ -116,11 +116,11 @@ class System:
 
     def write_words(self, page: int | str, index: int, words: Iterable[int]) -> None:
         """Writes words of a device page that follow each other."""
-        asked = [f"write {_place(page, at)} {_word(word)}" for at, word in enumerate(words, index)]
-        self._begin()
-        for first in range(0, len(asked), AT_ONCE):
-            part = asked[first:first + AT_ONCE]
-            self._ask(part, len(part))
+        words = list(words)
+        for word in words:
+            if not 0 <= word < 2**32:
+                raise ValueError(f"word {word}")
+        self._ask_all([f"write {place} {word}" for place, word in zip(_places(page, index, len(words)), words)])
 
     def read(self, page: int | str, index: int) -> int:
         """The word of a device page, by its number in the page, 0 to 1023."""
@@ -128,12 +128,9 @@ class System:
 
     def read_words(self, page: int | str, index: int, count: int) -> list[int]:
         """So many words of a device page, from one on."""
-        asked = [f"read {_place(page, at)}" for at in range(index, index + count)]
-        self._begin()
-        for first in range(0, len(asked), AT_ONCE):
-            part = asked[first:first + AT_ONCE]
-            self._ask(part, len(part))
-        return [int(line.rsplit(b" ", 1)[1], 16) for line in self._last.splitlines()]
+        self._ask_all([f"read {place}" for place in _places(page, index, count)])
+        # the words of each line are `read`, the address and the word
+        return [int(word, 16) for word in self._last.split()[2::3]]
 
     # ---- what was seen
 
@@ -177,6 +174,13 @@ class System:
         if self._errors.closed:
             raise Ended("the run is closed", 0)
         self._last = b""
+
+    def _ask_all(self, asked: list[str]) -> None:
+        """Asks for events that have a line each."""
+        self._begin()
+        for first in range(0, len(asked), AT_ONCE):
+            part = asked[first:first + AT_ONCE]
+            self._ask(part, len(part))
 
     def _ask(self, asked: list[str], count: int, may_settle: bool = False) -> bool:
         """Asks for events, and takes up their lines: so many, or up to the first `idle`; whether that came."""
@@ -264,28 +268,22 @@ def _parts(steps: int) -> Iterator[int]:
         steps -= MOST_STEPS
 
 
-def _place(page: int | str, index: int) -> str:
-    """How an event names a word of a device page."""
-    if not 0 <= index < PAGE_WORDS:
-        raise ValueError(f"word {index} of a page of {PAGE_WORDS}")
+def _places(page: int | str, index: int, count: int) -> list[str]:
+    """How events name so many words of a device page, from one on."""
+    if not 0 <= index <= index + count <= PAGE_WORDS:
+        raise ValueError(f"words {index} to {index + count - 1} of a page of {PAGE_WORDS}")
     if isinstance(page, str):
         if not _is_name(page):
             raise ValueError(f"page {page!r}")
-        return f"{page} {index}"
-    if page % 4 or not 0 <= page < 2**32 - 4 * index:
+        return [f"{page} {at}" for at in range(index, index + count)]
+    if page % 4 or not 0 <= page <= 2**32 - 4 * (index + count):
         raise ValueError(f"address {page:#x}")
-    return f"{page + 4 * index:#x}"
+    return [f"{at:#x}" for at in range(page + 4 * index, page + 4 * (index + count), 4)]
 
 
 def _is_name(name: str) -> bool:
     """Whether it is one word of a line."""
     return re.fullmatch(r"[^\s#]+", name) is not None
-
-
-def _word(word: int) -> int:
-    if not 0 <= word < 2**32:
-        raise ValueError(f"word {word}")
-    return word
 
 
 def _put_in(lines: bytes) -> bytes:
