@@ -7,46 +7,28 @@ caller gives it.
 from __future__ import annotations
 
 from collections import Counter
-from collections.abc import Callable
-from dataclasses import dataclass, field, replace
+from dataclasses import dataclass, replace
 
 from faults import Fault, Place
 from frames import frame_of, is_save, moves_stack, registers_in, registers_of, saves_of
+from lines import STOP, Line, constant, without
 from machine_code import BRANCHES, Function, Instruction, Linked
 
 LONGEST = 65536
-# How many instructions a branch may lead over: it reaches 4 KiB, and a turned one is one longer.
-REACH = 1000
-INVERSE = {"beq": "bne", "bne": "beq", "blt": "bge", "bge": "blt", "bltu": "bgeu", "bgeu": "bltu"}
 PLAIN = set(
     "lui addi slti sltiu xori ori andi slli srli srai add sub sll slt sltu xor srl sra or and "
     "lb lh lw lbu lhu sb sh sw ecall".split()
 )
 
 
-@dataclass
-class Line:
-    """An instruction of the program; a branch or jump leads to a label."""
-
-    words: list[str]
-    place: Place | None
-    target: str | None = None
-    labels: list[str] = field(default_factory=list)
-    note: str = ""
-
-    def text(self) -> str:
-        """The lines of the text form, with the place in the source as a comment."""
-        head = "".join(f"{label}:\n" for label in self.labels)
-        words = " ".join(self.words + ([self.target] if self.target else []))
-        return f"{self.note}{head}{words}  # {self.place}"
-
-
 @dataclass(frozen=True)
 class Program:
-    """A thread's program, and how many bytes of stack it uses at most."""
+    """A thread's program, how many bytes of stack it uses at most, and with how many of them used each of its functions
+    is entered."""
 
     lines: list[Line]
     stack: int
+    entries: frozenset[tuple[str, int]] = frozenset()
 
 
 @dataclass(frozen=True)
@@ -82,7 +64,7 @@ def program_of(linked: Linked, entry: str) -> Program:
     if not any("x2" in registers_in(it.words) for it in lines if not moves_stack(it.words)):
         lines, stack = without(lines, lambda line, _: moves_stack(line.words)), 0
     drop_labels(lines, entry)
-    return Program(within_reach(lines), stack)
+    return Program(lines, stack, frozenset(copier.entries))
 
 
 class Returned(Fault):
@@ -100,6 +82,7 @@ class Copier:
         self.pending: list[str] = []
         self.note = ""
         self.stack = 0
+        self.entries: set[tuple[str, int]] = set()
 
     def label(self) -> str:
         """A new label."""
@@ -120,6 +103,7 @@ class Copier:
         labels = {it.address: self.label() for it in function.body if it.address in targets}
         dropped = {register: place for register, place in saved.items() if register not in caller.held}
         self.copies[function.name] += 1
+        self.entries.add((function.name, caller.depth))
         self.stack = max(self.stack, itself.depth)
         if caller.names:
             self.note = f"# {function.name}, called by {caller.names[-1]}\n"
@@ -162,14 +146,18 @@ class Copier:
             return
         if target not in self.linked.functions:
             raise Fault(instruction.place, f"a jump out of `{copy.function.name}`")
+        after = self.label() if is_call else copy.caller.after
+        self.call(target, instruction, copy, after)
+        if is_call and after:
+            self.pending.append(after)
+
+    def call(self, target: int, instruction: Instruction, copy: Copy, after: str | None) -> None:
+        """Copies the function that is called there, which goes on after its return at a label."""
         called, names = self.linked.functions[target].name, copy.itself.names
         if called in names:
             circle = " calls ".join([*names[names.index(called) :], called])
             raise Fault(instruction.place, f"recursion, which has no bound: {circle}; write a loop")
-        after = self.label() if is_call else copy.caller.after
         self.copy(target, Caller(after, instruction.place, names, copy.itself.held, copy.itself.depth))
-        if is_call and after:
-            self.pending.append(after)
 
     def leave(self, instruction: Instruction, copy: Copy) -> None:
         """A return; every other jump to an address in a register is refused."""
@@ -179,11 +167,27 @@ class Copier:
                 raise Returned(instruction.place, f"`{copy.function.name}` {advice}")
             self.put(["jal", "x0"], instruction, copy.caller.after)
         elif instruction.operands[0] == "x1":
-            advice = "call by name, in a `switch` or with `if`"
-            raise Fault(instruction.place, f"a call through a function pointer: {advice}")
+            self.choose(instruction, copy)
         else:
             advice = "write `switch` or `if` in place of `goto *`"
             raise Fault(instruction.place, f"a jump to a computed address: {advice}")
+
+    def choose(self, instruction: Instruction, copy: Copy) -> None:
+        """A call through a pointer: a test for each function whose address the program has, and its copy. A pointer
+        that is none of these stops the thread, as a failed `assert` does."""
+        offset, _, pointer = instruction.operands[1].rstrip(")").partition("(")
+        if offset != "0":
+            raise Fault(instruction.place, "a call to a computed address")
+        scratch, after = "x5" if pointer == "x1" else "x1", self.label()
+        for address in self.linked.pointed:
+            following = self.label()
+            for words in constant(int(scratch[1:]), address):
+                self.put(words, instruction)
+            self.put(["bne", pointer, scratch], instruction, following)
+            self.call(address, instruction, copy, after)
+            self.pending.append(following)
+        self.put(["jal", "x0"], instruction, STOP)
+        self.pending.append(after)
 
 
 def at_place(function: Function, place: Place | None) -> Function:
@@ -198,18 +202,6 @@ def refusal_of(name: str) -> str:
     return f"`{name}` is no instruction that a thread may have"
 
 
-def without(lines: list[Line], idle: Callable[[Line, Line], bool]) -> list[Line]:
-    """The lines but for those that `idle` names, given the line after them. Labels and notes of these go to that
-    line."""
-    kept: list[Line] = []
-    for line, following in zip(lines, lines[1:]):
-        if idle(line, following):
-            following.labels, following.note = line.labels + following.labels, line.note + following.note
-        else:
-            kept.append(line)
-    return kept + lines[-1:]
-
-
 def leads_on(line: Line, following: Line) -> bool:
     """Whether it is a jump to the line after it."""
     return line.words[:2] == ["jal", "x0"] and line.target in following.labels
@@ -220,29 +212,3 @@ def drop_labels(lines: list[Line], entry: str) -> None:
     wanted = {line.target for line in lines} | {entry}
     for line in lines:
         line.labels = [label for label in line.labels if label in wanted]
-
-
-def within_reach(lines: list[Line]) -> list[Line]:
-    """The same program, where a branch that leads too far is turned, and leads over a jump."""
-    turns = 0
-    while far := far_branches(lines):
-        turned: list[Line] = []
-        for index, line in enumerate(lines):
-            if index not in far:
-                turned.append(line)
-                continue
-            turns += 1
-            over = f"over_{turns}"
-            inverse = [INVERSE[line.words[0]], *line.words[1:]]
-            turned.append(Line(inverse, line.place, over, line.labels, line.note))
-            turned.append(Line(["jal", "x0"], line.place, line.target))
-            lines[index + 1].labels.append(over)
-        lines = turned
-    return lines
-
-
-def far_branches(lines: list[Line]) -> set[int]:
-    """The numbers of the lines that branch too far."""
-    places = {label: index for index, line in enumerate(lines) for label in line.labels}
-    branches = [(index, line.target) for index, line in enumerate(lines) if line.words[0] in BRANCHES and line.target]
-    return {index for index, target in branches if abs(places[target] - index) > REACH}

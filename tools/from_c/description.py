@@ -1,7 +1,7 @@
 """The system that a text describes, as far as its threads' programs from C need it: what is mapped and named how.
 
-The text is that of `microsys build`, with a line `program FILE.c .. [data ADDRESS] [stack ADDRESS]` in a thread in the
-place of its instructions. A line that `microsys_tool expand` wrote names the line of the description that it comes from,
+The text is that of `microsys build`, with a line `program FILE.c .. [checked] [data ADDRESS] [stack ADDRESS]` in a
+thread in the place of its instructions. A line that `microsys_tool expand` wrote names the line of the description that it comes from,
 and what is said of it is said of that one.
 """
 
@@ -20,6 +20,8 @@ ORIGIN = re.compile(r"#[ \t]*(\S+\.sys):([0-9]+)[ \t\r]*$")
 FREE_SLOTS = 16
 # The size of a frame that is a device page.
 DEVICE_SIZE = 1
+# The types that microsys.h has for slots. All other slots are numbers.
+C_TYPES = {"notification": "bell", "endpoint": "door", "handler": "line"}
 
 
 @dataclass(frozen=True)
@@ -42,14 +44,15 @@ class Held:
 
 @dataclass(frozen=True)
 class Wanted:
-    """A line `program`: its number in the text, its place, the files, and the addresses of its data and of its stack's
-    end."""
+    """A line `program`: its number in the text, its place, the files, the addresses of its data and of its stack's end,
+    and whether indices are checked at run time."""
 
     number: int
     place: Place
     files: tuple[str, ...]
     data: int | None
     stack: int | None
+    is_checked: bool = False
 
 
 @dataclass
@@ -63,8 +66,9 @@ class Thread:
     entry: str
     base: int
     wanted: Wanted | None = None
-    # The value of a line `reg x2`.
+    # The value of a line `reg x2`, and those of other lines `reg`.
     stack: int | None = None
+    registers: dict[int, int] = field(default_factory=dict)
     # The frame of a line `buffer`, and the line.
     buffer: tuple[str, int] | None = None
 
@@ -84,35 +88,45 @@ class Description:
     # The lines of the device pages.
     devices: dict[str, int] = field(default_factory=dict)
 
-    def names(self, thread: Thread) -> dict[str, int]:
-        """The names that the thread's program may use: CAP_NAME, the index of its CNode's slot with the object or
-        handler of that name, and PAGE_NAME, the address of the frame under its root table. What is there twice has
-        none. The first slots that are empty are CAP_FREE_1 and so on, but where an object has such a name."""
-        found: dict[str, list[int]] = {}
-        for index, slot in self.slots.get(thread.cnode, {}).items():
-            found.setdefault(f"CAP_{slot.source.upper()}", []).append(index)
-        for address, page in self.pages.get(thread.root, {}).items():
-            found.setdefault(f"PAGE_{page.frame.upper()}", []).append(address)
+    def names(self, thread: Thread) -> dict[str, str]:
+        """The names that the thread's program may use, each with what it is in C: CAP_NAME, the slot of its CNode with
+        the object or handler of that name, and PAGE_NAME, the address of the frame under its root table. What is there
+        twice has none. The first slots that are empty are CAP_FREE_1 and so on, but where an object has such a name."""
         held = self.slots.get(thread.cnode, {})
+        found: dict[str, list[str]] = {}
+        for index, slot in held.items():
+            found.setdefault(f"CAP_{slot.source.upper()}", []).append(self.in_c(slot.source, index))
+        for address, page in self.pages.get(thread.root, {}).items():
+            found.setdefault(f"PAGE_{page.frame.upper()}", []).append(number_in_c(address))
         free = [index for index in range(1, self.sizes.get(thread.cnode, 0)) if index not in held][:FREE_SLOTS]
         for number, index in enumerate(free, 1):
-            found.setdefault(f"CAP_FREE_{number}", [index])
-        return {name: numbers[0] for name, numbers in found.items() if len(numbers) == 1}
+            found.setdefault(f"CAP_FREE_{number}", [number_in_c(index)])
+        return {name: values[0] for name, values in found.items() if len(values) == 1}
 
-    def bell(self, thread: Thread) -> dict[str, int]:
-        """What `assert` waits for, as MICROSYS_BELL: the slot of a notification that the thread may read, or else of
-        an endpoint. Every thread that is accepted has one of them, since it waits."""
+    def in_c(self, source: str, index: int) -> str:
+        """The slot of an object or handler as microsys.h has it: what is a bell is of another type than a door."""
+        kind = C_TYPES.get(self.kinds.get(source, ""))
+        return f"((struct {kind}){{{number_in_c(index)}}})" if kind else number_in_c(index)
+
+    def bell(self, thread: Thread) -> int | None:
+        """What a failed `assert` waits for: the slot of a notification that the thread may read, or else of an
+        endpoint. Every thread that is accepted has one of them, since it waits."""
         for kind in ("notification", "endpoint"):
             for index, slot in sorted(self.slots.get(thread.cnode, {}).items()):
                 if self.kinds.get(slot.source) == kind and slot.rights & READ:
-                    return {"MICROSYS_BELL": index}
-        return {}
+                    return index
+        return None
 
-    def buffer(self, thread: Thread) -> dict[str, int]:
-        """MICROSYS_BUFFER, the lowest address at which the thread has its message buffer, if it has one there."""
+    def buffer(self, thread: Thread) -> int | None:
+        """The lowest address at which the thread has its message buffer, if it has one there."""
         pages = self.pages.get(thread.root, {}).items()
-        found = [address for address, page in pages if thread.buffer and page.frame == thread.buffer[0]]
-        return {"MICROSYS_BUFFER": min(found)} if found else {}
+        return min((address for address, page in pages if thread.buffer and page.frame == thread.buffer[0]), default=None)
+
+    def definitions(self, thread: Thread) -> dict[str, str]:
+        """All names that the thread's program is compiled with: those of the description, MICROSYS_BELL and
+        MICROSYS_BUFFER."""
+        own = {"MICROSYS_BELL": self.bell(thread), "MICROSYS_BUFFER": self.buffer(thread)}
+        return {**self.names(thread), **{name: number_in_c(it) for name, it in own.items() if it is not None}}
 
 
 def read(text: str, file: str) -> Description:
@@ -129,6 +143,8 @@ def read(text: str, file: str) -> Description:
                 thread.wanted = wanted(words, number, place)
             elif words[0] == "reg" and words[1] == "x2":
                 thread.stack = number_of(words[2])
+            elif words[0] == "reg":
+                thread.registers[int(words[1].removeprefix("x"))] = number_of(words[2]) & 0xFFFF_FFFF
             elif words[0] == "buffer":
                 thread.buffer = words[1], place.line
             elif words[0] == "end":
@@ -159,6 +175,8 @@ def declaration(words: list[str], place: Place, described: Description) -> Threa
             described.sizes[words[1]] = 1 << number_of(words[4])
         if words[3] == "frame" and len(words) > 4 and number_of(words[4]) == DEVICE_SIZE:
             described.devices[words[1]] = place.line
+    elif words[0] == "irq":
+        described.kinds[words[1]] = "handler"
     elif words[0] == "data":
         described.filled.add(words[1])
     elif words[0] == "thread":
@@ -172,17 +190,25 @@ def wanted(words: list[str], number: int, place: Place) -> Wanted:
     """Reads a line `program`."""
     files: list[str] = []
     addresses: dict[str, int] = {}
+    is_checked = False
     rest = iter(words[1:])
     for word in rest:
         if word in ("data", "stack"):
             addresses[word] = number_of(next(rest, ""))
+        elif word == "checked":
+            is_checked = True
         else:
             files.append(word)
     if not files:
-        raise Fault(place, "the line is `program FILE.c .. [data ADDRESS] [stack ADDRESS]`")
+        raise Fault(place, "the line is `program FILE.c .. [checked] [data ADDRESS] [stack ADDRESS]`")
     if addresses.get("data", 0) % PAGE or addresses.get("stack", 0) % 16:
         raise Fault(place, "data begin at a multiple of 4096, and a stack ends at a multiple of 16")
-    return Wanted(number, place, tuple(files), addresses.get("data"), addresses.get("stack"))
+    return Wanted(number, place, tuple(files), addresses.get("data"), addresses.get("stack"), is_checked)
+
+
+def number_in_c(number: int) -> str:
+    """A number as C has it."""
+    return f"{number:#x}u"
 
 
 def number_of(word: str) -> int:

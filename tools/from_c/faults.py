@@ -33,6 +33,17 @@ class Remark:
         return f"{self.place}: {self.kind}: {self.text}"
 
 
+@dataclass(frozen=True)
+class Note:
+    """What is noted on a place of a source, and stops nothing."""
+
+    place: Place | None
+    text: str
+
+    def __str__(self) -> str:
+        return f"{self.place}: note: {self.text}"
+
+
 class Refused(Exception):
     """What stops the conversion has been said."""
 

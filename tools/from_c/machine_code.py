@@ -10,8 +10,10 @@ import sys
 from collections.abc import Iterator
 from dataclasses import dataclass, field
 from pathlib import Path
+from typing import Any
 
 from faults import Fault, Place, Refused, Remark
+from variables import Variable, variables_in
 
 HERE = Path(__file__).resolve().parent
 RUNTIME = HERE / "runtime.c"
@@ -45,7 +47,7 @@ FLAGS = (
 MISSING = (
     (r"__(add|sub|mul|div|neg|eq|ne|lt|le|gt|ge|unord)[sdt]f\d?", "floating point: use whole numbers"),
     (r"__(float|fix|extend|trunc)\w+", "floating point: use whole numbers"),
-    (r"__u?(mul|div|mod|cmp|ashl|ashr|lshr)di\d", "a product, quotient or shift of 64 bits: use words of 32"),
+    (r"__\w+(di|ti)\d", "an operation on 64 bits: use words of 32, or wide_product of product.h"),
     (r"malloc|calloc|realloc|free", "a heap: use arrays"),
     (r"\w*print\w*|puts|putchar", "the C library's output: use sys_put_char"),
 )
@@ -53,6 +55,8 @@ MISSING = (
 
 # What was shown of a source.
 SHOWN: set[Remark] = set()
+# The object files of the runtime, by the flags that it is compiled with.
+RUNTIMES: dict[tuple[str, ...], bytes] = {}
 
 BRANCHES = {"beq", "bne", "blt", "bge", "bltu", "bgeu"}
 STORES = {"sb", "sh", "sw"}
@@ -89,23 +93,29 @@ class Function:
 
 @dataclass(frozen=True)
 class Linked:
-    """A linked program: its functions by address, the address of each by name, and its data."""
+    """A linked program: its functions by address, the address of each by name, its data, its variables, what each
+    address that code or data name belongs to (the first byte of a variable, and the one after its last), and the
+    functions whose address they name other than to call them."""
 
     functions: dict[int, Function]
     addresses: dict[str, int]
     data: bytes
+    variables: list[Variable]
+    owners: dict[int, set[tuple[int, int]]]
+    pointed: list[int]
 
 
 @dataclass(frozen=True)
 class Order:
     """What is to be compiled: the sources, the function that the thread starts in, where its data lie, and the names
-    that the sources may use for numbers of the description."""
+    that the sources may use for what the description has; and further flags."""
 
     sources: tuple[Path, ...]
     entry: str
     data: int | None
-    names: dict[str, int]
+    names: dict[str, str]
     place: Place
+    flags: tuple[str, ...] = ()
 
 
 def compile_and_link(order: Order, room: Path, prefix: str) -> Linked:
@@ -114,22 +124,30 @@ def compile_and_link(order: Order, room: Path, prefix: str) -> Linked:
         if not source.is_file():
             raise Fault(order.place, f"there is no file {source.name}")
     made = [room / f"{number}.o" for number in range(len(order.sources) + 1)]
-    for source, it in zip((*order.sources, RUNTIME), made):
+    for source, it in zip(order.sources, made):
         compile_one(source, it, order, prefix)
+    compile_runtime(made[-1], order, prefix)
     program = link(made, order, room, prefix)
     functions = disassemble(program, prefix)
     addresses = {function.name: address for address, function in functions.items()}
     if order.entry not in addresses:
         raise Fault(order.place, f"no function `{order.entry}` in {', '.join(str(it.name) for it in order.sources)}")
-    return Linked(functions, addresses, data_of(program, room, prefix))
+    variables = variables_in(run([f"{prefix}readelf", "--debug-dump=info", str(program)]).stdout)
+    named = named_addresses(program, prefix)
+    owners: dict[int, set[tuple[int, int]]] = {}
+    for it in named:
+        if it.size and it.start not in functions:
+            owners.setdefault(it.address, set()).add((it.start, it.start + it.size))
+    pointed = sorted({it.address for it in named if it.address in functions})
+    return Linked(functions, addresses, data_of(program, room, prefix), variables, owners, pointed)
 
 
 def compile_one(source: Path, made: Path, order: Order, prefix: str, *options: str) -> list[Remark]:
     """Makes the object file of a source. What the compiler remarks is shown, once where a source is compiled more than
     once, and where there is an error it ends the conversion."""
-    names = [f"-D{name}={value:#x}u" for name, value in order.names.items()]
+    names = [f"-D{name}={value}" for name, value in order.names.items()]
     folders = [f"-I{HERE}", f"-I{HERE / 'include'}"]
-    command = [f"{prefix}gcc", *FLAGS, *options, *folders, *names, "-c", str(source), "-o", str(made)]
+    command = [f"{prefix}gcc", *FLAGS, *order.flags, *options, *folders, *names, "-c", str(source), "-o", str(made)]
     answer = run(command)
     remarks = list(remarks_of(answer.stderr, order))
     if not options:
@@ -146,6 +164,14 @@ def compile_one(source: Path, made: Path, order: Order, prefix: str, *options: s
     return remarks
 
 
+def compile_runtime(made: Path, order: Order, prefix: str) -> None:
+    """Makes the object file of the runtime, which is compiled once for each set of flags."""
+    if order.flags not in RUNTIMES:
+        compile_one(RUNTIME, made, order, prefix)
+        RUNTIMES[order.flags] = made.read_bytes()
+    made.write_bytes(RUNTIMES[order.flags])
+
+
 def remarks_of(errors: str, order: Order) -> Iterator[Remark]:
     """What gcc says on standard error, with `-fdiagnostics-format=json`. The assembler's words come as lines after
     that; a line of a file that gcc made by itself is no place."""
@@ -154,10 +180,20 @@ def remarks_of(errors: str, order: Order) -> Iterator[Remark]:
     for it in remarks:
         places = [spot["caret"] for spot in it["locations"] if "caret" in spot]
         place = Place(Path(places[0]["file"]).name, places[0]["line"]) if places else order.place
-        yield Remark(place, it["kind"], it["message"])
+        yield Remark(place, it["kind"], said_of(it))
     for name, line, kind, text in re.findall(r"^(\S+?):(\d+): (Error|Warning): (.*)$", rest[end:], re.MULTILINE):
         place = order.place if name.endswith(".s") or name.startswith("{") else Place(Path(name).name, int(line))
         yield Remark(place, kind.lower(), text)
+
+
+def said_of(remark: dict[str, Any]) -> str:
+    """What a remark says: of a capability of another kind, which was expected, and of what may not be called, why."""
+    text: str = remark["message"]
+    why = re.fullmatch(r"call to '\w+' declared with attribute error: (.*)", text)
+    if why:
+        return why[1]
+    expected = [it["message"] for it in remark.get("children", []) if it["message"].startswith("expected 'struct ")]
+    return f"{text}: {expected[0]}" if expected else text
 
 
 def return_of(order: Order, begin: Place | None, end: Place, room: Path, prefix: str) -> Place:
@@ -183,7 +219,7 @@ def link(objects: list[Path], order: Order, room: Path, prefix: str) -> Path:
         f".text {CODE:#x} : {{ *(.text*) }} "
         "/DISCARD/ : { *(.comment .riscv.attributes .note* .eh_frame*) } }\n"
     )
-    options = ["-nostdlib", "-static", "-Wl,--gc-sections", "-Wl,--build-id=none", f"-Wl,-T,{script}"]
+    options = ["-nostdlib", "-static", "-Wl,--gc-sections", "-Wl,--build-id=none", "-Wl,--emit-relocs", f"-Wl,-T,{script}"]
     names = [str(it) for it in objects]
     answer = run([f"{prefix}gcc", "-march=rv32i", "-mabi=ilp32", *options, *names, "-o", str(program)])
     if answer.returncode:
@@ -245,7 +281,7 @@ def disassemble(program: Path, prefix: str) -> dict[int, Function]:
     functions: dict[int, Function] = {}
     function, spots, place = Function(""), [], None
     for text in run([f"{prefix}objdump", *options, str(program)]).stdout.split("\n"):
-        if head := re.fullmatch(r"([0-9a-f]+) <(.+)>:", text):
+        if head := re.fullmatch(r"([0-9a-f]+) <(?!\.L)(.+)>:", text):
             function = functions.setdefault(int(head[1], 16), Function(head[2]))
             if not function.body:
                 place = None
@@ -257,6 +293,30 @@ def disassemble(program: Path, prefix: str) -> dict[int, Function]:
             function.body.append(Instruction(int(row[1], 16), row[2], operands, place))
             spots = spots[:1]
     return functions
+
+
+@dataclass(frozen=True)
+class NamedAddress:
+    """An address that code or data name: what it comes to, and the first byte and the size of what it is named by."""
+
+    address: int
+    start: int
+    size: int
+
+
+def named_addresses(program: Path, prefix: str) -> list[NamedAddress]:
+    """The addresses that the code and the data of a linked program name, but for those of calls."""
+    symbols: dict[str, list[tuple[int, int]]] = {}
+    listed = run([f"{prefix}objdump", "-t", "-r", "-w", str(program)]).stdout
+    for start, size, name in re.findall(r"^([0-9a-f]{8}) .{7} \S+\t([0-9a-f]{8}) (\S+)$", listed, re.MULTILINE):
+        symbols.setdefault(name, []).append((int(start, 16), int(size, 16)))
+    found: set[NamedAddress] = set()
+    for name, sign, beyond in re.findall(
+        r"^[0-9a-f]+ R_RISCV_(?:HI20|LO12_I|LO12_S|32) +([^\s+-]\S*?)(?:([+-])0x([0-9a-f]+))?$", listed, re.MULTILINE
+    ):
+        offset = int(f"{sign}{beyond or 0}", 16)
+        found |= {NamedAddress(start + offset, start, size) for start, size in symbols.get(name, [])}
+    return sorted(found, key=lambda it: (it.address, it.start))
 
 
 def is_own(file: Path) -> bool:

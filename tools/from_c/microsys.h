@@ -5,7 +5,8 @@
  * 28 and a CNode of 16 slots. The verifier wants each capability, and each word of an invocation, to be one known value
  * at its call: give constants.
  *
- * docs/FROM_C.md says how such C becomes a text that can be certified, built, verified and run.
+ * docs/FROM_C.md says how such C becomes a text that can be certified, built, verified and run. `host/microsys.h` is this
+ * header for the machine that it is tested on.
  */
 #ifndef MICROSYS_H
 #define MICROSYS_H
@@ -23,6 +24,34 @@
 #define THREAD __attribute__((flatten)) void
 #endif
 
+/* --- Capabilities --------------------------------------------------------------------------------------------- */
+
+/* The slots of a notification, of an endpoint, and of an interrupt's handler. They do not convert to one another, nor
+ * to numbers: a door where a bell is meant does not compile. The names of a description (`CAP_..`) are of these types;
+ * all other capabilities are the numbers of their slots. */
+struct bell {
+    uint32_t slot;
+};
+struct door {
+    uint32_t slot;
+};
+struct line {
+    uint32_t slot;
+};
+
+/* What a thread has put into a slot by itself, as by `untyped_retype`. */
+MICROSYS_INLINE struct bell bell_at(uint32_t slot) {
+    return (struct bell){slot};
+}
+MICROSYS_INLINE struct door door_at(uint32_t slot) {
+    return (struct door){slot};
+}
+MICROSYS_INLINE struct line line_at(uint32_t slot) {
+    return (struct line){slot};
+}
+
+/* --- Memory and values ---------------------------------------------------------------------------------------- */
+
 /* The words of a page that the system maps at a known address, as `words_at(0x3000)[0]`. Each use is one load or store,
  * in the order of the program, as memory that threads share wants it. */
 #define words_at(address) ((volatile uint32_t *)(address))
@@ -39,6 +68,15 @@ MICROSYS_INLINE uint32_t below(uint32_t limit, uint32_t value) {
     __asm__("" : "+r"(value));
     return value;
 }
+
+/* The first statement of a loop's body whose turns the verifier cannot count: `while (*s) { AT_MOST(48); .. }`. The turns
+ * are counted at run time from the loop's beginning on, by two instructions each; one more than said stops the thread, as
+ * a failed `assert` does. The number is a constant below 2^20. */
+#ifdef __riscv
+#define AT_MOST(turns) __asm__ volatile("lui x0, %0" : : "i"(turns))
+#else
+#define AT_MOST(turns) ((void)(turns))
+#endif
 
 /* --- Products and quotients --------------------------------------------------------------------------------------- */
 
@@ -129,6 +167,14 @@ MICROSYS_INLINE uint32_t words_of(struct message message, uint32_t *words, uint3
         words[i] = buffer_word(i);
     return length;
 }
+#else
+#define MICROSYS_NO_BUFFER                                                                                             \
+    __attribute__((error("there is no message buffer: a line `buffer FRAME` of the thread is missing, or the frame is "  \
+                         "mapped nowhere")))
+MICROSYS_NO_BUFFER struct message message_of(uint32_t label, const uint32_t *words, uint32_t length);
+MICROSYS_NO_BUFFER uint32_t words_of(struct message message, uint32_t *words, uint32_t limit);
+MICROSYS_NO_BUFFER volatile uint32_t *microsys_buffer_word(uint32_t number);
+#define buffer_word(number) (*microsys_buffer_word(number))
 #endif
 
 /* --- Names of numbers ------------------------------------------------------------------------------------------- */
@@ -168,18 +214,38 @@ struct slot {
     uint32_t bits;
 };
 
-/* A slot of the thread's own CNode, and by CNode capabilities with guard word 28 a slot of that CNode. */
-MICROSYS_INLINE struct slot slot(uint32_t index) {
-    return (struct slot){.address = index, .bits = 32};
+MICROSYS_INLINE uint32_t microsys_slot_of_bell(struct bell bell) {
+    return bell.slot;
 }
+MICROSYS_INLINE uint32_t microsys_slot_of_door(struct door door) {
+    return door.slot;
+}
+MICROSYS_INLINE uint32_t microsys_slot_of_line(struct line line) {
+    return line.slot;
+}
+MICROSYS_INLINE uint32_t microsys_slot_of_number(uint32_t index) {
+    return index;
+}
+
+/* A slot of the thread's own CNode, and by CNode capabilities with guard word 28 a slot of that CNode: of a bell, a
+ * door, a line or a number. */
+#define slot(of)                                                                                                       \
+    ((struct slot){.address = _Generic((of),                                                                           \
+         struct bell: microsys_slot_of_bell,                                                                           \
+         struct door: microsys_slot_of_door,                                                                           \
+         struct line: microsys_slot_of_line,                                                                           \
+         default: microsys_slot_of_number)(of),                                                                        \
+                   .bits = 32})
 
 /* For Retype: the thread's own CNode. */
 #define OWN_CNODE ((struct slot){.address = 0, .bits = 0})
 
 /* --- How a call is made ------------------------------------------------------------------------------------------ */
 
+#ifdef __riscv
+
 /* a0: the capability; a1: the number of words and the label; a2 to a5 and s2 to s5: the words; a7: the call's number.
- * */
+ * Each says to the compiler all that its call may write by any capability. */
 #define MICROSYS_WORD(number, name, message)                                                                           \
     register uint32_t name __asm__(#name);                                                                             \
     if (!__builtin_constant_p((message).length) || (message).length > (number))                                        \
@@ -229,10 +295,12 @@ MICROSYS_INLINE struct message microsys_exchange(uint32_t number, uint32_t capab
     return (struct message){a0, a1 >> 12, a1 & 127, {a2, a3, a4, a5, s2, s3, s4, s5}};
 }
 
+#pragma GCC diagnostic pop
+
 /* A call that takes a message: Recv and NBRecv. */
-MICROSYS_INLINE struct message microsys_take(uint32_t number, uint32_t endpoint) {
+MICROSYS_INLINE struct message microsys_take(uint32_t number, uint32_t capability) {
     register uint32_t a7 __asm__("a7") = number;
-    register uint32_t a0 __asm__("a0") = endpoint;
+    register uint32_t a0 __asm__("a0") = capability;
     register uint32_t a1 __asm__("a1");
     register uint32_t a2 __asm__("a2");
     register uint32_t a3 __asm__("a3");
@@ -250,45 +318,83 @@ MICROSYS_INLINE struct message microsys_take(uint32_t number, uint32_t endpoint)
     return (struct message){a0, a1 >> 12, a1 & 127, {a2, a3, a4, a5, s2, s3, s4, s5}};
 }
 
-/* Call on a capability that is no endpoint: the answer is 0 in a0, and 4096 times the error in a1. */
-MICROSYS_INLINE enum error microsys_invoke(uint32_t capability, struct message message) {
-    MICROSYS_WORDS(message);
-    MICROSYS_HEAD(1, capability, microsys_information(message));
-    __asm__ volatile("ecall"
-                     : "+r"(a0), "+r"(a1)
-                     : "r"(a7), "r"(a2), "r"(a3), "r"(a4), "r"(a5), "r"(s2), "r"(s3), "r"(s4), "r"(s5)
-                     : "memory");
-    return (enum error)(a1 >> 12);
+/* Send on a notification. */
+MICROSYS_INLINE void microsys_ring(uint32_t capability) {
+    register uint32_t a7 __asm__("a7") = 3;
+    register uint32_t a0 __asm__("a0") = capability;
+    __asm__ volatile("ecall" : : "r"(a7), "r"(a0) : "memory");
 }
 
-#pragma GCC diagnostic pop
+/* Yield. */
+MICROSYS_INLINE void microsys_yield(void) {
+    register uint32_t a7 __asm__("a7") = 7;
+    __asm__ volatile("ecall" : : "r"(a7) : "memory");
+}
+
+/* PutChar. */
+MICROSYS_INLINE void microsys_put(uint8_t byte) {
+    register uint32_t a7 __asm__("a7") = 9;
+    register uint32_t a0 __asm__("a0") = byte;
+    __asm__ volatile("ecall" : : "r"(a7), "r"(a0));
+}
+
+#else
+
+/* The kernel, as who tests has it: what it answers to the call of that number, by the capability of that slot. */
+struct message microsys_call(uint32_t number, uint32_t capability, struct message message);
+
+MICROSYS_INLINE void microsys_give(uint32_t number, uint32_t capability, struct message message) {
+    (void)microsys_call(number, capability, message);
+}
+MICROSYS_INLINE struct message microsys_exchange(uint32_t number, uint32_t capability, struct message message) {
+    return microsys_call(number, capability, message);
+}
+MICROSYS_INLINE struct message microsys_take(uint32_t number, uint32_t capability) {
+    return microsys_call(number, capability, (struct message){.label = 0});
+}
+MICROSYS_INLINE void microsys_ring(uint32_t capability) {
+    (void)microsys_call(3, capability, (struct message){.label = 0});
+}
+MICROSYS_INLINE void microsys_yield(void) {
+    (void)microsys_call(7, 0, (struct message){.label = 0});
+}
+MICROSYS_INLINE void microsys_put(uint8_t byte) {
+    (void)microsys_call(9, byte, (struct message){.label = 0});
+}
+
+#endif
+
+/* Call on a capability that is neither door nor bell: the answer is 4096 times the error in a1. */
+MICROSYS_INLINE enum error microsys_invoke(uint32_t capability, struct message message) {
+    return (enum error)microsys_exchange(1, capability, message).label;
+}
 
 /* --- System calls on endpoints ------------------------------------------------------------------------------------ */
 
 /* Call (1): sends the request, and waits for the reply, which it gives back. The capability needs WRITE and
  * GRANT_REPLY. A wait: the thread has its whole budget behind it. */
-MICROSYS_INLINE struct message sys_call(uint32_t endpoint, struct message request) {
-    return microsys_exchange(1, endpoint, request);
+MICROSYS_INLINE struct message sys_call(struct door door, struct message request) {
+    return microsys_exchange(1, door.slot, request);
 }
 
 /* ReplyRecv (2): answers whoever called last, and waits for the next message. The capability needs READ. A wait. */
-MICROSYS_INLINE struct message sys_reply_recv(uint32_t endpoint, struct message answer) {
-    return microsys_exchange(2, endpoint, answer);
+MICROSYS_INLINE struct message sys_reply_recv(struct door door, struct message answer) {
+    return microsys_exchange(2, door.slot, answer);
 }
 
 /* Send (3): waits until a receiver takes the message. The capability needs WRITE. A wait. */
-MICROSYS_INLINE void sys_send(uint32_t endpoint, struct message message) {
-    microsys_give(3, endpoint, message);
+MICROSYS_INLINE void sys_send(struct door door, struct message message) {
+    microsys_give(3, door.slot, message);
 }
 
 /* NBSend (4): sends the message if a receiver waits for it; else nothing comes of it. The capability needs WRITE. */
-MICROSYS_INLINE void sys_nb_send(uint32_t endpoint, struct message message) {
-    microsys_give(4, endpoint, message);
+MICROSYS_INLINE void sys_nb_send(struct door door, struct message message) {
+    microsys_give(4, door.slot, message);
 }
 
 /* Recv (5): waits for a message. The capability needs READ. A wait. */
-MICROSYS_INLINE struct message sys_recv(uint32_t endpoint) {
-    return microsys_take(5, endpoint);
+MICROSYS_INLINE struct message sys_recv(struct door door) {
+    return microsys_take(5, door.slot);
 }
 
 /* Reply (6): answers whoever called last; nothing comes of it where nobody waits for an answer. */
@@ -298,52 +404,58 @@ MICROSYS_INLINE void sys_reply(struct message answer) {
 
 /* NBRecv (8): takes a message if a sender waits. Else the badge is 0, and the rest means nothing; so give senders
  * badges. The capability needs READ. */
-MICROSYS_INLINE struct message sys_nb_recv(uint32_t endpoint) {
-    return microsys_take(8, endpoint);
+MICROSYS_INLINE struct message sys_nb_recv(struct door door) {
+    return microsys_take(8, door.slot);
 }
 
 /* --- System calls on notifications -------------------------------------------------------------------------------- */
 
 /* Send (3): joins the capability's badge to the notification's word, and wakes who waits for it. The capability needs
  * WRITE. No wait. */
-MICROSYS_INLINE void sys_signal(uint32_t notification) {
-    register uint32_t a7 __asm__("a7") = 3;
-    register uint32_t a0 __asm__("a0") = notification;
-    __asm__ volatile("ecall" : : "r"(a7), "r"(a0) : "memory");
-}
-
-MICROSYS_INLINE uint32_t microsys_take_word(uint32_t number, uint32_t notification) {
-    register uint32_t a7 __asm__("a7") = number;
-    register uint32_t a0 __asm__("a0") = notification;
-    __asm__ volatile("ecall" : "+r"(a0) : "r"(a7) : "memory");
-    return a0;
+MICROSYS_INLINE void sys_signal(struct bell bell) {
+    microsys_ring(bell.slot);
 }
 
 /* Recv (5): waits for a signal, and takes the notification's word, the badges joined by `|`. The capability needs READ.
  * A wait. */
-MICROSYS_INLINE uint32_t sys_wait(uint32_t notification) {
-    return microsys_take_word(5, notification);
+MICROSYS_INLINE uint32_t sys_wait(struct bell bell) {
+    return microsys_take(5, bell.slot).badge;
 }
 
 /* NBRecv (8): takes the notification's word, which is 0 where there was no signal. The capability needs READ. */
-MICROSYS_INLINE uint32_t sys_poll(uint32_t notification) {
-    return microsys_take_word(8, notification);
+MICROSYS_INLINE uint32_t sys_poll(struct bell bell) {
+    return microsys_take(8, bell.slot).badge;
 }
 
 /* --- The others --------------------------------------------------------------------------------------------------- */
 
 /* Yield (7): the thread goes to the end of its priority's turn. */
 MICROSYS_INLINE void sys_yield(void) {
-    register uint32_t a7 __asm__("a7") = 7;
-    __asm__ volatile("ecall" : : "r"(a7) : "memory");
+    microsys_yield();
 }
 
 /* PutChar (9): the byte goes to the trace. */
 MICROSYS_INLINE void sys_put_char(uint8_t byte) {
-    register uint32_t a7 __asm__("a7") = 9;
-    register uint32_t a0 __asm__("a0") = byte;
-    __asm__ volatile("ecall" : : "r"(a7), "r"(a0));
+    microsys_put(byte);
 }
+
+MICROSYS_INLINE void microsys_put_text(uint32_t length, const char *text) {
+    for (uint32_t i = 0; i < length; i++) {
+        if (text[i] == 0)
+            break;
+        sys_put_char(text[i]);
+    }
+}
+
+/* Puts the characters of a literal or of an array, up to the first that is 0: `put_text("ready\n")`. The length of a
+ * pointer's text is not known, so a pointer does not compile. */
+#define put_text(text)                                                                                                 \
+    microsys_put_text(sizeof(text) + 0 * sizeof(struct {                                                               \
+                          _Static_assert(!__builtin_types_compatible_p(__typeof__(text), __typeof__(&(text)[0])),        \
+                                         "put_text takes a literal or an array, and not a pointer");                   \
+                          int unused;                                                                                  \
+                      }),                                                                                              \
+                      (text))
 
 /* --- Invocations -------------------------------------------------------------------------------------------------- */
 
@@ -394,8 +506,8 @@ MICROSYS_INLINE enum error frame_unmap(uint32_t frame) {
 }
 
 /* Ack (label 18, no words): lets the handler's interrupt line signal again. A driver says it before it waits. */
-MICROSYS_INLINE enum error handler_ack(uint32_t handler) {
-    return microsys_invoke(handler, MESSAGE(18));
+MICROSYS_INLINE enum error handler_ack(struct line line) {
+    return microsys_invoke(line.slot, MESSAGE(18));
 }
 
 #endif

@@ -207,7 +207,7 @@ lacks() {
     [ "$(cat "$room/said")" = "$expected" ] || wrong "$name, $edit" "refused otherwise"
 }
 lacks sort 's/^program sort.c/program missing.c/' "sort.txt:23: there is no file missing.c"
-lacks sort 's/^program.*/program/' "sort.txt:23: the line is \`program FILE.c .. [data ADDRESS] [stack ADDRESS]\`"
+lacks sort 's/^program.*/program/' "sort.txt:23: the line is \`program FILE.c .. [checked] [data ADDRESS] [stack ADDRESS]\`"
 lacks sort 's/stack 0x6000$/stack 0x6008/' "sort.txt:23: data begin at a multiple of 4096, and a stack ends at a multiple of 16"
 lacks sort 's/^map space 0x5000.*/map space/' "sort.txt:21: not understood: map space"
 lacks sort '4s/$/ \xff/' "sort.txt:4: this is not UTF-8"

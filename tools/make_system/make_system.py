@@ -14,17 +14,18 @@ import re
 import subprocess
 import sys
 import tempfile
-from dataclasses import dataclass
+from dataclasses import dataclass, replace
 from pathlib import Path
 
 sys.dont_write_bytecode = True
 sys.path.insert(0, str(Path(__file__).resolve().parents[1] / "from_c"))
 
-from description import read  # noqa: E402
+from attempts import Certifier, accepted  # noqa: E402
+from building import Built, Folder, built, written  # noqa: E402
+from description import Description, read  # noqa: E402
 from faults import Fault, Refused  # noqa: E402
-from from_c import built, written  # noqa: E402
 from machine_code import NoCompiler  # noqa: E402
-from sizes import grown, said_in, with_sizes  # noqa: E402
+from sizes import checked_in, grown, said_in, with_sizes  # noqa: E402
 
 # Which of the words after each word of the program are systems, and how many there are at least and at most.
 SYSTEMS = {
@@ -125,21 +126,52 @@ def expanded(source: Source, content: str, room: Path) -> Text:
     return Text(name, (room / name).read_text("utf-8"), ran.stdout)
 
 
+class Grown(Exception):
+    """Programs have become too large; how many pages they need."""
+
+    def __init__(self, sizes: dict[int, dict[str, int]]) -> None:
+        super().__init__()
+        self.sizes = sizes
+
+
 def compiled(source: Source, room: Path) -> Text:
     """The text of a system, with its programs from C in their places."""
+    folder = Folder(source.folder, PREFIX)
     if not source.is_description:
         described = read(source.content, source.name)
-        return Text(f"{source.stem}.text", written(described, built(described, source.folder, PREFIX)), "")
+        programs = accepted(built(described, folder), described, folder, Certifier(program(), source.stem))
+        return text_with(described, programs, Text(f"{source.stem}.text", source.content, ""))
     sizes = said_in(source.content)
     for _ in range(ROUNDS):
         text = expanded(source, with_sizes(source.content, sizes), room)
-        described = read(text.content, text.name)
-        programs = built(described, source.folder, PREFIX)
-        needed = grown(source.content, sizes, programs)
-        if needed == sizes:
-            return Text(text.name, written(described, programs), text.notes)
-        sizes = needed
+        try:
+            return in_pages(source, sizes, text, folder)
+        except Grown as larger:
+            sizes = larger.sizes
     raise Fault(f"{source.stem}.sys", "its programs grow with their addresses: say `pages`, `data` and `stack`")
+
+
+def in_pages(source: Source, sizes: dict[int, dict[str, int]], text: Text, folder: Folder) -> Text:
+    """The text of a description, with programs that these numbers of pages are enough for."""
+    described = read(text.content, text.name)
+    for thread in described.threads:
+        if thread.wanted and thread.wanted.place.line in checked_in(source.content):
+            thread.wanted = replace(thread.wanted, is_checked=True)
+
+    def fits(programs: list[Built]) -> None:
+        needed = grown(source.content, sizes, programs)
+        if needed != sizes:
+            raise Grown(needed)
+
+    programs = built(described, folder)
+    fits(programs)
+    return text_with(described, accepted(programs, described, folder, Certifier(program(), source.stem), fits), text)
+
+
+def text_with(described: Description, programs: list[Built], text: Text) -> Text:
+    """The text of a system with these programs in their places, and what is noted on them."""
+    notes = "".join(f"{note}\n" for it in programs for note in it.notes)
+    return Text(text.name, written(described, programs), text.notes + notes)
 
 
 def places_of(words: list[str]) -> list[int]:

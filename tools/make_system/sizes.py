@@ -7,7 +7,7 @@ from dataclasses import dataclass
 
 from description import PAGE
 from faults import Fault, Place
-from from_c import Built
+from building import Built
 
 # What a line says of sizes, in this order, and how many pages there are where it says nothing.
 WORDS = {"pages": 1, "data": 0, "stack": 0}
@@ -15,11 +15,12 @@ WORDS = {"pages": 1, "data": 0, "stack": 0}
 
 @dataclass(frozen=True)
 class ProgramLine:
-    """A line `program FILE.c .. [pages N] [data N] [stack N]`."""
+    """A line `program FILE.c .. [checked] [pages N] [data N] [stack N]`."""
 
     files: list[str]
     said: dict[str, int]
     comment: str
+    is_checked: bool
 
 
 def program_line(line: str) -> ProgramLine | None:
@@ -30,11 +31,13 @@ def program_line(line: str) -> ProgramLine | None:
         return None
     files = [word for word in words[1:] if word.endswith(".c")]
     rest = words[1 + len(files) :]
+    is_checked = "checked" in rest
+    rest = [word for word in rest if word != "checked"]
     said = dict(zip(rest[::2], rest[1::2]))
     is_form = files and words[1 : 1 + len(files)] == files and 2 * len(said) == len(rest) and set(said) <= set(WORDS)
     if not is_form or not all(number.isdigit() for number in said.values()):
         return None
-    return ProgramLine(files, {word: int(number) for word, number in said.items()}, mark + comment)
+    return ProgramLine(files, {word: int(number) for word, number in said.items()}, mark + comment, is_checked)
 
 
 @dataclass(frozen=True)
@@ -66,8 +69,15 @@ def said_in(content: str) -> dict[int, dict[str, int]]:
     return {number: {**WORDS, **line.said} for number, text in lines if (line := program_line(text))}
 
 
+def checked_in(content: str) -> set[int]:
+    """The numbers of the lines `program` that say `checked`."""
+    lines = enumerate(content.split("\n"), 1)
+    return {number for number, text in lines if (line := program_line(text)) and line.is_checked}
+
+
 def with_sizes(content: str, sizes: dict[int, dict[str, int]]) -> str:
-    """The description with these numbers of pages in its lines `program`."""
+    """The description with these numbers of pages in its lines `program`, and without the word `checked`, which the program
+    does not have."""
     lines = content.split("\n")
     for number, counts in sizes.items():
         if line := program_line(lines[number - 1]):

@@ -1,56 +1,38 @@
-/* microsys.h for the machine that the tool runs on, so that a program of `programs` can be run there: what it puts is
- * printed, a byte a line in hexadecimal, and it ends when it waits after RINGS rings of its bell. */
-#ifndef MICROSYS_H
-#define MICROSYS_H
+/* microsys.h for the machine that a thread is tested on: all of it, and the calls go to `microsys_call`, which a test
+ * defines. Where it defines none, what a thread puts is printed, a byte a line in hexadecimal, a receive gives nothing,
+ * and the process ends at the first wait after RINGS of them. Names of a description are defined by who compiles, as
+ * `-DCAP_BELL='((struct bell){1})'`; `MICROSYS_BUFFER` and `PAGE_..` are arrays of 1024 words.
+ *
+ *     cc -fwrapv -I tools/from_c/host -iquote tools/from_c/include -DRINGS=3 ring.c test.c */
+#ifndef MICROSYS_HOST_H
+#define MICROSYS_HOST_H
 
-#include <stdint.h>
 #include <stdio.h>
 #include <stdlib.h>
 
-#define MICROSYS_INLINE static inline
-#define THREAD void
-#define CAP_BELL 1u
-#define CAP_LINE 2u
+#ifndef CAP_BELL
+#define CAP_BELL ((struct bell){1})
+#endif
+#ifndef CAP_LINE
+#define CAP_LINE ((struct line){2})
+#endif
+#ifndef MICROSYS_BELL
+#define MICROSYS_BELL 1
+#endif
+#ifndef RINGS
+#define RINGS 1
+#endif
 
-struct division {
-    uint32_t quotient, remainder;
-};
+#include "../microsys.h"
 
-MICROSYS_INLINE uint32_t below(uint32_t limit, uint32_t value) {
-    return value < limit ? value : 0;
-}
-
-MICROSYS_INLINE uint32_t product(uint32_t a, uint32_t b) {
-    return a * b;
-}
-
-MICROSYS_INLINE struct division division(uint32_t dividend, uint32_t divisor) {
-    if (divisor == 0)
-        return (struct division){UINT32_MAX, dividend};
-    return (struct division){dividend / divisor, dividend % divisor};
-}
-
-MICROSYS_INLINE uint32_t sys_wait(uint32_t notification) {
-    static uint32_t rings;
-    if (rings++ == RINGS)
+__attribute__((weak)) struct message microsys_call(uint32_t number, uint32_t capability, struct message message) {
+    static uint32_t waits;
+    if (number == 9)
+        printf("%02x\n", (unsigned)capability);
+    else if ((number == 2 || number == 5) && waits++ == RINGS)
         exit(0);
-    return notification;
-}
-
-MICROSYS_INLINE uint32_t sys_poll(uint32_t notification) {
-    (void)notification;
-    return 0;
-}
-
-MICROSYS_INLINE void sys_put_char(uint8_t byte) {
-    printf("%02x\n", byte);
-}
-
-MICROSYS_INLINE void sys_yield(void) {
-}
-
-MICROSYS_INLINE void handler_ack(uint32_t handler) {
-    (void)handler;
+    message.badge = number == 5 ? capability : 0;
+    return message;
 }
 
 #endif

@@ -17,7 +17,7 @@
 
 __attribute__((noreturn)) MICROSYS_INLINE void microsys_assertion_failed(void) {
     for (;;)
-        (void)microsys_take_word(5, MICROSYS_BELL);
+        (void)microsys_take(5, MICROSYS_BELL);
 }
 
 #endif

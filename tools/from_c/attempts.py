@@ -1,0 +1,202 @@
+"""Ways to compile a program until it is certified: as it is, and then by passes and flags that leave more to be seen.
+
+The first way that the certifier takes is the one, so what is accepted as it is stays as it is. Whatever comes of it, the
+verifier sees instructions: nothing rests on what is done here, but that the program does what its C says.
+"""
+
+from __future__ import annotations
+
+import re
+import subprocess
+import tempfile
+from collections.abc import Callable, Generator
+from dataclasses import dataclass
+from pathlib import Path
+
+from analysis import Memory, Region
+from building import RESERVED, Built, Folder, program_in, written
+from checks import with_checks
+from description import Description
+from lines import Line, with_stop
+from ranges import operation
+from rewriting import SCRATCH
+from turns import with_found_turns
+from words import Setting, analysed, with_guards, with_known_words
+
+# How often checks and counters are put into a program before it is given up.
+ROUNDS = 12
+KEEP_LOOPS = ("-fno-move-loop-invariants",)
+# What else keeps values near their use; it costs instructions.
+KEEP_MORE = (*KEEP_LOOPS, "-fno-tree-pre", "-fno-gcse", "-fno-tree-loop-im", "-fno-tree-dominator-opts", "-fno-cse-follow-jumps")
+
+
+@dataclass(frozen=True)
+class Way:
+    """A way to compile: gcc's flags, and whether words of memory whose value is known become constants and registers,
+    and whether the ranges of others are kept."""
+
+    flags: tuple[str, ...] = ()
+    knows_words: bool = False
+    keeps_ranges: bool = False
+
+
+WAYS = (
+    Way(),
+    Way((), True),
+    Way(KEEP_LOOPS),
+    Way(KEEP_LOOPS, True),
+    Way((), True, True),
+    Way(KEEP_LOOPS, True, True),
+    Way(RESERVED, True, True),
+    Way((*KEEP_LOOPS, *RESERVED), True, True),
+    Way((*KEEP_MORE, *RESERVED), True, True),
+)
+
+
+@dataclass(frozen=True)
+class Refusal:
+    """A line of a thread's program that is refused, by its number, and the rule."""
+
+    thread: str
+    line: int
+    rule: str
+
+
+@dataclass(frozen=True)
+class Certifier:
+    """The program that certifies, and the name that texts have."""
+
+    program: str
+    stem: str
+
+    def refusals(self, text: str) -> list[Refusal]:
+        """What is refused of a text; nothing where it is certified."""
+        with tempfile.TemporaryDirectory() as room:
+            name = f"{self.stem}.text"
+            (Path(room) / name).write_text(text, "utf-8")
+            words = [self.program, "certify", name, "certified"]
+            said = subprocess.run(words, cwd=room, capture_output=True, text=True, check=False).stderr
+        places = points_of(text)
+        found = re.findall(rf"^(?:\S+: )?{re.escape(name)}:(\d+): (\w+): thread (\w+)", said, re.MULTILINE)
+        return [Refusal(thread, places.get(int(line), -1), rule) for line, rule, thread in found]
+
+
+def points_of(text: str) -> dict[int, int]:
+    """The numbers of instructions within their programs, by the lines of a text."""
+    points: dict[int, int] = {}
+    count: int | None = None
+    for number, line in enumerate(text.split("\n"), 1):
+        words = line.split("#")[0].split()
+        if words[:1] == ["thread"]:
+            count = 0
+        elif words[:1] == ["end"]:
+            count = None
+        elif count is not None and words and words[0] not in ("reg", "buffer", "data", "program") and words[0][-1] != ":":
+            points[number] = count
+            count += 1
+    return points
+
+
+Attempt = Generator[Built, list[Refusal], Built]
+
+
+def accepted(
+    programs: list[Built],
+    described: Description,
+    folder: Folder,
+    certifier: Certifier,
+    fits: Callable[[list[Built]], None] = lambda _: None,
+) -> list[Built]:
+    """The programs in the first ways in which all are certified; of one that is certified in no way, the one in which the
+    least is refused. `fits` may end this where a program has become too large."""
+    attempts = {it.thread.name: attempts_at(it, described, folder) for it in programs}
+    current = {name: next(it) for name, it in attempts.items()}
+    while attempts:
+        fits(list(current.values()))
+        refused = certifier.refusals(written(described, list(current.values())))
+        names = {it.thread for it in refused} & set(attempts)
+        if not names:
+            break
+        for name in names:
+            try:
+                current[name] = attempts[name].send([it for it in refused if it.thread == name])
+            except StopIteration as ended:
+                current[name] = ended.value
+                del attempts[name]
+    return list(current.values())
+
+
+def attempts_at(plain: Built, described: Description, folder: Folder) -> Attempt:
+    """The ways to compile a program, one after another: it is given what of each is refused."""
+    wanted = plain.thread.wanted
+    least, best = None, plain
+    compiled: dict[tuple[str, ...], Built] = {(): plain}
+    if not has_scratch(plain.program.lines):
+        yield plain
+        return plain
+    for way in WAYS:
+        if way.flags not in compiled and wanted:
+            compiled[way.flags] = program_in(plain.thread, wanted, described, folder, way.flags)
+        it = in_way(compiled[way.flags], way, described)
+        for _ in range(ROUNDS):
+            refused = yield it
+            if least is None or len(refused) < least:
+                least, best = len(refused), it
+            mended = mended_at(it, refused, described)
+            if mended is None:
+                break
+            it = mended
+    return best
+
+
+def has_scratch(lines: list[Line]) -> bool:
+    """Whether the register is free that limits are put into; gcc uses it in no program, but an `asm` may."""
+    return all(SCRATCH not in (it.rd, it.rs1, it.rs2) for it in (operation(line.words) for line in lines))
+
+
+def in_way(it: Built, way: Way, described: Description) -> Built:
+    """The program as a way has it."""
+    lines, setting = it.program.lines, setting_of(it, described)
+    if way.knows_words:
+        lines = with_known_words(stopped(lines, setting), setting)
+    if way.keeps_ranges:
+        lines = with_guards(lines, setting)
+    return it.with_lines(stopped(lines, setting))
+
+
+def mended_at(it: Built, refused: list[Refusal], described: Description) -> Built | None:
+    """The program with checks where loads and stores are refused, and with a counter for a loop that is; nothing where
+    neither helps."""
+    setting = setting_of(it, described)
+    lines, wanted = stopped(it.program.lines, setting), it.thread.wanted
+    loads = sorted({refusal.line for refusal in refused if refusal.rule == "NotMapped" and refusal.line >= 0})
+    checked = with_checks(lines, loads, setting, wanted is not None and wanted.is_checked)
+    if checked:
+        return it.with_lines(stopped(checked.lines, setting), tuple(checked.notes))
+    turns = [refusal.line for refusal in refused if refusal.rule == "NoMeasure"]
+    counted = with_found_turns(lines, turns, analysed(lines, setting), set(setting.registers))
+    return it.with_lines(stopped(counted, setting)) if counted else None
+
+
+def stopped(lines: list[Line], setting: Setting) -> list[Line]:
+    """The program with what a failed check leads to, if there is a check."""
+    return with_stop(lines, setting.bell)
+
+
+def setting_of(it: Built, described: Description) -> Setting:
+    """What a program runs in."""
+    thread, used = it.thread, it.program.stack
+    wanted = thread.wanted
+    data = wanted.data if wanted and wanted.data is not None else 0
+    stack = wanted.stack if wanted and wanted.stack is not None else thread.stack or 0
+    hidden: list[tuple[int, int]] = []
+    frames: dict[int, set[tuple[int, int]]] = {}
+    for variable in it.linked.variables:
+        for function, depth in it.program.entries if variable.function else [(None, 0)]:
+            if function == variable.function:
+                start, end = variable.at(stack - depth)
+                hidden += [(start, end)] if variable.is_volatile else []
+                if variable.function and end > start:
+                    frames.setdefault(start, set()).add((start, end))
+    memory = Memory((Region(data, it.data), Region(stack - used, bytes(used))), tuple(hidden))
+    return Setting(memory, stack, thread.registers, described.bell(thread), it.linked.owners, frames)
