@@ -10,6 +10,7 @@ from __future__ import annotations
 from bisect import bisect_left, bisect_right
 from collections.abc import Iterator
 from dataclasses import dataclass, field
+from heapq import heappop, heappush
 
 from lines import Line
 from ranges import ANSWERS, ANY, BRANCHES, HALF, IMMEDIATE, LOADS, MOST, SILENT, STORES, Operation, Range, loaded, normal, operation, plain, result, shown, united
@@ -172,13 +173,14 @@ class Analysis:
         self.states = [None] * len(self.lines)
         self.states[0] = self.start()
         visits = [0] * len(self.lines)
-        pending = {0}
+        pending, waiting = [0], {0}
         while pending:
-            head = min(pending)
-            pending.discard(head)
+            head = heappop(pending)
+            waiting.discard(head)
             for target, state in self.block_ways(head):
-                if self.merge(target, state, visits):
-                    pending.add(target)
+                if self.merge(target, state, visits) and target not in waiting:
+                    waiting.add(target)
+                    heappush(pending, target)
         for _ in range(ROUNDS):
             self.narrow_all()
         self.fill()
@@ -241,9 +243,7 @@ class Analysis:
 
     def block_ways(self, head: int) -> list[tuple[int, State]]:
         """Where the ways from a block lead, and what is known there."""
-        index, state = head, self.start()
-        for index, state in self.along(head):
-            pass
+        *_, (index, state) = self.along(head)
         it = self.operations[index]
         if it.name in BRANCHES:
             return self.branch_ways(index, it, state)

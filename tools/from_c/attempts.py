@@ -23,9 +23,11 @@ from rewriting import SCRATCH
 from turns import with_found_turns
 from words import Setting, analysed, with_guards, with_known_words
 
-# How often checks and counters are put into a program before it is given up.
-ROUNDS = 12
-KEEP_LOOPS = ("-fno-move-loop-invariants",)
+# How often checks and counters are put into a program before a way is given up, and how many counters at once.
+ROUNDS, MOST_LOOPS = 12, 8
+# Remainders are shown to be below their divisors, by a test.
+SHOWN = ("-DMICROSYS_SHOWN_REMAINDERS",)
+KEEP_LOOPS = (*SHOWN, "-fno-move-loop-invariants")
 # What else keeps values near their use; it costs instructions.
 KEEP_MORE = (*KEEP_LOOPS, "-fno-tree-pre", "-fno-gcse", "-fno-tree-loop-im", "-fno-tree-dominator-opts", "-fno-cse-follow-jumps")
 
@@ -42,12 +44,12 @@ class Way:
 
 WAYS = (
     Way(),
-    Way((), True),
     Way(KEEP_LOOPS),
     Way(KEEP_LOOPS, True),
-    Way((), True, True),
+    Way(SHOWN, True),
+    Way(SHOWN, True, True),
     Way(KEEP_LOOPS, True, True),
-    Way(RESERVED, True, True),
+    Way((*SHOWN, *RESERVED), True, True),
     Way((*KEEP_LOOPS, *RESERVED), True, True),
     Way((*KEEP_MORE, *RESERVED), True, True),
 )
@@ -137,15 +139,15 @@ def attempts_at(plain: Built, described: Description, folder: Folder) -> Attempt
     for way in WAYS:
         if way.flags not in compiled and wanted:
             compiled[way.flags] = program_in(plain.thread, wanted, described, folder, way.flags)
-        it = in_way(compiled[way.flags], way, described)
+        it, before = in_way(compiled[way.flags], way, described), None
         for _ in range(ROUNDS):
             refused = yield it
             if least is None or len(refused) < least:
                 least, best = len(refused), it
-            mended = mended_at(it, refused, described)
+            mended = mended_at(it, refused, described) if before is None or len(refused) < before else None
             if mended is None:
                 break
-            it = mended
+            it, before = mended, len(refused)
     return best
 
 
@@ -165,17 +167,22 @@ def in_way(it: Built, way: Way, described: Description) -> Built:
 
 
 def mended_at(it: Built, refused: list[Refusal], described: Description) -> Built | None:
-    """The program with checks where loads and stores are refused, and with a counter for a loop that is; nothing where
+    """The program with counters for loops that are refused, and with checks where loads and stores are; nothing where
     neither helps."""
-    setting = setting_of(it, described)
-    lines, wanted = stopped(it.program.lines, setting), it.thread.wanted
+    setting, wanted = setting_of(it, described), it.thread.wanted
+    lines = stopped(it.program.lines, setting)
+    turns = [refusal.line for refusal in refused if refusal.rule == "NoMeasure" and refusal.line >= 0]
     loads = sorted({refusal.line for refusal in refused if refusal.rule == "NotMapped" and refusal.line >= 0})
-    checked = with_checks(lines, loads, setting, wanted is not None and wanted.is_checked)
+    for _ in range(MOST_LOOPS if turns else 0):
+        counted = with_found_turns(lines, turns, analysed(lines, setting), set(setting.registers))
+        if counted is None:
+            break
+        lines = stopped(counted.lines, setting)
+        turns, loads = [counted.moved(at) for at in turns], [counted.moved(at) for at in loads]
+    checked = with_checks(lines, loads, setting, wanted is not None and wanted.is_checked) if loads else None
     if checked:
         return it.with_lines(stopped(checked.lines, setting), tuple(checked.notes))
-    turns = [refusal.line for refusal in refused if refusal.rule == "NoMeasure"]
-    counted = with_found_turns(lines, turns, analysed(lines, setting), set(setting.registers))
-    return it.with_lines(stopped(counted, setting)) if counted else None
+    return it.with_lines(lines) if len(lines) > len(it.program.lines) else None
 
 
 def stopped(lines: list[Line], setting: Setting) -> list[Line]:

@@ -54,6 +54,9 @@ def main() -> int:
     parser.add_argument("--certifier", help="the program that certifies: what it refuses is compiled in other ways")
     parser.add_argument("--prefix", default="riscv64-unknown-elf-", help="what the names of gcc's programs begin with")
     words = parser.parse_args()
+    if words.made.exists() and (words.made.samefile(words.source) or words.made.suffix in (".c", ".h")):
+        print(f"{words.made} is a source: nothing is written there", file=sys.stderr)
+        return 2
     try:
         text = convert(words.source, words.prefix, words.certifier)
         words.made.write_text(text)

@@ -2,7 +2,8 @@
 # Compiles the programs for this machine and compares the bytes that they put with what is expected; makes texts of the
 # programs and systems from C, has them certified, builds, verifies and runs them, and compares the bytes again; does so
 # with the threads that use headers of this folder, whose bytes Python reckons and whose budgets the headers name; and
-# compares what is said of C that cannot be converted. What lacks its program is skipped, and a line says so.
+# compares what is said of C that cannot be converted. Programs of natural/ are certified as they are written, or by what
+# their list says. What lacks its program is skipped, and a line says so.
 # Usage: tools/from_c/run.sh [--cheap | CERTIFIER [MICROSYS]]. CERTIFIER is called as `CERTIFIER certify SRC OUT`; by itself
 # it is the one that `make build tool` leaves. With --cheap nothing is certified. tools/smoke.sh runs that.
 set -u
@@ -139,6 +140,42 @@ snippet() {
 for source in "$here"/snippets/*.c; do
     snippet "$(basename "$source" .c)"
 done
+
+# Programs as they are written elsewhere: as a thread each puts the bytes that it puts on this machine, by two compilers. Those
+# that natural/accepted.txt names are certified as written, the others with `checked`, or with their lines `AT_MOST` too.
+natural() {
+    local name="$1" way="$2" made="$room/natural_$1" other
+    mkdir -p "$room/$name"
+    cp "$here/natural/$name.c" "$room/$name"
+    [ "$way" = AT_MOST ] || sed -i '/^ *AT_MOST(.*);$/d' "$room/$name/$name.c"
+    for other in cc clang; do
+        command -v "$other" >"$room/found" || continue
+        step "$name" "does not compile by $other" "$other" -O1 -w -fwrapv -I"$here/host" -o "$room/native" "$room/$name/$name.c" || return
+        step "$name" "does not end, by $other" timeout 10 "$room/native" || return
+        cp "$room/said" "$made.$other"
+    done
+    [ ! -e "$made.clang" ] || step "$name" "other bytes by clang" cmp "$made.cc" "$made.clang" || return
+    [ -n "$compiler" ] && [ -z "$cheap" ] || return 0
+    sed "s/NAME.c/$name.c$([ "$way" = written ] || echo " checked")/" "$here/programs/thread.txt" >"$room/$name/$name.txt"
+    step "$name" "not converted" "$here/from_c.py" --certifier "$certifier" "$room/$name/$name.txt" "$made.text" || return
+    step "$name" "not certified" "$certifier" certify "$made.text" "$made.txt" || return
+    step "$name" "not built" "$microsys" build "$made.txt" "$made.img" || return
+    step "$name" "not run" "$microsys" run "$made.img" "$here/programs/thread.events" || return
+    awk '$3 == "byte" { print $4 }' "$room/said" >"$made.bytes"
+    step "$name" "other bytes" diff "$made.cc" "$made.bytes" || return
+    echo "$name: as expected, $way"
+}
+[ -z "$native" ] || while read -r name way; do
+    case "$name" in '' | '#'*) ;; *) natural "$name" "$way" ;; esac
+done <"$here/natural/accepted.txt"
+
+# The passes on rows, and each function of microsys.h with each kind of capability.
+step "check_passes.py" "otherwise" python3 -B "$here/check_passes.py"
+[ -z "$compiler" ] || if [ -n "$cheap" ]; then
+    step "capabilities.py" "otherwise" python3 -B "$here/capabilities.py"
+else
+    step "capabilities.py" "otherwise" python3 -B "$here/capabilities.py" "$certifier" "$microsys"
+fi
 
 # The gallery's certified text, as it stands there.
 [ -n "$cheap" ] || {

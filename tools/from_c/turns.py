@@ -8,6 +8,8 @@ further turn is possible. Such a counter never comes to 0.
 
 from __future__ import annotations
 
+from dataclasses import dataclass
+
 from analysis import Analysis, State
 from faults import Fault, Note
 from lines import STOP, Line, constant
@@ -110,23 +112,40 @@ def test_of(counter: int) -> list[tuple[list[str], str | None]]:
     return [(["beq", own, "x0"], STOP), (["addi", own, own, "-1"], None)]
 
 
-def with_found_turns(lines: list[Line], at: list[int], known: Analysis, given: set[int]) -> list[Line] | None:
+@dataclass(frozen=True)
+class Counted:
+    """A program with a counter: from which line on its lines have other numbers, and how many more there are."""
+
+    lines: list[Line]
+    head: int
+    more: int
+
+    def moved(self, index: int) -> int:
+        """The number of a line now."""
+        return index + self.more if index >= self.head else index
+
+
+def with_found_turns(lines: list[Line], at: list[int], known: Analysis, given: set[int]) -> Counted | None:
     """The program with a counter for a loop without a measure that has one of these lines, the smallest whose turns are
     found; nothing where there is none."""
     for loop in loops(lines):
         if loop.body & set(at) and not has_wait(lines, loop) and not is_counted(loop, known):
             turns, counter = turns_of(loop, known), unused_in(loop, lines, given)
             if turns is not None and counter is not None:
-                test = test_of(counter)
-                opened = [Line(words, lines[loop.head].place, target) for words, target in test]
-                head = lines[loop.head]
-                opened[0].labels, opened[0].note = head.labels, head.note
-                bare = Line(head.words, head.place, head.target, [], "")
-                longer = lines[: loop.head] + opened + [bare] + lines[loop.head + 1 :]
-                body = frozenset(it + len(test) if it >= loop.head else it for it in loop.body)
-                whole = body | set(range(loop.head, loop.head + len(test)))
-                return entered(longer, loop.head, whole, constant(counter, turns))
+                made = entered(*tested_at_head(loop, lines, counter), constant(counter, turns))
+                return Counted(made, loop.head, len(made) - len(lines))
     return None
+
+
+def tested_at_head(loop: Loop, lines: list[Line], counter: int) -> tuple[list[Line], int, frozenset[int]]:
+    """The program in which a loop begins with the test of a counter, where it begins, and its lines."""
+    head = lines[loop.head]
+    test = [Line(words, head.place, target) for words, target in test_of(counter)]
+    test[0].labels, test[0].note = head.labels, head.note
+    bare = Line(head.words, head.place, head.target)
+    longer = lines[: loop.head] + test + [bare] + lines[loop.head + 1 :]
+    body = {it + len(test) if it >= loop.head else it for it in loop.body}
+    return longer, loop.head, frozenset(body | set(range(loop.head, loop.head + len(test))))
 
 
 def is_counted(loop: Loop, known: Analysis) -> bool:
@@ -156,8 +175,11 @@ def turns_of(loop: Loop, known: Analysis) -> int | None:
     if any(known.is_answered(it) for it in loop.body):
         lost |= set(ANSWERS)
     for turn in range(1, MOST_TURNS):
+        before = list(state.registers)
         if not goes_on(loop, known, state, lost - {0}):
             return turn
+        if state.registers == before:
+            return None
     return None
 
 

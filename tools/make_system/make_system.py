@@ -39,15 +39,19 @@ SYSTEMS = {
     "chart": ((1,), 2, 2),
     "diff": ((0, 1), 2, 2),
 }
+# The words whose last file is written.
+WRITERS = {"make", "expand", "certify"}
 # The words that have one more after them.
 OPTIONS = {"--from", "--to"}
 STANDARD = "-"
+# What sources that are not named by a description end in: headers of C, and parts of others.
+SUFFIXES = {".c", ".h"}
 # What a description begins with.
 DECLARATIONS = {"page", "device", "bell", "door", "part"}
 PREFIX = "riscv64-unknown-elf-"
 # In how many rounds the sizes of programs are found: an address may be longer to write than the last one.
 ROUNDS = 8
-FAILED = 3
+USAGE, FAILED = 2, 3
 
 
 class Ended(Exception):
@@ -77,6 +81,11 @@ class Source:
         """Whether its name ends as that of one, or it begins as one does."""
         first = next((words for line in self.content.split("\n") if (words := words_of(line))), [""])
         return self.name.endswith(".sys") or first[0] in DECLARATIONS
+
+    def files(self) -> list[Path]:
+        """The file that it was read from, and the sources that it names."""
+        named = [word for line in self.content.split("\n") for word in words_of(line) if words_of(line)[0] == "program"]
+        return [self.folder / self.name, *(self.folder / word for word in named if word.endswith(".c"))]
 
     @property
     def has_c(self) -> bool:
@@ -210,6 +219,14 @@ def run_on(word: str, words: list[str], texts: dict[int, Text], room: Path) -> i
     return status if status >= 0 else FAILED
 
 
+def overwritten(word: str, target: str, sources: list[Source]) -> bool:
+    """Whether what a word writes would take the place of a source."""
+    if word not in WRITERS or target == STANDARD or not Path(target).exists():
+        return False
+    read_files = [path for it in sources for path in it.files()]
+    return any(path.exists() and path.samefile(target) for path in read_files) or Path(target).suffix in SUFFIXES
+
+
 def put_text(text: Text, target: str) -> int:
     """Writes the text of a system where it is wanted, and puts the notes, as the program does."""
     if target == STANDARD:
@@ -223,6 +240,10 @@ def put_text(text: Text, target: str) -> int:
 
 def carry_out(word: str, words: list[str], sources: dict[int, Source]) -> int:
     """Carries out a word on systems that have parts in C."""
+    target = words[places_of(words)[-1]]
+    if overwritten(word, target, list(sources.values())):
+        print(f"{target} is a source: nothing is written there", file=sys.stderr)
+        return USAGE
     with tempfile.TemporaryDirectory(prefix="microsys.") as room_name:
         room = Path(room_name)
         texts = {place: compiled(source, room) for place, source in sources.items()}

@@ -64,6 +64,18 @@ streams() {
     "$tool" draw "$folder/ring.sys" >"$room/said" && grep -q '^digraph' "$room/said" || wrong "draw" "no graph"
 }
 
+# What would take the place of a source is not written.
+kept() {
+    local target
+    rm -rf "$room/copy"
+    cp -r "$root/samples/c/key_store" "$room/copy"
+    for target in key_store.sys vault.c requests.h; do
+        (cd "$room/copy" && "$tool" make key_store.sys "$target") >"$room/out" 2>"$room/said"
+        [ $? = 2 ] && grep -q " is a source: nothing is written there$" "$room/said" || wrong "make key_store.sys $target" "not refused"
+    done
+    diff -r "$root/samples/c/key_store" "$room/copy" >"$room/said" || wrong "sources" "changed"
+}
+
 # What has no part in C is the program's, whatever it says.
 handed_over() {
     local program="${MICROSYS_TOOL:-$root/crates/microsys_tool/out/microsys_tool}" words
@@ -94,7 +106,10 @@ echo "2a 2a 2a" >"$room/first/first.expected"
 check first "$room/first"
 streams
 handed_over
+kept
 mistake mailbox reader.c 's/sys_signal(CAP_EMPTY)/&&/' 1 "reader.c:9: error: "
+mistake mailbox reader.c 's/sys_wait(CAP_FULL)/sys_recv(CAP_FULL)/' 1 \
+    "reader.c:6: error: incompatible type for argument 1 of 'sys_recv': expected 'struct door' but argument is of type 'struct bell'"
 mistake mailbox reader.c 's/CAP_EMPTY/CAP_NOTHING/' 1 "reader.c:9: error: "
 mistake mailbox reader.c 's/for (;;) {/{/' 1 "reader.c:11: \`reader\` returns"
 mistake mailbox reader.c 's/sys_signal(CAP_EMPTY)/while (words_at(PAGE_BOX)[0]) { }/' 1 "reader.c:9: mailbox.text:"

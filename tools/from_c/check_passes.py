@@ -1,0 +1,276 @@
+#!/usr/bin/env python3
+"""Looks at the passes that make visible what is so: ranges against values that are picked at random, and each pass on rows
+of a few instructions, with what must come of them worked out by hand.
+
+    tools/from_c/check_passes.py
+"""
+
+from __future__ import annotations
+
+import random
+import sys
+
+sys.dont_write_bytecode = True
+
+from analysis import Memory, Region  # noqa: E402
+from checks import with_checks  # noqa: E402
+from faults import Fault  # noqa: E402
+from lines import STOP, Line, with_stop  # noqa: E402
+from loops import loops  # noqa: E402
+from ranges import ANY, BRANCHES, HALF, MOST, Range, result, shown, signed, united, value_of  # noqa: E402
+from turns import turns_of, with_found_turns, with_turns  # noqa: E402
+from variables import variables_in  # noqa: E402
+from words import Setting, analysed, with_constants, with_guards, with_known_words  # noqa: E402
+
+ENDS = (0, 1, 2, 3, 5, 7, 8, 255, 256, 65535, HALF - 1, HALF, HALF + 1, MOST, MOST - 1, MOST - 6)
+ROWS = 20000
+
+
+def program(text: str) -> list[Line]:
+    """A program of lines `[label:] instruction [-> target]`."""
+    lines: list[Line] = []
+    for row in text.strip().split("\n"):
+        head, _, target = row.partition(" -> ")
+        *labels, words = head.strip().split(": ")
+        lines.append(Line(words.split(), None, target or None, labels))
+    return lines
+
+
+def shown_text(lines: list[Line]) -> list[str]:
+    """The instructions of a program, with their targets."""
+    return [" ".join(it.words) + (f" -> {it.target}" if it.target else "") for it in lines]
+
+
+def setting(data: bytes = b"", hidden: tuple[tuple[int, int], ...] = ()) -> Setting:
+    """A thread with this data at 0x4000, and 16 bytes of stack below 0x6000."""
+    memory = Memory((Region(0x4000, data), Region(0x5FF0, bytes(16))), hidden)
+    return Setting(memory, 0x6000, {}, 1, {0x4000: {(0x4000, 0x4000 + len(data))}}, {})
+
+
+def random_range(source: random.Random) -> Range:
+    """A range of one of the forms that there are."""
+    kind = source.randrange(5)
+    if kind == 0:
+        value = source.choice(ENDS)
+        return value, value
+    if kind == 1:
+        low, high = sorted(source.sample(ENDS, 2))
+        return low, high
+    if kind == 2:
+        return -source.choice((1, 2, 8, 300, HALF)), source.choice((0, 1, 5, 300, HALF - 1))
+    low = source.randrange(MOST)
+    return low, min(MOST, low + source.randrange(1000))
+
+
+def member(source: random.Random, range: Range) -> int:
+    """A word of a range."""
+    return source.choice([*range, source.randint(*range)]) & MOST
+
+
+def has(range: Range, value: int) -> bool:
+    """Whether a word is in a range."""
+    return range[0] <= value <= range[1] or range[0] <= value - (1 << 32) <= range[1]
+
+
+def ranges_hold() -> None:
+    """Whatever words are picked of two ranges, what instructions and branches say of them is so."""
+    source = random.Random(1)
+    for _ in range(ROWS):
+        x, y = random_range(source), random_range(source)
+        a, b = member(source, x), member(source, y)
+        for name in ("add", "sub", "and", "or", "xor", "sll", "srl", "sra", "slt", "sltu"):
+            assert has(result(name, x, y), value_of(name, a, b)), (name, x, y, a, b)
+        assert has(united(x, y), a) and has(united(x, y), b), (x, y)
+        outcomes = {
+            "beq": a == b,
+            "bne": a != b,
+            "blt": signed(a) < signed(b),
+            "bge": signed(a) >= signed(b),
+            "bltu": a < b,
+            "bgeu": a >= b,
+        }
+        for name in BRANCHES:
+            seen = shown(name, outcomes[name], x, y)
+            assert seen and has(seen[0], a) and has(seen[1], b), (name, x, y, a, b)
+
+
+def constants_are_loaded_anew() -> None:
+    """A word that is stored once and kept on the stack is known after a loop; one that may be written otherwise is not."""
+    text = """
+    addi x2 x2 -16
+    addi x8 x0 77
+    sw x8 12(x2)
+    top: addi x17 x0 5
+    ecall
+    lw x9 12(x2)
+    {}
+    jal x0 -> top
+    """
+    made = shown_text(with_constants(program(text.format("sw x9 8(x2)")), setting()))
+    assert made[5] == "addi x9 x0 77", made
+    for store in ("sw x10 12(x2)", "sb x10 13(x2)", "sw x9 0(x10)"):
+        made = shown_text(with_constants(program(text.format(store)), setting()))
+        assert made[5] == "lw x9 12(x2)", (store, made)
+    hidden = setting(hidden=((0x5FFC, 0x6000),))
+    assert shown_text(with_constants(program(text.format("sw x9 8(x2)")), hidden))[5] == "lw x9 12(x2)"
+
+
+def words_become_registers() -> None:
+    """A counter in a variable becomes one in a register, and a copy of it that is tested, the register."""
+    text = """
+    lui x8 0x4
+    top: addi x17 x0 5
+    ecall
+    sw x0 0(x8)
+    turn: lw x9 0(x8)
+    addi x9 x9 1
+    sw x9 0(x8)
+    bltu x9 x20 -> turn
+    jal x0 -> top
+    """
+    made = shown_text(with_known_words(program(text), setting(bytes(4))))
+    assert made[3:] == ["addi x4 x0 0", "addi x4 x4 1", "bltu x4 x20 -> turn", "jal x0 -> top"], made
+    volatile = setting(bytes(4), ((0x4000, 0x4004),))
+    assert shown_text(with_known_words(program(text), volatile))[4] == "lw x9 0(x8)"
+
+
+def ranges_are_kept() -> None:
+    """The range of a word is kept by a branch after its load: 3 and 2, by turns."""
+    text = """
+    lui x8 0x4
+    addi x9 x0 3
+    top: sw x9 0(x8)
+    addi x17 x0 5
+    ecall
+    lw x11 0(x8)
+    xori x9 x9 1
+    andi x9 x9 7
+    jal x0 -> top
+    """
+    made = shown_text(with_guards(program(text), setting(bytes(4))))
+    assert made[6:8] == ["addi x3 x0 4", f"bgeu x11 x3 -> {STOP}"], made
+
+
+CHECKED = """
+    lui x8 0x4
+    top: addi x17 x0 5
+    ecall
+    addi x9 x10 0
+    slli x11 x9 0x2
+    add x11 x11 x8
+    lw x12 0(x11)
+    jal x0 -> top
+    """
+
+
+def indices_are_checked() -> None:
+    """The index is tested where it is asked for, not the address; and unasked where the test cannot fail."""
+    lines = with_stop(program(CHECKED), 1)
+    assert with_checks(lines, [6], setting(bytes(40)), False) is None
+    checked = with_checks(lines, [6], setting(bytes(40)), True)
+    assert checked and shown_text(checked.lines)[4:6] == ["addi x3 x0 10", f"bgeu x9 x3 -> {STOP}"] and checked.notes
+    known = with_checks(program(CHECKED.replace("addi x9 x10 0", "andi x9 x10 7")), [6], setting(bytes(40)), False)
+    assert known and not known.notes
+
+
+def checks_stand_behind_tests() -> None:
+    """Where the address is made before a branch that leads past its use, the address is tested at the use."""
+    text = CHECKED.replace("lw x12", "bgeu x9 x20 -> top\n    lw x12")
+    checked = with_checks(program(text), [7], setting(bytes(40)), True)
+    made = shown_text(checked.lines) if checked else []
+    assert made[4] == "slli x11 x9 0x2" and made[7:9] == ["lui x3 0x4", f"bltu x11 x3 -> {STOP}"], made
+
+
+LOOP = """
+    top: addi x17 x0 5
+    ecall
+    addi x8 x0 {}
+    turn: addi x9 x9 1
+    addi x8 x8 {}
+    {} -> turn
+    jal x0 -> top
+    """
+
+
+def turns_are_found() -> None:
+    """How many turns loops make whose end the rules do not see."""
+    rows = (
+        ((7, -1, "bge x8 x0"), 9),
+        ((30, -3, "bne x8 x0"), 11),
+        ((24, -8, "bge x8 x0"), 5),
+        ((5, -3, "bne x8 x0"), None),
+    )
+    for parts, wanted in rows:
+        lines = program(LOOP.format(*parts))
+        known = analysed(lines, setting())
+        [inner] = [it for it in loops(lines) if it.head == 3]
+        found = turns_of(inner, known)
+        assert found == wanted or wanted is None and found is None or wanted and found and wanted - 1 <= found <= wanted, (parts, found)
+        counted = with_found_turns(lines, [3], known, set())
+        assert (counted is not None) == (found is not None)
+    inside = LOOP.replace("addi x9 x9 1", "addi x21 x0 3\n    in: addi x8 x8 5\n    addi x21 x21 -1\n    bne x21 x0 -> in")
+    lines = program(inside.format(7, -1, "bge x8 x0"))
+    known = analysed(lines, setting())
+    assert all(turns_of(it, known) is None for it in loops(lines) if it.head == 3), "an inner loop writes the counter"
+
+
+def marks_become_counters() -> None:
+    """An `AT_MOST` becomes a counter, set at each way into its loop; outside of loops without a wait it is a mistake."""
+    lines, notes = with_turns(program(LOOP.format(7, -1, "bne x8 x20").replace("turn:", "turn: lui x0 0x9\n   ")), set())
+    made = shown_text(lines)
+    assert made[3:6] == ["addi x4 x0 9", f"beq x4 x0 -> {STOP}", "addi x4 x4 -1"] and len(notes) == 1, made
+    back = next(it for it in lines if it.words[0] == "bne")
+    assert back.target in lines[4].labels and back.target not in lines[3].labels
+    try:
+        with_turns(program(LOOP.format(7, -1, "bne x8 x20").replace("top:", "top: lui x0 0x9\n   ")), set())
+    except Fault as fault:
+        assert "AT_MOST(9)" in fault.text
+    else:
+        raise AssertionError("a mark in the thread's loop is taken")
+
+
+def variables_are_read() -> None:
+    """What readelf lists of a volatile array, and of a word above the frame of a function."""
+    listed = """ <1><76>: Abbrev Number: 14 (DW_TAG_volatile_type)
+    <77>   DW_AT_type        : <0x6b>
+ <1><6b>: Abbrev Number: 3 (DW_TAG_base_type)
+    <6c>   DW_AT_byte_size   : 4
+ <1><eb>: Abbrev Number: 10 (DW_TAG_array_type)
+    <ec>   DW_AT_type        : <0x76>
+ <2><f4>: Abbrev Number: 11 (DW_TAG_subrange_type)
+    <f9>   DW_AT_upper_bound : 7
+ <1><110>: Abbrev Number: 6 (DW_TAG_variable)
+    <111>   DW_AT_name        : (indirect string, offset: 0x3e): table
+    <117>   DW_AT_type        : <0xeb>
+    <11b>   DW_AT_location    : 5 byte block: 3 40 40 0 0 \t(DW_OP_addr: 4040)
+ <1><120>: Abbrev Number: 7 (DW_TAG_subprogram)
+    <121>   DW_AT_name        : main
+ <2><130>: Abbrev Number: 6 (DW_TAG_variable)
+    <131>   DW_AT_name        : local
+    <137>   DW_AT_type        : <0x6b>
+    <13b>   DW_AT_location    : 2 byte block: 91 6c \t(DW_OP_fbreg: -20)
+"""
+    table, local = variables_in(listed)
+    assert (table.name, table.at(0), table.is_volatile) == ("table", (0x4040, 0x4060), True)
+    assert (local.name, local.at(0x6000), local.is_volatile) == ("local", (0x5FEC, 0x5FF0), False)
+
+
+def main() -> None:
+    """All of it."""
+    for check in (
+        ranges_hold,
+        constants_are_loaded_anew,
+        words_become_registers,
+        ranges_are_kept,
+        indices_are_checked,
+        checks_stand_behind_tests,
+        turns_are_found,
+        marks_become_counters,
+        variables_are_read,
+    ):
+        check()
+        print(f"as expected: {check.__name__.replace('_', ' ')}")
+
+
+if __name__ == "__main__":
+    main()
