@@ -9,18 +9,20 @@ from __future__ import annotations
 import re
 import subprocess
 import tempfile
-from collections.abc import Callable, Generator
-from dataclasses import dataclass
+from collections.abc import Callable, Generator, Iterator
+from dataclasses import dataclass, replace
 from pathlib import Path
 
+from advice import advice_on
 from analysis import Memory, Region
 from building import RESERVED, Built, Folder, program_in, written
 from checks import with_checks
-from description import Description
+from description import Description, Thread
 from lines import Line, with_stop
 from ranges import operation
 from rewriting import SCRATCH
 from turns import with_found_turns
+from variables import Variable
 from words import Setting, analysed, with_guards, with_known_words
 
 # How often checks and counters are put into a program before a way is given up, and how many counters at once.
@@ -131,7 +133,7 @@ def accepted(
 def attempts_at(plain: Built, described: Description, folder: Folder) -> Attempt:
     """The ways to compile a program, one after another: it is given what of each is refused."""
     wanted = plain.thread.wanted
-    least, best = None, plain
+    least, best = list[Refusal](), plain
     compiled: dict[tuple[str, ...], Built] = {(): plain}
     if not has_scratch(plain.program.lines):
         yield plain
@@ -142,13 +144,14 @@ def attempts_at(plain: Built, described: Description, folder: Folder) -> Attempt
         it, before = in_way(compiled[way.flags], way, described), None
         for _ in range(ROUNDS):
             refused = yield it
-            if least is None or len(refused) < least:
-                least, best = len(refused), it
+            if not least or len(refused) < len(least):
+                least, best = refused, it
             mended = mended_at(it, refused, described) if before is None or len(refused) < before else None
             if mended is None:
                 break
             it, before = mended, len(refused)
-    return best
+    found = [(refusal.line, refusal.rule) for refusal in least]
+    return replace(best, advice=advice_on(best, found, setting_of(best, described), names_in(best)))
 
 
 def has_scratch(lines: list[Line]) -> bool:
@@ -194,16 +197,32 @@ def setting_of(it: Built, described: Description) -> Setting:
     """What a program runs in."""
     thread, used = it.thread, it.program.stack
     wanted = thread.wanted
-    data = wanted.data if wanted and wanted.data is not None else 0
-    stack = wanted.stack if wanted and wanted.stack is not None else thread.stack or 0
+    data, stack = wanted.data if wanted and wanted.data is not None else 0, stack_end(thread)
     hidden: list[tuple[int, int]] = []
     frames: dict[int, set[tuple[int, int]]] = {}
+    for variable, start, end in placed_variables(it):
+        hidden += [(start, end)] if variable.is_volatile else []
+        if variable.function and end > start:
+            frames.setdefault(start, set()).add((start, end))
+    memory = Memory((Region(data, it.data), Region(stack - used, bytes(used))), tuple(hidden))
+    return Setting(memory, stack, thread.registers, described.bell(thread), it.linked.owners, frames)
+
+
+def stack_end(thread: Thread) -> int:
+    """The address after the last byte of a thread's stack."""
+    wanted = thread.wanted
+    return wanted.stack if wanted and wanted.stack is not None else thread.stack or 0
+
+
+def placed_variables(it: Built) -> Iterator[tuple[Variable, int, int]]:
+    """The variables of a program, each with its first address and the one after its last: those of a function once for each
+    depth of the stack that it is entered at."""
     for variable in it.linked.variables:
         for function, depth in it.program.entries if variable.function else [(None, 0)]:
             if function == variable.function:
-                start, end = variable.at(stack - depth)
-                hidden += [(start, end)] if variable.is_volatile else []
-                if variable.function and end > start:
-                    frames.setdefault(start, set()).add((start, end))
-    memory = Memory((Region(data, it.data), Region(stack - used, bytes(used))), tuple(hidden))
-    return Setting(memory, stack, thread.registers, described.bell(thread), it.linked.owners, frames)
+                yield variable, *variable.at(stack_end(it.thread) - depth)
+
+
+def names_in(it: Built) -> dict[int, str]:
+    """The names of a program's variables, by their first addresses."""
+    return {start: variable.name for variable, start, _ in placed_variables(it)}

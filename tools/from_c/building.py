@@ -21,12 +21,14 @@ RESERVED = ("-ffixed-t3", "-ffixed-t4", "-ffixed-t5", "-ffixed-t6")
 
 @dataclass(frozen=True)
 class Built:
-    """A thread's program, compiled and put in line, and what is noted on it."""
+    """A thread's program, compiled and put in line, what is noted on it, and what to write where it is certified in no
+    way."""
 
     thread: Thread
     program: Program
     linked: Linked
     notes: tuple[Note, ...] = ()
+    advice: tuple[Note, ...] = ()
 
     @property
     def data(self) -> bytes:

@@ -32,7 +32,7 @@ def convert(source: Path, prefix: str, certifier: str | None) -> str:
     for it in programs:
         sizes = f"{it.program.stack} bytes of stack, {len(it.data)} of data"
         print(f"{it.thread.name}: {len(it.program.lines)} instructions, {sizes}")
-        for note in it.notes:
+        for note in (*it.notes, *it.advice):
             print(note)
     return text
 

@@ -95,11 +95,12 @@ class Source:
 
 @dataclass(frozen=True)
 class Text:
-    """The text of a system, and the notes on its description."""
+    """The text of a system, the notes on its description, and what to write where programs are certified in no way."""
 
     name: str
     content: str
     notes: str
+    advice: str = ""
 
 
 def words_of(line: str) -> list[str]:
@@ -180,7 +181,8 @@ def in_pages(source: Source, sizes: dict[int, dict[str, int]], text: Text, folde
 def text_with(described: Description, programs: list[Built], text: Text) -> Text:
     """The text of a system with these programs in their places, and what is noted on them."""
     notes = "".join(f"{note}\n" for it in programs for note in it.notes)
-    return Text(text.name, written(described, programs), text.notes + notes)
+    advice = "".join(f"{note}\n" for it in programs for note in it.advice)
+    return Text(text.name, written(described, programs), text.notes + notes, advice)
 
 
 def places_of(words: list[str]) -> list[int]:
@@ -251,6 +253,8 @@ def carry_out(word: str, words: list[str], sources: dict[int, Source]) -> int:
             [text] = texts.values()
             return put_text(text, words[-1])
         status = run_on(word, words, texts, room)
+        if status:
+            print("".join(it.advice for it in texts.values()), end="", file=sys.stderr)
         notes = "".join(it.notes for it in texts.values()) if word == "make" and status == 0 else ""
         print(notes, end="", file=sys.stderr if words[-1] == STANDARD else sys.stdout)
         return status
