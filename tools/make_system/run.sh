@@ -52,6 +52,28 @@ mistake() {
     esac
 }
 
+# A part that is certified in no way: what to write instead, by its line. With `checked` and `AT_MOST` it is made, and notes
+# say what is tested.
+advised() {
+    local table='static const uint8_t table[10] = {1, 2, 3};'
+    rm -rf "$room/copy"
+    cp -r "$root/samples/c/mailbox" "$room/copy"
+    sed -i "3s/^/$table/; s/sys_wait(CAP_FULL);/uint32_t w = &/; s/words_at(PAGE_BOX)\[0\]);/table[words_at(PAGE_BOX)[0]]);/
+        s/sys_signal/while (w != 1) {\nTURNS w = w \& 1 ? 3 * w + 1 : w \/ 2;\n}\n&/" "$room/copy/reader.c"
+    sed 's/^TURNS//' "$room/copy/reader.c" >"$room/reader.c"
+    sed -i 's/^TURNS/AT_MOST(200);/' "$room/copy/reader.c"
+    (cd "$room/copy" && "$tool" make mailbox.sys made.img) >"$room/out" 2>"$room/said" && wrong advised "made as it is"
+    grep -q '^reader.c:7: note: nothing shows that this index of `table`, which has 10 bytes, is inside: ' "$room/said" ||
+        wrong advised "nothing on the index"
+    sed -i 's/program reader.c/& checked/' "$room/copy/mailbox.sys"
+    (cd "$room/copy" && "$tool" make mailbox.sys made.img) >"$room/out" 2>"$room/said" || wrong advised "not made"
+    grep -q '^reader.c:10: note: 200 turns at most, ' "$room/out" && grep -q '^reader.c:7: note: checked at run time ' "$room/out" ||
+        wrong advised "not noted"
+    cp "$room/reader.c" "$room/copy/reader.c"
+    (cd "$room/copy" && "$tool" make mailbox.sys made.img) >"$room/out" 2>"$room/said" && wrong advised "made without turns"
+    grep -q '^reader.c:1[01]: note: nothing shows that this loop ends: ' "$room/said" || wrong advised "nothing on the loop"
+}
+
 # The words with the system on standard input and what is made on standard output give the same as with files.
 streams() {
     local folder="$root/samples/c/ring"
@@ -107,6 +129,7 @@ check first "$room/first"
 streams
 handed_over
 kept
+advised
 mistake mailbox reader.c 's/sys_signal(CAP_EMPTY)/&&/' 1 "reader.c:9: error: "
 mistake mailbox reader.c 's/sys_wait(CAP_FULL)/sys_recv(CAP_FULL)/' 1 \
     "reader.c:6: error: incompatible type for argument 1 of 'sys_recv': expected 'struct door' but argument is of type 'struct bell'"
