@@ -221,6 +221,9 @@ def marks_become_counters() -> None:
     assert made[3:6] == ["addi x4 x0 9", f"beq x4 x0 -> {STOP}", "addi x4 x4 -1"] and len(notes) == 1, made
     back = next(it for it in lines if it.words[0] == "bne")
     assert back.target in lines[4].labels and back.target not in lines[3].labels
+    outside = LOOP.format(7, -1, "bne x8 x20").replace("turn:", "turn: lui x0 0x9\n   ").replace("-> top", "-> turn")
+    lines, _ = with_turns(program(outside), set())
+    assert next(it for it in lines if it.words[0] == "jal").target in lines[3].labels
     try:
         with_turns(program(LOOP.format(7, -1, "bne x8 x20").replace("top:", "top: lui x0 0x9\n   ")), set())
     except Fault as fault:

@@ -156,7 +156,7 @@ def leads_to(start: int, end: int, known: Analysis) -> bool:
             continue
         seen.add(at)
         it = known.operations[at]
-        if at == start or it.rd == register or it.name == "ecall" and known.is_answered(at) or len(seen) > FARTHEST:
+        if it.rd == register or it.name == "ecall" and known.is_answered(at) or len(seen) > FARTHEST:
             return False
         pending += known.next_lines(at)
     return True
