@@ -39,7 +39,7 @@ KINDS = set("untyped tcb endpoint notification cnode frame table root".split())
 CONSTANTS = {"auto", "boot"}
 # In lines with these first words, these words before a number say what it is.
 OPTIONS = {
-    "program": {"pages", "data", "stack"},
+    "program": {"checked", "pages", "data", "stack"},
     "waits": {"line", "every", "burst"},
     "rings": {"as"},
     "calls": {"as"},

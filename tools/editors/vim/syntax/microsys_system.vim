@@ -6,7 +6,7 @@ endif
 syntax match microsysNumber /\%(^\|[ \t,(]\)\@1<=-\?\%(0x\x\+\|\d\+\)\>/
 syntax match microsysRegister /\<x\%([12]\d\|3[01]\|\d\)\>/
 syntax match microsysFile /[^ \t,#]\+\.c\>/
-syntax match microsysOption /\%(^[ \t,]*\%(waits\|rings\|calls\|sends\|program\)\>[^#]*[ \t,]\)\@<=\%(burst\|every\|pages\|stack\|data\|line\|as\)\>/
+syntax match microsysOption /\%(^[ \t,]*\%(waits\|rings\|calls\|sends\|program\)\>[^#]*[ \t,]\)\@<=\%(burst\|checked\|every\|pages\|stack\|data\|line\|as\)\>/
 syntax match microsysDeclaration /\%(^[ \t,]*\)\@<=\%(device\|bell\|door\|page\|part\|end\)\>:\@!/
 syntax match microsysLine /\%(^[ \t,]*\%(\w\+:[ \t,]*\)\?\)\@<=\%(program\|budget\|serves\|within\|writes\|calls\|rings\|sends\|waits\|code\|pool\|sees\|word\|reg\)\>:\@!/
 syntax match microsysRecord /\%(^[ \t,]*\)\@<=\%(measure\|range\|slot\)\>:\@!/

@@ -8,7 +8,7 @@ syntax match microsysRegister /\<x\%([12]\d\|3[01]\|\d\)\>/
 syntax match microsysFile /[^ \t,#]\+\.c\>/
 syntax match microsysConstant /\%([ \t,]\)\@1<=\%(auto\|boot\)\>/
 syntax match microsysKind /\%(^[ \t,]*object[ \t,]\+\w\+[ \t,]\+\w\+[ \t,]\+\)\@<=\%(notification\|endpoint\|untyped\|cnode\|frame\|table\|root\|tcb\)\>/
-syntax match microsysOption /\%(^[ \t,]*program\>[^#]*\)\@<=\<\%(data\|stack\)\>/
+syntax match microsysOption /\%(^[ \t,]*program\>[^#]*\)\@<=\<\%(checked\|data\|stack\)\>/
 syntax match microsysDeclaration /\%(^[ \t,]*\)\@<=\%(promise\|untyped\|memory\|object\|thread\|table\|data\|cap\|end\|irq\|map\)\>:\@!/
 syntax match microsysLine /\%(^[ \t,]*\%(\w\+:[ \t,]*\)\?\)\@<=\%(program\|buffer\|word\|reg\)\>:\@!/
 syntax match microsysRecord /\%(^[ \t,]*\)\@<=\%(measure\|range\|slot\)\>:\@!/
