@@ -1,6 +1,6 @@
 //! A text without certificates.
 
-use crate::pieces::{around_auto, is_certificate};
+use crate::pieces::{around_auto, is_certificate, is_thread};
 use std::alloc::{AllocError, Global};
 
 /// The greatest budget, which is written where one is to be found.
@@ -34,4 +34,35 @@ pub fn bare_text(alloc: Global, text: &str) -> Result<Vec<u8>, AllocError> {
         add_bare(&mut bare, line)?;
     }
     Ok(bare)
+}
+
+/// Adds a line with a budget where one is to be found.
+fn add_budgeted(to: &mut Vec<u8>, line: &[u8], budget: &str) -> Result<(), AllocError> {
+    match around_auto(line) {
+        Some(around) => {
+            to.extend_from_slice(around.before)?;
+            to.extend_from_slice(budget.as_bytes())?;
+            to.extend_from_slice(around.behind)?;
+        }
+        None => to.extend_from_slice(line)?,
+    }
+    Ok(())
+}
+
+/// The text with the budgets of its threads, in their order, where one is to be found. Each line is where it was.
+///
+/// # Errors
+///
+/// Memory may be refused.
+pub fn budgeted_text(alloc: Global, text: &str, budgets: &[&str]) -> Result<Vec<u8>, AllocError> {
+    let mut filled = Vec::new(alloc);
+    let mut left = budgets.iter();
+    'lines: for line in text.as_bytes().split_inclusive(|byte| *byte == b'\n') {
+        let budget = if is_thread(line) { left.next() } else { None };
+        match budget {
+            Some(budget) => add_budgeted(&mut filled, line, *budget)?,
+            None => filled.extend_from_slice(line)?,
+        }
+    }
+    Ok(filled)
 }

@@ -7,6 +7,6 @@ mod pieces;
 mod records;
 mod writing;
 
-pub use bare::bare_text;
+pub use bare::{bare_text, budgeted_text};
 pub use layouts::{Layout, ThreadText, layout_of};
 pub use writing::{Draft, certified_text};

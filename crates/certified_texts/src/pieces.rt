@@ -67,10 +67,15 @@ fn around_budget(line: &[u8]) -> Around<'_> {
     }
 }
 
+/// Whether a line begins a thread.
+pub(crate) fn is_thread(line: &[u8]) -> bool {
+    let (keyword, _) = first_word(without_comment(line));
+    matches!(keyword, b"thread")
+}
+
 /// A line of a thread whose budget is to be found, around the word that says so.
 pub(crate) fn around_auto(line: &[u8]) -> Option<Around<'_>> {
-    let (keyword, _) = first_word(without_comment(line));
-    if !matches!(keyword, b"thread") {
+    if !is_thread(line) {
         return None;
     }
     let around = around_budget(line);

@@ -4,7 +4,6 @@
 mod forms;
 mod item_gaps;
 mod lines;
-mod nearest;
 mod syntax;
 mod thread_gaps;
 mod words;

@@ -2,13 +2,13 @@
 
 use crate::forms::{WORDS, form_of, long_form};
 use crate::lines::{Text, push_line};
-use crate::nearest::Nearest;
 use crate::words::{
     Wanted, has_upper_case, push_size_fault, push_upper_case, push_word_fault, wanted_by,
 };
 use asm::SourceFault;
 use asm_line::parse_line;
 use source_texts::{has_automatic_budget, word_at};
+use source_words::Nearest;
 use std::alloc::{AllocError, Global};
 
 /// A text, and the line of it that is at fault.

@@ -1,7 +1,7 @@
 //! What is wrong with a word of a line, by what is wanted in its place.
 
 use crate::forms::register_name;
-use crate::nearest::Nearest;
+use source_words::Nearest;
 use std::alloc::AllocError;
 
 /// The words of the kinds of objects.
