@@ -30,6 +30,18 @@ for name in bell client_server gallery/controller gallery/gateway gallery/key_st
         bad=$((bad + 1))
     fi
 done
+for name in promise buffers; do
+    system="samples/$name"
+    "$tool" make "$system.sys" "$room/img" | grep ' budget ' | sort >"$room/made"
+    "$tool" certify "$system.txt" "$room/txt" | sort >"$room/certified"
+    "$program" verify "$room/img" && "$program" run "$room/img" "$system.events" >"$room/trace"
+    if diff "$room/made" "$room/certified" && diff <(bytes_of "$room/trace") <(bytes_of "$system.trace"); then
+        echo "as expected: $name"
+    else
+        echo "FAILED: $name"
+        bad=$((bad + 1))
+    fi
+done
 tools/described/systems.py noise "$tool" || bad=$((bad + 1))
 [ "$#" = 0 ] || tools/described/systems.py make "$tool" "$1" || bad=$((bad + 1))
 exit "$bad"

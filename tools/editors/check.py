@@ -30,8 +30,10 @@ FORMS = {
         "Line": set("buffer reg program word".split()),
     },
     "system": {
-        "Declaration": set("page device bell door part end".split()),
-        "Line": set("waits rings serves calls sends sees writes pool reg budget within code program word".split()),
+        "Declaration": set("page device bell door promise let include part end".split()),
+        "Line": set(
+            "waits rings serves calls sends faults sees writes buffer pool reg budget within code program word".split()
+        ),
     },
 }
 RECORDS = {"measure", "range", "slot"}
@@ -40,6 +42,9 @@ CONSTANTS = {"auto", "boot"}
 # In lines with these first words, these words before a number say what it is.
 OPTIONS = {
     "program": {"checked", "pages", "data", "stack"},
+    "page": {"pages"},
+    "device": {"pages"},
+    "faults": {"as"},
     "waits": {"line", "every", "burst"},
     "rings": {"as"},
     "calls": {"as"},

@@ -73,6 +73,21 @@ pub enum Mistake<'a> {
         name: &'a str,
         line: u64,
     },
+    /// Of messages at the door something is promised on this line already.
+    PromisedAlready {
+        door: &'a str,
+        line: u64,
+    },
+    /// The file that the line includes is not in its place.
+    NotIncluded,
+    /// The bytes of the file that the line names are not there.
+    NoBytes {
+        file: &'a str,
+    },
+    /// A number is given for a name that no line `let` has.
+    GivenInVain {
+        name: &'a str,
+    },
     /// The interrupt is bound on this line already.
     LineBound {
         number: u32,

@@ -13,6 +13,8 @@ impl<'a> Part<'a> {
             priority,
             slots: Vec::new(alloc),
             views: Vec::new(alloc),
+            buffer: None,
+            rates: Vec::new(alloc),
             pool: None,
             registers: Vec::new(alloc),
             budget: None,
@@ -27,6 +29,16 @@ impl<'a> Part<'a> {
     fn slot_line(&self, name: &str) -> Option<u64> {
         for slot in &self.slots {
             if slot.held.name() == name {
+                return Some(slot.line);
+            }
+        }
+        None
+    }
+
+    /// The line on which it is said where the part's faults are reported.
+    pub(crate) fn fault_line(&self) -> Option<u64> {
+        for slot in &self.slots {
+            if let Held::Faults { .. } = slot.held {
                 return Some(slot.line);
             }
         }

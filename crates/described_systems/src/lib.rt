@@ -5,6 +5,7 @@ mod declared;
 mod faults;
 mod forms;
 mod holdings;
+mod joined;
 mod names;
 mod part_lines;
 mod parts;
@@ -12,8 +13,11 @@ mod reading;
 mod reports;
 mod words;
 
-pub use declared::{Declaration, Kind, System};
+pub use declared::{Declaration, Kind, Promise, System};
 pub use faults::{DescriptionFault, Mistake};
-pub use parts::{Budget, CodeLine, Held, Part, Pool, RegisterLine, Slot, Sources, View, Within};
+pub use joined::{Joined, Named, Place, named_on};
+pub use parts::{
+    Budget, Buffer, CodeLine, Held, Part, Pool, RegisterLine, Slot, Sources, View, Within,
+};
 pub use reading::{is_description, read};
 pub use reports::push_fault;

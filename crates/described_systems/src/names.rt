@@ -2,6 +2,7 @@
 
 use crate::declared::Kind;
 use crate::faults::{DescriptionFault, Mistake, fault};
+use crate::forms::is_said_beside_numbers;
 use crate::words::{are_digits, is_name, is_register};
 use indexmap::IndexMap;
 use std::alloc::{AllocError, Global};
@@ -11,12 +12,16 @@ use std::alloc::{AllocError, Global};
 struct Named {
     kind: Kind,
     line: u64,
+    /// How many frames it has, if it is a page.
+    frames: u32,
 }
 
 /// The names that are declared so far.
 #[derive(Drop)]
 pub(crate) struct Names<'a> {
     names: IndexMap<&'a str, Named>,
+    /// The numbers that have names, as they are written.
+    pub(crate) numbers: IndexMap<&'a str, &'a str>,
 }
 
 /// Whether a name means something else in a text or a program.
@@ -46,7 +51,8 @@ fn gives(kind: Kind, ending: &str) -> bool {
     match kind {
         Kind::Part => is_of_a_part(ending),
         Kind::Bell => is_numbered(ending, "line"),
-        Kind::Page | Kind::Device | Kind::Door => false,
+        Kind::Page | Kind::Device => is_numbered(ending, "page"),
+        Kind::Door | Kind::Number => false,
     }
 }
 
@@ -55,6 +61,7 @@ impl<'a> Names<'a> {
     pub(crate) fn new(alloc: Global) -> Self {
         Names {
             names: IndexMap::new(alloc),
+            numbers: IndexMap::new(alloc),
         }
     }
 
@@ -85,8 +92,67 @@ impl<'a> Names<'a> {
         if let Some(mistake) = self.mistake(name) {
             return Err(fault(line, mistake));
         }
-        self.names.insert(name, Named { kind, line })?;
+        self.names.insert(
+            name,
+            Named {
+                kind,
+                line,
+                frames: 1,
+            },
+        )?;
         Ok(())
+    }
+
+    /// A page more, of so many frames.
+    pub(crate) fn add_page(
+        &mut self,
+        line: u64,
+        name: &'a str,
+        kind: Kind,
+        frames: u32,
+    ) -> Result<(), DescriptionFault<'a>> {
+        self.add(line, name, kind)?;
+        if let Some(named) = self.names.get_mut(name) {
+            named.frames = frames;
+        }
+        Ok(())
+    }
+
+    /// A number that has a name.
+    pub(crate) fn add_number(
+        &mut self,
+        line: u64,
+        name: &'a str,
+        number: &'a str,
+    ) -> Result<(), DescriptionFault<'a>> {
+        if is_said_beside_numbers(name) {
+            return Err(fault(line, Mistake::Reserved { name }));
+        }
+        self.add(line, name, Kind::Number)?;
+        self.numbers.insert(name, number)?;
+        Ok(())
+    }
+
+    /// The numbers that have names.
+    pub(crate) fn into_numbers(self) -> IndexMap<&'a str, &'a str> {
+        self.numbers
+    }
+
+    /// How many frames a page has.
+    pub(crate) fn frames(&self, page: &str) -> u32 {
+        match self.names.get(page) {
+            Some(named) => named.frames,
+            None => 1,
+        }
+    }
+
+    /// Puts numbers in the place of their names, from this word of a line on.
+    pub(crate) fn put_numbers(&self, words: &mut Vec<&'a str>, first: usize) {
+        for word in words.iter_mut().skip(first) {
+            if let Some(number) = self.numbers.get(*word) {
+                *word = *number;
+            }
+        }
     }
 
     /// The names of what is taken where a kind is wanted, in the order of their lines.

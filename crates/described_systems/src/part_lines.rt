@@ -4,7 +4,7 @@ use crate::declared::Kind;
 use crate::faults::{DescriptionFault, Mistake, fault};
 use crate::forms;
 use crate::names::Names;
-use crate::parts::{Budget, Held, Part, Pool, RegisterLine, Sources, View, Within};
+use crate::parts::{Budget, Buffer, Held, Part, Pool, RegisterLine, Sources, View, Within};
 use crate::words::{address, listed, number, page_address};
 use std::alloc::Global;
 
@@ -99,6 +99,7 @@ impl<'a> Place<'a, '_> {
         words: &[&'a str],
     ) -> Result<(), DescriptionFault<'a>> {
         let mut is_any = false;
+        let mut is_rated = false;
         for pair in words.chunks(2) {
             match pair {
                 [word, value] if *word == "line" => {
@@ -107,9 +108,13 @@ impl<'a> Place<'a, '_> {
                 }
                 [word, value] if is_any && (*word == "every" || *word == "burst") => {
                     number(self.line, *value, 1, u32::MAX)?;
+                    is_rated = true;
                 }
                 _ => return Err(other_form(self.line, forms::WAITS)),
             }
+        }
+        if is_rated {
+            part.rates.push(self.line)?;
         }
         Ok(())
     }
@@ -142,9 +147,22 @@ impl<'a> Place<'a, '_> {
         part.add_view(View {
             line: self.line,
             page,
+            frames: self.names.frames(page),
             address,
             writes,
         })
+    }
+
+    /// `buffer PAGE`
+    fn buffer(&self, part: &mut Part<'a>, words: &[&'a str]) -> Result<(), DescriptionFault<'a>> {
+        if let Some(buffer) = part.buffer {
+            return Err(part.held_already(self.line, "a message buffer", buffer.line));
+        }
+        part.buffer = Some(Buffer {
+            line: self.line,
+            page: self.named(forms::BUFFER, words, Kind::Page)?,
+        });
+        Ok(())
     }
 
     /// `pool BITS SLOTS [REGION]`
@@ -290,6 +308,13 @@ impl<'a> Place<'a, '_> {
                 let Badged { name: door, badge } = self.badged(forms::SENDS, words, Kind::Door)?;
                 Held::Sends { door, badge }
             }
+            "faults" => {
+                let Badged { name: door, badge } = self.badged(forms::FAULTS, words, Kind::Door)?;
+                if let Some(other) = part.fault_line() {
+                    return Err(part.held_already(self.line, "a fault handler", other));
+                }
+                Held::Faults { door, badge }
+            }
             word => return Err(fault(self.line, Mistake::UnknownLine { word })),
         };
         part.hold(self.line, held)
@@ -306,6 +331,7 @@ impl<'a> Place<'a, '_> {
             "waits" => self.waits(part, words),
             "sees" => self.view(part, words, false),
             "writes" => self.view(part, words, true),
+            "buffer" => self.buffer(part, words),
             "pool" => self.pool(part, words),
             "reg" => self.register(part, words),
             "budget" => self.budget(part, words),

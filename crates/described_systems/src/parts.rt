@@ -15,6 +15,8 @@ pub enum Held<'a> {
     Calls { door: &'a str, badge: Option<u32> },
     /// It may send to a door.
     Sends { door: &'a str, badge: Option<u32> },
+    /// Its faults are reported at a door.
+    Faults { door: &'a str, badge: Option<u32> },
 }
 
 impl<'a> Held<'a> {
@@ -22,7 +24,10 @@ impl<'a> Held<'a> {
     pub fn name(self) -> &'a str {
         match self {
             Held::Waits { bell } | Held::Line { bell, .. } | Held::Rings { bell, .. } => bell,
-            Held::Serves { door } | Held::Calls { door, .. } | Held::Sends { door, .. } => door,
+            Held::Serves { door }
+            | Held::Calls { door, .. }
+            | Held::Sends { door, .. }
+            | Held::Faults { door, .. } => door,
         }
     }
 
@@ -62,8 +67,17 @@ pub struct Pool {
 pub struct View<'a> {
     pub line: u64,
     pub page: &'a str,
+    /// How many frames the page has.
+    pub frames: u32,
     pub address: Option<u32>,
     pub writes: bool,
+}
+
+/// `buffer PAGE`
+#[derive(Clone, Copy)]
+pub struct Buffer<'a> {
+    pub line: u64,
+    pub page: &'a str,
 }
 
 /// `reg xN VALUE`, which a text has as it is
@@ -129,6 +143,9 @@ pub struct Part<'a> {
     /// What it holds, from slot 1 on.
     pub slots: Vec<Slot<'a>>,
     pub views: Vec<View<'a>>,
+    pub buffer: Option<Buffer<'a>>,
+    /// The lines that say how often an interrupt comes.
+    pub rates: Vec<u64>,
     pub pool: Option<Pool>,
     pub registers: Vec<RegisterLine<'a>>,
     pub budget: Option<Budget<'a>>,

@@ -1,22 +1,35 @@
 //! Reading a description line by line.
 
-use crate::declared::{Declaration, Kind, System};
+use crate::declared::{Declaration, Kind, Promise, System};
 use crate::faults::{DescriptionFault, Mistake, fault};
 use crate::forms;
+use crate::joined::Joined;
 use crate::names::Names;
 use crate::part_lines::Place;
 use crate::parts::{CodeLine, Part};
-use crate::words::{first_word_of, listed, number, words_of};
+use crate::words::{is_number, listed, number, words_of};
 use indexmap::IndexMap;
+use source_words::{SourceKind, declares, kind_of};
 use std::alloc::{AllocError, Global};
+
+/// The bytes of a frame.
+const FRAME_BYTES: usize = 4096;
+
+/// The most frames of a page.
+const MOST_FRAMES: u32 = 1024;
+
+/// The most bounds of a promise: two for each word of a message.
+const MOST_BOUNDS: usize = 16;
 
 /// What is read of a description up to some line.
 #[derive(Drop)]
 struct Reader<'a> {
     alloc: Global,
+    joined: &'a Joined,
     line: u64,
     names: Names<'a>,
     declared: Vec<Declaration<'a>>,
+    promises: Vec<Promise<'a>>,
     parts: Vec<Part<'a>>,
     /// The part that is not at its end.
     open: Option<Part<'a>>,
@@ -40,6 +53,26 @@ fn code_line<'a>(alloc: Global, line: u64, words: &[&'a str]) -> Result<CodeLine
     })
 }
 
+/// The first word of a line that can be the name of a number: before it are names of other things.
+fn first_number(head: Option<&&str>) -> usize {
+    match head {
+        Some(head) if matches!(*head, "pool" | "budget" | "within") => 1,
+        _ => 2,
+    }
+}
+
+/// How many frames bytes need.
+fn frames_for(bytes: Option<&[u8]>) -> u32 {
+    let count = match bytes {
+        Some(bytes) => bytes.len().div_ceil(FRAME_BYTES),
+        None => 1,
+    };
+    match u32::try_from(count) {
+        Ok(count) => count.max(1).min(MOST_FRAMES),
+        Err(_) => MOST_FRAMES,
+    }
+}
+
 /// No interrupt is to be bound twice.
 fn check_interrupts<'a>(alloc: Global, parts: &[Part<'a>]) -> Result<(), DescriptionFault<'a>> {
     let mut bound = IndexMap::new(alloc);
@@ -56,51 +89,72 @@ fn check_interrupts<'a>(alloc: Global, parts: &[Part<'a>]) -> Result<(), Descrip
 }
 
 impl<'a> Reader<'a> {
-    fn new(alloc: Global) -> Self {
+    fn new(alloc: Global, joined: &'a Joined) -> Self {
         Reader {
             alloc,
+            joined,
             line: 0,
             names: Names::new(alloc),
             declared: Vec::new(alloc),
+            promises: Vec::new(alloc),
             parts: Vec::new(alloc),
             open: None,
             is_program: false,
         }
     }
 
-    /// A page, a device page, a bell or a door.
-    fn declare(
-        &mut self,
-        kind: Kind,
-        name: &'a str,
-        words: &[&'a str],
-    ) -> Result<(), DescriptionFault<'a>> {
-        self.names.add(self.line, name, kind)?;
-        self.declared.push(Declaration {
-            line: self.line,
-            name,
-            kind,
-            words: listed(self.alloc, words)?,
-        })?;
-        Ok(())
-    }
-
-    /// `page NAME [WORD ..]` or `device NAME [WORD ..]`
+    /// `page NAME [pages N] [from FILE | WORD ..]`, or `device` likewise
     fn page(
         &mut self,
         kind: Kind,
         form: &'static str,
         words: &[&'a str],
     ) -> Result<(), DescriptionFault<'a>> {
-        match words {
-            [name, content @ ..] => {
-                for word in content {
-                    number(self.line, *word, 0, u32::MAX)?;
-                }
-                self.declare(kind, *name, content)
+        let (name, frames, content) = match words {
+            [name, word, count, rest @ ..] if *word == "pages" => {
+                (
+                    *name,
+                    Some(number(self.line, *count, 1, MOST_FRAMES)?),
+                    rest,
+                )
             }
-            [] => Err(self.other_form(form)),
+            [name, rest @ ..] => (*name, None, rest),
+            [] => return Err(self.other_form(form)),
+        };
+        let bytes = match content {
+            [word, file] if *word == "from" => Some(self.bytes_of(*file)?),
+            _ => None,
+        };
+        let page = Declaration {
+            line: self.line,
+            name,
+            kind,
+            frames: frames.unwrap_or(frames_for(bytes)),
+            words: match bytes {
+                Some(_) => Vec::new(self.alloc),
+                None => self.first_words(content)?,
+            },
+            bytes,
+        };
+        self.names.add_page(self.line, name, kind, page.frames)?;
+        self.declared.push(page)?;
+        Ok(())
+    }
+
+    /// The bytes of a file that a page begins with.
+    fn bytes_of(&self, file: &'a str) -> Result<&'a [u8], DescriptionFault<'a>> {
+        match self.joined.bytes_on(self.line) {
+            Some(bytes) => Ok(bytes),
+            None => Err(fault(self.line, Mistake::NoBytes { file })),
         }
+    }
+
+    /// The words that a page begins with.
+    fn first_words(&self, words: &[&'a str]) -> Result<Vec<&'a str>, DescriptionFault<'a>> {
+        for word in words {
+            number(self.line, *word, 0, u32::MAX)?;
+        }
+        Ok(listed(self.alloc, words)?)
     }
 
     /// `bell NAME` or `door NAME`
@@ -110,10 +164,63 @@ impl<'a> Reader<'a> {
         form: &'static str,
         words: &[&'a str],
     ) -> Result<(), DescriptionFault<'a>> {
-        match words {
-            [name] => self.declare(kind, *name, &[]),
-            _ => Err(self.other_form(form)),
+        let [name] = words else {
+            return Err(self.other_form(form));
+        };
+        self.names.add(self.line, *name, kind)?;
+        self.declared.push(Declaration {
+            line: self.line,
+            name: *name,
+            kind,
+            frames: 1,
+            words: Vec::new(self.alloc),
+            bytes: None,
+        })?;
+        Ok(())
+    }
+
+    /// The line on which something is promised of messages at a door.
+    fn promise_line(&self, door: &str) -> Option<u64> {
+        for promise in &self.promises {
+            if promise.door == door {
+                return Some(promise.line);
+            }
         }
+        None
+    }
+
+    /// `promise DOOR LOW HIGH [LOW HIGH] ..`
+    fn promise(&mut self, words: &[&'a str]) -> Result<(), DescriptionFault<'a>> {
+        let [door, bounds @ ..] = words else {
+            return Err(self.other_form(forms::PROMISE));
+        };
+        self.names.check(self.alloc, self.line, *door, Kind::Door)?;
+        if bounds.is_empty() || bounds.len() % 2 == 1 || MOST_BOUNDS < bounds.len() {
+            return Err(self.other_form(forms::PROMISE));
+        }
+        if let Some(line) = self.promise_line(*door) {
+            return Err(fault(self.line, Mistake::PromisedAlready { door: *door, line }));
+        }
+        let bounds = self.first_words(bounds)?;
+        self.promises.push(Promise {
+            line: self.line,
+            door: *door,
+            bounds,
+        })?;
+        Ok(())
+    }
+
+    /// `let NAME NUMBER`
+    fn number(&mut self, words: &[&'a str]) -> Result<(), DescriptionFault<'a>> {
+        let [name, said] = words else {
+            return Err(self.other_form(forms::LET));
+        };
+        let word = self.joined.given(*name).unwrap_or(*said);
+        if !is_number(word) {
+            let (low, high) = (0, u32::MAX);
+            return Err(fault(self.line, Mistake::NotANumber { word, low, high }));
+        }
+        self.names.add_number(self.line, *name, word)
     }
 
     /// The fault of a line that is not of its form.
@@ -146,6 +253,10 @@ impl<'a> Reader<'a> {
             "device" => self.page(Kind::Device, forms::DEVICE, words),
             "bell" => self.meeting(Kind::Bell, forms::BELL, words),
             "door" => self.meeting(Kind::Door, forms::DOOR, words),
+            "promise" => self.promise(words),
+            "let" => self.number(words),
+            "include" if words.len() == 1 => Err(fault(self.line, Mistake::NotIncluded)),
+            "include" => Err(self.other_form(forms::INCLUDE)),
             "part" => self.begin(words),
             word if forms::is_of_part(word) => {
                 Err(fault(self.line, Mistake::OutsidePart { word }))
@@ -156,6 +267,7 @@ impl<'a> Reader<'a> {
 
     /// The line `end`.
     fn end(&mut self) -> Result<(), DescriptionFault<'a>> {
+        self.is_program = false;
         match self.open.take() {
             Some(part) => {
                 if part.code.is_empty() && part.sources.is_none() {
@@ -176,7 +288,7 @@ impl<'a> Reader<'a> {
             names: &self.names,
         };
         match &mut self.open {
-            Some(part) if forms::declares(head) => Err(fault(
+            Some(part) if declares(head) => Err(fault(
                 self.line,
                 Mistake::InsidePart {
                     word: head,
@@ -219,7 +331,7 @@ impl<'a> Reader<'a> {
             [head, rest @ ..] => {
                 if self.open.is_none() {
                     self.add_outside(*head, rest)
-                } else if self.is_program && !forms::declares(*head) {
+                } else if self.is_program && !declares(*head) {
                     self.add_code(words)
                 } else if *head == "code" {
                     self.begin_program(rest)
@@ -233,7 +345,11 @@ impl<'a> Reader<'a> {
     /// The next line.
     fn add_text(&mut self, text: &'a str) -> Result<(), DescriptionFault<'a>> {
         self.line = self.line.saturating_add(1);
-        let words = words_of(self.alloc, text)?;
+        let mut words = words_of(self.alloc, text)?;
+        if !self.is_program {
+            let first = first_number(words.first());
+            self.names.put_numbers(&mut words, first);
+        }
         self.add_words(words.as_slice())
     }
 
@@ -245,6 +361,9 @@ impl<'a> Reader<'a> {
         if self.parts.is_empty() {
             return Err(fault(self.line.max(1), Mistake::NoPart));
         }
+        if let Some(name) = self.joined.given_in_vain(&self.names.numbers) {
+            return Err(fault(1, Mistake::GivenInVain { name }));
+        }
         self.names.check_owners()?;
         check_interrupts(self.alloc, self.parts.as_slice())
     }
@@ -254,38 +373,27 @@ impl<'a> Reader<'a> {
         self.check()?;
         Ok(System {
             declared: self.declared,
+            promises: self.promises,
+            numbers: self.names.into_numbers(),
             parts: self.parts,
         })
     }
 }
 
-/// What a description says.
+/// What a description says, with the files that it includes in their places.
 ///
 /// # Errors
 ///
 /// The first line that is wrong by itself or by the lines before it; else what is wrong with the whole; or memory was refused.
-pub fn read<'a>(alloc: Global, text: &'a str) -> Result<System<'a>, DescriptionFault<'a>> {
-    let mut reader = Reader::new(alloc);
-    for line in text.lines() {
+pub fn read<'a>(alloc: Global, joined: &'a Joined) -> Result<System<'a>, DescriptionFault<'a>> {
+    let mut reader = Reader::new(alloc, joined);
+    for line in joined.text().lines() {
         reader.add_text(line)?;
     }
     reader.finish()
 }
 
-/// The first word of a text.
-fn first_word(text: &str) -> Option<&str> {
-    for line in text.lines() {
-        if let Some(word) = first_word_of(line) {
-            return Some(word);
-        }
-    }
-    None
-}
-
 /// Whether a text begins as a description does, with one of its declarations or a part.
 pub fn is_description(text: &str) -> bool {
-    match first_word(text) {
-        Some(word) => forms::declares(word),
-        None => false,
-    }
+    kind_of(text.as_bytes()) == Some(SourceKind::Description)
 }

@@ -2,15 +2,30 @@
 
 use crate::declared::Kind;
 use crate::faults::{DescriptionFault, Mistake};
-use std::alloc::AllocError;
+use crate::forms::WORDS;
+use crate::joined::Joined;
+use source_words::Nearest;
+use std::alloc::{AllocError, Global};
+
+/// Puts which of these words was meant, if one is like a word.
+fn push_meant(to: &mut String, word: &str, words: &[&str]) -> Result<(), AllocError> {
+    let mut nearest = Nearest::to(word);
+    for candidate in words {
+        nearest.consider(word, *candidate);
+    }
+    match nearest.name {
+        Some(name) => write!(to, "; did you mean `{name}`?"),
+        None => Ok(()),
+    }
+}
 
 /// Puts what is wrong with where a line is.
 fn push_order(to: &mut String, mistake: Mistake<'_>) -> Result<(), AllocError> {
     match mistake {
-        Mistake::UnknownLine { word } => write!(
-            to,
-            "no line of a description begins with `{word}`"
-        ),
+        Mistake::UnknownLine { word } => {
+            write!(to, "no line of a description begins with `{word}`")?;
+            push_meant(to, word, WORDS.as_slice())
+        }
         Mistake::OutsidePart { word } => {
             write!(to, "`{word}` is a line of a part, and no part is open here")
         }
@@ -53,34 +68,76 @@ fn push_word(to: &mut String, mistake: Mistake<'_>) -> Result<(), AllocError> {
         Mistake::Reserved { name } => {
             write!(to, "`{name}` has a meaning of its own: choose another name")
         }
-        mistake => push_name(to, mistake),
+        mistake => push_file(to, mistake),
     }
 }
 
-/// Puts what is wrong with a name beside others.
-fn push_name(to: &mut String, mistake: Mistake<'_>) -> Result<(), AllocError> {
+/// Puts what is wrong with a name, or with a file that is named.
+fn push_file(to: &mut String, mistake: Mistake<'_>) -> Result<(), AllocError> {
     match mistake {
         Mistake::TakenBy { name, owner } => write!(
             to,
             "`{name}` is the name of something that {owner} gets: choose another name"
         ),
-        Mistake::Doubled { name, line } => {
-            write!(to, "`{name}` is declared already, on line {line}")
-        }
         Mistake::OtherKind { name, kind, wanted } => {
             let (kind, wanted) = (kind.word(), wanted.word());
             write!(to, "{name} is a {kind}, and a {wanted} is wanted")
         }
-        Mistake::HeldAlready { part, name, line } => {
-            write!(to, "part {part} has {name} already, on line {line}")
-        }
-        Mistake::LineBound { number, line } => {
+        Mistake::NotIncluded => to.push_str(
+            "this file is not included: 64 files are the most, and this may include itself",
+        ),
+        Mistake::NoBytes { file } => write!(to, "the bytes of {file} are not read"),
+        Mistake::GivenInVain { name } => {
             write!(
                 to,
-                "interrupt line {number} is bound already, on line {line}"
+                "`-D {name}=..` is given, and no line is `let {name} NUMBER`"
             )
         }
         _ => Ok(()),
+    }
+}
+
+/// The line at fault, and where it is.
+#[derive(Clone, Copy)]
+struct Fault<'a> {
+    joined: &'a Joined,
+    line: u64,
+}
+
+impl Fault<'_> {
+    /// Puts what is said on another line already, and on which.
+    fn push_doubled(
+        &self,
+        to: &mut String,
+        said: Result<String, AllocError>,
+        other: u64,
+    ) -> Result<(), AllocError> {
+        to.push_str(said?.as_str())?;
+        to.push_str(" already, ")?;
+        self.joined.push_beside(to, self.line, other)
+    }
+
+    /// Puts what is wrong.
+    fn push(&self, alloc: Global, to: &mut String, mistake: Mistake<'_>) -> Result<(), AllocError> {
+        match mistake {
+            Mistake::Doubled { name, line } => {
+                self.push_doubled(to, format!(in alloc; "`{name}` is declared"), line)
+            }
+            Mistake::HeldAlready { part, name, line } => {
+                self.push_doubled(to, format!(in alloc; "part {part} has {name}"), line)
+            }
+            Mistake::PromisedAlready { door, line } => self.push_doubled(
+                to,
+                format!(in alloc; "of messages at {door} something is promised"),
+                line,
+            ),
+            Mistake::LineBound { number, line } => self.push_doubled(
+                to,
+                format!(in alloc; "interrupt line {number} is bound"),
+                line,
+            ),
+            mistake => push_order(to, mistake),
+        }
     }
 }
 
@@ -101,7 +158,7 @@ fn push_unknown(
         write!(to, "{before}{name}")?;
         before = ", ";
     }
-    Ok(())
+    push_meant(to, name, known)
 }
 
 /// Puts the line of a fault in a description, with the name of its file.
@@ -110,14 +167,17 @@ fn push_unknown(
 ///
 /// Memory is refused, also where that is the fault.
 pub fn push_fault(
+    alloc: Global,
     to: &mut String,
-    file: &str,
+    joined: &Joined,
     fault: &DescriptionFault<'_>,
 ) -> Result<(), AllocError> {
     match fault {
         DescriptionFault::Line { line, mistake } => {
-            write!(to, "{file}:{line}: ")?;
-            push_order(to, *mistake)?;
+            let line = *line;
+            joined.push_place(to, line)?;
+            to.push_str(": ")?;
+            Fault { joined, line }.push(alloc, to, *mistake)?;
         }
         DescriptionFault::Unknown {
             line,
@@ -125,7 +185,8 @@ pub fn push_fault(
             wanted,
             known,
         } => {
-            write!(to, "{file}:{line}: ")?;
+            joined.push_place(to, *line)?;
+            to.push_str(": ")?;
             push_unknown(to, *name, *wanted, known.as_slice())?;
         }
         DescriptionFault::OutOfMemory => return Err(AllocError),

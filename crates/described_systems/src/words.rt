@@ -33,16 +33,6 @@ pub(crate) fn words_of<'a>(alloc: Global, line: &'a str) -> Result<Vec<&'a str>,
     Ok(words)
 }
 
-/// The first word of a line.
-pub(crate) fn first_word_of(line: &str) -> Option<&str> {
-    for word in said_on(line).split(parts_words) {
-        if !word.is_empty() {
-            return Some(word);
-        }
-    }
-    None
-}
-
 /// These words once more.
 pub(crate) fn listed<'a>(alloc: Global, words: &[&'a str]) -> Result<Vec<&'a str>, AllocError> {
     let mut list = Vec::new(alloc);
@@ -96,6 +86,11 @@ fn number_in(word: &str) -> Option<u32> {
         None if are_digits(word) => word.parse::<u32>().ok(),
         _ => None,
     }
+}
+
+/// Whether a word is a number of 32 bits, or one with `-` before it.
+pub(crate) fn is_number(word: &str) -> bool {
+    number_in(word.strip_prefix("-").unwrap_or(word)).is_some()
 }
 
 /// The number in a range that a word of a line is.

@@ -31,7 +31,9 @@ fn tells_and_hears(held: Held<'_>) -> (bool, bool) {
         Held::Waits { .. } => (true, true),
         Held::Rings { .. } => (true, false),
         // Who sends waits until somebody receives.
-        Held::Serves { .. } | Held::Calls { .. } | Held::Sends { .. } => (true, true),
+        Held::Serves { .. } | Held::Calls { .. } | Held::Sends { .. } | Held::Faults { .. } => (
+            true, true,
+        ),
     }
 }
 

@@ -44,6 +44,13 @@ pub(crate) struct Capability<'a> {
     pub(crate) badge: u32,
 }
 
+impl Capability<'_> {
+    /// Whether messages to a door are sent by it.
+    pub(crate) fn enters(&self) -> bool {
+        self.rights & WRITE != 0
+    }
+}
+
 /// The badges that are given so far, by the names of bells and doors.
 #[derive(Drop)]
 pub(crate) struct Badges<'a> {
@@ -109,7 +116,9 @@ impl<'a> Badges<'a> {
                 (Source::Bell(bell), WRITE, self.ringing(line, bell, badge)?)
             }
             Held::Serves { door } => (Source::Door(door), READ, 0),
-            Held::Calls { door, badge } => (Source::Door(door), CALL, self.entering(door, badge)?),
+            Held::Calls { door, badge } | Held::Faults { door, badge } => {
+                (Source::Door(door), CALL, self.entering(door, badge)?)
+            }
             Held::Sends { door, badge } => (Source::Door(door), WRITE, self.entering(door, badge)?),
         };
         Ok(Capability {

@@ -4,17 +4,17 @@ use crate::arrows::{Arrows, arrows_of, only};
 use crate::capabilities::{Capability, Source};
 use crate::groups::{Groups, groups_of};
 use crate::plans::Plan;
-use described_systems::{Declaration, Held, Kind, Part, System};
+use described_systems::{Declaration, Held, Joined, Kind, Part, System};
 use indexmap::IndexMap;
 use std::alloc::{AllocError, Global};
 
 /// Notes that are being written.
 #[derive(Drop)]
-struct Notes<'f> {
+struct Notes<'j> {
     alloc: Global,
     text: String,
-    /// The name of the description's file.
-    file: &'f str,
+    /// Where the lines of the description come from.
+    joined: &'j Joined,
 }
 
 /// Whether a part receives at a door.
@@ -61,13 +61,16 @@ struct PageUse {
     is_written: bool,
 }
 
-/// What parts may do with a page.
+/// What parts may do with a page. Messages write a message buffer.
 fn use_of(system: &System<'_>, page: &str) -> PageUse {
     let mut found = PageUse {
         is_seen: false,
         is_written: false,
     };
     for part in &system.parts {
+        if let Some(buffer) = part.buffer {
+            found.is_written = found.is_written || buffer.page == page;
+        }
         for view in &part.views {
             if view.page == page {
                 found.is_seen = true;
@@ -93,8 +96,8 @@ fn record_line(part: &Part<'_>) -> Option<u64> {
 impl Notes<'_> {
     /// The beginning of a note on a line.
     fn begin(&mut self, line: u64) -> Result<(), AllocError> {
-        let file = self.file;
-        write!(&mut self.text, "{file}:{line}: note: ")
+        self.joined.push_place(&mut self.text, line)?;
+        self.text.push_str(": note: ")
     }
 
     /// A note that names one thing.
@@ -183,7 +186,7 @@ impl Notes<'_> {
                 page.name,
                 "",
             )
-        } else if is_page && !found.is_written && page.words.is_empty() {
+        } else if is_page && !found.is_written && page.words.is_empty() && page.bytes.is_none() {
             self.say(
                 page.line,
                 "nobody writes the page ",
@@ -205,7 +208,7 @@ impl Notes<'_> {
             Kind::Page | Kind::Device => self.note_page(system, declared),
             Kind::Bell => self.note_bell(system, declared),
             Kind::Door => self.note_door(system, declared),
-            Kind::Part => Ok(()),
+            Kind::Part | Kind::Number => Ok(()),
         }
     }
 
@@ -217,6 +220,12 @@ impl Notes<'_> {
                 "the records of part ",
                 part.name,
                 " name slots by numbers, which change with the description: `certify` finds them",
+            )?;
+        }
+        for line in &part.rates {
+            self.begin(*line)?;
+            self.text.push_str(
+                "`every` and `burst` are not checked: no bound of responses is known yet\n",
             )?;
         }
         match part.within {
@@ -241,7 +250,7 @@ impl Notes<'_> {
         let mut owners = IndexMap::new(self.alloc);
         for capability in capabilities {
             match capability.source {
-                Source::Door(name) if name == door && capability.rights != 2 => {
+                Source::Door(name) if name == door && capability.enters() => {
                     if let Some(other) = owners.insert(capability.badge, capability.part)? {
                         let (part, badge) = (capability.part, capability.badge);
                         self.begin(capability.line)?;
@@ -329,14 +338,14 @@ impl Notes<'_> {
 /// What is odd about a system, a line for each.
 pub(crate) fn notes_of(
     alloc: Global,
-    file: &str,
+    joined: &Joined,
     system: &System<'_>,
     plan: &Plan<'_>,
 ) -> Result<String, AllocError> {
     let mut notes = Notes {
         alloc,
         text: String::new(alloc),
-        file,
+        joined,
     };
     for declared in &system.declared {
         notes.note_declared(system, declared)?;

@@ -94,6 +94,15 @@ pub(crate) fn radix_of(alloc: Global, part: &Part<'_>) -> Result<u32, Fault> {
     }
 }
 
+/// The name of a frame of a page: the first one has that of the page.
+pub(crate) fn frame_name(alloc: Global, page: &str, frame: u32) -> Result<String, AllocError> {
+    if frame == 0 {
+        String::from_str(alloc, page)
+    } else {
+        format!(in alloc; "{page}_page{frame}")
+    }
+}
+
 impl Objects {
     /// No objects.
     pub(crate) fn new(alloc: Global) -> Self {
@@ -156,17 +165,20 @@ impl Objects {
         }
     }
 
-    /// A page, a device page, a bell or a door.
+    /// A page, a device page, a bell or a door. A page has as many frames as are said of it.
     pub(crate) fn add_declared(&mut self, declared: &Declaration<'_>) -> Result<(), AllocError> {
         let sort = match declared.kind {
             Kind::Page => Sort::Frame,
             Kind::Device => Sort::DevicePage,
             Kind::Bell => Sort::Notification,
             Kind::Door => Sort::Endpoint,
-            Kind::Part => Sort::Tcb,
+            Kind::Part | Kind::Number => return Ok(()),
         };
-        let name = String::from_str(self.alloc, declared.name)?;
-        self.add(declared.line, name, sort)
+        for frame in 0..declared.frames {
+            let name = frame_name(self.alloc, declared.name, frame)?;
+            self.add(declared.line, name, sort)?;
+        }
+        Ok(())
     }
 
     /// The greatest first, and those of one size in the order of the description.

@@ -35,7 +35,9 @@ pub(crate) fn region_of(page: u32) -> u32 {
 pub(crate) struct PlacedPage<'a> {
     pub(crate) line: u64,
     pub(crate) name: &'a str,
+    /// The first of its frames.
     pub(crate) page: u32,
+    pub(crate) frames: u32,
     pub(crate) writes: bool,
 }
 
@@ -116,6 +118,19 @@ impl<'a> Space<'a> {
         self.used.get(&page).is_none()
     }
 
+    /// What is on one of so many frames from this one on, or the end of all addresses, if something is.
+    fn first_used(&self, page: u32, frames: u32) -> Option<&'a str> {
+        for page in page..page.saturating_add(frames) {
+            if PAGES_END <= page {
+                return Some("the end of all addresses");
+            }
+            if let Some(name) = self.used.get(&page) {
+                return Some(*name);
+            }
+        }
+        None
+    }
+
     /// Pages in a row that are used for one thing.
     fn take_row(&mut self, row: Row, name: &'a str) -> Result<(), AllocError> {
         for page in row.first..row.first.saturating_add(row.count) {
@@ -124,24 +139,28 @@ impl<'a> Space<'a> {
         Ok(())
     }
 
-    /// A page that is free gets its place.
-    fn take(&mut self, name: &'a str, page: u32) -> Result<(), AllocError> {
-        self.used.insert(page, name)?;
-        self.pages.insert(name, page)?;
+    /// A page of which all frames are free gets its place.
+    fn take(&mut self, view: &View<'a>, page: u32) -> Result<(), AllocError> {
+        let row = Row {
+            first: page,
+            count: view.frames,
+        };
+        self.take_row(row, view.page)?;
+        self.pages.insert(view.page, page)?;
         Ok(())
     }
 
     /// A page at an address that is said.
     fn take_said(&mut self, view: &View<'a>, address: u32) -> Result<(), Fault> {
         let page = address >> 12;
-        if let Some(other) = self.used.get(&page) {
+        if let Some(other) = self.first_used(page, view.frames) {
             let name = view.page;
             return Err(refused(
                 view.line,
                 format!(in self.alloc; "{name} and {other} are both at {address:#x}"),
             ));
         }
-        Ok(self.take(view.page, page)?)
+        Ok(self.take(view, page)?)
     }
 
     /// The pages at addresses that are said.
@@ -159,8 +178,8 @@ impl<'a> Space<'a> {
         for view in &part.views {
             if self.pages.get(view.page).is_none() {
                 if let Some(page) = habits.pages.get(view.page) {
-                    if self.is_free(*page) {
-                        self.take(view.page, *page)?;
+                    if self.first_used(*page, view.frames).is_none() {
+                        self.take(view, *page)?;
                     }
                 }
             }
@@ -168,11 +187,17 @@ impl<'a> Space<'a> {
         Ok(())
     }
 
-    /// The first page that is free.
-    fn first_free(&self) -> Option<u32> {
+    /// The first of so many free pages in a row.
+    fn first_free(&self, frames: u32) -> Option<u32> {
+        let mut free = 0u32;
         for page in self.next..PAGES_END {
-            if self.is_free(page) {
-                return Some(page);
+            free = if self.is_free(page) {
+                free.saturating_add(1)
+            } else {
+                0
+            };
+            if frames <= free {
+                return Some(page.saturating_sub(frames.saturating_sub(1)));
             }
         }
         None
@@ -182,11 +207,13 @@ impl<'a> Space<'a> {
     fn take_rest(&mut self, part: &Part<'a>) -> Result<(), Fault> {
         for view in &part.views {
             if self.pages.get(view.page).is_none() {
-                let Some(page) = self.first_free() else {
+                let Some(page) = self.first_free(view.frames) else {
                     return Err(self.no_room(view.line));
                 };
-                self.next = page;
-                self.take(view.page, page)?;
+                if view.frames == 1 {
+                    self.next = page;
+                }
+                self.take(view, page)?;
             }
         }
         Ok(())
@@ -243,6 +270,7 @@ impl<'a> Space<'a> {
                     line: view.line,
                     name: view.page,
                     page: *page,
+                    frames: view.frames,
                     writes: view.writes,
                 })?;
             }

@@ -25,7 +25,11 @@ impl PartPlan<'_> {
 
     /// How many frames are mapped.
     fn frames(&self) -> u64 {
-        count_of(self.places.pages.len())
+        let mut pages = 0u64;
+        for page in &self.places.pages {
+            pages = pages.saturating_add(u64::from(page.frames));
+        }
+        pages
             .saturating_add(u64::from(self.places.code.count))
             .saturating_add(u64::from(self.places.data.count))
             .saturating_add(u64::from(self.places.stack.count))
@@ -112,8 +116,17 @@ fn table_count(plans: &[PartPlan<'_>]) -> u64 {
 /// No page is to have more words than it has room for.
 fn check_contents(alloc: Global, system: &System<'_>) -> Result<(), Fault> {
     for declared in &system.declared {
-        let words = count_of(declared.words.len());
-        check_count(alloc, declared.line, "words of this page", words, 1024)?;
+        let frames = u64::from(declared.frames);
+        let (what, count, of_a_frame) = match declared.bytes {
+            Some(bytes) => ("bytes of this page", count_of(bytes.len()), 4096u64),
+            None => (
+                "words of this page",
+                count_of(declared.words.len()),
+                1024u64,
+            ),
+        };
+        let most = of_a_frame.saturating_mul(frames);
+        check_count(alloc, declared.line, what, count, most)?;
     }
     Ok(())
 }

@@ -5,6 +5,8 @@ use crate::places::PlacedPage;
 use crate::plans::PartPlan;
 use crate::writer::Writer;
 use described_systems::{CodeLine, Held, Part, Pool, Slot};
+use indexmap::IndexMap;
+use source_words::Nearest;
 use std::alloc::{AllocError, Global};
 
 /// What the last word of an instruction may be, besides a number.
@@ -14,6 +16,8 @@ enum Operand {
     Slot,
     /// The name of a page.
     Page,
+    /// An offset and a register in brackets.
+    Place,
     /// Nothing that is a number: a register, a label.
     Other,
 }
@@ -22,6 +26,7 @@ enum Operand {
 fn operand_of(word: &str) -> Operand {
     match word {
         "lui" => Operand::Page,
+        "lb" | "lh" | "lw" | "lbu" | "lhu" | "sb" | "sh" | "sw" => Operand::Place,
         "addi" | "slti" | "sltiu" | "xori" | "ori" | "andi" | "slli" | "srli" | "srai" | "word" => {
             Operand::Slot
         }
@@ -150,6 +155,8 @@ pub(crate) struct Program<'a, 'p> {
     pub(crate) alloc: Global,
     pub(crate) part: &'p Part<'a>,
     pub(crate) plan: &'p PartPlan<'a>,
+    /// The numbers that have names.
+    pub(crate) numbers: &'p IndexMap<&'a str, &'a str>,
 }
 
 /// The label that a program starts at.
@@ -258,7 +265,66 @@ impl Program<'_, '_> {
         } else {
             push_slots(&mut said, self.part)?;
         }
+        if let Some(name) = self.nearest(what, word) {
+            write!(&mut said, "; did you mean `{name}`?")?;
+        }
         Ok(said)
+    }
+
+    /// The name of a slot or a page of the part, or of a number, that is most like a word.
+    fn nearest(&self, what: &str, word: &str) -> Option<&str> {
+        let mut nearest = Nearest::to(word);
+        if what == "page" {
+            for page in &self.plan.places.pages {
+                nearest.consider(word, page.name);
+            }
+        } else {
+            for slot in &self.part.slots {
+                nearest.consider(word, slot.held.name());
+            }
+        }
+        for name in self.numbers.keys() {
+            nearest.consider(word, *name);
+        }
+        nearest.name
+    }
+
+    /// The number that has a name, as it is written.
+    fn number(&self, name: &str) -> Option<&str> {
+        match self.numbers.get(name) {
+            Some(number) => Some(*number),
+            None => None,
+        }
+    }
+
+    /// Writes an offset and a register in brackets.
+    fn put_place(&self, writer: &mut Writer<'_>, word: &str) -> Result<(), AllocError> {
+        let Some((offset, register)) = word.split_once('(') else {
+            return write!(&mut writer.text, " {word}");
+        };
+        let offset = self.number(offset).unwrap_or(offset);
+        write!(&mut writer.text, " {offset}({register}")
+    }
+
+    /// Writes the number of a slot, or one that has a name.
+    fn put_slot(&self, writer: &mut Writer<'_>, line: u64, word: &str) -> Result<(), Fault> {
+        match (slot_of(self.part, word), self.number(word)) {
+            (Some(slot), _) => Ok(write!(&mut writer.text, " {slot}")?),
+            (None, Some(number)) => Ok(write!(&mut writer.text, " {number}")?),
+            (None, None) => Err(self.no_slot(line, word)),
+        }
+    }
+
+    /// Writes the number of a page's address, or one that has a name.
+    fn put_page(&self, writer: &mut Writer<'_>, line: u64, word: &str) -> Result<(), Fault> {
+        match (
+            page_of(self.plan.places.pages.as_slice(), word),
+            self.number(word),
+        ) {
+            (Some(page), _) => Ok(write!(&mut writer.text, " {page:#x}")?),
+            (None, Some(number)) => Ok(write!(&mut writer.text, " {number}")?),
+            (None, None) => Err(self.no_page(line, word)),
+        }
     }
 
     /// Writes the last word of an instruction.
@@ -269,20 +335,12 @@ impl Program<'_, '_> {
         operand: Operand,
         word: &str,
     ) -> Result<(), Fault> {
-        if operand == Operand::Other || !is_name(word) {
-            write!(&mut writer.text, " {word}")?;
-        } else if operand == Operand::Page {
-            match page_of(self.plan.places.pages.as_slice(), word) {
-                Some(page) => write!(&mut writer.text, " {page:#x}")?,
-                None => return Err(self.no_page(line.line, word)),
-            }
-        } else {
-            match slot_of(self.part, word) {
-                Some(slot) => write!(&mut writer.text, " {slot}")?,
-                None => return Err(self.no_slot(line.line, word)),
-            }
+        match operand {
+            Operand::Place => Ok(self.put_place(writer, word)?),
+            Operand::Page if is_name(word) => self.put_page(writer, line.line, word),
+            Operand::Slot if is_name(word) => self.put_slot(writer, line.line, word),
+            _ => Ok(write!(&mut writer.text, " {word}")?),
         }
-        Ok(())
     }
 
     /// Writes the words of a line after its label.

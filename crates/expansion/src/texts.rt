@@ -3,13 +3,14 @@
 use crate::capabilities::{Capability, Interrupt, Source};
 use crate::faults::Fault;
 use crate::memory::Memory;
-use crate::objects::Object;
+use crate::objects::{Object, frame_name};
 use crate::places::{CODE_PAGE, Places, Row, address_of};
 use crate::plans::{PartPlan, Plan};
 use crate::programs::{Entry, Program};
 use crate::sizes::power_of_two;
 use crate::writer::Writer;
-use described_systems::{Declaration, Part, Pool, Sources, System};
+use described_systems::{Buffer, Declaration, Held, Joined, Part, Pool, Promise, Sources, System};
+use indexmap::IndexMap;
 use std::alloc::{AllocError, Global};
 
 /// The rights of mappings.
@@ -18,6 +19,48 @@ const EXECUTE: u32 = 4;
 const READ: u32 = 2;
 
 const READ_WRITE: u32 = 3;
+
+/// The words of a frame, and its bytes.
+const FRAME_WORDS: usize = 1024;
+
+const FRAME_BYTES: usize = 4096;
+
+/// The word that up to four bytes are, the lowest first.
+fn word_of(bytes: &[u8]) -> u32 {
+    let mut word = 0u32;
+    for byte in bytes.iter().rev() {
+        word = (word << 8) | u32::from(*byte);
+    }
+    word
+}
+
+/// The least and the greatest badge of those who may enter a door.
+fn badges_at(door: &str, capabilities: &[Capability<'_>]) -> (u32, u32) {
+    let mut found: Option<(u32, u32)> = None;
+    for capability in capabilities {
+        match capability.source {
+            Source::Door(name) if name == door && capability.enters() => {
+                let badge = capability.badge;
+                found = match found {
+                    Some((least, greatest)) => Some((least.min(badge), greatest.max(badge))),
+                    None => Some((badge, badge)),
+                };
+            }
+            _ => {}
+        }
+    }
+    found.unwrap_or((0, 0))
+}
+
+/// The slot of the capability at which the faults of a part are reported, or 0.
+fn handler_of(part: &Part<'_>) -> u32 {
+    for slot in &part.slots {
+        if let Held::Faults { .. } = slot.held {
+            return slot.number;
+        }
+    }
+    0
+}
 
 impl Writer<'_> {
     /// `memory` and `untyped`
@@ -112,17 +155,24 @@ impl Writer<'_> {
         Ok(())
     }
 
+    /// The name of a frame of a page.
+    fn put_frame(&mut self, page: &str, frame: u32) -> Result<(), AllocError> {
+        let name = frame_name(self.alloc, page, frame)?;
+        self.text.push_str(name.as_str())
+    }
+
     /// `map` of pages that parts may see
     fn put_pages(&mut self, part: &Part<'_>, places: &Places<'_>) -> Result<(), AllocError> {
         let owner = part.name;
         for page in &places.pages {
-            let (name, address) = (page.name, address_of(page.page));
             let rights = if page.writes { READ_WRITE } else { READ };
-            write!(
-                &mut self.text,
-                "map {owner}_space {address:#x} {name} {rights}"
-            )?;
-            self.end(page.line)?;
+            for frame in 0..page.frames {
+                let address = address_of(page.page.saturating_add(frame));
+                write!(&mut self.text, "map {owner}_space {address:#x} ")?;
+                self.put_frame(page.name, frame)?;
+                write!(&mut self.text, " {rights}")?;
+                self.end(page.line)?;
+            }
         }
         Ok(())
     }
@@ -139,17 +189,53 @@ impl Writer<'_> {
         self.put_pages(part, &plan.places)
     }
 
-    /// `data`
+    /// `data` of each frame of a page for which there are words
     fn put_content(&mut self, declared: &Declaration<'_>) -> Result<(), AllocError> {
-        if declared.words.is_empty() {
-            return Ok(());
+        let mut frame = 0u32;
+        for words in declared.words.chunks(FRAME_WORDS) {
+            self.text.push_str("data ")?;
+            self.put_frame(declared.name, frame)?;
+            for word in words {
+                write!(&mut self.text, " {word}")?;
+            }
+            self.end(declared.line)?;
+            frame = frame.saturating_add(1);
         }
-        let name = declared.name;
-        write!(&mut self.text, "data {name}")?;
-        for word in &declared.words {
-            write!(&mut self.text, " {word}")?;
+        match declared.bytes {
+            Some(bytes) => self.put_bytes(declared, bytes),
+            None => Ok(()),
         }
-        self.end(declared.line)
+    }
+
+    /// `data` of each frame of a page for which there are bytes: words have the lowest byte first
+    fn put_bytes(&mut self, declared: &Declaration<'_>, bytes: &[u8]) -> Result<(), AllocError> {
+        let mut frame = 0u32;
+        for content in bytes.chunks(FRAME_BYTES) {
+            self.text.push_str("data ")?;
+            self.put_frame(declared.name, frame)?;
+            for word in content.chunks(4) {
+                let word = word_of(word);
+                write!(&mut self.text, " {word:#x}")?;
+            }
+            self.end(declared.line)?;
+            frame = frame.saturating_add(1);
+        }
+        Ok(())
+    }
+
+    /// `promise`, with the least and the greatest badge of those who enter the door
+    fn put_promise(
+        &mut self,
+        promise: &Promise<'_>,
+        capabilities: &[Capability<'_>],
+    ) -> Result<(), AllocError> {
+        let door = promise.door;
+        let (least, greatest) = badges_at(door, capabilities);
+        write!(&mut self.text, "promise {door} {least} {greatest}")?;
+        for bound in &promise.bounds {
+            write!(&mut self.text, " {bound}")?;
+        }
+        self.end(promise.line)
     }
 
     /// `thread`
@@ -165,11 +251,19 @@ impl Writer<'_> {
             None => "auto",
         };
         let (label, base) = (entry.label.as_str(), address_of(CODE_PAGE));
+        let handler = handler_of(part);
         write!(
             &mut self.text,
-            "\nthread {name} {name}_slots {guard} {name}_space {priority} {budget} 0 {label} {base:#x}"
+            "\nthread {name} {name}_slots {guard} {name}_space {priority} {budget} {handler} {label} {base:#x}"
         )?;
-        self.end(part.line)
+        self.end(part.line)?;
+        match part.buffer {
+            Some(Buffer { line, page }) => {
+                write!(&mut self.text, "buffer {page}")?;
+                self.end(line)
+            }
+            None => Ok(()),
+        }
     }
 
     /// `reg`
@@ -210,8 +304,14 @@ impl Writer<'_> {
         alloc: Global,
         part: &Part<'_>,
         plan: &PartPlan<'_>,
+        numbers: &IndexMap<&str, &str>,
     ) -> Result<(), Fault> {
-        let program = Program { alloc, part, plan };
+        let program = Program {
+            alloc,
+            part,
+            plan,
+            numbers,
+        };
         let entry = program.entry()?;
         self.put_thread(part, plan, &entry)?;
         self.put_registers(part)?;
@@ -241,6 +341,9 @@ impl Writer<'_> {
         for declared in &system.declared {
             self.put_content(declared)?;
         }
+        for promise in &system.promises {
+            self.put_promise(promise, plan.capabilities.as_slice())?;
+        }
         Ok(())
     }
 }
@@ -248,14 +351,14 @@ impl Writer<'_> {
 /// The text of a system.
 pub(crate) fn text_of(
     alloc: Global,
-    file: &str,
+    joined: &Joined,
     system: &System<'_>,
     plan: &Plan<'_>,
 ) -> Result<String, Fault> {
-    let mut writer = Writer::new(alloc, file);
+    let mut writer = Writer::new(alloc, joined);
     writer.put_declarations(system, plan)?;
     for (part, plan) in system.parts.iter().zip(plan.parts.as_slice()) {
-        writer.put_part(alloc, part, plan)?;
+        writer.put_part(alloc, part, plan, &system.numbers)?;
     }
     Ok(writer.text)
 }

@@ -1,13 +1,15 @@
 //! Lines of a text, each with the line of the description that it comes from.
 
+use described_systems::{Joined, Place};
 use std::alloc::{AllocError, Global};
 
 /// A text that is being written.
 #[derive(Drop)]
-pub(crate) struct Writer<'f> {
+pub(crate) struct Writer<'j> {
+    pub(crate) alloc: Global,
     pub(crate) text: String,
-    /// The name of the description's file.
-    file: &'f str,
+    /// Where the lines of the description come from.
+    joined: &'j Joined,
 }
 
 /// Whether a byte may be in the name of a file in a comment.
@@ -24,18 +26,20 @@ fn plain_name(file: &str) -> &str {
     }
 }
 
-impl<'f> Writer<'f> {
+impl<'j> Writer<'j> {
     /// No lines.
-    pub(crate) fn new(alloc: Global, file: &'f str) -> Self {
+    pub(crate) fn new(alloc: Global, joined: &'j Joined) -> Self {
         Writer {
+            alloc,
             text: String::new(alloc),
-            file: plain_name(file),
+            joined,
         }
     }
 
     /// The end of a line that comes from this line of the description.
     pub(crate) fn end(&mut self, line: u64) -> Result<(), AllocError> {
-        let file = self.file;
+        let Place { file, line } = self.joined.place(line);
+        let file = plain_name(file);
         write!(&mut self.text, " # {file}:{line}\n")
     }
 }
