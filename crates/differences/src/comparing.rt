@@ -1,19 +1,23 @@
 //! Two texts, compared.
 
+use crate::contents::{Side, changed, image_of};
 use crate::faults::{DifferencesFault, in_first, in_second};
 use crate::reaches::{Reach, Reaches, reaches_of};
 use crate::things::Thing;
-use source_texts::{read, with_budgets};
+use source_texts::{Budgets, SourceText, read, with_budgets};
 use std::alloc::{AllocError, Global};
 
-/// What the threads of one text may do that those of another may not, a line for each thing. Both are empty where there is no
-/// difference.
+/// What the threads of one text may do that those of another may not, and what else is not the same, a line for each thing. All are
+/// empty where there is no difference.
 #[derive(Drop)]
 pub struct Changes {
     /// What those of the second may do that those of the first may not, with the lines of the second.
     pub more: String,
     /// What those of the first may do that those of the second may not.
     pub less: String,
+    /// What is not the same and is neither: programs, the words that frames begin with, and what is promised, with the lines of the
+    /// second.
+    pub changed: String,
 }
 
 /// Which of two lists is written.
@@ -163,14 +167,76 @@ fn list_of(
     Ok(writer.text)
 }
 
+/// A text with what it declares, and the numbers that its budgets are taken for.
+#[derive(Clone, Copy)]
+struct Drafted<'c, 'b, 't, 'n> {
+    content: &'c str,
+    budgets: &'b Budgets,
+    text: &'t SourceText<'n>,
+}
+
+/// What the threads of each of two texts may do that those of the other may not: of the second, and of the first.
+fn lists_of(
+    alloc: Global,
+    one: Drafted<'_, '_, '_, '_>,
+    other: Drafted<'_, '_, '_, '_>,
+) -> Result<(String, String), AllocError> {
+    let first = reaches_of(alloc, one.text, &one.budgets.lines)?;
+    let second = reaches_of(alloc, other.text, &other.budgets.lines)?;
+    let more = list_of(alloc, List::More, &second, &first)?;
+    let less = list_of(alloc, List::Less, &first, &second)?;
+    Ok((more, less))
+}
+
+/// What is not the same in two texts besides.
+fn changes_of(
+    alloc: Global,
+    one: Drafted<'_, '_, '_, '_>,
+    other: Drafted<'_, '_, '_, '_>,
+) -> Result<String, AllocError> {
+    let first = image_of(alloc, &one.budgets.text)?;
+    let second = image_of(alloc, &other.budgets.text)?;
+    let first_built = first.as_ref();
+    let second_built = second.as_ref();
+    let before = Side {
+        content: one.content,
+        text: one.text,
+        image: first_built,
+    };
+    let after = Side {
+        content: other.content,
+        text: other.text,
+        image: second_built,
+    };
+    changed(alloc, before, after)
+}
+
+/// Two texts, compared.
+fn compared(
+    alloc: Global,
+    one: Drafted<'_, '_, '_, '_>,
+    other: Drafted<'_, '_, '_, '_>,
+) -> Result<Changes, AllocError> {
+    let changed = changes_of(alloc, one, other)?;
+    let (more, less) = lists_of(alloc, one, other)?;
+    Ok(Changes {
+        more,
+        less,
+        changed,
+    })
+}
+
 /// What the threads of the text `after` may do that the threads of the same names in `before` may not, and the other way round. What
 /// is compared is what each thread may do to which object, by the object's name: by capabilities in its CNodes and in those that
 /// these name, by pages that are mapped, by its message buffer, and where its faults are reported; the badges that it sends and
 /// signals with; its priority, and its budget where both texts give a number. A thread that the other text does not have is there
 /// with all that it may do.
 ///
-/// Not compared are: programs, registers, the words of pages, certificates, promises, the slots and addresses at which things are,
-/// where objects lie, and what interrupts signal.
+/// What is changed besides are programs and the words of pages, each by the first place that differs, where both texts make images,
+/// and promises.
+///
+/// Not compared are: registers, certificates, the slots and addresses at which things are, where objects lie, and what interrupts
+/// signal.
 ///
 /// # Errors
 ///
@@ -181,10 +247,15 @@ pub fn differences(alloc: Global, before: &str, after: &str) -> Result<Changes, 
     let second = with_budgets(alloc, after)?;
     let first_text = read(alloc, &first.text).map_err(in_first)?;
     let second_text = read(alloc, &second.text).map_err(in_second)?;
-    let first_reaches = reaches_of(alloc, &first_text, &first.lines)?;
-    let second_reaches = reaches_of(alloc, &second_text, &second.lines)?;
-    Ok(Changes {
-        more: list_of(alloc, List::More, &second_reaches, &first_reaches)?,
-        less: list_of(alloc, List::Less, &first_reaches, &second_reaches)?,
-    })
+    let one = Drafted {
+        content: before,
+        budgets: &first,
+        text: &first_text,
+    };
+    let other = Drafted {
+        content: after,
+        budgets: &second,
+        text: &second_text,
+    };
+    Ok(compared(alloc, one, other)?)
 }

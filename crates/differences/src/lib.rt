@@ -2,6 +2,7 @@
 #![tactic(auto)]
 
 mod comparing;
+mod contents;
 mod faults;
 mod holdings;
 mod reaches;
