@@ -59,7 +59,13 @@ pub(crate) fn is_step(instr: Instr) -> bool {
             ..
         } => rd.0 == rs1.0,
         Instr::Registers {
-            op: RegisterOp::Add | RegisterOp::Sub,
+            op: RegisterOp::Add,
+            rd,
+            rs1,
+            rs2,
+        } => rd.0 == rs1.0 || rd.0 == rs2.0,
+        Instr::Registers {
+            op: RegisterOp::Sub,
             rd,
             rs1,
             ..

@@ -1,6 +1,7 @@
 //! What is found wrong with a thread that has no certificate.
 
 use crate::loops::Loop;
+use crate::reports::Reports;
 use crate::scenes::Scene;
 use certifying::{Finding, Reason, ThreadFindings};
 use model::{MOST_SLOTS, Point, Refusal};
@@ -9,7 +10,7 @@ use source_gaps::push_place;
 use std::alloc::AllocError;
 
 /// How many mistakes of a thread are reported at most, unless one point has more.
-const MOST_REPORTED: u32 = 20;
+const MOST_REPORTED: usize = 20;
 
 impl Scene<'_, '_, '_, '_, '_, '_, '_> {
     /// A point of the thread as refusals name it.
@@ -60,36 +61,29 @@ impl Scene<'_, '_, '_, '_, '_, '_, '_> {
         }
     }
 
-    /// Reports that the load or store at a point can reach what is not mapped, if it can, and returns whether it does.
-    fn report_reached(&self, to: &mut String, point: u32) -> Result<bool, AllocError> {
-        let AtPoint::Known(state) = self.state_at(point)? else {
-            return Ok(false);
-        };
-        if !self.reaches_unmapped(point, &state) {
-            return Ok(false);
+    /// Reports that the load or store at a point can reach what is not mapped, if it can.
+    fn report_reached(&self, to: &mut String, point: u32) -> Result<(), AllocError> {
+        match self.state_at(point)? {
+            AtPoint::Known(state) if self.reaches_unmapped(point, &state) => {
+                self.report_point(to, point, Refusal::NotMapped(self.place(point)))
+            }
+            _ => Ok(()),
         }
-        self.report_point(to, point, Refusal::NotMapped(self.place(point)))?;
-        Ok(true)
     }
 
-    /// Reports all that is wrong at a point, and returns how much it is.
+    /// Reports all that is wrong at a point.
     fn report_wrong(
         &self,
         to: &mut String,
         findings: &ThreadFindings,
         point: u32,
-    ) -> Result<u32, AllocError> {
-        let mut count = 0u32;
+    ) -> Result<(), AllocError> {
         for finding in &findings.wrong {
             if finding.point == point {
                 self.report_finding(to, finding)?;
-                count = count.saturating_add(1);
             }
         }
-        if self.report_reached(to, point)? {
-            count = count.saturating_add(1);
-        }
-        Ok(count)
+        self.report_reached(to, point)
     }
 
     /// Reports that the budget is below the least, if it is.
@@ -123,19 +117,24 @@ impl Scene<'_, '_, '_, '_, '_, '_, '_> {
         )
     }
 
-    /// Reports all that is wrong with the thread, in the order of its points.
+    /// Reports all that is wrong with the thread, in the order of its points. What has the cause of what is reported already is
+    /// counted there.
     pub(crate) fn report_findings(
         &self,
         to: &mut String,
         findings: &ThreadFindings,
     ) -> Result<(), AllocError> {
-        let mut count = 0u32;
+        let mut reports = Reports::new(self.alloc);
         for record in &findings.known {
-            if MOST_REPORTED <= count {
+            if MOST_REPORTED <= reports.count() {
+                reports.put(to)?;
                 return self.report_more(to, record.point);
             }
-            count = count.saturating_add(self.report_wrong(to, findings, record.point)?);
+            let mut said = String::new(self.alloc);
+            self.report_wrong(&mut said, findings, record.point)?;
+            reports.add(said, self.line(record.point))?;
         }
+        reports.put(to)?;
         self.report_small_budget(to, findings)
     }
 }

@@ -17,6 +17,7 @@ mod page_gaps;
 mod point_words;
 mod programs;
 mod promises;
+mod reports;
 mod requests;
 mod scenes;
 mod slot_gaps;

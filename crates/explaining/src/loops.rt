@@ -44,6 +44,26 @@ fn stride(instr: Instr) -> Option<i32> {
     }
 }
 
+/// Puts what an instruction does that neither raises nor lowers the register that it writes.
+fn push_other(to: &mut String, instr: Instr) -> Result<(), AllocError> {
+    match instr {
+        Instr::Immediate {
+            op: ImmediateOp::Addi,
+            rd,
+            rs1,
+            immediate,
+        } if rs1.0 != 0 => {
+            let (own, other) = (rd.0, rs1.0);
+            if immediate == 0 {
+                write!(to, ", which copies x{other}\n")
+            } else {
+                write!(to, ", which adds to x{other} and not to x{own} itself\n")
+            }
+        }
+        _ => to.push_str(", which adds no number to it and takes none from it\n"),
+    }
+}
+
 impl Scene<'_, '_, '_, '_, '_, '_, '_> {
     /// The first point of a loop that writes a register, and what it does.
     fn turn_of(&self, of: &Loop<'_>, register: u8) -> Option<(u32, Instr)> {
@@ -89,7 +109,7 @@ impl Scene<'_, '_, '_, '_, '_, '_, '_> {
             None => {
                 to.push_str("written on ")?;
                 self.push_point(to, point)?;
-                to.push_str(", which adds no number to it and takes none from it\n")
+                push_other(to, instr)
             }
         }
     }
