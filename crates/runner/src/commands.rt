@@ -10,6 +10,7 @@ ghost use Rattle.model.specs.declared.boot_faults.BootFault.{BootFault};
 ghost use Rattle.model.specs.declared.refusals.Refusal.{Refusal};
 
 use crate::building::build;
+use crate::causes::{cause_at, what_else};
 use crate::live_runs::{LiveFault, live, live_unverified};
 use crate::running::{RunFault, run};
 use crate::unverified::run_unverified;
@@ -39,10 +40,23 @@ pub enum Failure<'a> {
     Memory,
     /// The image is refused.
     Image(Refusal),
+    /// This file is no image, but this.
+    NotAnImage {
+        file: &'a str,
+        what: &'static str,
+    },
     /// The image does not boot.
     Boot(BootFault),
     /// The list of events is refused at this line.
     Events(u64),
+    /// The list of events in this file is refused at this line, for this.
+    Event {
+        file: &'a str,
+        line: u64,
+        cause: &'static str,
+    },
+    /// This file would be written, and is what is read.
+    Overwritten(&'a str),
     /// The event of this index, from 0, is the first that is outside the device pages of the image.
     Outside(usize),
     /// The text of an image is refused.
@@ -189,7 +203,18 @@ fn verify_file<'a, R: Files + AllocGlobal, W: Sink>(
     output: &mut W,
 ) -> Result<(), Failure<'a>> {
     let bytes = read_bytes(rt, image)?;
-    put_verdict(rt.alloc(), bytes.as_slice(), output)
+    match put_verdict(rt.alloc(), bytes.as_slice(), output) {
+        Ok(()) => Ok(()),
+        Err(failure) => Err(of_file(failure, image, bytes.as_slice())),
+    }
+}
+
+/// Why a file was not taken as an image: for what it is, if that is known.
+fn of_file<'a>(failure: Failure<'a>, file: &'a str, bytes: &[u8]) -> Failure<'a> {
+    match (failure, what_else(bytes)) {
+        (Failure::Image(Refusal::Magic), Some(what)) => Failure::NotAnImage { file, what },
+        (failure, _) => failure,
+    }
 }
 
 /// Says that an image is accepted.
@@ -205,7 +230,15 @@ fn put_verdict<'a, W: Sink>(
 /// The events of a file.
 fn events_in<'a, R: Files + AllocGlobal>(rt: &R, list: &'a str) -> Result<Vec<Event>, Failure<'a>> {
     let text = read_bytes(rt, list)?;
-    Ok(events(rt.alloc(), text.as_slice())?)
+    match events(rt.alloc(), text.as_slice()) {
+        Ok(events) => Ok(events),
+        Err(EventsFault::Line(line)) => Err(Failure::Event {
+            file: list,
+            line,
+            cause: cause_at(text.as_slice(), line),
+        }),
+        Err(EventsFault::OutOfMemory) => Err(Failure::Memory),
+    }
 }
 
 /// Runs the image of a file over a list of events, or over the lines of standard input as they come.
@@ -221,12 +254,22 @@ fn run_file<'a, R: Files + Input + AllocGlobal, W: Sink>(
         return run_live(rt, bytes.as_slice(), unverified, output);
     }
     let events = events_in(rt, list)?;
-    if unverified {
-        run_unverified(rt.alloc(), bytes.as_slice(), events.as_slice(), output)?;
+    let done = if unverified {
+        run_unverified(rt.alloc(), bytes.as_slice(), events.as_slice(), output)
     } else {
-        run(rt.alloc(), bytes.as_slice(), events.as_slice(), output)?;
+        run(rt.alloc(), bytes.as_slice(), events.as_slice(), output)
+    };
+    match done {
+        Ok(()) => Ok(()),
+        Err(fault) => Err(of_file(Failure::from(fault), image, bytes.as_slice())),
     }
-    Ok(())
+}
+
+/// Puts more on a refusal on standard error, if there is the memory for it and the room.
+fn explain<E: Sink>(line: Result<String, AllocError>, errors: &mut E) {
+    if let Ok(line) = line {
+        let _ = put_all(errors, line.as_bytes());
+    }
 }
 
 /// Runs an image over the lines of standard input.
@@ -245,6 +288,14 @@ fn run_live<'a, R: Input + AllocGlobal, W: Sink>(
     Ok(())
 }
 
+/// Says that a file would be written that is what is read, and answers the exit status.
+fn report_overwritten<E: Sink>(alloc: Global, name: &str, errors: &mut E) -> u8 {
+    match format!(in alloc; "file {name}: it is the source, which is not overwritten") {
+        Ok(line) => failed(errors, line.as_bytes(), b""),
+        Err(_) => failed(errors, b"memory", b""),
+    }
+}
+
 /// Says why a request was not carried out, and answers the exit status.
 fn report<W: Sink, E: Sink>(alloc: Global, failure: Failure, output: &mut W, errors: &mut E) -> u8 {
     match failure {
@@ -256,6 +307,15 @@ fn report<W: Sink, E: Sink>(alloc: Global, failure: Failure, output: &mut W, err
         Failure::Image(refusal) => refused(refusal_line(alloc, refusal), output, errors),
         Failure::Boot(fault) => refused(boot_line(alloc, fault), output, errors),
         Failure::Events(line) => refused(format!(in alloc; "events line {line}\n"), output, errors),
+        Failure::Event { file, line, cause } => {
+            explain(format!(in alloc; "{file}:{line}: {cause}\n"), errors);
+            refused(format!(in alloc; "events line {line}\n"), output, errors)
+        }
+        Failure::NotAnImage { file, what } => {
+            explain(format!(in alloc; "{file}: {what}\n"), errors);
+            refused(refusal_line(alloc, Refusal::Magic), output, errors)
+        }
+        Failure::Overwritten(name) => report_overwritten(alloc, name, errors),
         Failure::Outside(index) => refused(outside_line(alloc, index), output, errors),
         Failure::Source(SourceFault { line, kind }) => {
             refused(format!(in alloc; "source {line} {kind}\n"), output, errors)

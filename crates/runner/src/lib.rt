@@ -3,6 +3,7 @@
 #![tactic(auto)]
 
 mod building;
+mod causes;
 mod commands;
 mod device_pages;
 mod live_runs;

@@ -62,9 +62,82 @@ fn run_prints_a_line_for_each_event(rt: HostRuntime) -> Result<(), Fail> {
         $ microsys run @run.img @wrong.events
         events line 3
         status 1
+        @wrong.events:3: no event: they are `step`, `step N`, `tick`, `irq N`, `write ADDRESS WORD` and `read ADDRESS`
         ",
     )?;
     take_files(&rt, "run.img run.events empty.events wrong.events")?;
+    Ok(())
+}
+
+#[test]
+fn a_line_that_is_no_event_is_reported_with_its_cause(rt: HostRuntime) -> Result<(), Fail> {
+    put_file(&rt, "caused.img", bell(rt.alloc())?.as_slice())?;
+    for (line, cause) in [
+        ("irq 64", "the form is `irq N`, with N from 0 to 63"),
+        (
+            "step 0",
+            "the form is `step` or `step N`, with N from 1 to 1000000",
+        ),
+        ("tick 2", "the form is `tick`, alone"),
+        (
+            " tick",
+            "no blank is before an event, and one between two words",
+        ),
+        (
+            "read 2",
+            "the form is `read ADDRESS`, with a multiple of 4 below 2^32, decimal or after `0x`",
+        ),
+    ] {
+        let list = format!(in rt.alloc(); "# a comment\r\n{line}\r\n")?;
+        put_file(&rt, "caused.events", list.as_bytes())?;
+        let session = format!(in rt.alloc();
+            "$ microsys run @caused.img @caused.events\nevents line 2\nstatus 1\n@caused.events:2: {cause}"
+        )?;
+        plays(&rt, session.as_str())?;
+    }
+    take_files(&rt, "caused.img caused.events")?;
+    Ok(())
+}
+
+#[test]
+fn what_is_no_image_is_called_by_what_it_is(rt: HostRuntime) -> Result<(), Fail> {
+    put_file(&rt, "a.txt", b"# a text\nmemory 16 4\n")?;
+    put_file(&rt, "a.sys", b"\n  bell b # a bell\n")?;
+    plays(
+        &rt,
+        "
+        $ microsys verify @a.txt
+        refused 1 Magic 0 0
+        status 1
+        @a.txt: the text of an image, and no image: `microsys build` makes one of it, and `microsys_tool explain` says whether it is accepted
+        $ microsys verify @a.sys
+        refused 1 Magic 0 0
+        status 1
+        @a.sys: the description of a system, and no image: `microsys_tool make` makes one of it
+        $ microsys verify /dev/null
+        refused 3 Truncated 0 0
+        status 1
+        ",
+    )?;
+    take_files(&rt, "a.txt a.sys")?;
+    Ok(())
+}
+
+#[test]
+fn a_source_is_not_overwritten(rt: HostRuntime) -> Result<(), Fail> {
+    put_file(&rt, "kept.txt", b"a text")?;
+    plays(
+        &rt,
+        "
+        $ microsys build @kept.txt @kept.txt
+        status 3
+        file @kept.txt: it is the source, which is not overwritten
+        ",
+    )?;
+    assert_eq!(&rt;
+        take_files(&rt, "kept.txt")?.as_slice(),
+        b"a text".as_slice()
+    );
     Ok(())
 }
 
