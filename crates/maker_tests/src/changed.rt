@@ -37,7 +37,8 @@ l: jal x0 l
 end
 ";
 
-/// After `@` a line of the text by its number, and what it becomes; then what its threads may do more (`+`) and less (`-`).
+/// After `@` a line of the text by its number, and what it becomes; then what its threads may do more (`+`) and less (`-`), and what
+/// else is changed (`~`).
 const ROWS: &str = "
 @ 15 cap cs 9 requests 1 2
 @ 15 cap cs 1 requests 9 2
@@ -113,6 +114,22 @@ const ROWS: &str = "
 @ 23 buffer both
 + client: may pass long messages in both (line 23)
 @ 24 addi x10 x0 1
+@ 24 l: addi x10 x0 1
+~ client: has another program from line 24 on
+@ 24 l: addi x10 x0 1 # loop.c:7
+~ client: has another program from line 24 on, loop.c:7
+@ 21 data both 7 9
+- client: may no longer read the page both
+- server: may no longer read the page both
+~ both: begins with 0x7 in place of 0x0 in word 0 (line 21)
+@ 21 data both 0 9
+- client: may no longer read the page both
+- server: may no longer read the page both
+~ both: begins with 0x9 in place of 0x0 in word 1 (line 21)
+@ 21 promise requests 2 2 0 9
+- client: may no longer read the page both
+- server: may no longer read the page both
+~ requests: is promised badges 2 to 2, a word of 0 to 9 in place of nothing (line 21)
 ";
 
 /// The lines of a row that begin with a sign.
@@ -148,6 +165,8 @@ fn check(rt: &(impl AllocGlobal + Abort), row: &str) -> Result<(), Fail> {
     );
     assert_eq!(rt; found.more.as_str(), more.as_str(), "{row}");
     assert_eq!(rt; found.less.as_str(), less.as_str(), "{row}");
+    let other = lines_with(rt.alloc(), row, "~ ")?;
+    assert_eq!(rt; found.changed.as_str(), other.as_str(), "{row}");
     Ok(())
 }
 

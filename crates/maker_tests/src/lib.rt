@@ -15,4 +15,6 @@ mod descriptions;
 #[cfg(test)]
 mod explanations;
 #[cfg(test)]
+mod noted_calls;
+#[cfg(test)]
 mod runs_by_names;

@@ -1,7 +1,7 @@
 //! Runs by the names of a system: events whose words are names, and the lines of a trace with names.
 
 use model::Event;
-use named_runs::{ListFault, NameSink, NamedLines, named_events};
+use named_runs::{ListFault, NameSink, NamedLines, PartBytes, Printers, named_events};
 use named_traces::TextNames;
 use progress::Quiet;
 use sinks::{EventLine, EventLines, LineFault, MemorySink, put_all};
@@ -362,6 +362,41 @@ fn pieces_of_any_size_get_names(rt: HostRuntime) -> Result<(), Fail> {
         std::str::from_utf8(output.bytes())?,
         "main 00001008 wait # again, line 21\nirq beat\nirq 8\nwrite sensor 1 0000002a\nread 80013000 00000000\n\
         80016000 00001000 fault 3\nrefused 18 RangeNotKept 0 0\nidle\n"
+    );
+    Ok(())
+}
+
+/// A trace in which the thread and one without a name print, in pieces.
+const PRINTING: [&str; 3] = [
+    "80015000 00001000 byte 41\n80015000 00001004 plain\n80015000 00001000 by",
+    "te 42\n80016000 00001000 byte 43\nirq 7\n",
+    "80015000 00001000 byte 44\n80015000 00001000 byte 0a\n80015000 00001000 byte 45\nrefused 1 BadMagic 0 0\n",
+];
+
+/// What is handed on of it.
+fn printed_by<R: Abort + AllocGlobal>(
+    rt: &R,
+    printers: Printers,
+    output: &mut MemorySink,
+) -> Result<(), Fail> {
+    let names = TextNames::read(rt.alloc(), SYSTEM)?;
+    let mut sink = PartBytes::new(rt.alloc(), &names, printers, output);
+    for piece in PRINTING {
+        assert_eq!(rt; put_all(&mut sink, piece.as_bytes()), Ok(()));
+    }
+    Ok(())
+}
+
+#[test]
+fn bytes_come_by_part(rt: HostRuntime) -> Result<(), Fail> {
+    let mut one = MemorySink::new(rt.alloc(), ROOM);
+    printed_by(&rt, Printers::One(0x8001_5000), &mut one)?;
+    assert_eq!(&rt; std::str::from_utf8(one.bytes())?, "ABD\nE");
+    let mut each = MemorySink::new(rt.alloc(), ROOM);
+    printed_by(&rt, Printers::Each, &mut each)?;
+    assert_eq!(&rt;
+        std::str::from_utf8(each.bytes())?,
+        "main: AB\n?: C\nmain: D\nmain: E"
     );
     Ok(())
 }

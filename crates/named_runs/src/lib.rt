@@ -4,17 +4,11 @@
 mod line_faults;
 mod lists;
 mod name_sinks;
+mod part_bytes;
 mod readers;
 mod reading;
 
 pub use lists::{ListFault, named_events};
 pub use name_sinks::NameSink;
+pub use part_bytes::{PartBytes, Printers};
 pub use readers::NamedLines;
-
-#[cfg(test)]
-mod trial {
-    #[test]
-    fn nothing(rt: HostRuntime) {
-        let _ = rt;
-    }
-}

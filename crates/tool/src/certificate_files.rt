@@ -3,6 +3,7 @@
 use crate::certification::{CertifiedText, NotCertified, certified};
 use crate::messages::report_of;
 use crate::reports::{ToolFault, reported_name, unexplained};
+use crate::sources::check_target;
 use console::{STANDARD, read_stream, write_file};
 use explaining::{Certificates, Text};
 use progress::Told;
@@ -84,6 +85,7 @@ pub(crate) fn certify_file<'a, R: Files + Input + Clock + AllocGlobal, W: Sink, 
     output: &mut W,
     errors: &mut E,
 ) -> Result<(), ToolFault<'a>> {
+    check_target(rt, source, target)?;
     let content = read_stream(rt, source)?;
     certify_text(rt, source, target, content.as_str(), output, errors)
 }

@@ -6,14 +6,15 @@ use crate::explanations::explain_file;
 use crate::images::{build_image, verify_image};
 use crate::reports::{ToolFault, report};
 use crate::runs::{Run, run_file};
-use crate::systems::{expand_file, make_file};
+use crate::sources::check_target;
+use crate::systems::{Making, expand_file, make_file};
 use crate::views::{Period, chart_file, diff_files, draw_file, list_file};
 use console::{DONE, words};
 use sinks::Sink;
 use std::convert::AsStr;
 use std::rt::{Env, Files};
 use std::time::Clock;
-use tool_requests::{ToolRequest, parse_words};
+use tool_requests::{Request, ToolRequest, parse_words};
 
 /// Carries out what the words after the program's name ask for, and returns the exit status. Where that takes more than a second, lines
 /// on standard error say how far it is.
@@ -48,17 +49,29 @@ fn answer<'a, R: Files + Input + Clock + AllocGlobal, S: AsStr, W: Sink, E: Sink
     output: &mut W,
     errors: &mut E,
 ) -> Result<u8, ToolFault<'a>> {
-    match parse_words(rt.alloc(), words)? {
+    let Request {
+        asked,
+        given,
+        is_strict,
+    } = parse_words(rt.alloc(), words)?;
+    let making = Making {
+        given: given.as_slice(),
+        is_strict,
+    };
+    match asked {
         ToolRequest::Verify { image } => Ok(verify_image(rt, image, output, errors)),
-        ToolRequest::Build { source, image } => Ok(build_image(rt, source, image, output, errors)),
+        ToolRequest::Build { source, image } => {
+            check_target(rt, source, image)?;
+            Ok(build_image(rt, source, image, output, errors))
+        }
         ToolRequest::Test {
             system,
             events,
             expected,
         } => test_file(rt, system, events, expected, output, errors),
-        ToolRequest::Diff { before, after } => diff_files(rt, before, after, output),
+        ToolRequest::Diff { before, after } => diff_files(rt, before, after, output, errors),
         request => {
-            write_answer(rt, request, output, errors)?;
+            write_answer(rt, request, making, output, errors)?;
             Ok(DONE)
         }
     }
@@ -68,25 +81,30 @@ fn answer<'a, R: Files + Input + Clock + AllocGlobal, S: AsStr, W: Sink, E: Sink
 fn write_answer<'a, R: Files + Input + Clock + AllocGlobal, W: Sink, E: Sink>(
     rt: &R,
     request: ToolRequest<'a>,
+    making: Making<'_>,
     output: &mut W,
     errors: &mut E,
 ) -> Result<(), ToolFault<'a>> {
     match request {
-        ToolRequest::Make { system, image } => make_file(rt, system, image, output, errors),
+        ToolRequest::Make { system, image } => {
+            make_file(rt, system, image, making, output, errors)
+        }
         ToolRequest::Expand { description, text } => {
-            expand_file(rt, description, text, output, errors)
+            expand_file(rt, description, text, making, output, errors)
         }
         ToolRequest::Certify { source, certified } => {
             certify_file(rt, source, certified, output, errors)
         }
-        ToolRequest::Explain { system } => explain_file(rt, system, output, errors),
-        ToolRequest::Draw { system } => draw_file(rt, system, output),
+        ToolRequest::Explain { system } => {
+            explain_file(rt, system, making.given, output, errors)
+        }
+        ToolRequest::Draw { system } => draw_file(rt, system, making.given, output, errors),
         ToolRequest::Chart {
             trace,
             system,
             from,
             to,
-        } => chart_file(rt, trace, system, Period { from, to }, output),
+        } => chart_file(rt, trace, system, Period { from, to }, output, errors),
         ToolRequest::List { image } => list_file(rt, image, output),
         ToolRequest::Run {
             system,

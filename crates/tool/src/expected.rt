@@ -11,6 +11,7 @@ use sinks::{Sink, put_all};
 use std::alloc::Global;
 use std::rt::Files;
 use std::time::Clock;
+use system_notes::{NotesFault, notes_on_events};
 use trace_differences::{TraceFault, first_difference};
 
 /// The most bytes of a trace: a million events with lines of at most so many bytes.
@@ -64,26 +65,42 @@ fn compared<'a>(
     }
 }
 
+/// Puts what is odd about a list of events for a system.
+fn put_notes<'a, E: Sink>(
+    alloc: Global,
+    system: &SystemText<'a>,
+    file: &str,
+    list: &[u8],
+    errors: &mut E,
+) -> Result<(), ToolFault<'a>> {
+    match notes_on_events(alloc, system.text.as_str(), file, list) {
+        Ok(notes) => Ok(put_all(errors, notes.as_bytes())?),
+        Err(NotesFault::Refused) => Ok(()),
+        Err(NotesFault::OutOfMemory) => Err(ToolFault::Memory),
+    }
+}
+
 /// Runs the system in a file over the events of another, puts the first difference from what is expected, and returns the exit
 /// status: that of a refusal where there is one.
 pub(crate) fn test_file<'a, R: Files + Input + Clock + AllocGlobal, W: Sink, E: Sink>(
     rt: &R,
     system: &'a str,
-    list: &'a str,
+    events: &'a str,
     expected: &'a str,
     output: &mut W,
     errors: &mut E,
 ) -> Result<u8, ToolFault<'a>> {
     let system = read_system(rt, system)?;
-    let lines = read_all(rt, list)?;
+    let lines = read_all(rt, events)?;
     let expected = read_all(rt, expected)?;
+    put_notes(rt.alloc(), &system, events, lines.as_slice(), errors)?;
     let image = image_of(rt, &system, errors)?;
     let found = compared(
         rt.alloc(),
         &system,
         image.as_slice(),
         EventList {
-            file: list,
+            file: events,
             bytes: lines.as_slice(),
         },
         expected.as_slice(),

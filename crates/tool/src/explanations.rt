@@ -3,7 +3,7 @@
 use crate::certification::budgets_found;
 use crate::messages::report_of;
 use crate::reports::{ToolFault, unexplained};
-use crate::sources::read_system;
+use crate::sources::read_given;
 use explaining::{Certificates, ExplainFault, Explanation, Text, explain, wants_certificates};
 use progress::Told;
 use sinks::{Sink, SinkFault, put_all};
@@ -79,10 +79,11 @@ fn put_accepted<W: Sink>(output: &mut W, budgets: &str) -> Result<(), SinkFault>
 pub(crate) fn explain_file<'a, R: Files + Input + Clock + AllocGlobal, W: Sink, E: Sink>(
     rt: &R,
     source: &'a str,
+    given: &[&str],
     output: &mut W,
     errors: &mut E,
 ) -> Result<(), ToolFault<'a>> {
-    let system = read_system(rt, source)?;
+    let system = read_given(rt, source, given)?;
     system.check_programs(rt.alloc())?;
     let text = Text {
         file: system.name,

@@ -1,12 +1,14 @@
 //! The program for makers: what it answers to the words of its command line.
 #![tactic(auto)]
 
+mod budgets;
 mod certificate_files;
 mod certification;
 mod commands;
 mod expected;
 mod explanations;
 mod images;
+mod included;
 mod making;
 mod messages;
 mod reports;

@@ -22,6 +22,10 @@ pub(crate) enum ToolFault<'a> {
     Wrong(String),
     /// A file or standard input is not read, or a file not written.
     Stream(StreamFault<'a>),
+    /// This file would be written, and is one of those that are read.
+    Overwritten(&'a str),
+    /// Numbers are given for names, and what is in this file is no description.
+    NoNumbers(&'a str),
     /// Standard output takes no more.
     Output,
     /// Memory was refused.
@@ -143,6 +147,14 @@ fn report_stream<E: Sink>(alloc: Global, fault: StreamFault<'_>, errors: &mut E)
     }
 }
 
+/// Puts the line of a file that would be overwritten, and returns the exit status.
+fn report_overwritten<E: Sink>(alloc: Global, name: &str, errors: &mut E) -> u8 {
+    match format!(in alloc; "file {name}: it is one of the sources, which are not overwritten") {
+        Ok(line) => failed(errors, line.as_bytes(), b""),
+        Err(_) => failed(errors, b"memory", b""),
+    }
+}
+
 /// Puts the line of a text on which two parts of the program disagree, and returns the exit status.
 fn report_disagreement<E: Sink>(alloc: Global, file: &str, errors: &mut E) -> u8 {
     let line = format!(in alloc;
@@ -198,6 +210,8 @@ pub(crate) fn report<W: Sink, E: Sink>(
         ToolFault::Shown(text) => show(text.as_str(), output, errors),
         ToolFault::Wrong(text) => complain(text.as_str(), USAGE, errors),
         ToolFault::Stream(fault) => report_stream(alloc, fault, errors),
+        ToolFault::Overwritten(name) => report_overwritten(alloc, name, errors),
+        ToolFault::NoNumbers(name) => report_no_numbers(alloc, name, errors),
         ToolFault::Input => failed(errors, b"input", b""),
         ToolFault::Output => failed(errors, b"output", b""),
         ToolFault::Memory => failed(errors, b"memory", b""),
@@ -207,6 +221,16 @@ pub(crate) fn report<W: Sink, E: Sink>(
             report_events(alloc, file, line, why.as_str(), output, errors)
         }
         fault => refused(refused_line(alloc, fault), output, errors),
+    }
+}
+
+/// Puts that a text takes no numbers for names, and returns the exit status.
+fn report_no_numbers<E: Sink>(alloc: Global, name: &str, errors: &mut E) -> u8 {
+    match format!(in alloc;
+        "{name}:1: `-D` gives numbers to the names of a description, and this is none\n"
+    ) {
+        Ok(line) => complain(line.as_str(), REFUSED, errors),
+        Err(_) => failed(errors, b"memory", b""),
     }
 }
 

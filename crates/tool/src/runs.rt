@@ -8,7 +8,7 @@ use crate::sources::{SystemText, read_system};
 use crate::systems::image_of;
 use byte_lines::ByteSink;
 use console::{STANDARD, read_all};
-use named_runs::{NameSink, NamedLines, named_events};
+use named_runs::{NameSink, NamedLines, PartBytes, Printers, named_events};
 use named_traces::TextNames;
 use runner::{RunFault, live_unverified, run_unverified};
 use sinks::Sink;
@@ -30,7 +30,7 @@ pub(crate) struct Run<'a> {
     pub(crate) events: &'a str,
     /// Whether the image runs without being verified.
     pub(crate) unverified: bool,
-    pub(crate) shown: Shown,
+    pub(crate) shown: Shown<'a>,
 }
 
 /// The events of a run.
@@ -203,12 +203,35 @@ fn run_bytes<'a, R: Input + AllocGlobal, W: Sink>(
     }
 }
 
+/// Why the bytes of a part of this name are not put.
+fn unknown_part<'a>(alloc: Global, part: &str) -> ToolFault<'a> {
+    match format!(in alloc; "error: no part of the system is called `{part}`\n") {
+        Ok(text) => ToolFault::Wrong(text),
+        Err(_) => ToolFault::Memory,
+    }
+}
+
+/// Runs an image, of which the bytes are put by the parts that print them. The line of a refusal goes to standard error.
+fn run_printed<'a, R: Input + AllocGlobal, W: Sink>(
+    rt: &R,
+    runnable: &Runnable<'_, '_>,
+    events: Events<'a, '_>,
+    printers: Printers,
+    output: &mut W,
+) -> Result<(), ToolFault<'a>> {
+    let mut bytes = PartBytes::new(rt.alloc(), runnable.names, printers, output);
+    match run_into(rt, runnable, events, &mut bytes) {
+        Ok(()) => Ok(()),
+        Err(fault) => Err(on_errors(rt.alloc(), fault)),
+    }
+}
+
 /// Runs an image, and puts what is to be shown.
 fn run_shown<'a, R: Input + AllocGlobal, W: Sink>(
     rt: &R,
     runnable: &Runnable<'_, '_>,
     events: Events<'a, '_>,
-    shown: Shown,
+    shown: Shown<'_>,
     output: &mut W,
 ) -> Result<(), ToolFault<'a>> {
     match shown {
@@ -218,6 +241,11 @@ fn run_shown<'a, R: Input + AllocGlobal, W: Sink>(
         }
         Shown::Plain => run_into(rt, runnable, events, output),
         Shown::Bytes => run_bytes(rt, runnable, events, output),
+        Shown::BytesOf(part) => match runnable.names.thread_address(part) {
+            Some(address) => run_printed(rt, runnable, events, Printers::One(address), output),
+            None => Err(unknown_part(rt.alloc(), part)),
+        },
+        Shown::BytesByPart => run_printed(rt, runnable, events, Printers::Each, output),
     }
 }
 

@@ -3,14 +3,16 @@
 use crate::certificate_files::uncertified;
 use crate::certification::NotCertified;
 use crate::making::{MadeImage, image_of_text, made};
-use crate::reports::{ToolFault, reported_name};
-use crate::sources::{SystemText, expanded, read_system};
+use crate::reports::ToolFault;
+use crate::sources::{SystemText, expanded, read_given};
 use console::{STANDARD, read_stream, write_file};
-use explaining::wants_certificates;
+use explaining::{Text, wants_certificates};
 use progress::Told;
 use sinks::{Sink, SinkFault, put_all};
+use std::alloc::Global;
 use std::rt::Files;
 use std::time::Clock;
+use system_notes::{NotesFault, notes_on_threads};
 
 /// Puts a text on standard output, and the notes on standard error.
 fn put_expansion<W: Sink, E: Sink>(
@@ -33,21 +35,58 @@ fn write_expansion<'a, R: Files + AllocGlobal, W: Sink>(
     Ok(put_all(output, system.notes.as_bytes())?)
 }
 
+/// How a system is made.
+#[derive(Clone, Copy)]
+pub(crate) struct Making<'g> {
+    /// Numbers for names of its description, each as `NAME=NUMBER`.
+    pub(crate) given: &'g [&'g str],
+    /// Whether notes are refusals.
+    pub(crate) is_strict: bool,
+}
+
+/// Where notes are refusals there are to be none.
+fn check_notes<'a>(alloc: Global, making: Making<'_>, notes: &str) -> Result<(), ToolFault<'a>> {
+    if making.is_strict && !notes.is_empty() {
+        Err(ToolFault::Refused(String::from_str(alloc, notes)?))
+    } else {
+        Ok(())
+    }
+}
+
 /// Puts the text of the description in a file where it is wanted, and the notes on it.
 pub(crate) fn expand_file<'a, R: Files + Input + AllocGlobal, W: Sink, E: Sink>(
     rt: &R,
     description: &'a str,
     target: &'a str,
+    making: Making<'_>,
     output: &mut W,
     errors: &mut E,
 ) -> Result<(), ToolFault<'a>> {
     let content = read_stream(rt, description)?;
-    let system = expanded(rt.alloc(), reported_name(description), content.as_str())?;
+    let system = expanded(rt, description, content.as_str(), making.given)?;
+    check_notes(rt.alloc(), making, system.notes.as_str())?;
     if target == STANDARD {
         Ok(put_expansion(&system, output, errors)?)
     } else {
+        system.check_target(rt, target)?;
         write_expansion(rt, target, &system, output)
     }
+}
+
+/// All notes on a system: those on its description, and those on what its threads do.
+fn notes_of<'a>(alloc: Global, system: &SystemText<'a>) -> Result<String, ToolFault<'a>> {
+    let text = Text {
+        file: system.name,
+        content: system.text.as_str(),
+    };
+    let mut all = String::from_str(alloc, system.notes.as_str())?;
+    match notes_on_threads(alloc, &text) {
+        Ok(notes) => all.push_str(notes.as_str())?,
+        // Nothing is known of what its threads do.
+        Err(NotesFault::Refused) => {}
+        Err(NotesFault::OutOfMemory) => return Err(ToolFault::Memory),
+    }
+    Ok(all)
 }
 
 /// Puts an image on standard output, and budgets and notes on standard error.
@@ -128,14 +167,18 @@ pub(crate) fn make_file<'a, R: Files + Input + Clock + AllocGlobal, W: Sink, E: 
     rt: &R,
     system: &'a str,
     target: &'a str,
+    making: Making<'_>,
     output: &mut W,
     errors: &mut E,
 ) -> Result<(), ToolFault<'a>> {
-    let system = read_system(rt, system)?;
+    let system = read_given(rt, system, making.given)?;
+    system.check_target(rt, target)?;
     let made = made_image(rt, &system, errors)?;
+    let notes = notes_of(rt.alloc(), &system)?;
+    check_notes(rt.alloc(), making, notes.as_str())?;
     if target == STANDARD {
-        Ok(put_image(&made, system.notes.as_str(), output, errors)?)
+        Ok(put_image(&made, notes.as_str(), output, errors)?)
     } else {
-        write_image(rt, target, &made, system.notes.as_str(), output)
+        write_image(rt, target, &made, notes.as_str(), output)
     }
 }

@@ -1,7 +1,8 @@
 //! The commands that show something of a system.
 
+use crate::budgets::with_found_budgets;
 use crate::reports::ToolFault;
-use crate::sources::{SystemText, read_system};
+use crate::sources::{SystemText, read_given, read_system};
 use console::{DONE, REFUSED, read_all};
 use differences::{DifferencesFault, differences};
 use drawing::{ChartRequest, chart, draw};
@@ -9,6 +10,7 @@ use listed_images::{ListFault, list};
 use sinks::{Sink, put_all};
 use std::alloc::Global;
 use std::rt::Files;
+use std::time::Clock;
 
 /// The events that are drawn.
 #[derive(Clone, Copy)]
@@ -20,30 +22,33 @@ pub(crate) struct Period {
 }
 
 /// Draws the system in a file.
-pub(crate) fn draw_file<'a, R: Files + Input + AllocGlobal, W: Sink>(
+pub(crate) fn draw_file<'a, R: Files + Input + Clock + AllocGlobal, W: Sink, E: Sink>(
     rt: &R,
     source: &'a str,
+    given: &[&str],
     output: &mut W,
+    errors: &mut E,
 ) -> Result<(), ToolFault<'a>> {
-    let system = read_system(rt, source)?;
-    Ok(draw(rt.alloc(), system.text.as_str(), output)?)
+    let text = with_found_budgets(rt, read_given(rt, source, given)?.text, errors)?;
+    Ok(draw(rt.alloc(), text.as_str(), output)?)
 }
 
 /// Draws the trace in a file, with the names and lines of the system that ran if that is given.
-pub(crate) fn chart_file<'a, R: Files + Input + AllocGlobal, W: Sink>(
+pub(crate) fn chart_file<'a, R: Files + Input + Clock + AllocGlobal, W: Sink, E: Sink>(
     rt: &R,
     trace: &'a str,
     source: Option<&'a str>,
     period: Period,
     output: &mut W,
+    errors: &mut E,
 ) -> Result<(), ToolFault<'a>> {
     let trace = read_all(rt, trace)?;
     let Period { from, to } = period;
     match source {
         Some(source) => {
-            let system = read_system(rt, source)?;
+            let text = with_found_budgets(rt, read_system(rt, source)?.text, errors)?;
             let request = ChartRequest {
-                text: Some(system.text.as_str()),
+                text: Some(text.as_str()),
                 from,
                 to,
             };
@@ -76,20 +81,24 @@ pub(crate) fn list_file<'a, R: Files + Input + AllocGlobal, W: Sink>(
 
 /// Puts what the second system may do that the first may not, and the other way round, and returns the exit status: that of a
 /// refusal where there is more.
-pub(crate) fn diff_files<'a, R: Files + Input + AllocGlobal, W: Sink>(
+pub(crate) fn diff_files<'a, R: Files + Input + Clock + AllocGlobal, W: Sink, E: Sink>(
     rt: &R,
     before: &'a str,
     after: &'a str,
     output: &mut W,
+    errors: &mut E,
 ) -> Result<u8, ToolFault<'a>> {
-    let before = read_system(rt, before)?;
-    let after = read_system(rt, after)?;
+    let mut before = read_system(rt, before)?;
+    let mut after = read_system(rt, after)?;
+    before.text = with_found_budgets(rt, before.text, errors)?;
+    after.text = with_found_budgets(rt, after.text, errors)?;
     let found = match differences(rt.alloc(), before.text.as_str(), after.text.as_str()) {
         Ok(found) => found,
         Err(fault) => return Err(not_compared(&before, &after, fault)),
     };
     put_all(output, found.more.as_bytes())?;
     put_all(output, found.less.as_bytes())?;
+    put_all(output, found.changed.as_bytes())?;
     Ok(if found.more.is_empty() { DONE } else { REFUSED })
 }
 

@@ -4,4 +4,4 @@
 mod requests;
 mod words;
 
-pub use requests::{NoRequest, Shown, ToolRequest, parse_words};
+pub use requests::{NoRequest, Request, Shown, ToolRequest, parse_words};

@@ -3,18 +3,22 @@
 use crate::words::program;
 use clap::error::ErrorKind;
 use clap::{ArgMatches, Error};
-use std::alloc::{AllocError, Global};
+use std::alloc::{AllocError, AllocFailed, Global};
 use std::convert::AsStr;
 
 /// What is put of a run.
 #[derive(Clone, Copy, Debug, PartialEq, Eq)]
-pub enum Shown {
+pub enum Shown<'a> {
     /// All lines, with the names of the system.
     Named,
     /// All lines as `microsys` puts them.
     Plain,
     /// The bytes that threads print, alone.
     Bytes,
+    /// The bytes that the thread of this name prints, alone.
+    BytesOf(&'a str),
+    /// The bytes that threads print, by lines that begin with the name of their thread.
+    BytesByPart,
 }
 
 /// What the program is asked to do, with the names of its files.
@@ -31,7 +35,7 @@ pub enum ToolRequest<'a> {
         events: &'a str,
         /// Whether the image runs without being verified.
         unverified: bool,
-        shown: Shown,
+        shown: Shown<'a>,
     },
     /// To build an image from its text.
     Build {
@@ -92,6 +96,16 @@ pub enum ToolRequest<'a> {
     },
 }
 
+/// What the program is asked to do, and how.
+#[derive(Drop)]
+pub struct Request<'a> {
+    pub asked: ToolRequest<'a>,
+    /// Numbers for names of a description, each as `NAME=NUMBER`.
+    pub given: Vec<&'a str>,
+    /// Whether notes are refusals.
+    pub is_strict: bool,
+}
+
 /// Why the words are no request.
 #[derive(Drop)]
 pub enum NoRequest {
@@ -105,6 +119,12 @@ pub enum NoRequest {
 
 impl From<AllocError> for NoRequest {
     fn from(_refused: AllocError) -> NoRequest {
+        NoRequest::OutOfMemory
+    }
+}
+
+impl<T: Drop> From<AllocFailed<T>> for NoRequest {
+    fn from(_refused: AllocFailed<T>) -> NoRequest {
         NoRequest::OutOfMemory
     }
 }
@@ -126,17 +146,51 @@ fn said(alloc: Global, error: &Error) -> NoRequest {
 /// # Errors
 ///
 /// The words ask for help or are wrong, with what is to be said of them, or memory is refused.
-pub fn parse_words<'a, S: AsStr>(
-    alloc: Global,
-    words: &'a [S],
-) -> Result<ToolRequest<'a>, NoRequest> {
+pub fn parse_words<'a, S: AsStr>(alloc: Global, words: &'a [S]) -> Result<Request<'a>, NoRequest> {
     let program = program(alloc)?;
     match program.try_get_matches_from(words) {
         Ok(matches) => match requested(&matches) {
-            Some(request) => Ok(request),
+            Some(asked) => request_of(alloc, asked, &matches),
             None => Err(NoRequest::Wrong(String::from_str(alloc, "error: no such word\n")?)),
         },
         Err(error) => Err(said(alloc, &error)),
+    }
+}
+
+/// The request with what is said of how it is to be done.
+fn request_of<'a>(
+    alloc: Global,
+    asked: ToolRequest<'a>,
+    matches: &ArgMatches<'a>,
+) -> Result<Request<'a>, NoRequest> {
+    let mut request = Request {
+        asked,
+        given: Vec::new(alloc),
+        is_strict: false,
+    };
+    if let Some((name, matches)) = matches.subcommand() {
+        request.is_strict = matches!(name, "make" | "expand") && matches.get_flag("strict");
+        if takes_numbers(name) {
+            for word in matches.get_strs("D").unwrap_or(&[]) {
+                request.given.push(number_word(alloc, *word)?)?;
+            }
+        }
+    }
+    Ok(request)
+}
+
+/// Whether numbers for names may follow a word.
+fn takes_numbers(name: &str) -> bool {
+    matches!(name, "make" | "expand" | "explain" | "draw")
+}
+
+/// A word of the form `NAME=NUMBER`.
+fn number_word<'a>(alloc: Global, word: &'a str) -> Result<&'a str, NoRequest> {
+    if word.split_once('=').is_some() {
+        Ok(word)
+    } else {
+        let said = format!(in alloc; "error: `-D {word}` is not of the form `-D NAME=NUMBER`\n")?;
+        Err(NoRequest::Wrong(said))
     }
 }
 
@@ -170,8 +224,12 @@ fn requested<'a>(matches: &ArgMatches<'a>) -> Option<ToolRequest<'a>> {
 }
 
 /// What is to be put of a run.
-fn shown_of(matches: &ArgMatches<'_>) -> Shown {
-    if matches.get_flag("bytes") {
+fn shown_of<'a>(matches: &ArgMatches<'a>) -> Shown<'a> {
+    if let Some(part) = matches.get_str("bytes-of") {
+        Shown::BytesOf(part)
+    } else if matches.get_flag("by-part") {
+        Shown::BytesByPart
+    } else if matches.get_flag("bytes") {
         Shown::Bytes
     } else if matches.get_flag("plain") {
         Shown::Plain

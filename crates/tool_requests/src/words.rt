@@ -15,8 +15,9 @@ const STATUSES: &str =
 const EVENTS: &str =
     "lines `step [N]`, `tick`, `irq LINE`, `write PAGE INDEX WORD` and `read PAGE INDEX`, by names or numbers; of `run` each line of standard input is answered before the next is read";
 
-/// What follows a word: `NAME` is a file, `?NAME` one that may be left out, `--NAME` a word that may be there, and `--NAME N` such a
-/// word with a number.
+/// What follows a word: `NAME` is a file, `?NAME` one that may be left out, `--NAME` a word that may be there, `--NAME N` such a
+/// word with a number, and `-D WORD` one that may be there again and again.
+#[derive(Clone, Copy)]
 struct Argument<'a> {
     form: &'a str,
     help: &'a str,
@@ -28,6 +29,12 @@ struct Word<'a> {
     about: &'a str,
     arguments: &'a [Argument<'a>],
 }
+
+/// Numbers for names of a description.
+const GIVEN: Argument<'_> = Argument {
+    form: "-D NAME=NUMBER",
+    help: "the number of a line `let NAME ..` of the description",
+};
 
 /// The words that make something of a system.
 const MAKING: [Word<'_>; 4] = [
@@ -43,6 +50,11 @@ const MAKING: [Word<'_>; 4] = [
                 form: "IMAGE",
                 help: "the file that gets the image",
             },
+            Argument {
+                form: "--strict",
+                help: "refuses a system of which there are notes",
+            },
+            GIVEN,
         ],
     },
     Word {
@@ -57,6 +69,11 @@ const MAKING: [Word<'_>; 4] = [
                 form: "TEXT",
                 help: "the file that gets the text",
             },
+            Argument {
+                form: "--strict",
+                help: "refuses a description of which there are notes",
+            },
+            GIVEN,
         ],
     },
     Word {
@@ -127,6 +144,14 @@ const IMAGES: [Word<'_>; 3] = [
                 form: "--bytes",
                 help: "puts the bytes that threads print, and nothing else",
             },
+            Argument {
+                form: "--bytes-of PART",
+                help: "puts the bytes that this part prints, and nothing else",
+            },
+            Argument {
+                form: "--by-part",
+                help: "puts the bytes that parts print, by lines that begin with the part's name",
+            },
         ],
     },
     Word {
@@ -150,18 +175,24 @@ const SHOWING: [Word<'_>; 5] = [
     Word {
         name: "explain",
         about: "Says why a system is refused, by lines and names, and by how much",
-        arguments: &[Argument {
-            form: "SYSTEM",
-            help: "the file of a description, a text or an image",
-        }],
+        arguments: &[
+            Argument {
+                form: "SYSTEM",
+                help: "the file of a description, a text or an image",
+            },
+            GIVEN,
+        ],
     },
     Word {
         name: "draw",
         about: "Draws a system as a graph, for Graphviz",
-        arguments: &[Argument {
-            form: "SYSTEM",
-            help: "the file of a description, a text or an image",
-        }],
+        arguments: &[
+            Argument {
+                form: "SYSTEM",
+                help: "the file of a description, a text or an image",
+            },
+            GIVEN,
+        ],
     },
     Word {
         name: "chart",
@@ -211,12 +242,19 @@ const SHOWING: [Word<'_>; 5] = [
 
 /// An argument of this form.
 fn argument_of<'a>(alloc: Global, form: &'a str) -> Arg<'a> {
+    if let Some(value) = form.strip_prefix("-D ") {
+        return Arg::new(alloc, "D")
+            .short('D')
+            .value_name(value)
+            .action(ArgAction::Append);
+    }
     if let Some(flag) = form.strip_prefix("--") {
-        return match flag.strip_suffix(" N") {
-            Some(name) => Arg::new(alloc, name)
+        return match flag.split_once(' ') {
+            Some((name, "N")) => Arg::new(alloc, name)
                 .long(name)
                 .value_name("N")
                 .value_parser(clap::value_parser!(u64)),
+            Some((name, value)) => Arg::new(alloc, name).long(name).value_name(value),
             None => Arg::new(alloc, flag).long(flag).action(ArgAction::SetTrue),
         };
     }

@@ -84,6 +84,13 @@ code
 slot a_slots 1 0 0 boot 0
 ecall
 end
+@ 3: note: `every` and `burst` are not checked: no bound of responses is known yet
+bell b
+part a 1
+waits b line 3 every 5 burst 2
+code
+ecall
+end
 @ 2: note: `within 60` is not checked: no bound of responses is known yet
 part a 1
 within 60
@@ -186,6 +193,16 @@ ecall
 end
 ";
 
+/// Messages write what is seen of a buffer.
+const BUFFER: &str = "page p
+part a 1
+sees p
+buffer p
+code
+ecall
+end
+";
+
 /// The world writes what a sees, and reads what a writes.
 const DEVICES: &str = "device sensor
 device heater
@@ -200,6 +217,12 @@ end
 #[test]
 fn who_waits_tells_those_who_wait_for_the_same_bell(rt: HostRuntime) -> Result<(), Fail> {
     assert_eq!(&rt; said_of(rt.alloc(), ONE_BELL)?.as_str(), "");
+    Ok(())
+}
+
+#[test]
+fn messages_write_buffers(rt: HostRuntime) -> Result<(), Fail> {
+    assert_eq!(&rt; said_of(rt.alloc(), BUFFER)?.as_str(), "");
     Ok(())
 }
 

@@ -1,5 +1,6 @@
 //! What is wrong in a part's program is reported by the line of the description, too.
 
+use described_systems::Joined;
 use expansion::expand;
 use explaining::{Explanation, Text, explain};
 use progress::Quiet;
@@ -19,7 +20,7 @@ end
 
 #[test]
 fn a_mistake_in_a_program_is_told_by_both_lines(rt: HostRuntime) -> Result<(), Fail> {
-    let expansion = expand(rt.alloc(), "d.sys", DESCRIPTION)
+    let expansion = expand(rt.alloc(), &Joined::of(rt.alloc(), "d.sys", DESCRIPTION)?)
         .ok()
         .ok_or("it is not expanded")?;
     let text = Text {

@@ -5,8 +5,17 @@ use std::test::Fail;
 
 /// What is wrong with a line by itself, or by those before it.
 const LINES: &str = "
-@ 1: no line of a description begins with `ring`
+@ 1: no line of a description begins with `ring`; did you mean `rings`?
 ring bell
+@ 2: no line of a description begins with `cals`; did you mean `calls`?
+part a 1
+cals d
+@ 2: no line of a description begins with `bugdet`; did you mean `budget`?
+part a 1
+bugdet 5
+@ 2: no line of a description begins with `listens`
+part a 1
+listens d
 @ 1: `waits` is a line of a part, and no part is open here
 waits bell
 @ 2: `bell` is inside of part a, which has no `end` before it
@@ -48,8 +57,53 @@ end
 part a 256
 @ 1: `-1` is no number from 0 to 4294967295, decimal or after `0x`
 page p 1 0x2 -1
-@ 1: the form of such a line is `device NAME [WORD ..]`
+@ 1: the form of such a line is `device NAME [pages N] [from FILE | WORD ..]`
 device
+@ 1: `0` is no number from 1 to 1024, decimal or after `0x`
+page p pages 0
+@ 1: the bytes of table.bin are not read
+page p from table.bin
+@ 1: this file is not included: 64 files are the most, and this may include itself
+include other.sys
+@ 1: the form of such a line is `include FILE`
+include other.sys here
+@ 1: the form of such a line is `let NAME NUMBER`
+let n
+@ 1: `five` is no number from 0 to 4294967295, decimal or after `0x`
+let n five
+@ 2: `n` is declared already, on line 1
+let n 5
+let n 6
+@ 1: `line` has a meaning of its own: choose another name
+let line 5
+@ 3: n is a number, and a bell is wanted
+let n 5
+part a 1
+waits n
+@ 1: no door has the name `d`: none is declared before this line
+promise d 0 9
+@ 2: the form of such a line is `promise DOOR LOW HIGH [LOW HIGH] ..`
+door d
+promise d 0
+@ 3: of messages at d something is promised already, on line 2
+door d
+promise d 0 9
+promise d 0 9
+@ 4: part a has a message buffer already, on line 3
+page p
+part a 1
+buffer p
+buffer p
+@ 3: d is a door, and a page is wanted
+door d
+part a 1
+buffer d
+@ 5: part a has a fault handler already, on line 4
+door d
+door e
+part a 1
+faults d
+faults e
 @ 1: `1x` is no number from 0 to 4294967295, decimal or after `0x`
 device p 1x
 @ 2: `device` is inside of part a, which has no `end` before it
@@ -75,6 +129,10 @@ device p
 part a 1
 sees p
 writes p
+@ 3: no page has the name `senser`: declared are sensor; did you mean `sensor`?
+page sensor
+part a 1
+sees senser
 @ 5: no page has the name `r`: declared are p, q
 page p
 device q
@@ -123,6 +181,23 @@ sees p 0x3000
 code
 ecall
 end
+@ 5: q and p are both at 0x3000
+page p pages 2
+page q pages 3
+part a 1
+sees p 0x4000
+sees q 0x3000
+code
+ecall
+end
+@ 4: p and the end of all addresses are both at 0x7ffff000
+page p pages 2
+part a 1
+# the second frame would lie at 0x80000000
+sees p 0x7ffff000
+code
+ecall
+end
 @ 3: p and the program are both at 0x1000
 page p
 part a 1
@@ -130,7 +205,15 @@ sees p 0x1000
 code
 ecall
 end
-@ 5: part a has no slot `tock`; it has tick, tick.line7
+@ 6: part a has no slot `speeed`; it has tick; did you mean `speed`?
+let speed 5
+bell tick
+part a 1
+waits tick
+code
+addi x10 x0 speeed
+end
+@ 5: part a has no slot `tock`; it has tick, tick.line7; did you mean `tick`?
 bell tick
 part a 1
 waits tick line 7

@@ -1,5 +1,6 @@
 //! Descriptions, and what is said of them.
 
+use described_systems::Joined;
 use expansion::{ExpansionFault, expand};
 use std::alloc::Global;
 use std::process::Abort;
@@ -7,7 +8,7 @@ use std::test::Fail;
 
 /// The lines that are said of a description: why it is refused, or the notes on it.
 pub(crate) fn said_of(alloc: Global, description: &str) -> Result<String, Fail> {
-    match expand(alloc, "d", description) {
+    match expand(alloc, &Joined::of(alloc, "d", description)?) {
         Ok(expansion) => Ok(expansion.notes),
         Err(ExpansionFault::Refused(lines)) => Ok(lines),
         Err(ExpansionFault::OutOfMemory) => Err(Fail::from("memory")),

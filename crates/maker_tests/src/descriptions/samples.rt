@@ -1,5 +1,6 @@
 //! Systems by their descriptions: they come out accepted, with the budgets of texts that were made by hand.
 
+use described_systems::Joined;
 use expansion::expand;
 use progress::Quiet;
 use std::process::Abort;
@@ -237,7 +238,7 @@ fn has_budgets(
     description: &str,
     budgets: &str,
 ) -> Result<(), Fail> {
-    let expansion = expand(rt.alloc(), "d", description)
+    let expansion = expand(rt.alloc(), &Joined::of(rt.alloc(), "d", description)?)
         .ok()
         .ok_or("it is not expanded")?;
     let made = made(rt.alloc(), expansion.text.as_str(), &mut Quiet)

@@ -1,6 +1,7 @@
 //! A description and its text, worked by hand: no slot 0 and no badge 0, the greatest objects first, a badge of its own for each
 //! interrupt, a label that is called as a bell.
 
+use described_systems::Joined;
 use expansion::expand;
 use std::test::Fail;
 
@@ -143,7 +144,7 @@ end
 
 #[test]
 fn a_device_page_is_a_frame_of_size_1(rt: HostRuntime) -> Result<(), Fail> {
-    let expansion = expand(rt.alloc(), "d", DEVICES)
+    let expansion = expand(rt.alloc(), &Joined::of(rt.alloc(), "d", DEVICES)?)
         .ok()
         .ok_or("it is not expanded")?;
     assert_eq!(&rt; expansion.text.as_str(), DEVICES_TEXT);
@@ -152,9 +153,131 @@ fn a_device_page_is_a_frame_of_size_1(rt: HostRuntime) -> Result<(), Fail> {
 
 #[test]
 fn a_description_has_its_text(rt: HostRuntime) -> Result<(), Fail> {
-    let expansion = expand(rt.alloc(), "d", DESCRIPTION)
+    let expansion = expand(rt.alloc(), &Joined::of(rt.alloc(), "d", DESCRIPTION)?)
         .ok()
         .ok_or("it is not expanded")?;
     assert_eq!(&rt; expansion.text.as_str(), TEXT);
+    Ok(())
+}
+
+/// Numbers that have names, a page of two frames, one that begins with six bytes, a promise with the badges of who calls, a message
+/// buffer, and a slot at which faults are reported.
+const WHOLE: &str = "let words 5
+let low -8
+door port
+door broken
+page table pages 2 1 2 words
+page image from table.bin
+promise port 0 words 7 7
+part a 2
+calls port as 3
+faults broken
+sees table 0x3000
+sees image
+buffer table
+reg x3 words
+code
+addi x10 x0 port
+addi x5 x0 low
+lw x6 words(x5)
+lui x7 image
+end
+part b words
+serves port
+serves broken
+code
+ecall
+end
+";
+
+const WHOLE_TEXT: &str = "memory 17 5
+untyped memory 0x10000 16
+object table memory frame # d:5
+object table_page1 memory frame # d:5
+object image memory frame # d:6
+object a_code0 memory frame # d:8
+object a_space memory root # d:8
+object a_table0 memory table # d:8
+object b_code0 memory frame # d:21
+object b_space memory root # d:21
+object b_table0 memory table # d:21
+object a memory tcb # d:8
+object b memory tcb # d:21
+object a_slots memory cnode 2 # d:8
+object b_slots memory cnode 2 # d:21
+object port memory endpoint # d:3
+object broken memory endpoint # d:4
+cap a_slots 1 port 9 3 # d:9
+cap a_slots 2 broken 9 1 # d:10
+cap b_slots 1 port 2 0 # d:22
+cap b_slots 2 broken 2 0 # d:23
+table a_space 0x0 a_table0 # d:8
+map a_space 0x1000 a_code0 4 # d:8
+map a_space 0x3000 table 2 # d:11
+map a_space 0x4000 table_page1 2 # d:11
+map a_space 0x10000 image 2 # d:12
+table b_space 0x0 b_table0 # d:21
+map b_space 0x1000 b_code0 4 # d:21
+data table 1 2 5 # d:5
+data image 0x4030201 0x605 # d:6
+promise port 3 3 0 5 7 7 # d:7
+
+thread a a_slots 30 a_space 2 auto 2 entry 0x1000 # d:8
+buffer table # d:13
+reg x3 5 # d:14
+entry: addi x10 x0 1 # d:16
+addi x5 x0 -8 # d:17
+lw x6 5(x5) # d:18
+lui x7 0x10 # d:19
+end
+
+thread b b_slots 30 b_space 5 auto 0 entry 0x1000 # d:21
+entry: ecall # d:25
+end
+";
+
+/// The text of a description with the bytes of the file that its line 6 names.
+fn text_with_bytes(rt: &HostRuntime, bytes: &[u8]) -> Result<String, Fail> {
+    let mut joined = Joined::of(rt.alloc(), "d", WHOLE)?;
+    let mut content = Vec::new(rt.alloc());
+    content.extend_from_slice(bytes)?;
+    joined.put_bytes(6, "table.bin", content)?;
+    let expansion = expand(rt.alloc(), &joined)
+        .ok()
+        .ok_or("it is not expanded")?;
+    Ok(expansion.text)
+}
+
+#[test]
+fn a_page_says_all_that_an_image_can(rt: HostRuntime) -> Result<(), Fail> {
+    let text = text_with_bytes(&rt, &[1, 2, 3, 4, 5, 6])?;
+    assert_eq!(&rt; text.as_str(), WHOLE_TEXT);
+    Ok(())
+}
+
+#[test]
+fn a_page_has_the_frames_that_its_bytes_need(rt: HostRuntime) -> Result<(), Fail> {
+    let mut bytes = Vec::new(rt.alloc());
+    bytes.resize(4097, 7u8)?;
+    let text = text_with_bytes(&rt, bytes.as_slice())?;
+    assert!(&rt;
+        text.contains("object image_page1 memory frame # d:6\n"),
+        "{text}"
+    );
+    assert!(&rt; text.contains("data image_page1 0x7 # d:6\n"), "{text}");
+    Ok(())
+}
+
+#[test]
+fn a_number_is_given_for_a_name(rt: HostRuntime) -> Result<(), Fail> {
+    let description = "let n 5\npart a n\ncode\naddi x5 x0 n\nend\n";
+    let mut joined = Joined::of(rt.alloc(), "d", description)?;
+    joined.define("n", "7")?;
+    let expansion = expand(rt.alloc(), &joined)
+        .ok()
+        .ok_or("it is not expanded")?;
+    let text = expansion.text.as_str();
+    assert!(&rt; text.contains(" 7 auto 0 entry "), "{text}");
+    assert!(&rt; text.contains("addi x5 x0 7 # d:4\n"), "{text}");
     Ok(())
 }
