@@ -14,14 +14,17 @@ import re
 import subprocess
 import sys
 import tempfile
+from collections.abc import Sequence
 from dataclasses import dataclass, replace
 from pathlib import Path
 
 sys.dont_write_bytecode = True
 sys.path.insert(0, str(Path(__file__).resolve().parents[1] / "from_c"))
 
+import machine_code  # noqa: E402
 from attempts import Certifier, accepted  # noqa: E402
 from building import Built, Folder, built, written  # noqa: E402
+from cases import request_of, run_cases  # noqa: E402
 from description import Description, read  # noqa: E402
 from faults import Fault, Refused  # noqa: E402
 from machine_code import NoCompiler  # noqa: E402
@@ -42,12 +45,12 @@ SYSTEMS = {
 # The words whose last file is written.
 WRITERS = {"make", "expand", "certify"}
 # The words that have one more after them.
-OPTIONS = {"--from", "--to"}
+OPTIONS = {"--from", "--to", "-D"}
 STANDARD = "-"
 # What sources that are not named by a description end in: headers of C, and parts of others.
 SUFFIXES = {".c", ".h"}
 # What a description begins with.
-DECLARATIONS = {"page", "device", "bell", "door", "part"}
+DECLARATIONS = {"page", "device", "bell", "door", "promise", "let", "include", "part"}
 PREFIX = "riscv64-unknown-elf-"
 # In how many rounds the sizes of programs are found: an address may be longer to write than the last one.
 ROUNDS = 8
@@ -83,9 +86,9 @@ class Source:
         return self.name.endswith(".sys") or first[0] in DECLARATIONS
 
     def files(self) -> list[Path]:
-        """The file that it was read from, and the sources that it names."""
-        named = [word for line in self.content.split("\n") for word in words_of(line) if words_of(line)[0] == "program"]
-        return [self.folder / self.name, *(self.folder / word for word in named if word.endswith(".c"))]
+        """The file that it was read from, and those that it names, as far as there are such."""
+        named = [word for line in self.content.split("\n") for word in words_of(line)[1:] if "." in word]
+        return [self.folder / self.name, *(self.folder / word for word in named)]
 
     @property
     def has_c(self) -> bool:
@@ -126,11 +129,25 @@ def source_of(name: str, given: bytes | None) -> Source | None:
         return None
 
 
-def expanded(source: Source, content: str, room: Path) -> Text:
-    """The text of a description, by the program."""
+def named_from(folder: Path, content: str) -> str:
+    """The description with the files that it names as they are named from anywhere."""
+    lines = content.split("\n")
+    for number, line in enumerate(lines):
+        words = words_of(line)
+        if words[:1] == ["include"] and len(words) == 2:
+            lines[number] = f"include {(folder / words[1]).absolute()}"
+        elif words[:1] in (["page"], ["device"]) and "from" in words[2:-1]:
+            file = (folder / words[-1]).absolute()
+            lines[number] = " ".join([*words[:-1], str(file)])
+    return "\n".join(lines)
+
+
+def expanded(source: Source, content: str, room: Path, given: Sequence[str] = ()) -> Text:
+    """The text of a description, by the program, with these numbers for its names."""
     described, name = f"{source.stem}.sys", f"{source.stem}.text"
-    (room / described).write_text(content, "utf-8")
-    ran = subprocess.run([program(), "expand", described, name], cwd=room, stdout=subprocess.PIPE, text=True, check=False)
+    (room / described).write_text(named_from(source.folder, content), "utf-8")
+    words = [program(), "expand", described, name, *(word for it in given if it[:1].islower() for word in ("-D", it))]
+    ran = subprocess.run(words, cwd=room, stdout=subprocess.PIPE, text=True, check=False)
     if ran.returncode:
         raise Ended(ran.returncode)
     return Text(name, (room / name).read_text("utf-8"), ran.stdout)
@@ -144,7 +161,7 @@ class Grown(Exception):
         self.sizes = sizes
 
 
-def compiled(source: Source, room: Path) -> Text:
+def compiled(source: Source, room: Path, given: Sequence[str] = ()) -> Text:
     """The text of a system, with its programs from C in their places."""
     folder = Folder(source.folder, PREFIX)
     if not source.is_description:
@@ -153,7 +170,7 @@ def compiled(source: Source, room: Path) -> Text:
         return text_with(described, programs, Text(f"{source.stem}.text", source.content, ""))
     sizes = said_in(source.content)
     for _ in range(ROUNDS):
-        text = expanded(source, with_sizes(source.content, sizes), room)
+        text = expanded(source, with_sizes(source.content, sizes), room, given)
         try:
             return in_pages(source, sizes, text, folder)
         except Grown as larger:
@@ -183,6 +200,19 @@ def text_with(described: Description, programs: list[Built], text: Text) -> Text
     notes = "".join(f"{note}\n" for it in programs for note in it.notes)
     advice = "".join(f"{note}\n" for it in programs for note in it.advice)
     return Text(text.name, written(described, programs), text.notes + notes, advice)
+
+
+def given_in(words: list[str]) -> tuple[list[str], list[str]]:
+    """What is given for names, each as `NAME=NUMBER`, and the other words."""
+    given, others, rest = [], [], iter(words)
+    for word in rest:
+        if word == "-D":
+            given.append(next(rest, ""))
+        elif word.startswith("-D"):
+            given.append(word.removeprefix("-D"))
+        else:
+            others.append(word)
+    return given, others
 
 
 def places_of(words: list[str]) -> list[int]:
@@ -221,12 +251,14 @@ def run_on(word: str, words: list[str], texts: dict[int, Text], room: Path) -> i
     return status if status >= 0 else FAILED
 
 
-def overwritten(word: str, target: str, sources: list[Source]) -> bool:
-    """Whether what a word writes would take the place of a source."""
+def check_target(word: str, target: str, sources: list[Source]) -> None:
+    """What is written is to take the place of no source."""
     if word not in WRITERS or target == STANDARD or not Path(target).exists():
-        return False
+        return
     read_files = [path for it in sources for path in it.files()]
-    return any(path.exists() and path.samefile(target) for path in read_files) or Path(target).suffix in SUFFIXES
+    if any(path.is_file() and path.samefile(target) for path in read_files) or Path(target).suffix in SUFFIXES:
+        print(f"file {target}: it is one of the sources, which are not overwritten", file=sys.stderr)
+        raise Ended(FAILED)
 
 
 def put_text(text: Text, target: str) -> int:
@@ -240,15 +272,32 @@ def put_text(text: Text, target: str) -> int:
     return 0
 
 
+def test_cases(words: list[str]) -> int | None:
+    """Runs the cases of a folder, where the words after `test` name one."""
+    given, others = given_in(words)
+    request = request_of(others)
+    if request is None:
+        return None
+    source = source_of(request.system, None)
+    with tempfile.TemporaryDirectory(prefix="microsys.") as room_name:
+        room, system = Path(room_name), request.system
+        if source and (source.has_c or source.is_description):
+            text = compiled(source, room, given) if source.has_c else expanded(source, source.content, room, given)
+            system = str(room / text.name)
+            Path(system).write_text(text.content, "utf-8")
+        return run_cases(program(), system, request)
+
+
 def carry_out(word: str, words: list[str], sources: dict[int, Source]) -> int:
-    """Carries out a word on systems that have parts in C."""
-    target = words[places_of(words)[-1]]
-    if overwritten(word, target, list(sources.values())):
-        print(f"{target} is a source: nothing is written there", file=sys.stderr)
-        return USAGE
+    """Carries out a word on systems that have parts in C. Numbers that are given for names are for the compiler, too, and those
+    of names that begin with a capital letter for it alone."""
+    given, words = given_in(words)
+    machine_code.FLAGS = (*machine_code.FLAGS, *(f"-D{it}" for it in given))
+    check_target(word, words[places_of(words)[-1]], list(sources.values()))
     with tempfile.TemporaryDirectory(prefix="microsys.") as room_name:
         room = Path(room_name)
-        texts = {place: compiled(source, room) for place, source in sources.items()}
+        sources = {place: source for place, source in zip(systems_of(word, words), sources.values())}
+        texts = {place: compiled(source, room, given) for place, source in sources.items()}
         if word == "expand":
             [text] = texts.values()
             return put_text(text, words[-1])
@@ -277,9 +326,11 @@ def main(words: list[str]) -> int:
     given = sys.stdin.buffer.read() if any(rest[place] == STANDARD for place in places) else None
     found = {place: source_of(rest[place], given if rest[place] == STANDARD else None) for place in places}
     sources = {place: source for place, source in found.items() if source and source.has_c}
-    if not sources:
-        return hand_over(words, given)
     try:
+        if word == "test" and (status := test_cases(rest)) is not None:
+            return status
+        if not sources:
+            return hand_over(words, given)
         return carry_out(word, rest, sources)
     except Ended as ended:
         return ended.status

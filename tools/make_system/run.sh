@@ -86,16 +86,48 @@ streams() {
     "$tool" draw "$folder/ring.sys" >"$room/said" && grep -q '^digraph' "$room/said" || wrong "draw" "no graph"
 }
 
-# What would take the place of a source is not written.
+# Of two cases of a folder one is as expected, and the other has another first byte; each has its line, and one alone is asked for by
+# its name.
+cases() {
+    local folder="$root/samples/c/ring"
+    mkdir "$room/cases"
+    cp "$folder/ring.events" "$room/cases/as_expected.events"
+    cp "$folder/ring.expected" "$room/cases/as_expected.bytes"
+    cp "$folder/ring.events" "$room/cases/otherwise.events"
+    { echo 7e && bytes_of "$folder/ring.expected" | sed 1d; } >"$room/cases/otherwise.bytes"
+    "$tool" test "$folder/ring.sys" "$room/cases" >"$room/said" 2>"$room/errors"
+    [ $? = 1 ] || wrong "test of a folder" "another status"
+    printf 'TAP version 14\n1..2\nok 1 - as_expected\nnot ok 2 - otherwise\n' >"$room/wanted"
+    grep -v '^ ' "$room/said" | diff "$room/wanted" - >"$room/diff" || wrong "test of a folder" "other lines"
+    grep -q '^    byte 1: not as line 1 of what is expected says$' "$room/said" || wrong "test of a folder" "not said why"
+    "$tool" test "$folder/ring.sys" "$room/cases" --only as_ >"$room/said" 2>"$room/errors" || wrong "test --only" "fails"
+    printf 'TAP version 14\n1..1\nok 1 - as_expected\n' | diff - "$room/said" >"$room/diff" || wrong "test --only" "other lines"
+}
+
+# A number that is given for a name is the description's and the compiler's, and what is included is read from beside the description:
+# the part puts the letter that is given, and waits for the line that is.
+given() {
+    mkdir "$room/given"
+    printf 'let line_of_b 1\ninclude bells.sys\npart p 1\n  waits b line line_of_b\n  program p.c\nend\n' >"$room/given/given.sys"
+    printf 'bell b\n' >"$room/given/bells.sys"
+    printf '#include "microsys.h"\nTHREAD p(void) { for (;;) { sys_wait(CAP_B); sys_put_char(LETTER); } }\n' >"$room/given/p.c"
+    "$tool" make "$room/given/given.sys" "$room/made.img" -D LETTER=66 -D line_of_b=5 >"$room/said" 2>&1 ||
+        wrong "make -D" "not made"
+    grep -q 'given.sys:4: .*interrupt line 5 rings b once' "$room/said" || wrong "make -D" "not noted"
+    printf 'step 100\nirq 5\nstep 100\n' >"$room/given/given.events"
+    [ "$("$tool" run "$room/made.img" "$room/given/given.events" --bytes)" = B ] || wrong "make -D" "other bytes"
+    rm -f "$room/made.img"
+}
+
+# Nothing is written over what is read.
 kept() {
     local target
-    rm -rf "$room/copy"
     cp -r "$root/samples/c/key_store" "$room/copy"
     for target in key_store.sys vault.c requests.h; do
         (cd "$room/copy" && "$tool" make key_store.sys "$target") >"$room/out" 2>"$room/said"
-        [ $? = 2 ] && grep -q " is a source: nothing is written there$" "$room/said" || wrong "make key_store.sys $target" "not refused"
+        [ $? = 3 ] && grep -q 'one of the sources' "$room/said" || wrong "make key_store.sys $target" "reported otherwise"
     done
-    diff -r "$root/samples/c/key_store" "$room/copy" >"$room/said" || wrong "sources" "changed"
+    diff -r "$root/samples/c/key_store" "$room/copy" >"$room/said" || wrong "make over sources" "written"
 }
 
 # What has no part in C is the program's, whatever it says.
@@ -127,8 +159,10 @@ printf 'step 100\nirq 3\nstep 100\nirq 3\nstep 100\n' >"$room/first/first.events
 echo "2a 2a 2a" >"$room/first/first.expected"
 check first "$room/first"
 streams
-handed_over
+cases
+given
 kept
+handed_over
 advised
 mistake mailbox reader.c 's/sys_signal(CAP_EMPTY)/&&/' 1 "reader.c:9: error: "
 mistake mailbox reader.c 's/sys_wait(CAP_FULL)/sys_recv(CAP_FULL)/' 1 \
