@@ -74,13 +74,16 @@ answers "a folder as image to write" 3 "" "file folder" into_file build bell.txt
 answers "a full device as image to write" 3 "" "file /dev/full" into_file build bell.txt /dev/full
 answers "a folder as the input of a live run" 3 "" input into_file run bell.img - <folder
 answers "a closed input of a live run" 3 "" input into_file run bell.img - <&-
+# What a text is that is given as an image, and why its second line is no event, is reported before the output that fails.
+text="bell.txt: the text of an image, and no image: \`microsys build\` makes one of it, and \`microsys_tool explain\` says whether it is accepted"
+event="bell.txt:2: no event: they are \`step\`, \`step N\`, \`tick\`, \`irq N\`, \`write ADDRESS WORD\` and \`read ADDRESS\`"
 for way in on_full_device closed in_closed_pipe; do
     answers "$way, accepted" 3 "" output "$way" verify bell.img
     answers "$way, a trace" 3 "" output "$way" run bell.img bell.events
     answers "$way, a long trace" 3 "" output "$way" run bell.img long.events
     answers "$way, a live run" 3 "" output "$way" run bell.img - <bell.events
-    answers "$way, a refusal" 3 "" output "$way" verify bell.txt
-    answers "$way, bad events" 3 "" output "$way" run bell.img bell.txt
+    answers "$way, a refusal" 3 "" "$text"$'\n'output "$way" verify bell.txt
+    answers "$way, bad events" 3 "" "$event"$'\n'output "$way" run bell.img bell.txt
 done
 left="$(ls)"
 want="$(printf '%s\n' bell.events bell.img bell.txt errors folder large locked long.events output)"
