@@ -3,7 +3,7 @@
 use described_systems::Joined;
 use expansion::expand;
 use source_gaps::Text;
-use std::alloc::Global;
+use std::alloc::{AllocError, Global};
 use std::process::Abort;
 use std::test::Fail;
 use system_notes::{notes_on_events, notes_on_threads};
@@ -29,15 +29,19 @@ fn noted(alloc: Global, description: &str) -> Result<String, Fail> {
     Ok(said)
 }
 
+/// The line of a note, or none where that is `-`.
+fn lines_of(alloc: Global, want: &str) -> Result<String, AllocError> {
+    if want == "-" {
+        return Ok(String::new(alloc));
+    }
+    format!(in alloc; "d.sys:{want}\n")
+}
+
 /// Of the description in each row is noted what is after `@` there, and nothing where that is `-`.
 fn check(rt: &(impl AllocGlobal + Abort), rows: &str) -> Result<(), Fail> {
     for row in rows.split("\n@ ").skip(1) {
         let (want, description) = row.split_once('\n').ok_or(row)?;
-        let wanted = if want == "-" {
-            String::new(rt.alloc())
-        } else {
-            format!(in rt.alloc(); "d.sys:{want}\n")?
-        };
+        let wanted = lines_of(rt.alloc(), want)?;
         let said = noted(rt.alloc(), description)?;
         assert_eq!(rt; said.as_str(), wanted.as_str(), "{description}");
     }
