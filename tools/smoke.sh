@@ -149,6 +149,7 @@ part "the kit's line" one_kit
 part_with python3 "tools/checks/below.py" copies_are_whole
 part_with python3 "tools/checks/texts.py --premises" tools/checks/texts.py --premises
 part_with python3 "tools/checks/proved_table.py" tools/checks/proved_table.py --check
+part_with python3 "tools/checks/proof_tree.py" tools/checks/proof_tree.py --check
 part_with python3 "tools/manual_rows.py" same_calls
 part_with python3 "tools/traces/reckon.py" python3 tools/traces/reckon.py compare samples/{bell,solo,worker,client_server,promise,buffers} \
     samples/gallery/controller
