@@ -150,6 +150,7 @@ part_with python3 "tools/checks/below.py" copies_are_whole
 part_with python3 "tools/checks/texts.py --premises" tools/checks/texts.py --premises
 part_with python3 "tools/checks/proved_table.py" tools/checks/proved_table.py --check
 part_with python3 "tools/checks/proof_tree.py" tools/checks/proof_tree.py --check
+part_with python3 "tools/checks/tool_words.py" tools/checks/tool_words.py --check
 part_with python3 "tools/manual_rows.py" same_calls
 part_with python3 "tools/traces/reckon.py" python3 tools/traces/reckon.py compare samples/{bell,solo,worker,client_server,promise,buffers} \
     samples/gallery/controller

@@ -45,7 +45,7 @@ SYSTEMS = {
 # The words whose last file is written.
 WRITERS = {"make", "expand", "certify"}
 # The words that have one more after them.
-OPTIONS = {"--from", "--to", "-D"}
+OPTIONS = {"--from", "--to", "--bytes-of", "-D"}
 STANDARD = "-"
 # What sources that are not named by a description end in: headers of C, and parts of others.
 SUFFIXES = {".c", ".h"}
