@@ -144,6 +144,15 @@ one_kit() {
     [ "$(wc -l <"$room/kits") $(sort -u "$room/kits" | wc -l)" = "3 1" ]
 }
 
+# A script that is not in this file would be neither run nor missed.
+all_are_named() {
+    local file name
+    for file in tools/*/run.sh; do
+        name="$(basename "$(dirname "$file")")"
+        grep -qE "tools/$name/run\.sh|^for script in .*\b$name\b" tools/smoke.sh || { echo "$file" && return 1; }
+    done
+}
+
 part_with python3 "tools, read" scripts_say_nothing
 part "the kit's line" one_kit
 part_with python3 "tools/checks/below.py" copies_are_whole
@@ -179,9 +188,16 @@ part_with "crates/microsys_tool/out/microsys_tool crates/microsys/out/microsys r
 part_with crates/microsys/out/microsys "tools/failing/run.sh" tools/failing/run.sh
 part_with crates/microsys_tool/out/microsys_tool "tools/explaining/check.py" tools/explaining/check.py \
     crates/microsys_tool/out/microsys_tool
-for script in bench damage integrity kernel_run large_images memory certify; do
+for script in bench certify damage integrity kernel_run large_images listing memory; do
     echo "skipped: tools/$script/run.sh: takes minutes, and the built product"
 done
+for script in from_c make_system; do
+    echo "skipped: tools/$script/run.sh without --cheap: takes minutes, and the built product"
+done
+for script in buffers/systems.py devices/systems.py devices/hostile.py promises/systems.py; do
+    echo "skipped: tools/$script compare: takes minutes, and the built product"
+done
+part "each tools/*/run.sh is started or named here" all_are_named
 
 [ "$bad" = 0 ] && echo "tools: all as expected"
 [ "$bad" = 0 ]

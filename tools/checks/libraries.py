@@ -10,7 +10,7 @@ beginning and at the end.
   tools/checks/libraries.py NAME ..     at the top of the repository: these crates and all below them (none named: all)
   tools/checks/libraries.py rt WORD ..  in a crate's folder: the toolchain's command over libraries that were built so
 
-A library is built again only where its text, or that of one below it, has changed. Logs: /tmp/libraries/NAME.log.
+A library is built again only where its text, or that of one below it, has changed. Logs: out/libraries/NAME.log.
 """
 import hashlib
 import importlib.machinery
@@ -23,7 +23,7 @@ from concurrent.futures import FIRST_COMPLETED, ThreadPoolExecutor, wait
 
 FOUND = shutil.which("rt") or sys.exit("rt is not there: the toolchain, whose folder bin has it, is not in PATH")
 KIT = os.path.dirname(os.path.dirname(os.path.realpath(FOUND)))
-LOGS = "/tmp/libraries"
+LOGS = os.path.normpath(f"{os.path.dirname(os.path.realpath(__file__))}/../../out/libraries")
 # A check makes and removes some thousand small files, for which a file system on a disk takes a tenth of the processor's time.
 IN_MEMORY, ROOM = "/dev/shm", 2 << 30
 sys.dont_write_bytecode = True
