@@ -1,0 +1,1 @@
+//! Invocations of a thread of a part, in the whole and alone.

@@ -1,0 +1,1 @@
+//! Steps of a thread of a part, in the whole and alone.
