@@ -1,0 +1,7 @@
+pub mod Agreeing
+pub mod Both
+pub mod Changes
+pub mod Nothing
+pub mod OutsideLaws
+pub mod PromiseLaws
+pub mod Using

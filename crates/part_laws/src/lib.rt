@@ -2,7 +2,9 @@
 //! contract of a function that does nothing.
 #![tactic(auto)]
 
+pub mod changes;
 pub mod outside;
 pub mod own_calls;
 pub mod own_steps;
 pub mod promises;
+pub mod starts;

@@ -1,0 +1,4 @@
+pub mod Agreeing
+pub mod Members
+pub mod Messages
+pub mod Signals

@@ -1,0 +1,17 @@
+pub mod Blocks
+pub mod Decided
+pub mod Kept
+pub mod KeptBytes
+pub mod Left
+pub mod Lines
+pub mod Listed
+pub mod Noted
+pub mod Nothing
+pub mod OtherEvents
+pub mod Places
+pub mod QueuesUsed
+pub mod Reaching
+pub mod SameEntries
+pub mod Storing
+pub mod UseRuns
+pub mod World
