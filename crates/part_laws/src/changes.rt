@@ -16,7 +16,7 @@ pub fn messages_within_a_part_agree()
     ensures receives { ReceivesAgree }
 {}
 
-/// So do replies, signals, waits and polls within a part, and interrupts of its lines.
+/// Replies, signals, waits and polls within a part agree on both sides, and so do interrupts of its lines.
 pub fn signals_of_a_part_agree()
     ensures replies { RepliesAgree }
     ensures signals { SignalsAgree }
