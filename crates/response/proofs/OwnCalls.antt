@@ -52,7 +52,7 @@ use Rattle.response.proofs.Interrupts.{put-at, put-off, thread-of, word-of}
 abbrev pub pc_at : State → ℕ → ℕ
 pc_at s thread = (thread_at s thread).registers.pc
 
-write-pc : (r : RegisterFile) (x : Register) (value : ℕ) → (write r x value).pc ≡ r.pc
+pub write-pc : (r : RegisterFile) (x : Register) (value : ℕ) → (write r x value).pc ≡ r.pc
 write-pc r x value = elim (x.0 == 0) as (λ b. (if b then r else record r { words = slice_set r.words x.0 value }).pc ≡ r.pc) [ true ↦ refl | false ↦ refl ]
 
 pub passes-pc : (s : State) (x : ℕ) → pc_at (passes s x) x ≡ (pc_at s x + 4) % 2 ^ 32
@@ -101,7 +101,8 @@ signals-there s n badge x o apart (w ∷ others) first =
 
 -- ---- a reply
 
-replied-there : (s : State) (x caller y : ℕ) (status : Status) (message : Message) → (status ≡ AwaitsReply → y ≢ caller) → (status ≡ AwaitsHandler → y ≢ caller)
+pub replied-there : (s : State) (x caller y : ℕ) (status : Status) (message : Message) → (status ≡ AwaitsReply → y ≢ caller)
+    → (status ≡ AwaitsHandler → y ≢ caller)
     → (replied s x caller status message).objects y ≡ s.objects y
 replied-there s x caller y AwaitsReply message other handled =
     let one : State = record s { bytes = bytes_between s x caller message.count } in
@@ -127,7 +128,7 @@ replied-there s x caller y Inactive message other handled = refl
 replied-there s x caller y Runnable message other handled = refl
 replied-there s x caller y (Blocked queue) message other handled = refl
 
-replied-slots : (s : State) (x caller : ℕ) (status : Status) (message : Message) → (replied s x caller status message).slots ≡ s.slots
+pub replied-slots : (s : State) (x caller : ℕ) (status : Status) (message : Message) → (replied s x caller status message).slots ≡ s.slots
 replied-slots s x caller AwaitsReply message = refl
 replied-slots s x caller AwaitsHandler message =
     let r = (thread_at s caller).registers in
@@ -150,13 +151,13 @@ module _ (s : State) (x : ℕ) (own : ThreadState) (there : s.objects x ≡ Some
   at-own = ap thread-of there
 
   -- it is no caller of its own
-  awaits-none : (caller : ℕ) → (thread_at s caller).status ≡ AwaitsReply → x ≢ caller
+  pub awaits-none : (caller : ℕ) → (thread_at s caller).status ≡ AwaitsReply → x ≢ caller
   awaits-none caller awaits same =
       let clash : Runnable ≡ AwaitsReply = sym status ∙ sym (ap (λ (u : ThreadState). u.status) at-own) ∙ ap (λ (n : ℕ). (thread_at s n).status) same
       ∙ awaits in
       absurd cc
 
-  handles-none : (caller : ℕ) → (thread_at s caller).status ≡ AwaitsHandler → x ≢ caller
+  pub handles-none : (caller : ℕ) → (thread_at s caller).status ≡ AwaitsHandler → x ≢ caller
   handles-none caller awaits same =
       let clash : Runnable ≡ AwaitsHandler = sym status ∙ sym (ap (λ (u : ThreadState). u.status) at-own) ∙ ap (λ (n : ℕ). (thread_at s n).status) same
       ∙ awaits in
@@ -165,7 +166,7 @@ module _ (s : State) (x : ℕ) (own : ThreadState) (there : s.objects x ≡ Some
   abbrev ready : State
   ready = with_caller s x None
 
-  ready-own : thread_at ready x ≡ record own { caller = None }
+  pub ready-own : thread_at ready x ≡ record own { caller = None }
   ready-own = ap thread-of (put-at s.objects x (Some (ThreadObject (record (thread_at s x) { caller = None }))))
       ∙ ap (λ (u : ThreadState). record u { caller = None }) at-own
 

@@ -128,7 +128,7 @@ module _ (laws : Laws) (bytes : List ℕ) (image : Image) (s : State) (labels : 
         | inr none ↦ absurd (let clash : ◌≡◌ {A = List ℕ} [] (y ∷ others) = sym none ∙ head in cc)
       ]
 
-  doors-apart : (slot e : ℕ) (r : Rights) (badge : ℕ) → named_slot s tcb ≡ Ok slot → capability_at s.slots slot ≡ Endpoint e r badge → OthersWait s e tcb
+  pub doors-apart : (slot e : ℕ) (r : Rights) (badge : ℕ) → named_slot s tcb ≡ Ok slot → capability_at s.slots slot ≡ Endpoint e r badge → OthersWait s e tcb
   doors-apart slot e r badge named is =
       let found = endpoint-kind (s.objects e) (all.sound.memory.named slot NewEndpoint e (ap object_named is)) in
       door-apart e found.0 found.1

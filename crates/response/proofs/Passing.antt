@@ -41,24 +41,24 @@ any-found test (x ∷ xs) any = elim (or_cases (test x) (list_any test xs) any) 
   | inr there ↦ (let found = any-found test xs there in (found.0, further x found.0 xs found.1, found.2))
 ]
 
-or-then : (b c : Bool) → b ≡ false → (b || c) ≡ true → c ≡ true
+pub or-then : (b c : Bool) → b ≡ false → (b || c) ≡ true → c ≡ true
 or-then b c off either = sym (ap (λ (x : Bool). x || c) off) ∙ either
 
 -- ---- points and edges
 
 module _ (image : Image) (t : Numbered) where
-  known-at : (test : ℕ → PointState → Bool) → at_each image t test ≡ true → (point : ℕ) (state : PointState) → point < t.thread.header.words
+  pub known-at : (test : ℕ → PointState → Bool) → at_each image t test ≡ true → (point : ℕ) (state : PointState) → point < t.thread.header.words
       → noted image t point ≡ Known state → test point state ≡ true
   known-at test all point state inside known =
       sym (ap (where_known (test point)) known)
       ∙ all-at (λ n. where_known (test n) (noted image t n)) (range_with_len 0 t.thread.header.words) point
       (range-has 0 t.thread.header.words point (omega arith) (omega (arith, inside))) all
 
-  asked-each : (test : Asked → Bool) → asks_each image t test ≡ true → (point : ℕ) (state : PointState) → point < t.thread.header.words
+  pub asked-each : (test : Asked → Bool) → asks_each image t test ≡ true → (point : ℕ) (state : PointState) → point < t.thread.header.words
       → noted image t point ≡ Known state → test (asked_at image t.thread point state) ≡ true
   asked-each test all = known-at (λ point state. test (asked_at image t.thread point state)) all
 
-  edge-passes : (test : Asked → ℕ → ℕ → Bool) → over_edges image t test ≡ true → (point : ℕ) (state : PointState) (next : ℕ)
+  pub edge-passes : (test : Asked → ℕ → ℕ → Bool) → over_edges image t test ≡ true → (point : ℕ) (state : PointState) (next : ℕ)
       → point < t.thread.header.words → noted image t point ≡ Known state → Leads image t point state next
       → test (asked_at image t.thread point state) point next ≡ true
   edge-passes test all point state next inside known leads =
@@ -270,7 +270,7 @@ passed image priority rates r all =
 
 -- ---- from the start on
 
-at-start : (image : Image) (priority : ℕ) (w : Weights) → left_after image priority w [] ≡ left image priority w (described image) []
+pub at-start : (image : Image) (priority : ℕ) (w : Weights) → left_after image priority w [] ≡ left image priority w (described image) []
 unfolding state_after trace
 at-start image priority w = refl
 

@@ -34,7 +34,7 @@ use Rattle.response.proofs.Woken.{next-pc, point-of, taker-paid}
 pub one-some : {a b : ℕ} → ◌≡◌ {A = Option ℕ} (Some a) (Some b) → a ≡ b
 one-some both = cc
 
-none-some : {a : ℕ} → ◌≡◌ {A = Option ℕ} None (Some a) → ⊥
+pub none-some : {a : ℕ} → ◌≡◌ {A = Option ℕ} None (Some a) → ⊥
 none-some clash = absurd cc
 
 abbrev pub waiters-of : Option Object → List ℕ

@@ -55,12 +55,12 @@ module _ (image : Image) (t : Thread) (at : Point) (state : PointState) (left : 
   no-message : (asked : Asked) → waits_for_no_message asked ≡ true → (other : Asked) → asked ≡ other → waits_for_no_message other ≡ false → ⊥
   no-message asked none other is so = let clash : false ≡ true = sym so ∙ sym (ap waits_for_no_message is) ∙ none in absurd cc
 
-  record IsNamed (rules : ℕ → Cap → Result AfterCall Refusal) : Type 0 where
+  pub record IsNamed (rules : ℕ → Cap → Result AfterCall Refusal) : Type 0 where
     pub slot : ℕ
     pub named : capability_named image t state ≡ capability_at slots slot
     pub rule : rules slot (capability_at slots slot) ≡ Ok left
 
-  named-by : (rules : ℕ → Cap → Result AfterCall Refusal) → by_capability image t at state rules ≡ Ok left → IsNamed rules
+  pub named-by : (rules : ℕ → Cap → Result AfterCall Refusal) → by_capability image t at state rules ≡ Ok left → IsNamed rules
   named-by rules is =
       let first = passes (known at state a0) _ left is in
       let low : Passes.value first ≡ (range_of state.ranges a0).low = low-is (Passes.value first) at (range_of state.ranges a0) (Passes.is first) in

@@ -28,6 +28,7 @@ use Rattle.response.specs.Left.{at_rest, left, line_price}
 use Rattle.response.specs.Levels.{HasItsPriority, KeepsLevel, KeepsLevelOnceRested, is_level_label, is_of_level}
 use Rattle.response.specs.Resting.{AreAcknowledged, AreTakenAlone, IsAcknowledged, Skips, TakesFromOne}
 use Rattle.response.specs.Responding.{DealsOnceRested, DealsWithin, RespondsOnceRested, RespondsWithin, Response, is_open_by, passes, passes_rested}
+use Rattle.response.specs.Owed.{OweAtMost, PayAnswers, RingsFitWith, WaitsWhereAsked, at_rest_with, passes_messages, passes_messages_rested, work_after}
 use Rattle.response.specs.Rates.{Keeps, Rate, cost_of, costs_within, steps_in}
 use Rattle.response.specs.Weights.{Leads, Pays, Weights, price_of, waits_for_notifications_alone}
 
@@ -352,3 +353,73 @@ abbrev pub RestedResponsesDeal : Type 0
 RestedResponsesDeal =
     (bytes : List ℕ) (image : Image) (priority : ℕ) (rates : List Rate) (r : Response) (number : ℕ) → IsAccepted bytes image
     → passes_rested image priority rates r ≡ true → number < 64 → is_open_by r number ≡ true → DealsOnceRested bytes priority rates r.steps number
+
+-- ---- every level: with messages
+
+-- a thread waits for an answer at a call alone, and is queued as a caller there
+abbrev pub ThreadsWaitWhereAsked : Type 0
+ThreadsWaitWhereAsked =
+    (bytes : List ℕ) (image : Image) (events : List Event) (t : Numbered) → IsAccepted bytes image → All (KeepsDevices image) events
+    → Contains (numbered_threads image) t → WaitsWhereAsked image t (state_after (described image) events)
+
+-- a system call of a thread of the level takes 1 off all work that there is at least, whatever it asks
+abbrev pub AllCallsAreWork : Type 0
+AllCallsAreWork =
+    (bytes : List ℕ) (image : Image) (priority : ℕ) (w : Weights) (events : List Event) (t : Numbered) → IsAccepted bytes image
+    → All (KeepsDevices image) events → Pays image priority w → PayAnswers image priority w
+    → Contains (numbered_threads image) t → is_of_level priority t ≡ true → current (state_after (described image) events) ≡ Some (tcb_of image t)
+    → MakesCall (state_after (described image) events) (tcb_of image t)
+    → work_after image priority w (events ++ Step ∷ []) + 1 ≤ work_after image priority w events
+
+-- after a step of another thread no more work is there than at rest, and what that rings
+abbrev pub AllStepsBelowRest : Type 0
+AllStepsBelowRest =
+    (bytes : List ℕ) (image : Image) (priority : ℕ) (w : Weights) (is_taken is_open : ℕ → Bool) (owed_most : ℕ → ℕ) (most : ℕ) (events : List Event)
+    (t : Numbered) → IsAccepted bytes image → All (KeepsDevices image) events → Pays image priority w → AreTakenAlone image priority is_taken
+    → AreAcknowledged image priority is_open → OweAtMost image priority w owed_most → RingsFitWith image priority w is_taken is_open owed_most most
+    → at_rest_with image w is_taken is_open owed_most ≤ most
+    → Contains (numbered_threads image) t → is_of_level priority t ≡ false → current (state_after (described image) events) ≡ Some (tcb_of image t)
+    → work_after image priority w (events ++ Step ∷ []) ≤ most
+
+-- So: no more than n steps on end are of the level, where all that may be left at the start and at rest, and come within n steps, is at most n.
+abbrev pub AllLevelsRestWithin : Type 0
+AllLevelsRestWithin =
+    (bytes : List ℕ) (image : Image) (priority : ℕ) (w : Weights) (rates : List Rate) (is_taken is_open : ℕ → Bool) (owed_most : ℕ → ℕ) (most n : ℕ)
+    (events : List Event) → IsAccepted bytes image → All (KeepsDevices image) events → Pays image priority w → PayAnswers image priority w
+    → AreTakenAlone image priority is_taken → AreAcknowledged image priority is_open → OweAtMost image priority w owed_most
+    → RingsFitWith image priority w is_taken is_open owed_most most → HaveRates image w rates
+    → left_after image priority w [] ≤ most → at_rest_with image w is_taken is_open owed_most ≤ most → Keeps rates events
+    → most + costs_within rates (line_price w (described image)) n ≤ n → KeepsLevel image priority n events
+
+-- and once the level has rested, whatever was left at the start
+abbrev pub AllLevelsRestLater : Type 0
+AllLevelsRestLater =
+    (bytes : List ℕ) (image : Image) (priority : ℕ) (w : Weights) (rates : List Rate) (is_taken is_open : ℕ → Bool) (owed_most : ℕ → ℕ) (most n : ℕ)
+    (events : List Event) → IsAccepted bytes image → All (KeepsDevices image) events → Pays image priority w → PayAnswers image priority w
+    → AreTakenAlone image priority is_taken → AreAcknowledged image priority is_open → OweAtMost image priority w owed_most
+    → RingsFitWith image priority w is_taken is_open owed_most most → HaveRates image w rates
+    → at_rest_with image w is_taken is_open owed_most ≤ most → Keeps rates events
+    → most + costs_within rates (line_price w (described image)) n ≤ n → KeepsLevelOnceRested image priority n events
+
+-- So it is where a response passes the test with messages, whatever the threads of the level ask,
+abbrev pub MessageResponsesHold : Type 0
+MessageResponsesHold =
+    (bytes : List ℕ) (image : Image) (priority : ℕ) (rates : List Rate) (r : Response) (owed_most : ℕ → ℕ) → IsAccepted bytes image
+    → passes_messages image priority rates r owed_most ≡ true → RespondsWithin bytes priority rates r.steps
+
+abbrev pub RestedMessageResponsesHold : Type 0
+RestedMessageResponsesHold =
+    (bytes : List ℕ) (image : Image) (priority : ℕ) (rates : List Rate) (r : Response) (owed_most : ℕ → ℕ) → IsAccepted bytes image
+    → passes_messages_rested image priority rates r owed_most ≡ true → RespondsOnceRested bytes priority rates r.steps
+
+-- and its lines are dealt with
+abbrev pub MessageResponsesDeal : Type 0
+MessageResponsesDeal =
+    (bytes : List ℕ) (image : Image) (priority : ℕ) (rates : List Rate) (r : Response) (owed_most : ℕ → ℕ) (number : ℕ) → IsAccepted bytes image
+    → passes_messages image priority rates r owed_most ≡ true → number < 64 → is_open_by r number ≡ true → DealsWithin bytes priority rates r.steps number
+
+abbrev pub RestedMessageResponsesDeal : Type 0
+RestedMessageResponsesDeal =
+    (bytes : List ℕ) (image : Image) (priority : ℕ) (rates : List Rate) (r : Response) (owed_most : ℕ → ℕ) (number : ℕ) → IsAccepted bytes image
+    → passes_messages_rested image priority rates r owed_most ≡ true → number < 64 → is_open_by r number ≡ true
+    → DealsOnceRested bytes priority rates r.steps number

@@ -6,4 +6,5 @@ pub mod Resting
 pub mod Rates
 pub mod DealtWith
 pub mod Responding
+pub mod Owed
 pub mod Laws

@@ -3,6 +3,7 @@
 #![tactic(auto)]
 
 ghost use Rattle.headline.specs.invocations.Laws.{Laws};
+ghost use Rattle.response.specs.Laws.{AllCallsAreWork, AllLevelsRestLater, AllLevelsRestWithin, AllStepsBelowRest, MessageResponsesDeal, MessageResponsesHold, RestedMessageResponsesDeal, RestedMessageResponsesHold, ThreadsWaitWhereAsked};
 ghost use Rattle.response.specs.Laws.{AcknowledgedLinesRest, LevelsComeToRest, LinesAreDealtWith, LinesAreDealtWithLater, InterruptsMask, NoWaySkips, ResponsesDeal, ResponsesHold, RestedResponsesDeal, RestedResponsesHold, NotificationCallsAreWork, NotificationLevelsRestLater, NotificationLevelsRestWithin, NotificationStepsBelowRest, BindingsStay, NoWordAtRest, InterruptsBeyond, InvocationsRingNothing, LevelsRestWithin, EconomiesBound, EconomiesBoundLater, LevelsRestLater, InterruptsCost, LevelsAreSeen, LevelsRun, PlainStepsAreWork, PrioritiesStay, TicksLeaveTheWork, WaitersTake, WhoRunsHasLeft, WritesLeaveTheWork, LooksLeaveTheWork};
 
 use headline::authority::{
@@ -259,4 +260,91 @@ pub fn tested_responses_hold()
     threads_have_their_own_blocks();
     notification_levels_rest_within();
     lines_are_dealt_with();
+}
+
+/// A thread waits for an answer at a call alone, and is queued as a caller there.
+pub fn threads_wait_where_they_asked()
+    ensures { ThreadsWaitWhereAsked }
+{
+    laws_on_invocations();
+    steps_go_well();
+    events_go_well();
+    events_stay_within_authority();
+    a_tick_stays_within_authority();
+    an_interrupt_stays_within_authority();
+    threads_are_told_apart();
+    threads_are_as_listed();
+}
+
+/// A system call of a thread of a level takes 1 off all work that there is, at least, whatever it asks.
+pub fn calls_are_work()
+    ensures { AllCallsAreWork }
+{
+    laws_on_invocations();
+    steps_go_well();
+    events_go_well();
+    events_stay_within_authority();
+    threads_are_told_apart();
+    waiters_take();
+    bindings_stay();
+    who_runs_has_left();
+    threads_wait_where_they_asked();
+}
+
+/// After a step of another thread no more work is there than at rest, and what that rings.
+pub fn steps_below_rest()
+    ensures { AllStepsBelowRest }
+{
+    laws_on_invocations();
+    steps_go_well();
+    events_go_well();
+    events_stay_within_authority();
+    threads_are_told_apart();
+    waiters_take();
+    bindings_stay();
+    levels_run();
+    no_word_at_rest();
+    acknowledged_lines_rest();
+    threads_wait_where_they_asked();
+}
+
+/// The bound for all levels, whatever their threads ask: they may send, call and serve.
+pub fn all_levels_rest_within()
+    ensures start { AllLevelsRestWithin }
+    ensures later { AllLevelsRestLater }
+{
+    laws_on_invocations();
+    steps_go_well();
+    events_go_well();
+    events_stay_within_authority();
+    a_tick_stays_within_authority();
+    an_interrupt_stays_within_authority();
+    threads_are_told_apart();
+    threads_are_as_listed();
+    threads_have_their_own_blocks();
+    bindings_stay();
+    no_word_at_rest();
+    acknowledged_lines_rest();
+    levels_run();
+    levels_are_seen();
+    plain_steps_are_work();
+    ticks_leave_the_work();
+    the_world_leaves_the_work();
+    interrupts_cost();
+    calls_are_work();
+    steps_below_rest();
+    economies_bound();
+}
+
+/// A response that passes the test with messages holds, whatever the threads of the level ask; and each line that it opens is dealt with.
+pub fn tested_message_responses_hold()
+    ensures steps { MessageResponsesHold }
+    ensures rested_steps { RestedMessageResponsesHold }
+    ensures lines { MessageResponsesDeal }
+    ensures rested_lines { RestedMessageResponsesDeal }
+{
+    threads_have_their_own_blocks();
+    all_levels_rest_within();
+    levels_come_to_rest();
+    acknowledged_lines_rest();
 }
