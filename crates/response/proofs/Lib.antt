@@ -63,3 +63,4 @@ pub mod MessageSteps
 pub mod WholeWork
 pub mod MessagePassing
 pub mod WorkEvents
+pub mod Doors

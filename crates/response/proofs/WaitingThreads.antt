@@ -68,7 +68,7 @@ asks-there image t s own point state there stands =
 
 -- ---- the capabilities that lead to a queue
 
-same-endpoint : (o queue : ℕ) (r : Rights) (badge : ℕ) (capability : Cap) → capability ≡ Endpoint o r badge → NamesQueue queue capability → o ≡ queue
+pub same-endpoint : (o queue : ℕ) (r : Rights) (badge : ℕ) (capability : Cap) → capability ≡ Endpoint o r badge → NamesQueue queue capability → o ≡ queue
 same-endpoint o queue r badge capability is leads = elim leads [
   | inl endpoint ↦ (
       let same : Some (NewEndpoint, o) ≡ Some (NewEndpoint, queue) = subst (λ (c : Cap). Names NewEndpoint queue c) is endpoint in

@@ -28,7 +28,8 @@ use Rattle.response.specs.Left.{at_rest, left, line_price}
 use Rattle.response.specs.Levels.{HasItsPriority, KeepsLevel, KeepsLevelOnceRested, is_level_label, is_of_level}
 use Rattle.response.specs.Resting.{AreAcknowledged, AreTakenAlone, IsAcknowledged, Skips, TakesFromOne}
 use Rattle.response.specs.Responding.{DealsOnceRested, DealsWithin, RespondsOnceRested, RespondsWithin, Response, is_open_by, passes, passes_rested}
-use Rattle.response.specs.Owed.{OweAtMost, PayAnswers, RingsFitWith, WaitsWhereAsked, at_rest_with, passes_messages, passes_messages_rested, work_after}
+use Rattle.response.specs.Owed.{AcceptsFromOne, OweAtMost, PayAnswers, RingsFitWith, WaitsAtDoor, WaitsWhereAsked}
+use Rattle.response.specs.Owed.{at_rest_with, passes_messages, passes_messages_rested, work_after}
 use Rattle.response.specs.Rates.{Keeps, Rate, cost_of, costs_within, steps_in}
 use Rattle.response.specs.Weights.{Leads, Pays, Weights, price_of, waits_for_notifications_alone}
 
@@ -361,6 +362,14 @@ abbrev pub ThreadsWaitWhereAsked : Type 0
 ThreadsWaitWhereAsked =
     (bytes : List ℕ) (image : Image) (events : List Event) (t : Numbered) → IsAccepted bytes image → All (KeepsDevices image) events
     → Contains (numbered_threads image) t → WaitsWhereAsked image t (state_after (described image) events)
+
+-- where a thread rests that waits for messages at one endpoint alone, it waits there, and nobody waits to send there
+abbrev pub ServersRest : Type 0
+ServersRest =
+    (bytes : List ℕ) (image : Image) (events : List Event) (t : Numbered) (endpoint : ℕ) → IsAccepted bytes image → All (KeepsDevices image) events
+    → Contains (numbered_threads image) t → AcceptsFromOne image t endpoint
+    → is_runnable (thread_at (state_after (described image) events) (tcb_of image t)).status ≡ false
+    → WaitsAtDoor image t (state_after (described image) events) endpoint
 
 -- a system call of a thread of the level takes 1 off all work that there is at least, whatever it asks
 abbrev pub AllCallsAreWork : Type 0

@@ -1,6 +1,6 @@
 -- Messages: what is owed to threads that wait to send, or for an answer, and what a level has still to run with that. The test of a response for
 -- levels that send, call and serve.
-use Rattle.std.specs.Prelude.{ℕ, ◌≡◌, ◌+◌, ◌≤◌, ◌<◌, ◌&&◌, ◌||◌, Bool, true, false, nat_le, not, Contains, List, [], Some, if◌then◌else◌}
+use Rattle.std.specs.Prelude.{ℕ, ◌≡◌, ◌==◌, ◌+◌, ◌≤◌, ◌<◌, ◌&&◌, ◌||◌, Bool, true, false, nat_le, not, Contains, List, [], Some, if◌then◌else◌}
 use Rattle.std.specs.List.{list_all}
 use Rattle.model.specs.declared.events.Event.{Event}
 use Rattle.model.specs.declared.labels.Label.{Label}
@@ -10,7 +10,7 @@ use Rattle.model.specs.Acceptance.ThreadInvariants.{tcb_of}
 use Rattle.model.specs.Images.Described.{Numbered, described, numbered_threads}
 use Rattle.model.specs.Images.Image.{Image}
 use Rattle.model.specs.Kernel.State.{AwaitsHandler, AwaitsReply, Blocked, ByCall, EndpointObject, EndpointState, Inactive, Runnable, Sender, State, Status}
-use Rattle.model.specs.Kernel.State.{thread_at}
+use Rattle.model.specs.Kernel.State.{ThreadObject, ThreadState, thread_at}
 use Rattle.model.specs.Kernel.Steps.{state_after, trace}
 use Rattle.response.specs.Asking.{Asked, Takes, Polls, Rings, Acknowledges, Accepts, Looks, SendsTo, Calls, Tries, Answers, Asks_nothing, asked_at}
 use Rattle.response.specs.Left.{at_rest, left, line_price, point_now, total}
@@ -164,6 +164,36 @@ pub record WaitsWhereAsked (image : Image) (t : Numbered) (s : State) : Type 0 w
       → x.sent ≡ ByCall → is_call (asked_there image s t) ≡ true
   pub receives : (queue : ℕ) (e : EndpointState) → s.objects queue ≡ Some (EndpointObject e) → Contains e.receivers (tcb_of image t)
       → is_call (asked_there image s t) ≡ false
+
+-- ---- servers at rest
+
+-- waits for nothing but messages at this endpoint
+abbrev pub accepts_only : ℕ → Asked → Bool
+accepts_only door (Accepts o replies) = o == door
+accepts_only door (Takes o) = false
+accepts_only door (SendsTo o) = false
+accepts_only door (Calls o) = false
+accepts_only door (Polls o) = true
+accepts_only door (Rings o) = true
+accepts_only door (Acknowledges irq_line) = true
+accepts_only door (Looks o) = true
+accepts_only door (Tries o) = true
+accepts_only door Answers = true
+accepts_only door Asks_nothing = true
+
+abbrev pub AcceptsFromOne : Image → Numbered → ℕ → Type 0
+AcceptsFromOne image t door =
+    (point : ℕ) (state : PointState) → point < t.thread.header.words → noted image t point ≡ Known state
+    → accepts_only door (asked_at image t.thread point state) ≡ true
+
+-- the thread waits at its endpoint, where nobody waits to send
+pub record WaitsAtDoor (image : Image) (t : Numbered) (s : State) (endpoint : ℕ) : Type 0 where
+  pub own : ThreadState
+  pub there : s.objects (tcb_of image t) ≡ Some (ThreadObject own)
+  pub waits : own.status ≡ Blocked endpoint
+  pub door : EndpointState
+  pub is_door : s.objects endpoint ≡ Some (EndpointObject door)
+  pub none : door.senders ≡ []
 
 -- ---- a test of all that
 

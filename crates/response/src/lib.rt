@@ -3,7 +3,7 @@
 #![tactic(auto)]
 
 ghost use Rattle.headline.specs.invocations.Laws.{Laws};
-ghost use Rattle.response.specs.Laws.{AllCallsAreWork, AllLevelsRestLater, AllLevelsRestWithin, AllStepsBelowRest, MessageResponsesDeal, MessageResponsesHold, RestedMessageResponsesDeal, RestedMessageResponsesHold, ThreadsWaitWhereAsked};
+ghost use Rattle.response.specs.Laws.{AllCallsAreWork, AllLevelsRestLater, AllLevelsRestWithin, AllStepsBelowRest, MessageResponsesDeal, MessageResponsesHold, RestedMessageResponsesDeal, RestedMessageResponsesHold, ServersRest, ThreadsWaitWhereAsked};
 ghost use Rattle.response.specs.Laws.{AcknowledgedLinesRest, LevelsComeToRest, LinesAreDealtWith, LinesAreDealtWithLater, InterruptsMask, NoWaySkips, ResponsesDeal, ResponsesHold, RestedResponsesDeal, RestedResponsesHold, NotificationCallsAreWork, NotificationLevelsRestLater, NotificationLevelsRestWithin, NotificationStepsBelowRest, BindingsStay, NoWordAtRest, InterruptsBeyond, InvocationsRingNothing, LevelsRestWithin, EconomiesBound, EconomiesBoundLater, LevelsRestLater, InterruptsCost, LevelsAreSeen, LevelsRun, PlainStepsAreWork, PrioritiesStay, TicksLeaveTheWork, WaitersTake, WhoRunsHasLeft, WritesLeaveTheWork, LooksLeaveTheWork};
 
 use headline::authority::{
@@ -274,6 +274,15 @@ pub fn threads_wait_where_they_asked()
     an_interrupt_stays_within_authority();
     threads_are_told_apart();
     threads_are_as_listed();
+}
+
+/// Where a thread rests that waits for messages at one endpoint alone, it waits there, and nobody waits to send there.
+pub fn servers_rest_at_their_endpoints()
+    ensures { ServersRest }
+{
+    laws_on_invocations();
+    events_go_well();
+    threads_wait_where_they_asked();
 }
 
 /// A system call of a thread of a level takes 1 off all work that there is, at least, whatever it asks.
