@@ -1,3 +1,3 @@
 mod Events
 mod RunsAlone
-mod Waiting
+pub mod Waiting

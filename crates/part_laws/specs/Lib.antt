@@ -5,3 +5,4 @@ pub mod Nothing
 pub mod OutsideLaws
 pub mod PromiseLaws
 pub mod Using
+pub mod own

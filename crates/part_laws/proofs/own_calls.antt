@@ -1,0 +1,9 @@
+mod BoundLines
+mod Families
+mod Handled
+mod Invoked
+mod NewObjects
+mod SameLookups
+mod SlotCalls
+mod Standing
+mod WholeSteps

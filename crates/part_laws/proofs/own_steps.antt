@@ -1,0 +1,9 @@
+pub mod AloneImages
+pub mod Dispatched
+pub mod Naming
+pub mod Rings
+pub mod Roots
+pub mod SameViews
+pub mod Stepping
+pub mod Viewed
+pub mod Waiters
