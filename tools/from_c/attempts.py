@@ -13,7 +13,7 @@ from collections.abc import Callable, Generator, Iterator
 from dataclasses import dataclass, replace
 from pathlib import Path
 
-from advice import advice_on
+from advice import Refused, advice_on, sources_of
 from analysis import Memory, Region
 from building import RESERVED, Built, Folder, program_in, written
 from checks import with_checks
@@ -143,15 +143,17 @@ def attempts_at(plain: Built, described: Description, folder: Folder) -> Attempt
             compiled[way.flags] = program_in(plain.thread, wanted, described, folder, way.flags)
         it, before = in_way(compiled[way.flags], way, described), None
         for _ in range(ROUNDS):
-            refused = yield it
-            if not least or len(refused) < len(least):
-                least, best = refused, it
-            mended = mended_at(it, refused, described) if before is None or len(refused) < before else None
+            said = yield it
+            if not least or len(said) < len(least):
+                least, best = said, it
+            mended = mended_at(it, said, described) if before is None or len(said) < before else None
             if mended is None:
                 break
-            it, before = mended, len(refused)
+            it, before = mended, len(said)
     found = [(refusal.line, refusal.rule) for refusal in least]
-    return replace(best, advice=advice_on(best, found, setting_of(best, described), names_in(best)))
+    text_at, is_checked = sources_of(folder, wanted.files if wanted else ()), wanted is not None and wanted.is_checked
+    refused = Refused(best.program.lines, found, setting_of(best, described), names_in(best), text_at, is_checked)
+    return replace(best, advice=advice_on(refused))
 
 
 def has_scratch(lines: list[Line]) -> bool:

@@ -12,9 +12,10 @@ import sys
 
 sys.dont_write_bytecode = True
 
+from advice import Refused, advice_on, index_of  # noqa: E402
 from analysis import Memory, Region  # noqa: E402
 from checks import with_checks  # noqa: E402
-from faults import Fault  # noqa: E402
+from faults import Fault, Place  # noqa: E402
 from lines import STOP, Line, with_stop  # noqa: E402
 from loops import loops  # noqa: E402
 from ranges import ANY, BRANCHES, HALF, MOST, Range, result, shown, signed, united, value_of  # noqa: E402
@@ -258,6 +259,47 @@ def variables_are_read() -> None:
     assert (local.name, local.at(0x6000), local.is_volatile) == ("local", (0x5FEC, 0x5FF0), False)
 
 
+# A loop over a text, and a load of an element of a table; of each line which line of C it is.
+SOURCE = ["static void put(const char *s) {", "    while (*s)", "        sys_put_char(*s++);", "}", "    x = table[w >> 3]; // a bit"]
+LOOP_OF_C = [2, 2, 3, 3, 5, 5, 5]
+REFUSED = """
+again: lbu x5 0(x6)
+beq x5 x0 -> out
+addi x6 x6 1
+jal x0 -> again
+out: lui x7 0x4
+add x7 x7 x11
+lbu x10 0(x7)
+"""
+
+
+def refused_lines_are_named() -> None:
+    """The variables of refused lines are named, and what to write."""
+    lines = program(REFUSED)
+    for line, number in zip(lines, LOOP_OF_C):
+        line.place = Place("it.c", number)
+    lines = [Line(["ecall"], None), *lines]
+    rules = [(1, "NotMapped"), (3, "NoMeasure"), (7, "NotMapped")]
+
+    def said(is_checked: bool) -> list[str]:
+        names = {0x4000: "table"}
+        refused = Refused(lines, rules, setting(bytes(10)), names, lambda it: SOURCE[it.line - 1], is_checked)
+        return [str(it) for it in advice_on(refused)]
+
+    pointer, loop, index = said(True)
+    assert pointer == "it.c:2: note: nothing shows where `s` leads: write an array and an index below a constant"
+    assert loop.startswith("it.c:2: note: nothing shows that `while (*s)` ends: write `AT_MOST(MOST);` first in its body, ")
+    assert loop.endswith("`for (uint32_t turn = 0; turn < MOST && (*s); turn++)`")
+    assert index.startswith("it.c:5: note: nothing shows that `w >> 3`, an index of `table`, is inside of its 10 bytes: ")
+    assert index.endswith("write `below(10, ..)`")
+    assert said(False)[2].endswith("write `below(10, ..)`, or say `checked` in the line `program`")
+    lines[1].place = Place("it.c", 1)
+    assert said(True)[0].startswith("it.c:3: note: nothing shows where `s` leads")
+    assert index_of("a", "a[i[2]] = b[1];") == "i[2]"
+    assert index_of("table", "*p = q[n - 1];") == "n - 1"
+    assert index_of("table", "p[1] = q[n - 1];") == ""
+
+
 def main() -> None:
     """All of it."""
     for check in (
@@ -270,6 +312,7 @@ def main() -> None:
         turns_are_found,
         marks_become_counters,
         variables_are_read,
+        refused_lines_are_named,
     ):
         check()
         print(f"as expected: {check.__name__.replace('_', ' ')}")

@@ -47,6 +47,8 @@ WRITERS = {"make", "expand", "certify"}
 # The words that have one more after them.
 OPTIONS = {"--from", "--to", "--bytes-of", "-D"}
 STANDARD = "-"
+# With this word what is noted is refused.
+STRICT = "--strict"
 # What sources that are not named by a description end in: headers of C, and parts of others.
 SUFFIXES = {".c", ".h"}
 # What a description begins with.
@@ -54,7 +56,7 @@ DECLARATIONS = {"page", "device", "bell", "door", "promise", "let", "include", "
 PREFIX = "riscv64-unknown-elf-"
 # In how many rounds the sizes of programs are found: an address may be longer to write than the last one.
 ROUNDS = 8
-USAGE, FAILED = 2, 3
+REFUSED, FAILED = 1, 3
 
 
 class Ended(Exception):
@@ -293,19 +295,23 @@ def carry_out(word: str, words: list[str], sources: dict[int, Source]) -> int:
     of names that begin with a capital letter for it alone."""
     given, words = given_in(words)
     machine_code.FLAGS = (*machine_code.FLAGS, *(f"-D{it}" for it in given))
-    check_target(word, words[places_of(words)[-1]], list(sources.values()))
+    target = words[places_of(words)[-1]]
+    check_target(word, target, list(sources.values()))
     with tempfile.TemporaryDirectory(prefix="microsys.") as room_name:
         room = Path(room_name)
         sources = {place: source for place, source in zip(systems_of(word, words), sources.values())}
         texts = {place: compiled(source, room, given) for place, source in sources.items()}
+        if STRICT in words and any(it.notes for it in texts.values()):
+            print("".join(it.notes for it in texts.values()), end="", file=sys.stderr)
+            return REFUSED
         if word == "expand":
             [text] = texts.values()
-            return put_text(text, words[-1])
+            return put_text(text, target)
         status = run_on(word, words, texts, room)
         if status:
             print("".join(it.advice for it in texts.values()), end="", file=sys.stderr)
         notes = "".join(it.notes for it in texts.values()) if word == "make" and status == 0 else ""
-        print(notes, end="", file=sys.stderr if words[-1] == STANDARD else sys.stdout)
+        print(notes, end="", file=sys.stderr if target == STANDARD else sys.stdout)
         return status
 
 

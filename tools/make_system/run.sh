@@ -63,7 +63,8 @@ advised() {
     sed 's/^TURNS//' "$room/copy/reader.c" >"$room/reader.c"
     sed -i 's/^TURNS/AT_MOST(200);/' "$room/copy/reader.c"
     (cd "$room/copy" && "$tool" make mailbox.sys made.img) >"$room/out" 2>"$room/said" && wrong advised "made as it is"
-    grep -q '^reader.c:7: note: nothing shows that this index of `table`, which has 10 bytes, is inside: ' "$room/said" ||
+    grep -q '^reader.c:7: note: nothing shows that `words_at(PAGE_BOX)\[0\]`, an index of `table`, is inside of its 10 bytes: '"\
+"'test it with `if`, or write `below(10, ..)`, or say `checked` in the line `program`$' "$room/said" ||
         wrong advised "nothing on the index"
     sed -i 's/program reader.c/& checked/' "$room/copy/mailbox.sys"
     (cd "$room/copy" && "$tool" make mailbox.sys made.img) >"$room/out" 2>"$room/said" || wrong advised "not made"
@@ -71,7 +72,8 @@ advised() {
         wrong advised "not noted"
     cp "$room/reader.c" "$room/copy/reader.c"
     (cd "$room/copy" && "$tool" make mailbox.sys made.img) >"$room/out" 2>"$room/said" && wrong advised "made without turns"
-    grep -q '^reader.c:1[01]: note: nothing shows that this loop ends: ' "$room/said" || wrong advised "nothing on the loop"
+    grep -q '^reader.c:9: note: nothing shows that `while (w != 1)` ends: write `AT_MOST(MOST);` first in its body, ' "$room/said" ||
+        wrong advised "nothing on the loop"
 }
 
 # The words with the system on standard input and what is made on standard output give the same as with files.
@@ -164,6 +166,7 @@ given
 kept
 handed_over
 advised
+"$here/notes.py" "$tool" >"$room/said" 2>&1 || wrong "notes.py" "otherwise"
 mistake mailbox reader.c 's/sys_signal(CAP_EMPTY)/&&/' 1 "reader.c:9: error: "
 mistake mailbox reader.c 's/sys_wait(CAP_FULL)/sys_recv(CAP_FULL)/' 1 \
     "reader.c:6: error: incompatible type for argument 1 of 'sys_recv': expected 'struct door' but argument is of type 'struct bell'"
