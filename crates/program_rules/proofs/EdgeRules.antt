@@ -74,7 +74,7 @@ before-fall pc Ebreak ranges = tt
 
 -- ---- both ways
 
-plain-edges : (image : Image) (t : Numbered) (point : ℕ) (s : PointState) (instr : Instr) → instr ≢ Ecall
+pub plain-edges : (image : Image) (t : Numbered) (point : ℕ) (s : PointState) (instr : Instr) → instr ≢ Ecall
     → edges_at image t point s (Some instr) ≡ edges_of instr s.slots (after (address_of t.thread point) instr s.ranges)
 unfolding edges_at
 plain-edges image t point s (Jal rd offset) plain = refl

@@ -14,3 +14,9 @@ mod Outcomes
 mod OwnKept
 mod Spelled
 mod ThreadsLeft
+mod CallLookups
+mod SlotMaps
+mod NamedCaps
+mod ViewedWays
+mod ViewedThreads
+mod ViewedBlocks

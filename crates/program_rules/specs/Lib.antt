@@ -8,3 +8,4 @@ pub mod point_rules
 pub mod Propositions
 pub mod Visits
 pub mod Walks
+pub mod Views

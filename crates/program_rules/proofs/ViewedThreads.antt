@@ -1,0 +1,33 @@
+-- What is seen of threads, one after another.
+use Rattle.std.proofs.Common.{ℕ, ◌≡◌, ◌∙◌, ◌+◌, ◌++◌, List, [], ◌∷◌, length, sym, ap, subst}
+use Rattle.std.proofs.lemmas.List.{append-nil, append_assoc, length-append}
+use Rattle.model.specs.Images.Image.{Image, Thread}
+use Rattle.program_rules.specs.Views.{AreProgramViews, IsProgramView}
+use Rattle.program_rules.specs.declared.views.ProgramView.{ProgramView}
+
+module _ (image : Image) where
+  -- what was made, with what is made of the rest, is of all threads
+  abbrev pub AreMade : List Thread → ℕ → List Thread → List ProgramView → Type 0
+  AreMade threads number xs made = (rest : List ProgramView) → AreProgramViews image number xs rest → AreProgramViews image 0 threads (made ++ rest)
+
+  pub made-next : (threads xs ys : List Thread) (x : Thread) (p : ProgramView) (number : ℕ) (made new : List ProgramView) → xs ≡ x ∷ ys
+      → IsProgramView image (record { number = number; thread = x }) p → new ≡ made ++ p ∷ [] → AreMade threads number xs made
+      → AreMade threads (number + 1) ys new
+  unfolding AreProgramViews
+  made-next threads xs ys x p number made new parts is grown so_far rest are =
+      let both : AreProgramViews image number (x ∷ ys) (p ∷ rest) = (is, are) in
+      let here = so_far (p ∷ rest) (subst (λ (l : List Thread). AreProgramViews image number l (p ∷ rest)) (sym parts) both) in
+      subst (λ (l : List ProgramView). AreProgramViews image 0 threads l)
+      (sym (ap (λ (l : List ProgramView). l ++ rest) grown ∙ append_assoc made (p ∷ []) rest)) here
+
+  pub made-all : (threads xs : List Thread) (number : ℕ) (made : List ProgramView) → xs ≡ [] → AreMade threads number xs made →
+      AreProgramViews image 0 threads made
+  unfolding AreProgramViews
+  made-all threads xs number made none so_far =
+      let nothing : AreProgramViews image number [] [] = tt in
+      subst (λ (l : List ProgramView). AreProgramViews image 0 threads l) (append-nil made)
+      (so_far [] (subst (λ (l : List Thread). AreProgramViews image number l []) (sym none) nothing))
+
+  pub made-first : (threads xs : List Thread) (made : List ProgramView) → xs ≡ threads → made ≡ [] → AreMade threads 0 xs made
+  made-first threads xs made same none = λ rest are.
+      subst (λ (l : List ProgramView). AreProgramViews image 0 threads (l ++ rest)) (sym none) (subst (λ (l : List Thread). AreProgramViews image 0 l rest) same are)
