@@ -73,6 +73,11 @@ reckons_buffers() {
     python3 tools/buffers/systems.py reckon 12
 }
 
+# The small systems of two parts, and six larger ones: each part that takes nothing does what it does alone.
+reckons_parts() {
+    python3 tools/parts/rows.py reckon 60 && python3 tools/parts/systems.py reckon 6
+}
+
 # Six systems with device pages, and runs in which the world errs; twenty whose threads execute such pages.
 reckons_devices() {
     python3 tools/devices/systems.py reckon 6 && python3 tools/devices/hostile.py reckon 20
@@ -167,6 +172,7 @@ part_with python3 "tools/damage/reckon.py" reckons_damage
 part_with python3 "tools/promises/systems.py" reckons_promises
 part_with python3 "tools/buffers/systems.py" reckons_buffers
 part_with python3 "tools/devices" reckons_devices
+part_with python3 "tools/parts" reckons_parts
 part_with python3 "tools/python/run.sh --cheap" tools/python/run.sh --cheap
 part_with python3 "tools/integrity/check.py" python3 tools/integrity/check.py write "$room/integrity"
 part_with python3 "tools/hostile/crowd.py" makes_crowd
