@@ -127,8 +127,8 @@ def teller(chance, number, part, other):
         caps += [f"cap {name}_cs 3 {target} 0 0"]
         acts = ["addi x10 x0 3", "lui x11 18", "addi x11 x11 0", "addi x17 x0 3", "ecall"]
     code = ["addi x10 x0 1", "addi x17 x0 5", "ecall", "addi x10 x0 2", "lui x11 18", "addi x11 x11 0", "addi x17 x0 3", "ecall", *acts, "jal x0 start"]
-    thread = [f"thread {name}_tcb {name}_cs 28 {name}_root {chance.choice([99, 100, 101, 102, 103])} {len(code)} 0 start 0x1000", "measure 3", "start:", *code, "end"]
-    return objects, caps, thread, by
+    first = f"thread {name}_tcb {name}_cs 28 {name}_root {chance.choice([99, 100, 101, 102, 103])} {len(code)} 0 start 0x1000"
+    return objects, caps, [first, "measure 3", "start:", *code, "end"], by
 
 
 def system(seed):
