@@ -3,7 +3,7 @@ use Rattle.std.proofs.Common.{ℕ, zero, suc, ◌≡◌, ◌+◌, ◌<◌, List,
 use Rattle.std.specs.Prelude.{Contains}
 use Rattle.std.specs.List.{enumerate_from}
 use Rattle.model.specs.Images.Image.{Thread}
-use Rattle.headline.proofs.Laws.{with_number}
+use Rattle.headline.proofs.facts.Laws.{with_number}
 
 numbered-from : (from : ℕ) (threads : List Thread) (k : ℕ) (t : Thread) → k < length threads → get_or threads k t ≡ t
     → (n : ℕ) × Contains (map with_number (enumerate_from from threads)) (with_number (n, t))

@@ -1,6 +1,6 @@
 mod Given
 mod Mapped
-mod MappedSteps
+pub mod MappedSteps
 mod Runs
 mod SameKinds
 mod Steps

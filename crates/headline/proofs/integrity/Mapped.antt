@@ -29,7 +29,7 @@ use Rattle.headline.specs.facts.Standing.{AllStand}
 use Rattle.headline.specs.integrity.Mapped.{AllMapAsHeld}
 use Rattle.headline.specs.integrity.Runs.{last_of}
 use Rattle.headline.specs.starts.Laws.{SlotsAreAsListed}
-use Rattle.headline.proofs.Laws.{state-next}
+use Rattle.headline.proofs.steps.Laws.{state-next}
 use Rattle.headline.proofs.authority.Laws.{maps-own-at-start, maps-own-kept}
 use Rattle.headline.proofs.integrity.MappedSteps.{AreStaying, Stays}
 use Rattle.headline.proofs.integrity.Stores.{writes-held}

@@ -24,7 +24,7 @@ use Rattle.headline.specs.facts.Standing.{AllStand}
 use Rattle.headline.specs.integrity.Mapped.{AllMapAsHeld}
 use Rattle.headline.specs.integrity.Runs.{HasIntegrity, HasRun, SomeRan, WorldWrote, has_memory_at, owns_slot, last_of, may_write_at}
 use Rattle.headline.specs.parts.Given.{AllHoldGiven}
-use Rattle.headline.proofs.Laws.{state-next}
+use Rattle.headline.proofs.steps.Laws.{state-next}
 use Rattle.headline.proofs.authority.Laws.{raise-within, tick-within}
 use Rattle.headline.proofs.facts.Laws.{at-place}
 use Rattle.headline.proofs.integrity.SameKinds.{some-kinds}

@@ -37,7 +37,7 @@ use Rattle.headline.specs.starts.Laws.{SlotsAreAsListed}
 use Rattle.headline.proofs.Fronts.{all-front}
 use Rattle.headline.proofs.facts.Laws.{is-listed}
 use Rattle.headline.proofs.invocations.NotedHere.{full-noted}
-use Rattle.headline.proofs.Laws.{state-next}
+use Rattle.headline.proofs.steps.Laws.{state-next}
 use Rattle.headline.proofs.parts.Given.{given-kept}
 use Rattle.headline.proofs.starts.Laws.{contained, contains}
 use Rattle.thread_spaces.proofs.Laws.{stands-apart}
