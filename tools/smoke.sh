@@ -187,6 +187,8 @@ part_with "make sha256sum" "tools/install/check.sh" tools/install/check.sh
 part_with python3 "tools/editors/check.py" tools/editors/check.py
 part_with "crates/microsys_tool/out/microsys_tool riscv64-unknown-elf-gcc python3" "tools/make_system/run.sh --cheap" \
     tools/make_system/run.sh --cheap
+part_with "crates/microsys_tool/out/microsys_tool riscv64-unknown-elf-gcc python3" "coverage and symbols of a sample" \
+    sh -c 'tools/make_system/coverage_beside.py ring && tools/make_system/symbols_beside.py ring'
 part_with "crates/microsys_tool/out/microsys_tool crates/microsys/out/microsys" "tools/described/run.sh" tools/described/run.sh
 part_with "crates/microsys_tool/out/microsys_tool crates/microsys/out/microsys" "tools/python/run.sh" tools/python/run.sh
 part_with "crates/microsys_tool/out/microsys_tool crates/microsys/out/microsys riscv64-unknown-elf-gcc" "samples/live/run.sh" \

@@ -31,6 +31,7 @@ SECTIONS = {
     "chart": "Pictures",
     "list": "What an image holds, and what changes between two",
     "diff": "What an image holds, and what changes between two",
+    "cover": "What ran",
 }
 # Arguments that are systems, whose parts may be in C.
 SYSTEMS = {"SYSTEM", "DESCRIPTION", "SOURCE", "BEFORE", "AFTER"}
@@ -85,6 +86,24 @@ ADDED = [
         "Does so for each case of a folder, and puts a line for each",
         (Argument("SYSTEM", ""), Argument("FOLDER", ""), Argument("--only NAME", "the cases with this in their names")),
         True,
+    ),
+    Word(
+        "make",
+        "Writes beside the image the symbols of its parts for gdb, where the assembler for RISC-V is there",
+        (Argument("SYSTEM", ""), Argument("IMAGE", ""), Argument("--symbols FILE", "the ELF file that gets instructions, labels and lines")),
+        True,
+    ),
+]
+# The words that tools/make_system has alone.
+ALONE = [
+    Word(
+        "cover",
+        "Runs a system over lists of events, and says what of each part ran, and how near it came to its budget",
+        (
+            Argument("SYSTEM", "the file of a description or of a text"),
+            Argument("EVENTS", "one list of events or more, which add up"),
+            Argument("--info FILE", "the file that gets how often each line ran, for lcov"),
+        ),
     )
 ]
 
@@ -102,7 +121,7 @@ def words():
         for form, help, constant in re.findall(rf"{argument}|\b([A-Z_]+),?\s*$", rest, re.M):
             arguments.append(shared[constant] if constant else Argument(said(form), said(help)))
         found += [Word(name, about, tuple(arguments)), *(it for it in ADDED if it.name == name)]
-    return found
+    return found + ALONE
 
 
 def options_of(all_words):

@@ -25,10 +25,12 @@ import machine_code  # noqa: E402
 from attempts import Certifier, accepted  # noqa: E402
 from building import Built, Folder, built, written  # noqa: E402
 from cases import request_of, run_cases  # noqa: E402
+from coverage import NotCovered, covered, put  # noqa: E402
 from description import Description, read  # noqa: E402
 from faults import Fault, Refused  # noqa: E402
 from machine_code import NoCompiler  # noqa: E402
 from sizes import checked_in, grown, said_in, with_sizes  # noqa: E402
+from symbols import write_symbols  # noqa: E402
 
 # Which of the words after each word of the program are systems, and how many there are at least and at most.
 SYSTEMS = {
@@ -41,11 +43,14 @@ SYSTEMS = {
     "run": ((0,), 2, 2),
     "chart": ((1,), 2, 2),
     "diff": ((0, 1), 2, 2),
+    "cover": ((0,), 2, 1000),
 }
 # The words whose last file is written.
 WRITERS = {"make", "expand", "certify"}
 # The words that have one more after them.
-OPTIONS = {"--from", "--to", "--bytes-of", "-D"}
+OPTIONS = {"--from", "--to", "--bytes-of", "--info", "-D"}
+# What asks `make` for symbols; the file that gets them follows.
+SYMBOLS = "--symbols"
 STANDARD = "-"
 # With this word what is noted is refused.
 STRICT = "--strict"
@@ -197,6 +202,15 @@ def in_pages(source: Source, sizes: dict[int, dict[str, int]], text: Text, folde
     return text_with(described, accepted(programs, described, folder, Certifier(program(), source.stem), fits), text)
 
 
+def text_of(source: Source, room: Path, given: Sequence[str]) -> Text:
+    """The text of a system, whether it has parts in C or not."""
+    if source.has_c:
+        return compiled(source, room, given)
+    if source.is_description:
+        return expanded(source, source.content, room, given)
+    return Text(source.name, source.content, "")
+
+
 def text_with(described: Description, programs: list[Built], text: Text) -> Text:
     """The text of a system with these programs in their places, and what is noted on them."""
     notes = "".join(f"{note}\n" for it in programs for note in it.notes)
@@ -284,15 +298,30 @@ def test_cases(words: list[str]) -> int | None:
     with tempfile.TemporaryDirectory(prefix="microsys.") as room_name:
         room, system = Path(room_name), request.system
         if source and (source.has_c or source.is_description):
-            text = compiled(source, room, given) if source.has_c else expanded(source, source.content, room, given)
+            text = text_of(source, room, given)
             system = str(room / text.name)
             Path(system).write_text(text.content, "utf-8")
         return run_cases(program(), system, request)
 
 
-def carry_out(word: str, words: list[str], sources: dict[int, Source]) -> int:
-    """Carries out a word on systems that have parts in C. Numbers that are given for names are for the compiler, too, and those
-    of names that begin with a capital letter for it alone."""
+def option_in(option: str, words: list[str]) -> tuple[str | None, list[str]]:
+    """The word after an option, if that is there, and the other words."""
+    if option not in words[:-1]:
+        return None, words
+    at = words.index(option)
+    return words[at + 1], words[:at] + words[at + 2 :]
+
+
+def put_symbols(text: Text, source: Source, target: str) -> None:
+    """Writes the files of symbols of a system, and puts their names where there is one for each part."""
+    files = write_symbols(text.content, text.name, source.folder, Path(target), PREFIX)
+    if files != [Path(target)]:
+        print(f"symbols {' '.join(str(it) for it in files)}")
+
+
+def carry_out(word: str, words: list[str], sources: dict[int, Source], symbols: str | None = None) -> int:
+    """Carries out a word on systems that have parts in C, or whose symbols are wanted. Numbers that are given for names are for
+    the compiler, too, and those of names that begin with a capital letter for it alone."""
     given, words = given_in(words)
     machine_code.FLAGS = (*machine_code.FLAGS, *(f"-D{it}" for it in given))
     target = words[places_of(words)[-1]]
@@ -300,7 +329,7 @@ def carry_out(word: str, words: list[str], sources: dict[int, Source]) -> int:
     with tempfile.TemporaryDirectory(prefix="microsys.") as room_name:
         room = Path(room_name)
         sources = {place: source for place, source in zip(systems_of(word, words), sources.values())}
-        texts = {place: compiled(source, room, given) for place, source in sources.items()}
+        texts = {place: text_of(source, room, given) for place, source in sources.items()}
         if STRICT in words and any(it.notes for it in texts.values()):
             print("".join(it.notes for it in texts.values()), end="", file=sys.stderr)
             return REFUSED
@@ -312,7 +341,27 @@ def carry_out(word: str, words: list[str], sources: dict[int, Source]) -> int:
             print("".join(it.advice for it in texts.values()), end="", file=sys.stderr)
         notes = "".join(it.notes for it in texts.values()) if word == "make" and status == 0 else ""
         print(notes, end="", file=sys.stderr if target == STANDARD else sys.stdout)
+        if symbols and status == 0:
+            [(place, text)] = texts.items()
+            put_symbols(text, sources[place], symbols)
         return status
+
+
+def cover(words: list[str]) -> int:
+    """Says what of a system ran over lists of events, and writes it for lcov where `--info FILE` says so."""
+    info, words = option_in("--info", words)
+    if len(words) < 2 or "--help" in words:
+        print("usage: microsys_tool cover SYSTEM EVENTS .. [--info FILE]", file=sys.stderr)
+        return 0 if "--help" in words else USAGE
+    source = source_of(words[0], None)
+    if source is None:
+        print(f"file {words[0]}: no description and no text", file=sys.stderr)
+        return FAILED
+    with tempfile.TemporaryDirectory(prefix="microsys.") as room_name:
+        room = Path(room_name)
+        text = text_of(source, room, ())
+        put(covered(program(), room, text.name, text.content, [Path(it) for it in words[1:]]), source.folder, info)
+    return 0
 
 
 def hand_over(words: list[str], given: bytes | None) -> int:
@@ -328,17 +377,20 @@ def hand_over(words: list[str], given: bytes | None) -> int:
 def main(words: list[str]) -> int:
     """The command."""
     word, rest = (words[0], words[1:]) if words else ("", [])
+    symbols, rest = option_in(SYMBOLS, rest) if word == "make" else (None, rest)
     places = systems_of(word, rest)
     given = sys.stdin.buffer.read() if any(rest[place] == STANDARD for place in places) else None
     found = {place: source_of(rest[place], given if rest[place] == STANDARD else None) for place in places}
-    sources = {place: source for place, source in found.items() if source and source.has_c}
+    sources = {place: source for place, source in found.items() if source and (source.has_c or symbols)}
     try:
+        if word == "cover":
+            return cover(rest)
         if word == "test" and (status := test_cases(rest)) is not None:
             return status
         if not sources:
             return hand_over(words, given)
-        return carry_out(word, rest, sources)
-    except Ended as ended:
+        return carry_out(word, rest, sources, symbols)
+    except (Ended, NotCovered) as ended:
         return ended.status
     except Fault as fault:
         print(fault, file=sys.stderr)
