@@ -30,4 +30,5 @@ module _ (image : Image) where
 
   pub made-first : (threads xs : List Thread) (made : List ProgramView) → xs ≡ threads → made ≡ [] → AreMade threads 0 xs made
   made-first threads xs made same none = λ rest are.
-      subst (λ (l : List ProgramView). AreProgramViews image 0 threads (l ++ rest)) (sym none) (subst (λ (l : List Thread). AreProgramViews image 0 l rest) same are)
+      subst (λ (l : List ProgramView). AreProgramViews image 0 threads (l ++ rest)) (sym none)
+      (subst (λ (l : List Thread). AreProgramViews image 0 l rest) same are)

@@ -14,7 +14,8 @@ returns c =
     let known = c.args.known.now in
     let instr = c.args.instr in
     let ways = c.after-ways.result in
-    plain-seen program.given.space.image.now (thread_of program) c.args.self.now.point (state_by program.given.slots.now c.args.self.now.read.points.now.log known) _
+    plain-seen program.given.space.image.now (thread_of program) c.args.self.now.point
+    (state_by program.given.slots.now c.args.self.now.read.points.now.log known) _
     instr ways.taken ways.fall_through (c.args.self.now.is ∙ c.requires.is) c.requires.plain refl
     (ap (λ (w : Ways). w.taken) c.after-ways.ensures.ways ∙ ap (λ (pc : ℕ). option_map way_of (after pc instr known.bounds).taken) c.address.ensures)
     (ap (λ (w : Ways). w.fall_through) c.after-ways.ensures.ways
