@@ -7,3 +7,4 @@ mod SameLookups
 mod SlotCalls
 mod Standing
 mod WholeSteps
+mod removal

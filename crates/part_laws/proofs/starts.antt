@@ -1,3 +1,3 @@
 mod Kept
 mod Programs
-mod Start
+pub mod Start

@@ -21,7 +21,7 @@ use Rattle.headline.specs.facts.Standing.{IsApart}
 use Rattle.headline.proofs.Laws.{Waits, first-waits, is-listed}
 
 -- what one passes is found
-found-some : {A : Type 0} (f : ℕ → A) (test : ℕ → Bool) (xs : List ℕ) → option_map f (find test xs) ≡ None → list_any test xs ≡ true → ⊥
+pub found-some : {A : Type 0} (f : ℕ → A) (test : ℕ → Bool) (xs : List ℕ) → option_map f (find test xs) ≡ None → list_any test xs ≡ true → ⊥
 found-some f test [] none some = false≢true some
 found-some f test (x ∷ xs) none some =
     elim (test x) as (λ b. test x ≡ b → option_map f (cond b (Some x) (find test xs)) ≡ None → (b || list_any test xs) ≡ true → ⊥) [

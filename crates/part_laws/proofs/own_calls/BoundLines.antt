@@ -1,12 +1,11 @@
 -- A handler's calls that would change the binding of a line change nothing, where all threads stand before and after: that slot is as described.
-use Rattle.std.proofs.Common.{ℕ, ◌≡◌, ◌∙◌, ◌-◌, ◌==◌, ◌<◌, ◌&&◌, ◌||◌, Bool, true, false, not, cond, if◌then◌else◌, List, [], ◌∷◌, Option, Some, None}
+use Rattle.std.proofs.Common.{ℕ, ◌≡◌, ◌∙◌, ◌-◌, ◌==◌, ◌<◌, ◌&&◌, ◌||◌, Bool, true, false, not, if◌then◌else◌, List, [], ◌∷◌, Option, Some, None}
 use Rattle.std.proofs.Common.{option_map, Result}
 use Rattle.std.proofs.Common.{Ok, Err, refl, sym, ap}
-use Rattle.std.specs.Prelude.{find, fold}
+use Rattle.std.specs.Prelude.{fold}
 use Rattle.std.specs.Option.{option_map_or}
 use Rattle.std.specs.List.{list_any, range_with_len}
 use Rattle.std.proofs.lemmas.Bool.{eq-eqb, false≢true}
-use Rattle.std.proofs.lemmas.Option.{none-some}
 use Rattle.model.specs.declared.capabilities.Cap.{Cap}
 use Rattle.model.specs.declared.capabilities.Cap.TheVariants.{Empty}
 use Rattle.model.specs.declared.errors.KError.{KError}
@@ -31,6 +30,7 @@ use Rattle.model.specs.Kernel.Scheduling.{wake}
 use Rattle.model.specs.Kernel.State.{State, binding_slot, boot_area_slots, with_slots}
 use Rattle.soundness.proofs.Laws.{passes-both}
 use Rattle.typestate.specs.Spaces.{StandsApart}
+use Rattle.part_laws.proofs.outside.Blocks.{found-some}
 use Rattle.part_laws.proofs.own_calls.SameLookups.{ok-of}
 
 -- ---- deletion of a slot that stays
@@ -87,15 +87,6 @@ module _ (a : State) (b : ℕ) where
           absurd (false≢true (sym (ap (λ (c : Cap). not (is_empty c)) empty) ∙ full))
 
 -- ---- a binding to what a slot of the thread's own holds
-
--- what one passes is found
-found-some : {A : Type 0} (f : ℕ → A) (test : ℕ → Bool) (xs : List ℕ) → option_map f (find test xs) ≡ None → list_any test xs ≡ true → ⊥
-found-some f test [] none some = false≢true some
-found-some f test (x ∷ xs) none some =
-    elim (test x) as (λ b. test x ≡ b → option_map f (cond b (Some x) (find test xs)) ≡ None → (b || list_any test xs) ≡ true → ⊥) [
-      | true ↦ λ is here later. none-some (f x) (sym here)
-      | false ↦ λ is here later. found-some f test xs here later
-    ] refl none some
 
 module _ (image : Image) (w : Thread) (stand : StandsApart image w) (s after : State) (b : ℕ) (below : b < boot_area_slots image.header.boot_radix)
     (stays : after.slots b ≡ (described image).slots b) where

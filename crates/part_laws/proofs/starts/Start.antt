@@ -8,7 +8,7 @@ use Rattle.std.proofs.lemmas.Bool.{false≢true}
 use Rattle.std.proofs.lemmas.Bool.Decides.{eqb_tells}
 use Rattle.std.proofs.lemmas.Option.{none-some, same_Some}
 use Rattle.format_laws.proofs.Laws.{is-fitting}
-use Rattle.soundness.proofs.Laws.{are-formed, buffer-slot, cspace-slot, slot-of-one, vspace-slot}
+use Rattle.soundness.proofs.Laws.{are-formed, buffer-slot, cspace-slot, slot-behind-boot, slot-of-one, vspace-slot}
 use Rattle.model.specs.Acceptance.Accepted.{IsAccepted}
 use Rattle.model.specs.Acceptance.ThreadInvariants.{tcb_of}
 use Rattle.model.specs.Images.Described.{Holding, Numbered, boot_holdings, buffer_holdings, described, described_object, first_some, held_in, holding}
@@ -20,7 +20,7 @@ use Rattle.model.specs.Capabilities.CapabilityKinds.{with_payload}
 use Rattle.model.specs.Capabilities.Slots.{empty_entry}
 use Rattle.model.specs.Images.Places.{offset_of, original_slot, type_at}
 use Rattle.model.specs.Kernel.Retype.{object}
-use Rattle.model.specs.Kernel.State.{Object, ThreadObject, buffer_slot, cspace_slot, slot_of, vspace_slot}
+use Rattle.model.specs.Kernel.State.{Object, ThreadObject, boot_area_slots, buffer_slot, cspace_slot, slot_of, vspace_slot}
 use Rattle.headline.specs.kept.Laws.{HaveOwnBlocks}
 use Rattle.headline.specs.parts.Agreeing.{IsSlotOfPart, is_own_slot, is_block_slot}
 use Rattle.headline.specs.parts.Parts.{Part, alone, is_in, is_thread_in, takes_nothing}
@@ -41,7 +41,7 @@ same-type : (image : Image) (part : Part) (number : ℕ) → type_at (alone imag
 unfolding alone
 same-type image part number = refl
 
-alone-threads : (image : Image) (part : Part) → (alone image part).threads ≡ filter (is_in part) image.threads
+pub alone-threads : (image : Image) (part : Part) → (alone image part).threads ≡ filter (is_in part) image.threads
 unfolding alone
 alone-threads image part = refl
 
@@ -152,36 +152,14 @@ module _ (bytes : List ℕ) (image : Image) (accepted : IsAccepted bytes image) 
   abbrev vspace_holding : Image → Thread → Holding
   vspace_holding i t = holding (vspace_slot (offset_of i t.header.tcb)) (original i t.header.root) (Some (original_slot i t.header.root))
 
-  module _ (slot : ℕ) (of : IsSlotOfPart image part slot) where
-    -- it is in no other thread's control block
-    no-block : (v : Numbered) → Contains (numbered_threads image) v → is_in part v.thread ≡ false → is_object_slot image slot v.thread.header.tcb ≡ true → ⊥
-    no-block v among isnt there = by of
-      where
-        object-slot : (u : Numbered) → Contains (numbered_threads image) u → (index : ℕ) → index < 3
-            → is_object_slot image (slot_of (tcb_of image u) index) u.thread.header.tcb ≡ true
-        object-slot u among zero less = cspace-slot image u.thread.header.tcb (block-thread image accepted.spelled.fits accepted.formed u among)
-        object-slot u among (suc zero) less = vspace-slot image u.thread.header.tcb (block-thread image accepted.spelled.fits accepted.formed u among)
-        object-slot u among (suc (suc zero)) less = buffer-slot image u.thread.header.tcb (block-thread image accepted.spelled.fits accepted.formed u among)
-        object-slot u among (suc (suc (suc n))) less = absurd (omega (arith, less))
-
-        tcb-less : (u : Numbered) → Contains (numbered_threads image) u → u.thread.header.tcb < image.header.objects
-        tcb-less u among =
-            let at = is-listed image u among in ((is-fitting image accepted.spelled.fits).thread at.number u.thread at.listed).tcb
-
-        by : IsSlotOfPart image part slot → ⊥
-        by (is_own_slot u member own) = block-apart image accepted.spelled.fits accepted.formed v among slot there u member.listed own
-        by (is_block_slot u index member is less) =
-            let same = slot-of-one image (is-fitting image accepted.spelled.fits) (are-formed image accepted.formed) u.thread.header.tcb
-            v.thread.header.tcb slot
-            (tcb-less u member.listed) (tcb-less v among)
-            (subst (λ (n : ℕ). is_object_slot image n u.thread.header.tcb ≡ true) (sym is) (object-slot u member.listed index less)) there in
-            false≢true (sym isnt ∙ ap part (sym same) ∙ member.inside)
-
+  -- of a slot in no other thread's control block both hold the same
+  module _ (slot : ℕ) (no_block : (v : Numbered) → Contains (numbered_threads image) v → is_in part v.thread ≡ false
+      → is_object_slot image slot v.thread.header.tcb ≡ true → ⊥) where
     key-apart : (v : Numbered) → Contains (numbered_threads image) v → is_in part v.thread ≡ false → (key : ℕ)
         → is_object_slot image key v.thread.header.tcb ≡ true → (key == slot) ≡ false
     key-apart v among isnt key there = elim (eqb_tells key slot) [
       | inr other ↦ other.0
-      | inl here ↦ absurd (no-block v among isnt (subst (λ (n : ℕ). is_object_slot image n v.thread.header.tcb ≡ true) here.1 there))
+      | inl here ↦ absurd (no_block v among isnt (subst (λ (n : ℕ). is_object_slot image n v.thread.header.tcb ≡ true) here.1 there))
     ]
 
     none-held : (v : Numbered) → Contains (numbered_threads image) v → is_in part v.thread ≡ false
@@ -236,8 +214,44 @@ module _ (bytes : List ℕ) (image : Image) (accepted : IsAccepted bytes image) 
         ∙ none-held u.0 u.1.0 (ap (is_in part) u.1.1 ∙ isnt))))
         ∙ sym alone-found)
 
-    pub start-slot : (described image).slots slot ≡ (described (alone image part)).slots slot
+    same-slot : (described image).slots slot ≡ (described (alone image part)).slots slot
     unfolding described
-    start-slot =
+    same-slot =
         ap (λ b. if b then Some (option_map_or (λ held. held) (held_in (holdings image) slot) empty_entry) else None) (sym same-open)
         ∙ ap (λ o. if is_open_slot (alone image part) slot then Some (option_map_or (λ held. held) o empty_entry) else None) same-held
+
+  module _ (slot : ℕ) (of : IsSlotOfPart image part slot) where
+    -- it is in no other thread's control block
+    no-block : (v : Numbered) → Contains (numbered_threads image) v → is_in part v.thread ≡ false → is_object_slot image slot v.thread.header.tcb ≡ true → ⊥
+    no-block v among isnt there = by of
+      where
+        object-slot : (u : Numbered) → Contains (numbered_threads image) u → (index : ℕ) → index < 3
+            → is_object_slot image (slot_of (tcb_of image u) index) u.thread.header.tcb ≡ true
+        object-slot u among zero less = cspace-slot image u.thread.header.tcb (block-thread image accepted.spelled.fits accepted.formed u among)
+        object-slot u among (suc zero) less = vspace-slot image u.thread.header.tcb (block-thread image accepted.spelled.fits accepted.formed u among)
+        object-slot u among (suc (suc zero)) less = buffer-slot image u.thread.header.tcb (block-thread image accepted.spelled.fits accepted.formed u among)
+        object-slot u among (suc (suc (suc n))) less = absurd (omega (arith, less))
+
+        tcb-less : (u : Numbered) → Contains (numbered_threads image) u → u.thread.header.tcb < image.header.objects
+        tcb-less u among =
+            let at = is-listed image u among in ((is-fitting image accepted.spelled.fits).thread at.number u.thread at.listed).tcb
+
+        by : IsSlotOfPart image part slot → ⊥
+        by (is_own_slot u member own) = block-apart image accepted.spelled.fits accepted.formed v among slot there u member.listed own
+        by (is_block_slot u index member is less) =
+            let same = slot-of-one image (is-fitting image accepted.spelled.fits) (are-formed image accepted.formed) u.thread.header.tcb
+            v.thread.header.tcb slot
+            (tcb-less u member.listed) (tcb-less v among)
+            (subst (λ (n : ℕ). is_object_slot image n u.thread.header.tcb ≡ true) (sym is) (object-slot u member.listed index less)) there in
+            false≢true (sym isnt ∙ ap part (sym same) ∙ member.inside)
+
+    pub start-slot : (described image).slots slot ≡ (described (alone image part)).slots slot
+    start-slot = same-slot slot no-block
+
+  pub boot-slot : (slot : ℕ) → slot < boot_area_slots image.header.boot_radix → (described image).slots slot ≡ (described (alone image part)).slots slot
+  boot-slot slot below = same-slot slot (λ v among isnt there.
+      let fitting = is-fitting image accepted.spelled.fits in
+      let at = is-listed image v among in
+      let behind = slot-behind-boot image fitting (are-formed image accepted.formed) v.thread.header.tcb slot
+      (fitting.thread at.number v.thread at.listed).tcb there in
+      omega (arith, behind, below))

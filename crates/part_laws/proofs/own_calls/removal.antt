@@ -1,0 +1,4 @@
+pub mod Below
+pub mod Ends
+pub mod Left
+pub mod Removed
