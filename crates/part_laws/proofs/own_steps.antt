@@ -1,5 +1,6 @@
 pub mod AloneImages
 pub mod Dispatched
+mod MappedReads
 pub mod Naming
 pub mod Rings
 pub mod Roots

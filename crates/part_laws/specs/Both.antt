@@ -13,6 +13,7 @@ use Rattle.headline.specs.parts.Given.{AllHoldGiven}
 use Rattle.headline.specs.parts.Parts.{Part, alone, is_thread_in, takes_nothing}
 use Rattle.part_laws.specs.Agreeing.{AgreeFor}
 use Rattle.part_laws.specs.Using.{AllUseQueues}
+use Rattle.part_laws.specs.own.Read.{AllMapAsRead}
 
 -- the whole in the state s, the part alone in the state t
 pub record BothStand (image : Image) (part : Part) (s t : State) : Type 0 where
@@ -29,6 +30,8 @@ pub record BothStand (image : Image) (part : Part) (s t : State) : Type 0 where
   pub alone_given : AllHoldGiven (alone image part) t
   pub mapped : AllMapAsHeld image s
   pub alone_mapped : AllMapAsHeld (alone image part) t
+  pub reads : AllMapAsRead image s
+  pub alone_reads : AllMapAsRead (alone image part) t
   pub queues : AllUseQueues image s
   pub alone_queues : AllUseQueues (alone image part) t
 

@@ -14,7 +14,7 @@ use headline::moves::laws_below;
 use soundness::an_acknowledgement_keeps_soundness;
 
 /// The laws of the crate below on single invocations, together.
-fn laws_on_invocations()
+pub(crate) fn laws_on_invocations()
     ensures { Laws }
 {
     laws_below();

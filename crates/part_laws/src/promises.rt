@@ -4,6 +4,7 @@ ghost use Rattle.part_laws.specs.PromiseLaws.{OwnStepsMakeItRunAlone};
 
 use crate::changes::{changes_of_a_part_agree, signals_of_a_part_agree};
 use crate::outside::{others_have_nothing, others_keep_agreement, queues_are_used};
+use crate::own_steps::threads_map_as_they_may_read;
 use crate::starts::both_start_alike;
 use headline::authority::{
     a_tick_stays_within_authority, an_interrupt_stays_within_authority,
@@ -23,6 +24,7 @@ pub fn parts_run_as_alone()
     events_stay_within_authority();
     words_of_data_stay();
     threads_map_as_they_hold();
+    threads_map_as_they_may_read();
     events_go_well();
     threads_never_hold_more();
     changes_of_a_part_agree();

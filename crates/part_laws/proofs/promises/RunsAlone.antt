@@ -30,6 +30,7 @@ use Rattle.part_laws.specs.Changes.{InterruptsAgree, TicksAgree}
 use Rattle.part_laws.specs.OutsideLaws.{OthersHaveNothing, OthersKeepAgreement}
 use Rattle.part_laws.specs.PromiseLaws.{OwnStepsMakeItRunAlone, StartsAgree}
 use Rattle.part_laws.specs.Using.{AllUseQueues, QueuesAreUsed}
+use Rattle.part_laws.specs.own.Read.{AllMapAsRead, ThreadsMapAsTheyMayRead}
 use Rattle.part_laws.proofs.promises.Events.{other-event, own-event, same-device}
 
 -- ---- states after events
@@ -59,7 +60,7 @@ keeps-alone image part (Write address word) keeps = same-device image part (plac
 keeps-alone image part (Read address) keeps = same-device image part (place_of address) ∙ keeps
 
 module _ (gone_well : EventsHaveGoneWell) (within : EventsStayWithin) (held : ThreadsHoldWhatTheyWereGiven) (mapped : ThreadsMapAsTheyHold)
-    (used : QueuesAreUsed) (words : WordsOfDataStay) (ticks : (s : State) → IsSound s → WithinTick s (tick s))
+    (reads : ThreadsMapAsTheyMayRead) (used : QueuesAreUsed) (words : WordsOfDataStay) (ticks : (s : State) → IsSound s → WithinTick s (tick s))
     (interrupts : (s : State) → IsSound s → (number : ℕ) → WithinInterrupt number s (raise s number)) (ticks_agree : TicksAgree)
     (interrupts_agree : InterruptsAgree) (have_nothing : OthersHaveNothing) (keep : OthersKeepAgreement) (starts : StartsAgree) where
   module _ (bytes others : List ℕ) (image : Image) (part : Part) (accepted : IsAccepted bytes image) (alone_accepted : IsAccepted others (alone image part))
@@ -89,6 +90,8 @@ module _ (gone_well : EventsHaveGoneWell) (within : EventsStayWithin) (held : Th
       mapped = subst (λ (x : State). AllMapAsHeld image x) (sym a.is) (mapped bytes image a.events accepted a.devices);
       alone_mapped = subst (λ (x : State). AllMapAsHeld (alone image part) x) (sym b.is)
           (mapped others (alone image part) b.events alone_accepted b.devices);
+      reads = subst (λ (x : State). AllMapAsRead image x) (sym a.is) (reads bytes image a.events accepted a.devices);
+      alone_reads = subst (λ (x : State). AllMapAsRead (alone image part) x) (sym b.is) (reads others (alone image part) b.events alone_accepted b.devices);
       queues = subst (λ (x : State). AllUseQueues image x) (sym a.is) (used bytes image a.events accepted a.devices);
       alone_queues = subst (λ (x : State). AllUseQueues (alone image part) x) (sym b.is)
           (used others (alone image part) b.events alone_accepted b.devices);
