@@ -6,5 +6,6 @@ pub mod changes;
 pub mod outside;
 pub mod own_calls;
 pub mod own_steps;
+pub mod promised;
 pub mod promises;
 pub mod starts;

@@ -1,5 +1,6 @@
 //! Invocations of a thread of a part, in the whole and alone.
 
+ghost use Rattle.part_laws.specs.Both.{OwnStepsAgree};
 ghost use Rattle.part_laws.specs.own.Invocations.{OwnInvocationsAgreeWith};
 ghost use Rattle.part_laws.specs.own.Whole.{OwnRemovalsAgree, OwnStepsAgreeAsRead, OwnStepsAgreeWithRemovals};
 ghost use Rattle.headline.specs.invocations.Laws.{Laws};
@@ -64,4 +65,11 @@ pub fn own_steps_agree_as_read()
 {
     own_steps_agree_with_removals();
     own_removals_agree();
+}
+
+/// A step of a thread of a part that takes nothing from the others is the same in the whole and alone, and keeps that they agree.
+pub fn own_steps_agree()
+    ensures { OwnStepsAgree }
+{
+    own_steps_agree_as_read();
 }
