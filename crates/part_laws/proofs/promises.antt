@@ -1,3 +1,5 @@
+mod AloneItself
 mod Events
 mod RunsAlone
+mod Undisturbed
 pub mod Waiting

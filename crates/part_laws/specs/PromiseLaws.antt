@@ -1,9 +1,9 @@
--- The promise that parts run as if alone, over one law on the steps of their own threads.
+-- The promises that parts run as if alone, and undisturbed, over one law on the steps of their own threads.
 use Rattle.std.specs.Prelude.{ℕ, ◌≡◌, true, List}
 use Rattle.model.specs.Acceptance.Accepted.{IsAccepted}
 use Rattle.model.specs.Images.Described.{described}
 use Rattle.model.specs.Images.Image.{Image}
-use Rattle.headline.specs.parts.Laws.{PartsRunAsAlone}
+use Rattle.headline.specs.parts.Laws.{PartsAboveAreUndisturbed, PartsRunAsAlone}
 use Rattle.headline.specs.parts.Parts.{Part, alone, takes_nothing}
 use Rattle.part_laws.specs.Agreeing.{AgreeFor}
 use Rattle.part_laws.specs.Both.{OwnStepsAgree}
@@ -17,3 +17,6 @@ StartsAgree =
 -- the promise, where each step of the part's own keeps that they agree
 abbrev pub OwnStepsMakeItRunAlone : Type 0
 OwnStepsMakeItRunAlone = OwnStepsAgree → PartsRunAsAlone
+
+abbrev pub OwnStepsMakeThemUndisturbed : Type 0
+OwnStepsMakeThemUndisturbed = OwnStepsAgree → PartsAboveAreUndisturbed

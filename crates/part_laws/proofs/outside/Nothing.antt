@@ -61,7 +61,7 @@ all-in p k (suc n) o low high all =
     ]
 
 -- what passes of all threads passes of each, with its number
-all-numbered : (p : Thread → Bool) (k : ℕ) (threads : List Thread) (t : Numbered) → list_all p threads ≡ true
+pub all-numbered : (p : Thread → Bool) (k : ℕ) (threads : List Thread) (t : Numbered) → list_all p threads ≡ true
     → Contains (map (λ (u : ℕ × Thread). record { number = u.0; thread = u.1 }) (enumerate_from k threads)) t → p t.thread ≡ true
 all-numbered p k [] t all (n, less, at) = let none : ⊥ = omega (arith, less) in absurd none
 all-numbered p k (x ∷ xs) t all (zero, less, at) = sym (ap (λ (u : Numbered). p u.thread) at) ∙ (and_parts (p x) (list_all p xs) all).0

@@ -1,5 +1,7 @@
--- A part that takes nothing runs as if alone: event by event, its own events give the same labels on both sides, and the others none.
-use Rattle.std.proofs.Common.{ℕ, ◌≡◌, ◌∙◌, ◌++◌, true, false, if◌then◌else◌, List, [], ◌∷◌, All, refl, sym, ap, ap₂, subst}
+-- A part that takes nothing runs as if alone: event by event, its own events give the same labels on both sides, and the others none. Where it is above
+-- all others, each event of the whole gives the part the same as alone.
+use Rattle.std.proofs.Common.{ℕ, ◌≡◌, ◌∙◌, ◌++◌, true, false, if◌then◌else◌, List, [], ◌∷◌, All, map, refl, sym, ap, ap₂, subst, arith}
+use Rattle.std.proofs.lemmas.Bool.{le-leb}
 use Rattle.std.proofs.lemmas.List.Elements.{All-append, All-cons, All-head, All-nil, All-tail}
 use Rattle.model.specs.declared.events.Event.{Event}
 use Rattle.model.specs.declared.events.Event.TheVariants.{Step, Tick, Irq, Write, Read}
@@ -22,16 +24,18 @@ use Rattle.headline.specs.integrity.Mapped.{AllMapAsHeld}
 use Rattle.headline.specs.invocations.Laws.{EventsHaveGoneWell}
 use Rattle.headline.specs.parts.Given.{AllHoldGiven}
 use Rattle.headline.specs.parts.Laws.{ThreadsHoldWhatTheyWereGiven}
-use Rattle.headline.specs.parts.Parts.{Part, alone, is_own, own_events, own_labels, takes_nothing}
+use Rattle.headline.specs.parts.Parts.{Part, alone, is_above, is_own, own_events, own_labels, takes_nothing, without_others}
 use Rattle.headline.proofs.Laws.{state-next}
+use Rattle.response.specs.Laws.{LevelsRun}
 use Rattle.part_laws.specs.Agreeing.{AgreeFor}
 use Rattle.part_laws.specs.Both.{BothStand, OwnStepsAgree}
 use Rattle.part_laws.specs.Changes.{InterruptsAgree, TicksAgree}
 use Rattle.part_laws.specs.OutsideLaws.{OthersHaveNothing, OthersKeepAgreement}
-use Rattle.part_laws.specs.PromiseLaws.{OwnStepsMakeItRunAlone, StartsAgree}
+use Rattle.part_laws.specs.PromiseLaws.{OwnStepsMakeItRunAlone, OwnStepsMakeThemUndisturbed, StartsAgree}
 use Rattle.part_laws.specs.Using.{AllUseQueues, QueuesAreUsed}
 use Rattle.part_laws.specs.own.Read.{AllMapAsRead, ThreadsMapAsTheyMayRead}
 use Rattle.part_laws.proofs.promises.Events.{other-event, own-event, same-device}
+use Rattle.part_laws.proofs.promises.Undisturbed.{HighestRuns, alone-too, same-unseen}
 
 -- ---- states after events
 
@@ -122,7 +126,52 @@ module _ (gone_well : EventsHaveGoneWell) (within : EventsStayWithin) (held : Th
                 (within-after s a event))
           ] refl
 
+      -- a part above all others, over the same events
+      record SameEither (s t : State) (event : Event) : Type 0 where
+        pub agree : AgreeFor image part (step s event).0 (step t event).0
+        pub seen : without_others image part (step s event).1 ≡ without_others image part (step t event).1
+
+      module _ (above : is_above image part ≡ true) (highest : (s : State) → AfterEvents image s → HighestRuns image s) where
+        either-event : (s t : State) (a : AfterEvents image s) (b : AfterEvents (alone image part) t) (event : Event) → AgreeFor image part s t
+            → KeepsDevices image event → SameEither s t event
+        either-event s t a b event agree here =
+            let both = both-stand s t a b in
+            let next = next-after image s event a here in
+            let next_alone = next-after (alone image part) t event b (keeps-alone image part event here) in
+            let later = both-stand (step s event).0 (step t event).0 next next_alone in
+            elim (is_own image part s event) as (λ c. is_own image part s event ≡ c → SameEither s t event) [
+              | true ↦ λ own.
+                  let same = own-event image part s t both agree ticks_agree interrupts_agree own_steps words event here own in
+                  record { agree = same.agree; seen = ap (without_others image part) same.label }
+              | false ↦ λ other. record {
+                agree = alone-too image part above s t both agree (highest s a) interrupts (step s event).0
+                    (other-event image part s t both agree have_nothing keep ticks interrupts event later.labels later.stand here other
+                    (within-after s a event)) event later.alone_labels here other later.alone_stand;
+                seen = same-unseen image part above s t both agree (highest s a) event other;
+              }
+            ] refl
+
+        runs-undisturbed : (events : List Event) → All (KeepsDevices image) events → (s t : State) → AfterEvents image s → AfterEvents (alone image part) t
+            → AgreeFor image part s t → map (without_others image part) (trace s events) ≡ map (without_others image part) (trace t events)
+        unfolding trace
+        runs-undisturbed [] devices s t a b agree = refl
+        runs-undisturbed (event ∷ events) devices s t a b agree =
+            let here = All-head (KeepsDevices image) event events devices in
+            let same = either-event s t a b event agree here in
+            ap₂ (λ (l : Label) (ls : List Label). l ∷ ls) same.seen
+            (runs-undisturbed events (All-tail (KeepsDevices image) event events devices) (step s event).0 (step t event).0
+            (next-after image s event a here) (next-after (alone image part) t event b (keeps-alone image part event here)) same.agree)
+
   pub runs-as-alone : OwnStepsMakeItRunAlone
   runs-as-alone own_steps bytes others image part events accepted alone_accepted devices nothing =
       runs-alone bytes others image part accepted alone_accepted nothing own_steps events devices (described image) (described (alone image part))
       (at-start image) (at-start (alone image part)) (starts bytes others image part accepted alone_accepted nothing)
+
+  pub undisturbed : LevelsRun → OwnStepsMakeThemUndisturbed
+  undisturbed levels own_steps bytes others image part events accepted alone_accepted devices nothing above =
+      runs-undisturbed bytes others image part accepted alone_accepted nothing own_steps above
+      (λ s a. subst (HighestRuns image) (sym a.is) (λ u listed may.
+      let priority = u.thread.header.priority in
+      levels bytes image a.events priority u accepted a.devices listed (le-leb priority priority (omega arith)) may))
+      events devices (described image) (described (alone image part)) (at-start image) (at-start (alone image part))
+      (starts bytes others image part accepted alone_accepted nothing)

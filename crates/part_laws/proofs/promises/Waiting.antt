@@ -14,7 +14,7 @@ pub record WaitsAt (s : State) (thread queue : ℕ) : Type 0 where
   pub is : s.objects thread ≡ Some (ThreadObject own)
   pub blocked : own.status ≡ Blocked queue
 
-some-times : (xs : List ℕ) (x : ℕ) → Contains xs x → 1 ≤ times_in xs x
+pub some-times : (xs : List ℕ) (x : ℕ) → Contains xs x → 1 ≤ times_in xs x
 some-times [] x (n, less, at) = absurd (omega (arith, less))
 some-times (y ∷ ys) x (zero, less, at) =
     let here : times_in (y ∷ ys) x ≡ times_in ys x + 1 = ap (λ (b : Bool). if b then times_in ys x + 1 else times_in ys x) (eq-eqb y x at) in
