@@ -63,7 +63,7 @@ module _ {A : Type 0} (p : A → Bool) (xs : List A) (i : ℕ) where
 -- ---- numbers
 
 module _ (p : ℕ → Bool) (count n : ℕ) where
-  numbers-next : n < count → range_with_len n (count - n) ≡ n ∷ range_with_len (n + 1) (count - (n + 1))
+  pub numbers-next : n < count → range_with_len n (count - n) ≡ n ∷ range_with_len (n + 1) (count - (n + 1))
   numbers-next lt = let k : count - n ≡ suc (count - (n + 1)) = omega arith in ap (range_with_len n) k
 
   abbrev numbers_left : ℕ → Bool

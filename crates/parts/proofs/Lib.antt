@@ -1,3 +1,5 @@
+mod AloneImages
 mod Left
 mod OfThreads
 mod Outside
+mod TakenLists

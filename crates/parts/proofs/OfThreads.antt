@@ -135,7 +135,7 @@ module _ (image : Image) where
       ∙ ap (λ b. q k && b) (all-numbers p q (k + 1) n (λ o lt. same o (omega (arith, lt))))
 
   module _ (threads : ℕ) (all : List Uses) (are : AreUses image 0 image.threads all) where
-    part-is : (object : ℕ) → is_part threads all object ≡ part_of image threads object
+    pub part-is : (object : ℕ) → is_part threads all object ≡ part_of image threads object
     unfolding part_of
     part-is object = any-of (λ n. bit_at threads n == 1) object 0 image.threads all are
 

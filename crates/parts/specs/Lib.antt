@@ -1,2 +1,4 @@
+pub mod Alone
 pub mod Outside
+pub mod Taken
 pub mod Uses

@@ -4,20 +4,25 @@ ghost use Rattle.std.specs.Prelude.{◌≡◌, ◌==◌, ◌&&◌, not, All, IfE
 ghost use Rattle.std.specs.Int.{bit_at};
 ghost use Rattle.std.specs.List.{list_all, range_with_len};
 ghost use Rattle.headline.specs.parts.Given.{AllHoldGiven};
-ghost use Rattle.headline.specs.parts.Parts.{is_above, takes_nothing};
+ghost use Rattle.headline.specs.parts.Parts.{alone, is_above, takes_nothing};
+ghost use Rattle.model.specs.Acceptance.Accepted.{IsAccepted};
 ghost use Rattle.model.specs.Acceptance.Devices.{KeepsDevices};
 ghost use Rattle.model.specs.Acceptance.ThreadRules.{is_member};
 ghost use Rattle.model.specs.Images.Described.{described};
 ghost use Rattle.model.specs.Kernel.Steps.{state_after};
 ghost use Rattle.model.specs.declared.events.Event.{Event};
 ghost use Rattle.model.specs.declared.refusals.Refusal.TheVariants.{OutOfMemory};
+ghost use Rattle.parts.specs.Alone.{WhyNotAlone};
+ghost use Rattle.parts.specs.Taken.{taken};
 ghost use Rattle.parts.specs.Uses.{AreUses, is_high, is_part, is_separate, part_of};
 
+use crate::alone::{Alone, NotAlone, alone_of};
+use crate::taken::{Taken, all_taken};
 use crate::uses::{Uses, uses_of};
 use headline::parts::threads_never_hold_more;
 use image_reading::{ImageRef, header_of};
 use model::Refusal;
-use std::alloc::Global;
+use std::alloc::{AllocError, Global};
 use std::marker::Model;
 use verify::Accepted;
 
@@ -25,7 +30,7 @@ use verify::Accepted;
 /// image, from 0 on. Bits of no thread count for nothing.
 #[derive(Drop)]
 pub struct Parts<'i, 'a> {
-    image: &'i ImageRef<'a>,
+    accepted: &'i Accepted<'a>,
     uses: Vec<Uses>,
 }
 
@@ -35,9 +40,9 @@ impl<'i, 'a> Model for Parts<'i, 'a> {
 
     ghost Value = { Image };
 
-    ghost view = { λ p. p.image.now };
+    ghost view = { λ p. p.accepted.now };
 
-    ghost invariant = { λ p. AreUses p.image.now 0 p.image.now.threads p.uses.items };
+    ghost invariant = { λ p. AreUses p.accepted.now 0 p.accepted.now.threads p.uses.items };
 }
 
 /// Whether a bit of a word is set.
@@ -55,7 +60,7 @@ fn has_block(threads: u64, uses: &Uses, tcb: u32) -> bool
 }
 
 /// Whether a control block is that of a thread of a part.
-fn is_in(all: &[Uses], threads: u64, tcb: u32) -> bool
+pub(crate) fn is_in(all: &[Uses], threads: u64, tcb: u32) -> bool
     ensures { result ≡ is_part threads all.now tcb }
 {
     for uses in all {
@@ -67,7 +72,7 @@ fn is_in(all: &[Uses], threads: u64, tcb: u32) -> bool
 }
 
 /// Whether one thread takes an object that another may change.
-fn is_taken(taker: &Uses, other: &Uses, object: u32) -> bool
+pub(crate) fn is_taken(taker: &Uses, other: &Uses, object: u32) -> bool
     ensures { result ≡ (is_member object taker.now.takes && is_member object other.now.changes) }
 {
     taker.takes.contains(object) && other.changes.contains(object)
@@ -177,7 +182,7 @@ pub fn parts_of<'i, 'a>(alloc: Global, accepted: &'i Accepted<'a>) -> Result<Par
     threads_never_hold_more();
     let image = accepted.image();
     let uses = all_uses(alloc, image)?;
-    Ok(Parts { image, uses })
+    Ok(Parts { accepted, uses })
 }
 
 impl Parts<'_, '_> {
@@ -185,7 +190,7 @@ impl Parts<'_, '_> {
     pub fn takes_nothing(&self, threads: u64) -> bool
         ensures { result ≡ takes_nothing self.now (part_of self.now threads) }
     {
-        let objects = header_of(self.image).objects;
+        let objects = header_of(self.accepted.image()).objects;
         all_take_nothing(objects, self.uses.as_slice(), threads)
     }
 
@@ -193,7 +198,33 @@ impl Parts<'_, '_> {
     pub fn is_above(&self, threads: u64) -> bool
         ensures { result ≡ is_above self.now (part_of self.now threads) }
     {
-        let _ = self.image;
+        let _ = self.accepted;
         all_are_above(self.uses.as_slice(), threads)
+    }
+
+    /// What threads of the part take and threads outside of it may change: in the order of the threads, of the others, and of the
+    /// objects. It takes time in proportion to the objects for each two threads.
+    ///
+    /// # Errors
+    ///
+    /// Memory may be refused.
+    pub fn taken(&self, alloc: Global, threads: u64) -> Result<Vec<Taken>, AllocError>
+        ensures { IfOk result (λ found. found.items ≡ taken self.now (part_of self.now threads)) }
+    {
+        let objects = header_of(self.accepted.image()).objects;
+        all_taken(alloc, objects, self.uses.as_slice(), threads)
+    }
+
+    /// The image of the part alone: without the other threads, and all else as it is.
+    ///
+    /// # Errors
+    ///
+    /// Why there is none ([`NotAlone`]).
+    pub fn alone(&self, alloc: Global, threads: u64) -> Result<Alone, NotAlone>
+        // The bytes spell that image, and the verifier accepts them.
+        ensures accepted { IfOk result (λ bytes. IsAccepted bytes (alone self.now (part_of self.now threads))) }
+        ensures refused { IfErr result (WhyNotAlone (alone self.now (part_of self.now threads))) }
+    {
+        alone_of(alloc, self.accepted.image(), self.uses.as_slice(), threads)
     }
 }

@@ -10,7 +10,7 @@ use Rattle.parts.proofs.image_parts.Parts.is_above.Goals as goal
 
 pub returns : goal.returns
 returns c =
-    let image = c.self.inside.image.now in
+    let image = c.self.inside.accepted.now in
     let all = c.self.inside.uses.items in
     let threads = c.args.threads in
     c.all_are_above.ensures
