@@ -7,7 +7,7 @@ use crate::reading::line_by_names;
 use model::Event;
 use named_traces::TextNames;
 use sinks::EventLine;
-use std::alloc::{AllocError, AllocFailed, Global};
+use std::alloc::{AllocError, Global};
 use trace_lines::without_end;
 
 /// The most events that one list may have.
@@ -24,12 +24,6 @@ pub enum ListFault {
 
 impl From<AllocError> for ListFault {
     fn from(_refused: AllocError) -> ListFault {
-        ListFault::OutOfMemory
-    }
-}
-
-impl<T: Drop> From<AllocFailed<T>> for ListFault {
-    fn from(_refused: AllocFailed<T>) -> ListFault {
         ListFault::OutOfMemory
     }
 }
@@ -80,14 +74,13 @@ pub fn named_events(
     let mut number = 0u64;
     'lines: for piece in bytes.split_inclusive(|byte| *byte == b'\n') {
         number = number.saturating_add(1);
-        let (event, count) = match events_on(names, without_end(piece), events.len()) {
+        let before = events.len();
+        let (event, count) = match events_on(names, without_end(piece), before) {
             Ok(Some(found)) => found,
             Ok(None) => continue,
             Err(unread) => return Err(fault_on(alloc, names, number, unread)),
         };
-        'times: for _ in 0..count {
-            events.push(event)?;
-        }
+        events.resize(before + count as usize, event)?;
     }
     Ok(events)
 }

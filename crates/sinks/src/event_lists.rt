@@ -5,7 +5,7 @@ ghost use Rattle.sinks.specs.declared.event_lists.EventsFault.{EventsFault};
 
 use crate::event_lines::{EventLine, event_line, without_end};
 use model::Event;
-use std::alloc::{AllocFailed, Global};
+use std::alloc::{AllocError, Global};
 
 /// The most events that one list may have.
 const MOST_EVENTS: usize = 1_000_000;
@@ -19,10 +19,10 @@ pub enum EventsFault {
     OutOfMemory,
 }
 
-impl<T: Drop> From<AllocFailed<T>> for EventsFault {
+impl From<AllocError> for EventsFault {
     ghost from_gives = { λ _ fault. fault ≡ EventsFault.OutOfMemory };
 
-    fn from(_fault: AllocFailed<T>) -> EventsFault {
+    fn from(_fault: AllocError) -> EventsFault {
         EventsFault::OutOfMemory
     }
 }
@@ -44,12 +44,11 @@ pub fn events(alloc: Global, bytes: &[u8]) -> Result<Vec<Event>, EventsFault>
             Some(EventLine::Blank) => continue,
             Some(EventLine::Settle(_)) | None => return Err(EventsFault::Line(number)),
         };
-        if MOST_EVENTS.saturating_sub(events.len()) < count as usize {
+        let before = events.len();
+        if MOST_EVENTS.saturating_sub(before) < count as usize {
             return Err(EventsFault::Line(number));
         }
-        'times: for _ in 0..count {
-            events.push(event)?;
-        }
+        events.resize(before + count as usize, event)?;
     }
     Ok(events)
 }

@@ -1,9 +1,6 @@
 -- A list never has more events than are admitted.
-use Rattle.std.proofs.Common.{◌≤◌, ◌+◌, length}
+use Rattle.std.proofs.Common.{◌≤◌, length}
 use Rattle.named_runs.proofs.lists.named_events.Given as goal
 
 abbrev pub invariant-lines : goal.invariant-lines
 invariant-lines l = length l.events.items ≤ 1000000
-
-abbrev pub invariant-times : goal.invariant-times
-invariant-times l = length l.events.items + l.count ≤ 1000000 + l.counter
