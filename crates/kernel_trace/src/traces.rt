@@ -11,8 +11,9 @@ use kernel::{Labels, System};
 use model::Event;
 use sinks::{Sink, SinkFault, put_all};
 
-/// How many steps are made at once at most.
-const MOST_STEPS: u32 = 0x100;
+/// How many steps are made at once at most: half of the plain lines that a piece holds. So a piece is full after a whole number of
+/// such calls, and few steps are counted twice.
+const MOST_STEPS: u32 = 170;
 
 /// Puts the line of each event that the kernel goes on by, as many at once as a piece holds.
 ///
@@ -75,7 +76,7 @@ fn go_on(system: &mut System, left: &[Event], lines: &mut HeldLines) -> usize
     1
 }
 
-/// How many of the events that are left are steps, before any other and up to 256.
+/// How many of the events that are left are steps, before any other and up to [`MOST_STEPS`].
 fn steps_next(left: &[Event]) -> u32
     ensures within { result ≤ length left.now }
     ensures steps { (count : ℕ) → count ≤ result → left.now ≡ replicate count Event.Step ++ drop count left.now }
