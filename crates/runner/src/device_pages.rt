@@ -115,12 +115,16 @@ fn is_of_world(event: Event) -> bool
     matches!(event, Event::Write { .. } | Event::Read { .. })
 }
 
-/// Whether the world stores or looks at a word in some event. All events are gone through, which takes a compiler less for each
-/// than to end with the first.
+/// Whether the world stores or looks at a word in some event. All events are gone through, which takes less for each than to end
+/// with the first.
 fn any_of_world(events: &[Event]) -> bool
     ensures { result ≡ list_any is_of_world events.now }
 {
-    events.iter().fold(false, |found, event| found | is_of_world(*event))
+    let mut found = false;
+    for event in events {
+        found |= is_of_world(*event);
+    }
+    found
 }
 
 /// The index of the first event that does not keep to the device pages of an image. Where the world stores and looks at nothing, the
