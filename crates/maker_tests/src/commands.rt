@@ -64,6 +64,7 @@ fn one_command_makes_a_system_that_runs(rt: HostRuntime) -> Result<(), Fail> {
     put_file(&rt, "made.events", EVENTS.as_bytes())?;
     put_file(&rt, "made.bytes", b"41\n41\n")?;
     put_file(&rt, "other.bytes", b"41\n42\n")?;
+    put_file(&rt, "wrong.bytes", b"41\nzz\n")?;
     answers(&rt, "make @made.sys @made.img", "p budget 11\nstatus 0\n")?;
     answers(&rt, "verify @made.img", "accepted\nstatus 0\n")?;
     answers(&rt, "run @made.img @made.events --bytes", "AAstatus 0\n")?;
@@ -72,7 +73,10 @@ fn one_command_makes_a_system_that_runs(rt: HostRuntime) -> Result<(), Fail> {
     answers(&rt, test, "as expected\nstatus 0\n")?;
     let other = answer_to(&rt, "test @made.sys @made.events @other.bytes")?;
     assert!(&rt; other.ends_with("status 1\n"), "{other}");
-    take_files(&rt, "made.sys made.events made.bytes other.bytes made.img")?;
+    let wrong = answer_to(&rt, "test @made.sys @made.events @wrong.bytes")?;
+    assert!(&rt; wrong.contains("wrong.bytes:2: Malformed: not read\n"), "{wrong}");
+    let files = "made.sys made.events made.bytes other.bytes wrong.bytes made.img";
+    take_files(&rt, files)?;
     Ok(())
 }
 

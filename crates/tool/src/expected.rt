@@ -1,6 +1,6 @@
 //! The command that compares the trace of a system with what is expected.
 
-use crate::reports::ToolFault;
+use crate::reports::{ToolFault, reported_name};
 use crate::runs::{fault_of, names_of};
 use crate::safe_runs::{NotRun, run_by_names};
 use crate::sources::{SystemText, read_system};
@@ -17,19 +17,22 @@ use trace_differences::{TraceFault, first_difference};
 /// The most bytes of a trace: a million events with lines of at most so many bytes.
 const ROOM: usize = 100_000_000;
 
-/// The bytes of a list of events, and their file.
+/// A file and its bytes: a list of events, or what is expected.
 #[derive(Clone, Copy)]
-struct EventList<'a, 'l> {
+struct FileBytes<'a, 'l> {
     file: &'a str,
     bytes: &'l [u8],
 }
 
-/// Why the trace of a system of this name was not compared.
-fn not_compared(name: &str, fault: TraceFault) -> ToolFault<'_> {
+/// Why the trace of a system of this name was not compared with what is expected in a file.
+fn not_compared<'a>(name: &'a str, expected: &'a str, fault: TraceFault) -> ToolFault<'a> {
     match fault {
         TraceFault::Text { line } => ToolFault::Unread { file: name, line },
         TraceFault::Trace { .. } => ToolFault::Disagreement(name),
-        TraceFault::Expected { line } => ToolFault::Malformed(line),
+        TraceFault::Expected { line } => ToolFault::Unread {
+            file: reported_name(expected),
+            line,
+        },
         TraceFault::OutOfMemory => ToolFault::Memory,
     }
 }
@@ -39,7 +42,7 @@ fn traced<'a>(
     alloc: Global,
     system: &SystemText<'a>,
     image: &[u8],
-    list: EventList<'a, '_>,
+    list: FileBytes<'a, '_>,
 ) -> Result<MemorySink, ToolFault<'a>> {
     let names = names_of(alloc, system)?;
     let mut trace = MemorySink::new(alloc, ROOM);
@@ -55,13 +58,13 @@ fn compared<'a>(
     alloc: Global,
     system: &SystemText<'a>,
     image: &[u8],
-    list: EventList<'a, '_>,
-    expected: &[u8],
+    list: FileBytes<'a, '_>,
+    expected: FileBytes<'a, '_>,
 ) -> Result<Option<String>, ToolFault<'a>> {
     let trace = traced(alloc, system, image, list)?;
-    match first_difference(alloc, system.text.as_str(), trace.bytes(), expected) {
+    match first_difference(alloc, system.text.as_str(), trace.bytes(), expected.bytes) {
         Ok(found) => Ok(found),
-        Err(fault) => Err(not_compared(system.name, fault)),
+        Err(fault) => Err(not_compared(system.name, expected.file, fault)),
     }
 }
 
@@ -92,18 +95,21 @@ pub(crate) fn test_file<'a, R: Files + Input + Clock + AllocGlobal, W: Sink, E: 
 ) -> Result<u8, ToolFault<'a>> {
     let system = read_system(rt, system)?;
     let lines = read_all(rt, events)?;
-    let expected = read_all(rt, expected)?;
+    let wanted = read_all(rt, expected)?;
     put_notes(rt.alloc(), &system, events, lines.as_slice(), errors)?;
     let image = image_of(rt, &system, errors)?;
     let found = compared(
         rt.alloc(),
         &system,
         image.as_slice(),
-        EventList {
+        FileBytes {
             file: events,
             bytes: lines.as_slice(),
         },
-        expected.as_slice(),
+        FileBytes {
+            file: expected,
+            bytes: wanted.as_slice(),
+        },
     )?;
     match found {
         Some(lines) => {
