@@ -13,10 +13,12 @@ from dataclasses import dataclass, field
 from heapq import heappop, heappush
 
 from lines import Line
-from ranges import ANSWERS, ANY, BRANCHES, HALF, IMMEDIATE, LOADS, MOST, SILENT, STORES, Operation, Range, loaded, normal, operation, plain, result, shown, united
+from ranges import ANSWERS, ANY, BRANCHES, HALF, IMMEDIATE, LOADS, MOST, SILENT, STORES, Operation, Range, loaded, met, normal, operation, plain, result, shown, united
 
 # How often a point is visited before its ranges are widened, and how many rounds narrow them again.
 VISITS, ROUNDS = 3, 2
+# How many instructions are remembered by which a register was made of another.
+MOST_STEPS = 4
 # An address and a width: what is loaded and stored as one.
 Cell = tuple[int, int]
 
@@ -54,28 +56,37 @@ class Memory:
         return next((it for it in self.regions if it.start <= low and high < it.end), None)
 
 
+# A register that another was made of, and by which instructions with which constants.
+Origin = tuple[int, tuple[tuple[str, int], ...]]
+
+
 @dataclass
 class State:
-    """Ranges of registers and of cells; and which register holds a copy of which cell."""
+    """Ranges of registers and of cells; which register holds a copy of which cell, and which was made of which other."""
 
     registers: list[Range]
     cells: dict[Cell, Range]
     copies: dict[int, Cell]
+    origins: dict[int, Origin] = field(default_factory=dict)
 
     def copy(self) -> State:
         """Another state that is the same."""
-        return State(list(self.registers), dict(self.cells), dict(self.copies))
+        return State(list(self.registers), dict(self.cells), dict(self.copies), dict(self.origins))
 
     def joined(self, other: State) -> State:
         """What is known where a way comes from either."""
         registers = [a if a == b else united(a, b) for a, b in zip(self.registers, other.registers)]
         cells = {it: range if range == other.cells[it] else united(range, other.cells[it]) for it, range in self.cells.items()}
         copies = {register: cell for register, cell in self.copies.items() if other.copies.get(register) == cell}
-        return State(registers, cells, copies)
+        origins = {register: origin for register, origin in self.origins.items() if other.origins.get(register) == origin}
+        return State(registers, cells, copies, origins)
 
     def put(self, register: int, range: Range, copied: Cell | None = None) -> None:
         """Notes what a register holds now."""
         self.copies.pop(register, None)
+        self.origins.pop(register, None)
+        for made in [made for made, (source, _) in self.origins.items() if source == register]:
+            del self.origins[made]
         if register:
             self.registers[register] = range
             if copied:
@@ -91,6 +102,25 @@ class State:
                 for other, copied in self.copies.items():
                     if copied == cell:
                         self.registers[other] = range
+            for made, (source, steps) in list(self.origins.items()):
+                if source == register:
+                    self.narrow_more(made, after_steps(steps, range))
+            if register in self.origins:
+                source, steps = self.origins[register]
+                self.narrow_more(source, before_steps(steps, range))
+
+    def narrow_more(self, register: int, range: Range | None) -> None:
+        """Notes what follows for a register, if that is more than is known of it."""
+        found = met(self.registers[register], range) if range else None
+        if found and size_of(found) < size_of(self.registers[register]):
+            self.narrow(register, found)
+
+    def made_of(self, register: int, name: str, source: int, constant: int, origin: Origin | None) -> None:
+        """Notes that a register has been made of another, or of itself, by an instruction with a constant. `origin` is what the
+        other was made of before."""
+        first, steps = origin or (source, ()) if source == register else (source, ())
+        if register and first and first != register and len(steps) < MOST_STEPS:
+            self.origins[register] = first, (*steps, (name, constant))
 
 
 @dataclass
@@ -125,6 +155,8 @@ class Analysis:
     places: dict[str, int] = field(init=False)
     states: list[State | None] = field(init=False)
     cells: list[Cell] = field(default_factory=list)
+    # The ranges that registers keep to before some lines, as is known otherwise.
+    limits: dict[int, dict[int, Range]] = field(default_factory=dict)
 
     def __post_init__(self) -> None:
         self.operations = [operation(it.words) for it in self.lines]
@@ -189,17 +221,23 @@ class Analysis:
         """Joins a way into the state at its end; whether that has changed."""
         old = self.states[target]
         if old is None:
-            self.states[target] = state.copy()
+            self.states[target] = self.limited(target, state.copy())
             return True
-        new = old.joined(state)
-        if new.registers == old.registers and new.cells == old.cells and new.copies == old.copies:
+        new = self.limited(target, old.joined(state))
+        if new == old:
             return False
         visits[target] += 1
         if visits[target] > VISITS:
             new.registers = [self.widened(a, b) for a, b in zip(old.registers, new.registers)]
             new.cells = {it: self.widened(old.cells[it], range) for it, range in new.cells.items()}
-        self.states[target] = new
+        self.states[target] = self.limited(target, new)
         return True
+
+    def limited(self, line: int, state: State) -> State:
+        """The state before a line, within its limits."""
+        for register, limits in self.limits.get(line, {}).items():
+            state.registers[register] = met(state.registers[register], limits) or limits
+        return state
 
     def widened(self, old: Range, new: Range) -> Range:
         """The new range, whose ends that have moved are moved to the next thresholds."""
@@ -219,7 +257,7 @@ class Analysis:
                     fresh[target] = fresh[target].joined(state) if target in fresh else state.copy()
         for head in self.heads:
             if head < len(self.lines):
-                self.states[head] = fresh.get(head)
+                self.states[head] = self.limited(head, fresh[head]) if head in fresh else None
 
     def fill(self) -> None:
         """The states within blocks."""
@@ -296,7 +334,9 @@ class Analysis:
         elif it.name in IMMEDIATE:
             copied = state.copies.get(it.rs1) if it.name == "addi" and it.constant == 0 else None
             constant = it.constant & MOST
+            origin = state.origins.get(it.rs1)
             state.put(it.rd, result(IMMEDIATE[it.name], known[it.rs1], (constant, constant)), copied)
+            state.made_of(it.rd, IMMEDIATE[it.name], it.rs1, constant, origin)
         elif it.rd:
             state.put(it.rd, result(it.name, known[it.rs1], known[it.rs2]))
 
@@ -361,6 +401,30 @@ class Analysis:
             state = self.states[index]
             if state is not None and it.width:
                 yield index, self.access(it, state)
+
+
+def size_of(range: Range) -> int:
+    """How many words a range has, but one."""
+    return range[1] - range[0]
+
+
+def after_steps(steps: tuple[tuple[str, int], ...], range: Range) -> Range:
+    """What instructions make of a range."""
+    for name, constant in steps:
+        range = result(name, range, (constant, constant))
+    return range
+
+
+def before_steps(steps: tuple[tuple[str, int], ...], range: Range) -> Range | None:
+    """The range of what instructions have made a range of; nothing where that is not known."""
+    for name, constant in reversed(steps):
+        if name == "add":
+            range = normal(range[0] - constant, range[1] - constant)
+        elif name == "srl" and range[0] >= 0 and (range[1] + 1) << (constant & 31) <= MOST + 1:
+            range = range[0] << (constant & 31), ((range[1] + 1) << (constant & 31)) - 1
+        else:
+            return None
+    return range
 
 
 def kept(access: Access) -> Range:

@@ -19,6 +19,7 @@ from faults import Fault, Place  # noqa: E402
 from lines import STOP, Line, with_stop  # noqa: E402
 from loops import loops  # noqa: E402
 from ranges import ANY, BRANCHES, HALF, MOST, Range, result, shown, signed, united, value_of  # noqa: E402
+from strides import with_strides  # noqa: E402
 from turns import turns_of, with_found_turns, with_turns  # noqa: E402
 from variables import variables_in  # noqa: E402
 from words import Setting, analysed, with_constants, with_guards, with_known_words  # noqa: E402
@@ -273,6 +274,41 @@ lbu x10 0(x7)
 """
 
 
+# Bytes of a text are put, one a turn, and every second one goes on by two.
+WALK = """
+lui x6 0x4
+addi x5 x0 {}
+again: beq x5 x0 -> out
+addi x5 x5 -1
+lbu x7 0(x6)
+addi x6 x6 1
+andi x8 x5 1
+beq x8 x0 -> again
+addi x6 x6 1
+jal x0 -> again
+out: ecall
+"""
+# The same from one head, and with a loop in the turn that goes on, too.
+SINGLE = WALK.replace("beq x8 x0 -> again", "beq x8 x0 -> last").replace("jal x0 -> again", "last: jal x0 -> again")
+TWICE = SINGLE.replace("lbu x7 0(x6)", "inner: addi x6 x6 1\naddi x9 x9 1\nsltiu x8 x9 5\nbne x8 x0 -> inner")
+
+
+def walks_are_bounded() -> None:
+    """A pointer that goes on by constants comes no further than turns lead it, and loads by it are borne without being asked; not
+    where ways back are two, or an inner loop moves it."""
+    for turns, data in ((5, 16), (8, 16), (9, 16)):
+        known = with_strides(analysed(program(SINGLE.format(turns)), setting(bytes(data))))
+        head = known.places["again"]
+        state = known.states[head]
+        assert state is not None and state.registers[6] == (0x4000, 0x4000 + 2 * turns), state
+        checked = with_checks(program(SINGLE.format(turns)), [4], setting(bytes(data)), False)
+        assert (checked is not None) == (2 * turns <= data) and (checked is None or not checked.notes)
+    for text in (WALK, TWICE):
+        known = with_strides(analysed(program(text.format(5)), setting(bytes(16))))
+        state = known.states[known.places["again"]]
+        assert state is not None and state.registers[6][1] > 0x4010
+
+
 def refused_lines_are_named() -> None:
     """The variables of refused lines are named, and what to write."""
     lines = program(REFUSED)
@@ -312,6 +348,7 @@ def main() -> None:
         turns_are_found,
         marks_become_counters,
         variables_are_read,
+        walks_are_bounded,
         refused_lines_are_named,
     ):
         check()

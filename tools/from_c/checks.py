@@ -13,6 +13,7 @@ from faults import Note
 from lines import STOP, Line, constant
 from ranges import MOST, Operation, plain
 from rewriting import SCRATCH, Edits
+from strides import with_strides
 from words import Setting, analysed
 
 # How many sums an address is taken apart into, and how many lines there can be between one and its use.
@@ -40,7 +41,7 @@ class Checked:
 def with_checks(lines: list[Line], at: list[int], setting: Setting, is_asked: bool) -> Checked | None:
     """The program with checks before the loads and stores at these lines: those that cannot fail by what is known, and the
     others where they are asked for; nothing where there is none."""
-    known, edits = analysed(lines, setting), Edits(lines)
+    known, edits = with_strides(analysed(lines, setting)), Edits(lines)
     done: set[Limits] = set()
     notes: list[Note] = []
     for index in at:
@@ -90,9 +91,19 @@ def limits_of(index: int, known: Analysis, setting: Setting) -> Limits | None:
         found = scaled(Limits(sum_of.line, sum_of.register, start - named, end - it.width - named), known)
         if found.low == 0 <= found.high and not is_tested(found, known):
             return found
-    start, end = setting.bounds(None, None, takes_stack)
+    start, end = region_in(index, known, setting) or setting.bounds(None, None, takes_stack)
     low, high = start - offset, end - it.width - offset
     return Limits(index, base, max(low, 0), high) if 0 <= high < MOST else None
+
+
+def region_in(index: int, known: Analysis, setting: Setting) -> tuple[int, int] | None:
+    """The first address and the one after the last of the region that a load or store is known to keep to."""
+    state = known.states[index]
+    if state is None:
+        return None
+    access = known.access(known.operations[index], state)
+    found = (it for it in setting.memory.regions if it.start <= access.low and access.high + access.width <= it.end)
+    return next(((it.start, it.end) for it in found), None)
 
 
 def is_tested(limits: Limits, known: Analysis) -> bool:

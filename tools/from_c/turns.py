@@ -168,6 +168,12 @@ def writes(known: Analysis, line: int, register: int) -> bool:
 
 def turns_of(loop: Loop, known: Analysis) -> int | None:
     """How many turns a loop makes at most, if that is found."""
+    found = turns_and_end(loop, known)
+    return found[0] if found else None
+
+
+def turns_and_end(loop: Loop, known: Analysis) -> tuple[int, int] | None:
+    """The same, and the branch that ends the last of so many."""
     state = entry_of(loop, known)
     if state is None:
         return None
@@ -176,8 +182,9 @@ def turns_of(loop: Loop, known: Analysis) -> int | None:
         lost |= set(ANSWERS)
     for turn in range(1, MOST_TURNS):
         before = list(state.registers)
-        if not goes_on(loop, known, state, lost - {0}):
-            return turn
+        end = end_of_turn(loop, known, state, lost - {0})
+        if end is not None:
+            return turn, end
         if state.registers == before:
             return None
     return None
@@ -194,22 +201,32 @@ def entry_of(loop: Loop, known: Analysis) -> State | None:
     return found
 
 
-def goes_on(loop: Loop, known: Analysis, state: State, lost: set[int]) -> bool:
-    """Runs what is run in each turn; whether there can be a further turn. Between any two lines of it others may be run,
-    which write the registers that are `lost`, and all of the memory."""
+def end_of_turn(loop: Loop, known: Analysis, state: State, lost: set[int]) -> int | None:
+    """Runs what is run in each turn; the branch that ends the loop there, or nothing where there can be a further turn. Where
+    one line of it does not lead to the next alone, others may be run between them, which write the registers that are `lost`,
+    and all of the memory."""
+    before = loop.end
     for line in loop.each_turn:
-        for register in lost:
-            state.put(register, ANY)
-        state.cells, state.copies = dict.fromkeys(state.cells, ANY), {}
-        it = known.operations[line]
+        if [it for it in known.next_lines(before) if it in loop.body] != [line]:
+            forget(state, lost)
+        it, before = known.operations[line], line
         if it.name in BRANCHES:
             stays = [taken for taken, target in known.targets_of(line) if target in loop.body]
             if len(stays) == 1:
                 seen = shown(it.name, stays[0], state.registers[it.rs1], state.registers[it.rs2])
                 if seen is None:
-                    return False
+                    return line
                 state.narrow(it.rs1, seen[0])
                 state.narrow(it.rs2, seen[1])
+        elif it.name == "ecall" and known.is_answered(line):
+            forget(state, set(ANSWERS))
         elif it.name not in ("jal", "ecall"):
             known.step(it, state)
-    return True
+    return None
+
+
+def forget(state: State, registers: set[int]) -> None:
+    """Forgets what some registers and all words hold."""
+    for register in registers:
+        state.put(register, ANY)
+    state.cells, state.copies = dict.fromkeys(state.cells, ANY), {}
