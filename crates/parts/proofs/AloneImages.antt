@@ -1,13 +1,16 @@
 -- The image of a part alone: what it spells is accepted, or why it is not.
-use Rattle.std.proofs.Common.{ℕ, ◌≡◌, ◌∙◌, ◌⊎◌, false, List, Some, Result, Ok, Err, IfOk, IfErr, refl, sym, ap, subst, inl, inr}
+use Rattle.std.proofs.Common.{ℕ, ◌≡◌, ◌∙◌, ◌⊎◌, true, false, List, Some, Result, Ok, Err, IfErr, refl, sym, ap, subst, inl, inr}
+use Rattle.headline.specs.parts.Laws.{PartsAboveAreUndisturbed, PartsRunAsAlone}
 use Rattle.headline.specs.parts.Parts.{Part, alone}
 use Rattle.image_reading.proofs.Laws.{one-image}
-use Rattle.model.specs.Acceptance.Accepted.{IsAccepted, first_breach}
+use Rattle.model.specs.Acceptance.Accepted.{AreKept, IsAccepted, IsWellFormed, first_breach}
+use Rattle.model.specs.Acceptance.PointRules.{program_rules}
 use Rattle.model.specs.Images.Format.{IsSpelling}
 use Rattle.model.specs.Images.Image.{Image, whole_image}
 use Rattle.model.specs.declared.refusals.Refusal.{Refusal}
 use Rattle.model.specs.declared.refusals.Refusal.TheVariants.{OutOfMemory}
 use Rattle.parts.specs.Alone.{WhyNotAlone}
+use Rattle.parts.specs.Promises.{IsUndisturbed, RunsAsAlone}
 use Rattle.parts.specs.Uses.{AreUses, is_part, part_of}
 use Rattle.parts.specs.declared.alone.NotAlone.{NotAlone}
 use Rattle.parts.specs.declared.alone.NotAlone.TheVariants.{Refused, Unfit}
@@ -52,3 +55,17 @@ refused-alone image copy made part items bytes refusal spelled left same lent wh
 pub alone-is : (image : Image) (threads : ℕ) (all : List Uses) → AreUses image 0 image.threads all
     → alone image (is_part threads all) ≡ alone image (part_of image threads)
 alone-is image threads all are = ap (alone image) (λ i object. part-is image threads all are object i)
+
+-- ---- where it is accepted, what is promised of the part
+
+-- an image is accepted by its own bytes
+pub by-its-bytes : (image : Image) → whole_image.fits image ≡ true → IsWellFormed image → AreKept (program_rules image)
+    → IsAccepted (whole_image.spelling image) image
+by-its-bytes image fits formed programs = record { spelled = record { fits = fits; spelled = refl }; formed = formed; programs = programs }
+
+module _ (image : Image) (part : Part) (bytes others : List ℕ) (whole : IsAccepted bytes image) (single : IsAccepted others (alone image part)) where
+  pub runs-alone : PartsRunAsAlone → RunsAsAlone image part
+  runs-alone law = λ nothing events keeps. law bytes others image part events whole single keeps nothing
+
+  pub is-undisturbed : PartsAboveAreUndisturbed → IsUndisturbed image part
+  is-undisturbed law = λ nothing above events keeps. law bytes others image part events whole single keeps nothing above

@@ -1,5 +1,5 @@
 -- Loops by what is left: sets that get what passes of a list, and tests of all items.
-use Rattle.std.proofs.Common.{ℕ, suc, ◌≡◌, ◌∙◌, ◌+◌, ◌-◌, ◌<◌, ◌≤◌, ◌&&◌, ◌||◌, Bool, true, false, List, [], ◌∷◌, Some, length, drop, take, get_or, refl, sym}
+use Rattle.std.proofs.Common.{ℕ, suc, ◌≡◌, ◌∙◌, ◌+◌, ◌-◌, ◌<◌, ◌≤◌, ◌&&◌, ◌||◌, Bool, true, false, List, [], ◌∷◌, Some, length, drop, take, get_or, sym}
 use Rattle.std.proofs.Common.{ap, arith, add-one, drop-cons, take_all}
 use Rattle.std.specs.Prelude.{slice_get}
 use Rattle.std.specs.List.{enumerate_from, list_all, list_any, range_with_len}

@@ -4,7 +4,7 @@ use Rattle.std.proofs.Common.{take, get_or, refl, sym, ap, add-one, append-nil, 
 use Rattle.std.specs.List.{enumerate_from, filter, flat_map, range_with_len}
 use Rattle.std.proofs.lemmas.Bool.{ne_eqb}
 use Rattle.std.proofs.lemmas.List.{flat_map_more}
-use Rattle.headline.specs.parts.Parts.{Part, changes, is_in, takes}
+use Rattle.headline.specs.parts.Parts.{changes, is_in, takes}
 use Rattle.model.specs.Acceptance.ThreadRules.{is_member}
 use Rattle.model.specs.Images.Image.{Image, Thread, no_buffer}
 use Rattle.parts.specs.Taken.{passing, taken, taken_between, taken_from, taken_inside, taken_outside}

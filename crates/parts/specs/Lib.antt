@@ -1,4 +1,5 @@
 pub mod Alone
 pub mod Outside
+pub mod Promises
 pub mod Taken
 pub mod Uses

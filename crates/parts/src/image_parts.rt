@@ -13,6 +13,7 @@ ghost use Rattle.model.specs.Kernel.Steps.{state_after};
 ghost use Rattle.model.specs.declared.events.Event.{Event};
 ghost use Rattle.model.specs.declared.refusals.Refusal.TheVariants.{OutOfMemory};
 ghost use Rattle.parts.specs.Alone.{WhyNotAlone};
+ghost use Rattle.parts.specs.Promises.{IsUndisturbed, RunsAsAlone};
 ghost use Rattle.parts.specs.Taken.{taken};
 ghost use Rattle.parts.specs.Uses.{AreUses, is_high, is_part, is_separate, part_of};
 
@@ -22,6 +23,7 @@ use crate::uses::{Uses, uses_of};
 use headline::parts::threads_never_hold_more;
 use image_reading::{ImageRef, header_of};
 use model::Refusal;
+use part_laws::promised::{accepted_parts_above_are_undisturbed, accepted_parts_run_as_alone};
 use std::alloc::{AllocError, Global};
 use std::marker::Model;
 use verify::Accepted;
@@ -223,8 +225,14 @@ impl Parts<'_, '_> {
     pub fn alone(&self, alloc: Global, threads: u64) -> Result<Alone, NotAlone>
         // The bytes spell that image, and the verifier accepts them.
         ensures accepted { IfOk result (λ bytes. IsAccepted bytes (alone self.now (part_of self.now threads))) }
+        // If the part takes nothing from the others, what it does over any events of the whole it does alone over its own among them.
+        ensures runs { IfOk result (λ _. RunsAsAlone self.now (part_of self.now threads)) }
+        // If its priorities are above theirs too, it does so over the same events, line by line, and is idle where the others run.
+        ensures undisturbed { IfOk result (λ _. IsUndisturbed self.now (part_of self.now threads)) }
         ensures refused { IfErr result (WhyNotAlone (alone self.now (part_of self.now threads))) }
     {
+        accepted_parts_run_as_alone();
+        accepted_parts_above_are_undisturbed();
         alone_of(alloc, self.accepted.image(), self.uses.as_slice(), threads)
     }
 }

@@ -1,5 +1,5 @@
 -- By one object more.
-use Rattle.std.proofs.Common.{◌≡◌, ◌++◌, ◌&&◌}
+use Rattle.std.proofs.Common.{◌&&◌}
 use Rattle.model.specs.Acceptance.ThreadRules.{is_member}
 use Rattle.parts.proofs.TakenLists.{object-next, object-none}
 use Rattle.parts.proofs.taken.note_between.Goals as goal

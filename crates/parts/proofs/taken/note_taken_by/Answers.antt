@@ -1,7 +1,6 @@
 -- By one thread more.
-use Rattle.std.proofs.Common.{◌∙◌, append-nil, sym, ap, not, List, [], ◌++◌, if◌then◌else◌}
+use Rattle.std.proofs.Common.{◌∙◌, append-nil, sym, ap, not, [], ◌++◌, if◌then◌else◌}
 use Rattle.parts.specs.Taken.{taken_between, taken_outside}
-use Rattle.parts.specs.declared.taken.Taken.{Taken}
 use Rattle.parts.proofs.TakenLists.{thread-next, thread-none}
 use Rattle.parts.proofs.taken.note_taken_by.Goals as goal
 
