@@ -64,3 +64,4 @@ pub mod WholeWork
 pub mod MessagePassing
 pub mod WorkEvents
 pub mod Doors
+pub mod Laws

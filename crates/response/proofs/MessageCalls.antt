@@ -310,7 +310,7 @@ module _ (laws : Laws) (bytes : List ℕ) (image : Image) (accepted : IsAccepted
         let now = waits-now (Blocked e) status refl pc in
         let owes = queue_owes (Blocked e) refl in
         queued-so q is nobody (omega (arith, now, owes))
-    by-ends is_call called queue_owes (sent_awaits status pc is_caller) =
+    by-ends is_call called queue_owes (sent_awaits y rest status pc is_caller first right) =
         let now = waits-now AwaitsReply status refl pc in
         let owes : owed_as w (t.thread.header.budget + next) asked AwaitsReply ≡ t.thread.header.budget + next =
         ap (λ (a : Asked). owed_as w (t.thread.header.budget + next) a AwaitsReply) (called is_caller) in
@@ -454,9 +454,9 @@ module _ (laws : Laws) (bytes : List ℕ) (image : Image) (accepted : IsAccepted
               one-more n = omega arith
 
     accepts-so : ReceiveEnds s (tcb_of image t) e after → Falls
-    accepts-so (got_one first others status pc head gone) =
+    accepts-so (got_one first others status pc head gone right) =
         let now = runs-now (ap is_runnable status) pc in took-so first others head gone (omega (arith, now))
-    accepts-so (stays_there status pc) =
+    accepts-so (stays_there status pc nobody) =
         stays-so nothing-reached (waits-now (Blocked e) status refl pc ∙ ap (λ (a : Asked). owed_as w (t.thread.header.budget + next) a (Blocked e)) is)
 
   -- ---- where it takes

@@ -344,7 +344,7 @@ module _ (laws : Laws) (bytes : List ℕ) (image : Image) (accepted : IsAccepted
         let clash : ◌≡◌ {A = List ℕ} [] (tcb_of image u ∷ rest) =
         sym nobody ∙ sym (ap takers_in is) ∙ ap (λ (k : ℕ). takers_in (s.objects k)) (sym same) ∙ first in
         absurd cc) none
-    by-ends is_caller called none (sent_awaits status pc so) = passed-rests (awaits-none status pc)
+    by-ends is_caller called none (sent_awaits y rest status pc so first right) = passed-rests (awaits-none status pc)
       where
         awaits-none : (thread_at after tcb).status ≡ AwaitsReply → pc_at after tcb ≡ pc_at s tcb
             → after_of t ≡ 0

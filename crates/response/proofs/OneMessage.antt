@@ -91,10 +91,10 @@ module _ (laws : Laws) (steps : AnyStepGoesWell) (told : (a b : ThreadState) →
   abbrev later : List Label
   later = labels ++ (step s Step).1 ∷ []
 
-  well : GoesWell image s labels Step
+  pub well : GoesWell image s labels Step
   well = steps bytes image s labels accepted all
 
-  own : OwnAuthority image t s after
+  pub own : OwnAuthority image t s after
   own = own-authority bytes image accepted laws.below.own_blocks t listed s after now stay
 
   -- ---- a system call
@@ -121,28 +121,28 @@ module _ (laws : Laws) (steps : AnyStepGoesWell) (told : (a b : ThreadState) →
           → (q : EndpointState) × (s.objects e ≡ Some (EndpointObject q))
       gates slot e r badge named is = endpoint-kind (s.objects e) (all.sound.memory.named slot NewEndpoint e (ap object_named is))
 
-      sends : (e : ℕ) → asked ≡ SendsTo e → SendEnds s tcb e false after
+      pub sends : (e : ℕ) → asked ≡ SendsTo e → SendEnds s tcb e false after
       sends e asks =
           subst (λ (x : State). SendEnds s tcb e false x) (sym after-is)
           (sends-so s tcb mine at.there at.status (memory_base + tcb) (registers_of s tcb).pc
           (bells-apart laws bytes image s labels accepted all t listed mine at.there at.status)
           (doors-apart laws bytes image s labels accepted all t listed mine at.there at.status) gates e asks fine)
 
-      calls : (e : ℕ) → asked ≡ Calls e → SendEnds s tcb e true after
+      pub calls : (e : ℕ) → asked ≡ Calls e → SendEnds s tcb e true after
       calls e asks =
           subst (λ (x : State). SendEnds s tcb e true x) (sym after-is)
           (calls-so s tcb mine at.there at.status (memory_base + tcb) (registers_of s tcb).pc
           (bells-apart laws bytes image s labels accepted all t listed mine at.there at.status)
           (doors-apart laws bytes image s labels accepted all t listed mine at.there at.status) gates e asks fine)
 
-      accepts : (e : ℕ) (replies : Bool) → asked ≡ Accepts e replies → ReceiveEnds s tcb e after
+      pub accepts : (e : ℕ) (replies : Bool) → asked ≡ Accepts e replies → ReceiveEnds s tcb e after
       accepts e replies asks =
           subst (λ (x : State). ReceiveEnds s tcb e x) (sym after-is)
           (accepts-so s tcb mine at.there at.status (memory_base + tcb) (registers_of s tcb).pc
           (bells-apart laws bytes image s labels accepted all t listed mine at.there at.status)
           (doors-apart laws bytes image s labels accepted all t listed mine at.there at.status) gates e replies asks fine)
 
-      waits_so : (o : ℕ) → asked ≡ Takes o → TakeEnds s tcb o after
+      pub waits_so : (o : ℕ) → asked ≡ Takes o → TakeEnds s tcb o after
       waits_so o asks =
           subst (λ (x : State). TakeEnds s tcb o x) (sym after-is)
           (takes-so s tcb mine at.there at.status (memory_base + tcb) (registers_of s tcb).pc
@@ -157,10 +157,10 @@ module _ (laws : Laws) (steps : AnyStepGoesWell) (told : (a b : ThreadState) →
           (sym (ap (λ (x : State). is_runnable (thread_at x tcb).status) after-is) ∙ runs_) in
           (both.0, ap (λ (x : State). word-of (x.objects o)) after-is ∙ both.1)
 
-      goes : may_wait asked ≡ false → is_runnable (thread_at after tcb).status ≡ true → pc_at after tcb ≡ (pc_at s tcb + 4) % 2 ^ 32
+      pub goes : may_wait asked ≡ false → is_runnable (thread_at after tcb).status ≡ true → pc_at after tcb ≡ (pc_at s tcb + 4) % 2 ^ 32
       goes free = goes-on laws bytes image s labels accepted all t listed mine at.there at.status now makes (free-none asked free) well.faults
 
-      count : may_wait asked ≡ false → open_count tcb later ≡ open_count tcb labels + 1
+      pub count : may_wait asked ≡ false → open_count tcb later ≡ open_count tcb labels + 1
       count = own-count image s labels t now makes mine point state answer at
 
       -- ---- where it waits it asked for that
@@ -186,14 +186,14 @@ module _ (laws : Laws) (steps : AnyStepGoesWell) (told : (a b : ThreadState) →
       by-send : (e : ℕ) (is_caller : Bool) → (is_caller ≡ true → is_call asked ≡ true) → SendEnds s tcb e is_caller after → Asks
       by-send e is_caller called (sent_passed status pc) = runs-after status
       by-send e is_caller called (sent_queued status pc q is nobody) = waits-after pc (blocked-no e status)
-      by-send e is_caller called (sent_awaits status pc so) = waits-after pc (λ _. called so)
+      by-send e is_caller called (sent_awaits y rest status pc so first right) = waits-after pc (λ _. called so)
       by-send e is_caller called (sent_stopped status) =
           vacuous image t after well.stands.sound Inactive status (λ clash. absurd (let c : Inactive ≡ AwaitsReply = clash in cc))
           (λ queue clash. absurd (let c : Inactive ≡ Blocked queue = clash in cc))
 
       by-accept : (e : ℕ) → ReceiveEnds s tcb e after → Asks
-      by-accept e (got_one first others status pc head gone) = runs-after status
-      by-accept e (stays_there status pc) = waits-after pc (blocked-no e status)
+      by-accept e (got_one first others status pc head gone right) = runs-after status
+      by-accept e (stays_there status pc nobody) = waits-after pc (blocked-no e status)
 
       by-take : (o : ℕ) → TakeEnds s tcb o after → Asks
       by-take o (got_word runs_ pc) = runs-after (runs-is (thread_at after tcb).status runs_)

@@ -65,7 +65,7 @@ block-pc : (m : State) (x : ℕ) (status : Status) → pc_at (block m x status) 
 block-pc m x status = ap (λ (o : Option Object). (thread-of o).registers.pc) (put-at m.objects x
     (Some (ThreadObject (record (thread_at m x) { status = status }))))
 
-block-off : (m : State) (y x : ℕ) (status : Status) → x ≢ y → (block m y status).objects x ≡ m.objects x
+pub block-off : (m : State) (y x : ℕ) (status : Status) → x ≢ y → (block m y status).objects x ≡ m.objects x
 block-off m y x status other = put-off m.objects y x (Some (ThreadObject (record (thread_at m y) { status = status }))) other
 
 caller-status : (m : State) (x : ℕ) (caller : Option ℕ) → status_at (with_caller m x caller) x ≡ status_at m x
@@ -76,21 +76,25 @@ caller-pc : (m : State) (x : ℕ) (caller : Option ℕ) → pc_at (with_caller m
 caller-pc m x caller = ap (λ (o : Option Object). (thread-of o).registers.pc)
     (put-at m.objects x (Some (ThreadObject (record (thread_at m x) { caller = caller }))))
 
-caller-off : (m : State) (y x : ℕ) (caller : Option ℕ) → x ≢ y → (with_caller m y caller).objects x ≡ m.objects x
+caller-is : (m : State) (x : ℕ) (caller : Option ℕ) → (thread_at (with_caller m x caller) x).caller ≡ caller
+caller-is m x caller = ap (λ (o : Option Object). (thread-of o).caller)
+    (put-at m.objects x (Some (ThreadObject (record (thread_at m x) { caller = caller }))))
+
+pub caller-off : (m : State) (y x : ℕ) (caller : Option ℕ) → x ≢ y → (with_caller m y caller).objects x ≡ m.objects x
 caller-off m y x caller other = put-off m.objects y x (Some (ThreadObject (record (thread_at m y) { caller = caller }))) other
 
 pub elsewhere-status : (m after : State) (x : ℕ) → after.objects x ≡ m.objects x → status_at after x ≡ status_at m x
 elsewhere-status m after x same = ap (λ (o : Option Object). (thread-of o).status) same
 
 -- a thread that goes on, and one that is woken
-passes-off : (m : State) (y x : ℕ) → x ≢ y → (passes m y).objects x ≡ m.objects x
+pub passes-off : (m : State) (y x : ℕ) → x ≢ y → (passes m y).objects x ≡ m.objects x
 passes-off m y x other =
     put-off m.objects y x (Some (ThreadObject (record (thread_at m y) { registers = advanced (thread_at m y).registers }))) other
 
-wake-off : (m : State) (y x : ℕ) → x ≢ y → (wake m y).objects x ≡ m.objects x
+pub wake-off : (m : State) (y x : ℕ) → x ≢ y → (wake m y).objects x ≡ m.objects x
 wake-off m y x other = put-off m.objects y x (Some (ThreadObject (record (thread_at m y) { status = Runnable; slice = full_slice }))) other
 
-wake-status : (m : State) (y : ℕ) → status_at (wake m y) y ≡ Runnable
+pub wake-status : (m : State) (y : ℕ) → status_at (wake m y) y ≡ Runnable
 wake-status m y = ap (λ (o : Option Object). (thread-of o).status)
     (put-at m.objects y (Some (ThreadObject (record (thread_at m y) { status = Runnable; slice = full_slice }))))
 
@@ -98,7 +102,7 @@ registers-off : (m : State) (y x : ℕ) (r : RegisterFile) → x ≢ y → (with
 registers-off m y x r other = put-off m.objects y x (Some (ThreadObject (record (thread_at m y) { registers = r }))) other
 
 -- a delivery changes who gets it alone
-sent-off : (m : State) (first : Sender) (y x : ℕ) → x ≢ y → (deliver_sent m first y).objects x ≡ m.objects x
+pub sent-off : (m : State) (first : Sender) (y x : ℕ) → x ≢ y → (deliver_sent m first y).objects x ≡ m.objects x
 sent-off m first y x other =
     let one : State = record m { bytes = bytes_sent m first first.sent y } in
     let r = delivered (thread_at one y).registers first.badge (message_to m first first.sent y) in
@@ -135,14 +139,16 @@ pub data SendEnds (s : State) (x e : ℕ) (is_call : Bool) (after : State) : Typ
   sent_passed : status_at after x ≡ Runnable → pc_at after x ≡ (pc_at s x + 4) % 2 ^ 32 → SendEnds s x e is_call after
   sent_queued : status_at after x ≡ Blocked e → pc_at after x ≡ pc_at s x → (q : EndpointState) → s.objects e ≡ Some (EndpointObject q) → q.receivers ≡ []
       → SendEnds s x e is_call after
-  sent_awaits : status_at after x ≡ AwaitsReply → pc_at after x ≡ pc_at s x → is_call ≡ true → SendEnds s x e is_call after
+  sent_awaits : (y : ℕ) (rest : List ℕ) → status_at after x ≡ AwaitsReply → pc_at after x ≡ pc_at s x → is_call ≡ true
+      → (endpoint_at s e).receivers ≡ y ∷ rest → (thread_at after y).caller ≡ Some x → SendEnds s x e is_call after
   sent_stopped : status_at after x ≡ Inactive → SendEnds s x e is_call after
 
 -- after Recv and ReplyRecv on an endpoint
 pub data ReceiveEnds (s : State) (x e : ℕ) (after : State) : Type 0 where
   got_one : (first : Sender) (others : List Sender) → status_at after x ≡ Runnable → pc_at after x ≡ (pc_at s x + 4) % 2 ^ 32
-      → (endpoint_at s e).senders ≡ first ∷ others → (status_at after first.thread ≡ Blocked e → ⊥) → ReceiveEnds s x e after
-  stays_there : status_at after x ≡ Blocked e → pc_at after x ≡ pc_at s x → ReceiveEnds s x e after
+      → (endpoint_at s e).senders ≡ first ∷ others → (status_at after first.thread ≡ Blocked e → ⊥)
+      → (first.sent ≡ ByCall → first.grant_reply ≡ true → (thread_at after x).caller ≡ Some first.thread) → ReceiveEnds s x e after
+  stays_there : status_at after x ≡ Blocked e → pc_at after x ≡ pc_at s x → (endpoint_at s e).senders ≡ [] → ReceiveEnds s x e after
 
 -- and on a notification
 pub data TakeEnds (s : State) (x o : ℕ) (after : State) : Type 0 where
@@ -352,9 +358,10 @@ module _ (s : State) (x : ℕ) (own : ThreadState) (there : s.objects x ≡ Some
         let other = others.receivers y rest first in
         let m = wake (deliver_sent (fewer rest) mine y) y in
         let stopped_ = block m x AwaitsReply in
-        sent_awaits (elsewhere-status stopped_ (with_caller stopped_ y (Some x)) x (caller-off stopped_ y x (Some x) other) ∙ block-status m x AwaitsReply)
+        sent_awaits y rest
+        (elsewhere-status stopped_ (with_caller stopped_ y (Some x)) x (caller-off stopped_ y x (Some x) other) ∙ block-status m x AwaitsReply)
         (elsewhere-pc stopped_ (with_caller stopped_ y (Some x)) x (caller-off stopped_ y x (Some x) other) ∙ block-pc m x AwaitsReply
-        ∙ elsewhere-pc s m x (reached-off mine y rest other)) refl
+        ∙ elsewhere-pc s m x (reached-off mine y rest other)) refl first (caller-is stopped_ y (Some x))
     call-ends badge false (y ∷ rest) first =
         let mine = sender x ByCall badge false in
         sent_stopped (block-status (wake (deliver_sent (fewer rest) mine y) y) x Inactive)
@@ -426,6 +433,14 @@ module _ (s : State) (x : ℕ) (own : ThreadState) (there : s.objects x ≡ Some
         caller-status (block v first.thread AwaitsHandler) x (Some first.thread)
         ∙ elsewhere-status v (block v first.thread AwaitsHandler) x (block-off v first.thread x AwaitsHandler other)
 
+    -- the right to reply to one that calls
+    got-right : (v : State) (first : Sender) → first.sent ≡ ByCall → first.grant_reply ≡ true
+        → (thread_at (received_waiting v first first.sent x) x).caller ≡ Some first.thread
+    got-right v first sent grants =
+        ap (λ (k : Sent). (thread_at (received_waiting v first k x) x).caller) sent
+        ∙ ap (λ (b : Bool). (thread_at (if b then with_caller (block v first.thread AwaitsReply) x (Some first.thread) else
+        block v first.thread Inactive) x).caller) grants ∙ caller-is (block v first.thread AwaitsReply) x (Some first.thread)
+
     -- the sender waits there denied more
     gone-status : (v : State) (first : Sender) (kind : Sent) → x ≢ first.thread → status_at (received_waiting v first kind x) first.thread ≡ Blocked e → ⊥
     gone-status v first BySend other blocked =
@@ -450,7 +465,7 @@ module _ (s : State) (x : ℕ) (own : ThreadState) (there : s.objects x ≡ Some
 
     by-senders : (l : List Sender) → (endpoint_at s e).senders ≡ l → ReceiveEnds s x e (receives dropped e x (waits_to_receive dropped e x) l)
     by-senders [] nobody =
-        stays_there (block-status waiting x (Blocked e)) (block-pc waiting x (Blocked e) ∙ elsewhere-pc dropped waiting x waiting-off ∙ dropped-pc)
+        stays_there (block-status waiting x (Blocked e)) (block-pc waiting x (Blocked e) ∙ elsewhere-pc dropped waiting x waiting-off ∙ dropped-pc) nobody
     by-senders (first ∷ rest) head =
         let other = others.senders first rest head in
         let v = deliver_sent (short rest) first x in
@@ -458,7 +473,7 @@ module _ (s : State) (x : ℕ) (own : ThreadState) (there : s.objects x ≡ Some
         (got-status v first first.sent other ∙ sent-status (short rest) first x ∙ elsewhere-status dropped (short rest) x (short-off rest) ∙ dropped-runs)
         (got-pc v first first.sent other ∙ sent-pc (short rest) first x
         ∙ ap (λ (k : ℕ). (k + 4) % 2 ^ 32) (elsewhere-pc dropped (short rest) x (short-off rest) ∙ dropped-pc))
-        head (gone-status v first first.sent other)
+        head (gone-status v first first.sent other) (got-right v first)
 
     receive-ends : ReceiveEnds s x e (receive m e x)
     receive-ends =

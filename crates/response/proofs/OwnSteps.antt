@@ -141,24 +141,24 @@ module _ (laws : Laws) (bytes : List ℕ) (image : Image) (s : State) (labels : 
   abbrev cleared : ℕ → State
   cleared line = with_pending (unmasked line) line false
 
-  -- an acknowledgement leaves the thread where it is
-  acknowledged-pc : (line : ℕ) → pc_at (acknowledge s line) tcb ≡ pc_at s tcb
-  acknowledged-pc line =
+  -- an acknowledgement leaves the thread as it is
+  acknowledged-there : (line : ℕ) → (acknowledge s line).objects tcb ≡ s.objects tcb
+  acknowledged-there line =
       elim (s.pending line)
-      as (λ b. pc_at (if b then option_map_or (interrupt (cleared line) line) (binding s line) (unmasked line) else unmasked line) tcb ≡ pc_at s tcb) [
+      as (λ b. (if b then option_map_or (interrupt (cleared line) line) (binding s line) (unmasked line) else unmasked line).objects tcb ≡ s.objects tcb) [
         | true ↦ by-binding (binding s line) refl
         | false ↦ refl
       ]
     where
-      by-binding : (b : Option Signal) → binding s line ≡ b → pc_at (option_map_or (interrupt (cleared line) line) b (unmasked line)) tcb ≡ pc_at s tcb
+      by-binding : (b : Option Signal) → binding s line ≡ b
+          → (option_map_or (interrupt (cleared line) line) b (unmasked line)).objects tcb ≡ s.objects tcb
       by-binding None none = refl
       by-binding (Some bound) is =
           let o = bound.notification in
           let found = notification-kind (s.objects o) (all.sound.memory.named (binding_slot s line) NewNotification o
           (names-bound (capability_at s.slots (binding_slot s line)) bound is)) in
           let apart = bell-apart o found.0 found.1 in
-          elsewhere-pc s (interrupt (cleared line) line bound) tcb
-          (signals-there (cleared line) o bound.badge tcb (notification_at s o) (λ same. apart.0 (sym same)) (notification_at s o).waiters apart.1)
+          signals-there (cleared line) o bound.badge tcb (notification_at s o) (λ same. apart.0 (sym same)) (notification_at s o).waiters apart.1
 
   module _ (point : ℕ) (state : PointState) (left : AfterCall) (at : CallsAt image t s labels own point state left) (slot : ℕ) where
     mirrors : Mirrors image t s state.slots
@@ -172,38 +172,39 @@ module _ (laws : Laws) (bytes : List ℕ) (image : Image) (s : State) (labels : 
     Performs c after = perform s (call_on image t.thread slot (capability_at s.slots slot)) c ≡ Ok after
 
     by-changes : (c : Invocation) (m : MayInvoke image t s state.slots slot c) (after : State) → InvokesWell image t s slot c m.noted → Performs c after
-        → pc_at after tcb ≡ pc_at s tcb
+        → after.objects tcb ≡ s.objects tcb
     by-changes c m after well made =
         let same : well.after ≡ after = (let e : ◌≡◌ {A = Result State KError} (Ok well.after) (Ok after) = sym well.performs ∙ made in cc) in
-        ap (λ (x : State). pc_at x tcb) (sym same) ∙ elsewhere-pc s well.after tcb (well.changes.threads tcb own at.there ∙ sym at.there)
+        ap (λ (x : State). x.objects tcb) (sym same) ∙ well.changes.threads tcb own at.there ∙ sym at.there
 
-    stays-pc : (c : Invocation) → MayInvoke image t s state.slots slot c → (after : State) → Performs c after → pc_at after tcb ≡ pc_at s tcb
-    stays-pc (OnUntyped memory asked) m after made =
+    -- so does whatever a program may invoke
+    stays-there : (c : Invocation) → MayInvoke image t s state.slots slot c → (after : State) → Performs c after → after.objects tcb ≡ s.objects tcb
+    stays-there (OnUntyped memory asked) m after made =
         by-changes (OnUntyped memory asked) m after (laws.retypes image t s state.slots slot memory asked mirrors m) made
-    stays-pc (OnCNode (Copy destination source word)) m after made =
+    stays-there (OnCNode (Copy destination source word)) m after made =
         by-changes (OnCNode (Copy destination source word)) m after (laws.copies image t s state.slots slot destination source word mirrors m) made
-    stays-pc (OnCNode (Mint destination source word payload)) m after made =
+    stays-there (OnCNode (Mint destination source word payload)) m after made =
         by-changes (OnCNode (Mint destination source word payload)) m after
         (laws.mints image t s state.slots slot destination source word payload mirrors m) made
-    stays-pc (OnCNode (Move destination source)) m after made =
+    stays-there (OnCNode (Move destination source)) m after made =
         by-changes (OnCNode (Move destination source)) m after (laws.moves image t s state.slots slot destination source mirrors m) made
-    stays-pc (OnCNode (Delete name)) m after made =
+    stays-there (OnCNode (Delete name)) m after made =
         by-changes (OnCNode (Delete name)) m after (laws.deletes image t s state.slots slot name mirrors runs-on m) made
-    stays-pc (OnCNode (Revoke name)) m after made =
+    stays-there (OnCNode (Revoke name)) m after made =
         by-changes (OnCNode (Revoke name)) m after (laws.revokes image t s state.slots slot name mirrors runs-on m) made
-    stays-pc (OnFrame held (MapFrame name address word)) m after made =
+    stays-there (OnFrame held (MapFrame name address word)) m after made =
         by-changes (OnFrame held (MapFrame name address word)) m after (laws.maps image t s state.slots slot held name address word mirrors m) made
-    stays-pc (OnFrame held UnmapFrame) m after made =
+    stays-there (OnFrame held UnmapFrame) m after made =
         by-changes (OnFrame held UnmapFrame) m after (laws.unmaps image t s state.slots slot held mirrors m) made
-    stays-pc (OnHandler line Acknowledge) m after made =
+    stays-there (OnHandler line Acknowledge) m after made =
         let same : acknowledge s line ≡ after = (let e : ◌≡◌ {A = Result State KError} (Ok (acknowledge s line)) (Ok after) = made in cc) in
-        ap (λ (x : State). pc_at x tcb) (sym same) ∙ acknowledged-pc line
-    stays-pc (OnThread thread c) m after made = refused m.may
-    stays-pc (OnCNode (Mutate destination source payload)) m after made = refused m.may
-    stays-pc (OnTable c) m after made = refused m.may
-    stays-pc (OnControl line destination) m after made = refused m.may
-    stays-pc (OnHandler line (SetNotification name)) m after made = refused m.may
-    stays-pc (OnHandler line Clear) m after made = refused m.may
+        ap (λ (x : State). x.objects tcb) (sym same) ∙ acknowledged-there line
+    stays-there (OnThread thread c) m after made = refused m.may
+    stays-there (OnCNode (Mutate destination source payload)) m after made = refused m.may
+    stays-there (OnTable c) m after made = refused m.may
+    stays-there (OnControl line destination) m after made = refused m.may
+    stays-there (OnHandler line (SetNotification name)) m after made = refused m.may
+    stays-there (OnHandler line Clear) m after made = refused m.may
 
   -- after an invocation the thread has its answer, and goes on
   module _ (after : State) (kind : SendCall) (same : pc_at after (tcb_of image t) ≡ pc_at s (tcb_of image t)) where
@@ -247,18 +248,23 @@ module _ (laws : Laws) (bytes : List ℕ) (image : Image) (s : State) (labels : 
         (call-goes-on s tcb own there status (memory_base + tcb) (registers_of s tcb).pc bells-apart doors-apart none nothing
         (sym (ap (λ (x : State × Label). is_fault x.1) is) ∙ free))
 
-    invoked-goes : Invokes s tcb → GoesOn (step s Step).0
-    invoked-goes i =
-        invocation-leaves laws bytes image s labels accepted all t listed now GoesOn
-        (λ own_now point state left at kind slot c named may after made.
-        completed-pc after kind (stays-pc-of own_now point state left at slot c may after made)) makes i
+    -- what an invocation leaves: the thread as it was, which then has its answer
+    pub invoked-leaves : (P : State → Type 0)
+        → ((kind : SendCall) (after : State) → after.objects (tcb_of image t) ≡ s.objects (tcb_of image t) → P (completed after (tcb_of image t) kind))
+        → Invokes s (tcb_of image t) → P (step s Step).0
+    invoked-leaves P each i =
+        invocation-leaves laws bytes image s labels accepted all t listed now P
+        (λ own_now point state left at kind slot c named may after made. each kind after (there-still own_now point state left at slot c may after made)) makes i
       where
-        stays-pc-of : (own_now : ThreadState) (point : ℕ) (state : PointState) (left : AfterCall) (at : CallsAt image t s labels own_now point state left)
+        there-still : (own_now : ThreadState) (point : ℕ) (state : PointState) (left : AfterCall) (at : CallsAt image t s labels own_now point state left)
             (slot : ℕ) (c : Invocation) → MayInvoke image t s state.slots slot c → (after : State)
-            → perform s (call_on image t.thread slot (capability_at s.slots slot)) c ≡ Ok after → pc_at after tcb ≡ pc_at s tcb
-        stays-pc-of own_now point state left at slot c may after made =
+            → perform s (call_on image t.thread slot (capability_at s.slots slot)) c ≡ Ok after → after.objects tcb ≡ s.objects tcb
+        there-still own_now point state left at slot c may after made =
             let same : own_now ≡ own = same-thread (s.objects tcb) own_now own at.there there in
-            stays-pc point state left (subst (λ (u : ThreadState). CallsAt image t s labels u point state left) same at) slot c may after made
+            stays-there point state left (subst (λ (u : ThreadState). CallsAt image t s labels u point state left) same at) slot c may after made
+
+    invoked-goes : Invokes s tcb → GoesOn (step s Step).0
+    invoked-goes = invoked-leaves GoesOn (λ kind after same. completed-pc after kind (elsewhere-pc s after tcb same))
 
     pub goes-on : waits_for_no_message (asked_now s (tcb_of image t)) ≡ true → is_fault (step s Step).1 ≡ false
         → is_runnable (thread_at (step s Step).0 (tcb_of image t)).status ≡ true

@@ -3,7 +3,7 @@ use Rattle.std.proofs.Common.{ℕ, ◌≡◌, ◌∙◌, ◌+◌, ◌-◌, ◌/�
 use Rattle.std.proofs.Common.{refl, sym, ap, subst, arith}
 use Rattle.std.specs.Prelude.{Contains, Ok}
 use Rattle.model.specs.declared.capabilities.Cap.{Cap}
-use Rattle.model.specs.declared.capabilities.Cap.TheVariants.{Endpoint}
+use Rattle.model.specs.declared.capabilities.Cap.TheVariants.{Endpoint, Notification}
 use Rattle.model.specs.declared.instructions.Instr.TheVariants.{Ecall}
 use Rattle.model.specs.declared.instructions.Register.{Register}
 use Rattle.model.specs.declared.labels.Label.{Label}
@@ -77,6 +77,17 @@ same-endpoint o queue r badge capability is leads = elim leads [
       let clash : Some (NewEndpoint, o) ≡ Some (NewNotification, queue) = subst (λ (c : Cap). Names NewNotification queue c) is bell in
       let pair : (NewEndpoint, o) ≡ (NewNotification, queue) = cc in
       let kinds : NewEndpoint ≡ NewNotification = ap (λ (p : NewObject × ℕ). p.0) pair in cc)
+]
+
+pub same-bell : (o queue : ℕ) (r : Rights) (badge : ℕ) (capability : Cap) → capability ≡ Notification o r badge → NamesQueue queue capability → o ≡ queue
+same-bell o queue r badge capability is leads = elim leads [
+  | inl endpoint ↦ absurd (
+      let clash : Some (NewNotification, o) ≡ Some (NewEndpoint, queue) = subst (λ (c : Cap). Names NewEndpoint queue c) is endpoint in
+      let pair : (NewNotification, o) ≡ (NewEndpoint, queue) = cc in
+      let kinds : NewNotification ≡ NewEndpoint = ap (λ (p : NewObject × ℕ). p.0) pair in cc)
+  | inr bell ↦ (
+      let same : Some (NewNotification, o) ≡ Some (NewNotification, queue) = subst (λ (c : Cap). Names NewNotification queue c) is bell in
+      let pair : (NewNotification, o) ≡ (NewNotification, queue) = cc in ap (λ (p : NewObject × ℕ). p.1) pair)
 ]
 
 not-call : (asked : Asked) (o : ℕ) → asked ≡ Calls o → is_call asked ≡ false → ⊥

@@ -174,7 +174,7 @@ pub fn no_way_skips_an_acknowledgement()
 {}
 
 /// The laws of the crate below on single invocations, together.
-fn laws_on_invocations()
+pub fn laws_on_invocations()
     ensures { Laws }
 {
     laws_below();
