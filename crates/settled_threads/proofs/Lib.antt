@@ -1,0 +1,5 @@
+mod Holders
+mod Inputs
+mod Rights
+mod OwedSteps
+mod OwedEvents

@@ -1,0 +1,42 @@
+//! Settled threads of a level: each takes from one object alone, and whomever it sends to or calls is settled before it. Where nothing of the level is
+//! ready each waits at its input, and not in a call or a send: nobody is stuck. There is no code here: each law is the contract of a function that
+//! does nothing.
+#![tactic(auto)]
+
+ghost use Rattle.settled_threads.specs.Laws.{CallersAreOwed, SettledThreadsRest};
+
+use headline::authority::{
+    a_tick_stays_within_authority, an_interrupt_stays_within_authority,
+    events_stay_within_authority,
+};
+use headline::invocations::{events_go_well, steps_go_well};
+use headline::measure_facts::measures_of_points_name_registers;
+use headline::parts::threads_are_told_apart;
+use headline::starts::threads_are_as_listed;
+use response::{laws_on_invocations, threads_wait_where_they_asked};
+
+/// Whoever waits for an answer of an endpoint that answers is owed it.
+pub fn callers_are_owed()
+    ensures { CallersAreOwed }
+{
+    laws_on_invocations();
+    steps_go_well();
+    events_go_well();
+    events_stay_within_authority();
+    a_tick_stays_within_authority();
+    an_interrupt_stays_within_authority();
+    threads_are_told_apart();
+    threads_are_as_listed();
+    measures_of_points_name_registers();
+    threads_wait_where_they_asked();
+}
+
+/// Where nothing of a level is ready, each settled thread of it waits at its input, and not in a call or a send.
+pub fn settled_threads_rest()
+    ensures { SettledThreadsRest }
+{
+    laws_on_invocations();
+    events_go_well();
+    threads_wait_where_they_asked();
+    callers_are_owed();
+}
