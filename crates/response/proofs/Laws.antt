@@ -1,28 +1,27 @@
 -- What the crates above use of these proofs.
 pub use Rattle.response.proofs.AskedNow.{asked_now, may_wait}
-pub use Rattle.response.proofs.AskedQueues.{receiver-blocked, sender-blocked}
+pub use Rattle.response.proofs.AskedQueues.{sender-blocked}
 pub use Rattle.response.proofs.AskedSteps.{asked-same}
 pub use Rattle.response.proofs.AtBells.{there-is}
-pub use Rattle.response.proofs.CallLabels.{called-is, called-label, own-count}
+pub use Rattle.response.proofs.CallLabels.{called-is, called-label}
 pub use Rattle.response.proofs.CallLeads.{call-leads, next-address, next-inside}
 pub use Rattle.response.proofs.Doors.{accepts-rests, counted-there, gate-there, same-queue}
 pub use Rattle.response.proofs.EachEvent.{holds-after}
 pub use Rattle.response.proofs.InterruptedThreads.{thread-left}
 pub use Rattle.response.proofs.Interrupts.{put-at, put-off, thread-of}
+pub use Rattle.response.proofs.MessageRests.{owes-less}
 pub use Rattle.response.proofs.NamedNow.{asks-so, named-is}
-pub use Rattle.response.proofs.OneMessage.{accepts, calls, count, goes, own, runs-is, sends, waits_so, well}
-pub use Rattle.response.proofs.OwnAuthority.{OwnAuthority, own-authority}
+pub use Rattle.response.proofs.OneMessage.{accepts, calls, count, goes, own, runs-is, sends, waits_so}
 pub use Rattle.response.proofs.OwnCalls.{OthersWait, pc_at, replied-there, same-names, write-pc}
-pub use Rattle.response.proofs.OwnMessages.{ReceiveEnds, SendEnds, TakeEnds, accepts-so, block-off, caller-off, calls-so, delivered-pc, got_one, got_word}
-pub use Rattle.response.proofs.OwnMessages.{passes-off, sends-so, sent-off, sent_awaits, sent_passed, sent_queued, sent_stopped, stays_on, stays_there, takes-so}
-pub use Rattle.response.proofs.OwnMessages.{wake-off, wake-status}
-pub use Rattle.response.proofs.OwnSteps.{bells-apart, doors-apart, goes-on, invoked-leaves}
+pub use Rattle.response.proofs.OwnMessages.{ReceiveEnds, SendEnds, TakeEnds, block-off, caller-off, delivered-pc, got_one, got_word, passes-off, sent-off}
+pub use Rattle.response.proofs.OwnMessages.{sent_awaits, sent_passed, sent_queued, sent_stopped, stays_on, stays_there, wake-off, wake-status}
+pub use Rattle.response.proofs.OwnSteps.{doors-apart, invoked-leaves}
 pub use Rattle.response.proofs.PlainPoints.{asks-none}
 pub use Rattle.response.proofs.Rung.{asks-of}
 pub use Rattle.response.proofs.Tended.{bell-there}
 pub use Rattle.response.proofs.Ticks.{SameWork, running-thread, tick-same}
 pub use Rattle.response.proofs.Waiting.{same-thread}
-pub use Rattle.response.proofs.WaitingThreads.{SendsThere, WaitsAt, accepts-there, as_caller, as_sender, asks-there, called-there, here, leads-on, next-pc}
-pub use Rattle.response.proofs.WaitingThreads.{same-bell, sends-there, waits-at}
+pub use Rattle.response.proofs.WaitingThreads.{WaitsAt, accepts-there, as_caller, as_sender, asks-there, called-there, here, leads-on, next-pc, same-bell}
+pub use Rattle.response.proofs.WaitingThreads.{sends-there, waits-at}
 pub use Rattle.response.proofs.WaysToWait.{WaitsBy, accepts_from, calls_there, sends_there, takes_word}
 pub use Rattle.response.proofs.Woken.{point-of}

@@ -1,16 +1,19 @@
 -- After a system call of a thread below denied more work is there than at rest, and what it rings at a notification at which a thread of the level rests.
-use Rattle.std.proofs.Common.{ℕ, zero, suc, ◌≡◌, ◌≢◌, ◌∙◌, ◌⊎◌, ◌==◌, ◌||◌, ◌&&◌, ◌-◌, ◌+◌, ◌<◌, ◌≤◌, inl, inr, Bool, true, false, nat_le, if◌then◌else◌}
+use Rattle.std.proofs.Common.{ℕ, zero, suc, ◌≡◌, ◌≢◌, ◌∙◌, ◌⊎◌, ◌==◌, ◌&&◌, ◌-◌, ◌+◌, ◌<◌, ◌≤◌, inl, inr, Bool, true, false, if◌then◌else◌}
 use Rattle.std.proofs.Common.{Option}
-use Rattle.std.proofs.Common.{Some, None, List, [], ◌∷◌}
+use Rattle.std.proofs.Common.{Some, None, All, List, [], ◌∷◌}
 use Rattle.std.proofs.Common.{refl, sym, ap, subst, arith}
 use Rattle.std.specs.Prelude.{Contains}
 use Rattle.std.proofs.lemmas.Bool.{leb-true}
 use Rattle.std.proofs.lemmas.Bool.Decides.{eqb_tells}
+use Rattle.model.specs.declared.events.Event.{Event}
 use Rattle.model.specs.declared.labels.Label.{Label}
 use Rattle.model.specs.Acceptance.Accepted.{IsAccepted}
 use Rattle.model.specs.Acceptance.Authority.{WithinAuthority}
 use Rattle.model.specs.Acceptance.CallRules.{AfterCall}
+use Rattle.model.specs.Acceptance.Devices.{KeepsDevices}
 use Rattle.model.specs.Acceptance.NotedStates.{PointState}
+use Rattle.model.specs.Acceptance.PointStates.{Known, noted}
 use Rattle.model.specs.Acceptance.ThreadInvariants.{IsWaiting, ThreadInvariant, runs, tcb_of, waits}
 use Rattle.model.specs.Images.Described.{Numbered, described, numbered_threads}
 use Rattle.model.specs.Images.Image.{Image}
@@ -20,16 +23,19 @@ use Rattle.model.specs.Kernel.State.{AwaitsHandler, AwaitsReply, Blocked, CNodeO
 use Rattle.model.specs.Kernel.State.{NotificationState, Object, PageTableObject, RootTableObject, Runnable, State, Status, ThreadObject, ThreadState}
 use Rattle.model.specs.Kernel.State.{notification_at}
 use Rattle.model.specs.Kernel.State.{thread_at}
+use Rattle.model.specs.Kernel.Steps.{state_after, trace}
 use Rattle.model.specs.Kernel.Waits.{open_count}
 use Rattle.headline.proofs.Laws.{at-place}
 use Rattle.headline.specs.facts.Standing.{AllStand}
 use Rattle.headline.specs.moves.Laws.{Laws}
 use Rattle.headline.specs.moves.Moving.{CallsAt}
 use Rattle.response.specs.Asking.{Asked, Takes, Polls, Rings, Acknowledges, Accepts, Looks, SendsTo, Calls, Tries, Answers, Asks_nothing, asked_at}
+use Rattle.response.specs.DealtWith.{Rests}
 use Rattle.response.specs.Laws.{WaitsToTake}
 use Rattle.response.specs.Left.{irq_lines, left, left_of_line, left_of_thread, left_of_word, line_price, point_now, total}
 use Rattle.response.specs.Levels.{is_of_level}
-use Rattle.response.specs.Owed.{OweAtMost, RingsFitWith, WaitsWhereAsked, at_rest_with, going_on, owed, owed_as, owed_awaiting, owed_of_thread, owes_at_most}
+use Rattle.response.specs.Owed.{OweAtRest, OweBelow, RingsFitWith, WaitsWhereAsked, at_rest_with, going_on, owed, owed_as, owed_awaiting, owed_of_thread}
+use Rattle.response.specs.Owed.{owes_at_most}
 use Rattle.response.specs.Owed.{work}
 use Rattle.response.specs.Weights.{Pays, Price, Weights, price_of}
 use Rattle.response.proofs.AskedNow.{asked_now, may_wait}
@@ -79,17 +85,20 @@ owed-less w level next most asked Inactive is = omega arith
 owed-less w level next most asked Runnable is = omega arith
 owed-less w level next most asked AwaitsHandler is = omega arith
 
-module _ (laws : Laws) (bytes : List ℕ) (image : Image) (accepted : IsAccepted bytes image) (priority : ℕ) (w : Weights) (owed_most : ℕ → ℕ)
-    (owe : OweAtMost image priority w owed_most) (s : State) (labels : List Label) (all : AllStand image s labels) where
-  by-status : (u : Numbered) → Contains (numbered_threads image) u → (own : ThreadState) → s.objects (tcb_of image u) ≡ Some (ThreadObject own)
-      → (b : Bool) → is_runnable own.status ≡ b → owed_of_thread image priority w s u ≤ owed_most u.number
-  by-status u among own is false rests =
+-- what a thread owes is at most what it may wait with at each of its points
+module _ (laws : Laws) (bytes : List ℕ) (image : Image) (accepted : IsAccepted bytes image) (priority : ℕ) (w : Weights) (s : State) (labels : List Label)
+    (all : AllStand image s labels) (u : Numbered) (among : Contains (numbered_threads image) u) (most : ℕ)
+    (owe : (point : ℕ) (state : PointState) → point < u.thread.header.words → noted image u point ≡ Known state
+    → owes_at_most w (is_of_level priority u) (going_on priority w u point) most (asked_at image u.thread point state) ≡ true) where
+  by-status : (own : ThreadState) → s.objects (tcb_of image u) ≡ Some (ThreadObject own) → (b : Bool) → is_runnable own.status ≡ b
+      → owed_of_thread image priority w s u ≤ most
+  by-status own is false rests =
       let v = waits-at laws bytes image s labels accepted all u among own is rests in
       let e = owed-is laws bytes image s labels accepted all u among own v priority w in
-      let less = owed-less w (is_of_level priority u) (going_on priority w u v.point) (owed_most u.number) (asked_at image u.thread v.point v.state) own.status
-      (owe u v.point v.state among v.stands.inside v.stands.known) in
+      let less = owed-less w (is_of_level priority u) (going_on priority w u v.point) most (asked_at image u.thread v.point v.state) own.status
+      (owe v.point v.state v.stands.inside v.stands.known) in
       omega (arith, e, less)
-  by-status u among own is true runs_ =
+  by-status own is true runs_ =
       let none = owed-runs image priority w s u (ap (λ (x : ThreadState). x.status) (at-place s (tcb_of image u) own is) ∙ run-is own.status runs_) in
       omega (arith, none)
     where
@@ -100,13 +109,38 @@ module _ (laws : Laws) (bytes : List ℕ) (image : Image) (accepted : IsAccepted
       run-is AwaitsReply denied = absurd (let clash : false ≡ true = denied in cc)
       run-is AwaitsHandler denied = absurd (let clash : false ≡ true = denied in cc)
 
-  pub owes-less : (u : Numbered) → Contains (numbered_threads image) u → owed_of_thread image priority w s u ≤ owed_most u.number
-  owes-less u among =
-      let own = there-is image u s labels (all.stand u among) in by-status u among own.0 own.1 (is_runnable own.0.status) refl
+  pub owes-less : owed_of_thread image priority w s u ≤ most
+  owes-less = let own = there-is image u s labels (all.stand u among) in by-status own.0 own.1 (is_runnable own.0.status) refl
 
-  pub owed-rests : owed image priority w s ≤ total (λ (t : Numbered). owed_most t.number) (numbered_threads image)
-  unfolding owed
-  owed-rests = total-less (owed_of_thread image priority w s) (λ (t : Numbered). owed_most t.number) (numbered_threads image) (λ u among. owes-less u among)
+-- one below the level owes that whenever it waits
+pub below-owes : (laws : Laws) (bytes : List ℕ) (image : Image) (accepted : IsAccepted bytes image) (priority : ℕ) (w : Weights) (owed_most : ℕ → ℕ)
+    → OweBelow image priority w owed_most → (s : State) (labels : List Label) → AllStand image s labels → (u : Numbered) → Contains (numbered_threads image) u
+    → is_of_level priority u ≡ false → owed_of_thread image priority w s u ≤ owed_most u.number
+below-owes laws bytes image accepted priority w owed_most owe s labels all u among below =
+    owes-less laws bytes image accepted priority w s labels all u among (owed_most u.number)
+    (λ point state inside known.
+    subst (λ (b : Bool). owes_at_most w b (going_on priority w u point) (owed_most u.number) (asked_at image u.thread point state) ≡ true) (sym below)
+    (owe u point state among below inside known))
+
+-- so all do
+pub owed-rests : (image : Image) (priority : ℕ) (w : Weights) (owed_most : ℕ → ℕ) (s : State)
+    → ((u : Numbered) → Contains (numbered_threads image) u → owed_of_thread image priority w s u ≤ owed_most u.number)
+    → owed image priority w s ≤ total (λ (t : Numbered). owed_most t.number) (numbered_threads image)
+unfolding owed
+owed-rests image priority w owed_most s each =
+    total-less (owed_of_thread image priority w s) (λ (t : Numbered). owed_most t.number) (numbered_threads image) each
+
+pub owes-so : (laws : Laws) (bytes : List ℕ) (image : Image) (accepted : IsAccepted bytes image) (priority : ℕ) (w : Weights) (owed_most : ℕ → ℕ)
+    → OweBelow image priority w owed_most → OweAtRest image priority w owed_most → (events : List Event) → All (KeepsDevices image) events
+    → AllStand image (state_after (described image) events) (trace (described image) events) → Rests image priority (state_after (described image) events)
+    → owed image priority w (state_after (described image) events) ≤ total (λ (t : Numbered). owed_most t.number) (numbered_threads image)
+owes-so laws bytes image accepted priority w owed_most owe owe_at_rest events devices all rests =
+    let s = state_after (described image) events in
+    owed-rests image priority w owed_most s (λ u among.
+    elim (is_of_level priority u) as (λ b. is_of_level priority u ≡ b → owed_of_thread image priority w s u ≤ owed_most u.number) [
+      | true ↦ λ level. owe_at_rest events u devices among level rests
+      | false ↦ λ other. below-owes laws bytes image accepted priority w owed_most owe s (trace (described image) events) all u among other
+    ] refl)
 
 -- a word stands nowhere where somebody waits for what comes
 no-word-at : (s : State) → ((o : ℕ) (n : NotificationState) → s.objects o ≡ Some (NotificationObject n) → (n.waiters ≡ []) ⊎ (n.word ≡ 0)) → (o x : ℕ)
@@ -132,7 +166,8 @@ module _ (laws : Laws) (bytes : List ℕ) (image : Image) (accepted : IsAccepted
     (where_asked : (u : Numbered) → Contains (numbered_threads image) u → WaitsWhereAsked image u s)
     (counts : (thread : ℕ) → thread ≢ tcb_of image t → open_count thread later ≡ open_count thread labels)
     (bound : (number : ℕ) → number < 64 → binding after number ≡ binding s number)
-    (owed_most : ℕ → ℕ) (owe : OweAtMost image priority w owed_most)
+    (owed_most : ℕ → ℕ) (owe : OweBelow image priority w owed_most)
+    (owes : (u : Numbered) → Contains (numbered_threads image) u → owed_of_thread image priority w s u ≤ owed_most u.number)
     (described_so : (number : ℕ) → Contains irq_lines number → binding s number ≡ binding (described image) number)
     (below : is_of_level priority t ≡ false)
     (rests : (u : Numbered) → Contains (numbered_threads image) u → is_of_level priority u ≡ true
@@ -196,7 +231,7 @@ module _ (laws : Laws) (bytes : List ℕ) (image : Image) (accepted : IsAccepted
   before-less : (u : Numbered) → Contains (numbered_threads image) u → before_of u ≤ owing u
   before-less u among =
       let a = left-none u among in
-      let b = owes-less laws bytes image accepted priority w owed_most owe s labels all u among in
+      let b = owes u among in
       omega (arith, a, b)
 
   own-before : before_of t ≡ 0
@@ -232,7 +267,7 @@ module _ (laws : Laws) (bytes : List ℕ) (image : Image) (accepted : IsAccepted
   own-less : after_of t ≤ owing t
   own-less =
       let a = own-left in
-      let b = owes-less laws bytes image accepted priority w owed_most owe after later behind t listed in
+      let b = below-owes laws bytes image accepted priority w owed_most owe after later behind t listed below in
       omega (arith, a, b)
 
   own-runs : (thread_at after tcb).status ≡ Runnable → after_of t ≡ 0
@@ -375,10 +410,10 @@ module _ (laws : Laws) (bytes : List ℕ) (image : Image) (accepted : IsAccepted
             none-awaited Asks_nothing next none_ = refl
     by-ends is_caller called none (sent_stopped status) = absurd (never-stops status)
 
-  owes-here : (a : Asked) → asked ≡ a → owes_at_most w (is_of_level priority t) (going_on priority w t point) (owed_most t.number) a ≡ true
+  owes-here : (a : Asked) → asked ≡ a → owes_at_most w false (going_on priority w t point) (owed_most t.number) a ≡ true
   owes-here a is =
-      subst (λ (x : Asked). owes_at_most w (is_of_level priority t) (going_on priority w t point) (owed_most t.number) x ≡ true) (asked-is ∙ is)
-      (owe t point state listed at.stands.inside at.stands.known)
+      subst (λ (x : Asked). owes_at_most w false (going_on priority w t point) (owed_most t.number) x ≡ true) (asked-is ∙ is)
+      (owe t point state listed below at.stands.inside at.stands.known)
 
   -- ---- where it rings
 
@@ -523,14 +558,14 @@ module _ (laws : Laws) (bytes : List ℕ) (image : Image) (accepted : IsAccepted
 
   module _ (most : ℕ) (fit : RingsFitWith image priority w is_taken is_open owed_most most) (rest : at_rest_with image w is_taken is_open owed_most ≤ most)
     where
-      abbrev Rests : Type 0
-      Rests = work image priority w after later ≤ most
+      abbrev AtMost : Type 0
+      AtMost = work image priority w after later ≤ most
 
-      fits-so : work image priority w after later ≤ at_rest_with image w is_taken is_open owed_most + 0 → Rests
+      fits-so : work image priority w after later ≤ at_rest_with image w is_taken is_open owed_most + 0 → AtMost
       fits-so less = omega (arith, less, rest)
 
-      ring-call : (o : ℕ) → asked ≡ Rings o → Rests
-      ring-call o is = elim (is_taken o) as (λ b. is_taken o ≡ b → Rests) [
+      ring-call : (o : ℕ) → asked ≡ Rings o → AtMost
+      ring-call o is = elim (is_taken o) as (λ b. is_taken o ≡ b → AtMost) [
         | true ↦ λ here.
             let fits = fit t point state o listed below at.stands.inside at.stands.known (asked-is ∙ is) here in
             let less = rung o is in
@@ -538,25 +573,24 @@ module _ (laws : Laws) (bytes : List ℕ) (image : Image) (accepted : IsAccepted
         | false ↦ λ free. fits-so (counted o is free)
       ] refl
 
-      try-call : (o : ℕ) → asked ≡ Tries o → Rests
+      try-call : (o : ℕ) → asked ≡ Tries o → AtMost
       try-call o is =
-          let less = leb-true (price_of w o) (owed_most t.number)
-          (sym (ap (λ (b : Bool). b || nat_le (price_of w o) (owed_most t.number)) below) ∙ owes-here (Tries o) is) in
+          let less = leb-true (price_of w o) (owed_most t.number) (owes-here (Tries o) is) in
           fits-so (passed-rests o less (ap (reached_by s after) is) (own-runs (runs-on (ap may_wait is))))
 
-      send-call : (e : ℕ) → asked ≡ SendsTo e → Rests
+      send-call : (e : ℕ) → asked ≡ SendsTo e → AtMost
       send-call e is =
           fits-so (by-ends e
           (let less = leb-true (price_of w e + going_on priority w t point) (owed_most t.number) (owes-here (SendsTo e) is) in omega (arith, less))
           (ap (reached_by s after) is) false (λ denied. absurd (let clash : false ≡ true = denied in cc)) (ap (rung_by s after) is) (sends e is))
 
-      answer-call : (e : ℕ) → asked ≡ Calls e → Rests
+      answer-call : (e : ℕ) → asked ≡ Calls e → AtMost
       answer-call e is =
           fits-so (by-ends e
           (let less = leb-true (price_of w e + going_on priority w t point) (owed_most t.number) (owes-here (Calls e) is) in omega (arith, less))
           (ap (reached_by s after) is) true (λ _. is) (ap (rung_by s after) is) (calls e is))
 
-      by-asked : (a : Asked) → asked ≡ a → Rests
+      by-asked : (a : Asked) → asked ≡ a → AtMost
       by-asked (Rings o) is = ring-call o is
       by-asked (Acknowledges number) is = fits-so (line-rests number is)
       by-asked (SendsTo e) is = send-call e is

@@ -18,12 +18,13 @@ use Rattle.headline.specs.facts.Standing.{AllStand}
 use Rattle.headline.specs.invocations.Laws.{AnyStepGoesWell, Laws}
 use Rattle.headline.specs.moves.Steps.{MakesCall}
 use Rattle.headline.specs.steps.Points.{ReachesNoCall}
+use Rattle.response.specs.DealtWith.{Rests}
 use Rattle.response.specs.Laws.{RunsOfLevel, WaitsToTake}
 use Rattle.response.specs.Left.{irq_lines}
-use Rattle.response.specs.Owed.{OweAtMost, RingsFitWith, WaitsWhereAsked, at_rest_with, work, work_after}
-use Rattle.response.specs.Resting.{AreAcknowledged, AreTakenAlone, IsAcknowledged, TakesFromOne}
+use Rattle.response.specs.Owed.{OweBelow, RingsFitWith, WaitsWhereAsked, at_rest_with, owed_of_thread, work, work_after}
 use Rattle.response.specs.Levels.{is_of_level}
 use Rattle.response.specs.Weights.{Pays, Weights}
+use Rattle.response.proofs.MessageRests.{below-owes}
 use Rattle.response.proofs.OneMessage.{call-rests-so, plain-rests-so}
 use Rattle.response.proofs.Whole.{few-lines}
 
@@ -36,7 +37,9 @@ module _ (laws : Laws) (steps : AnyStepGoesWell) (told : (a b : ThreadState) →
     → (state_after (described image) events).objects queue ≡ Some (NotificationObject n) → n.waiters ≡ tcb_of image u ∷ others
     → WaitsToTake image u (state_after (described image) events) (trace (described image) events) queue)
     (where_asked : (u : Numbered) → Contains (numbered_threads image) u → WaitsWhereAsked image u (state_after (described image) events))
-    (owed_most : ℕ → ℕ) (owe : OweAtMost image priority w owed_most)
+    (owed_most : ℕ → ℕ) (owe : OweBelow image priority w owed_most)
+    (owe_at_rest : Rests image priority (state_after (described image) events) → (u : Numbered) → Contains (numbered_threads image) u
+    → is_of_level priority u ≡ true → owed_of_thread image priority w (state_after (described image) events) u ≤ owed_most u.number)
     (bound : (number : ℕ) → number < 64 → binding (step (state_after (described image) events) Step).0 number
     ≡ binding (state_after (described image) events) number)
     (t : Numbered) (listed : Contains (numbered_threads image) t) (now : current (state_after (described image) events) ≡ Some (tcb_of image t))
@@ -44,13 +47,10 @@ module _ (laws : Laws) (steps : AnyStepGoesWell) (told : (a b : ThreadState) →
     (below : is_of_level priority t ≡ false)
     (level-runs : (u : Numbered) → Contains (numbered_threads image) u → is_of_level priority u ≡ true
     → is_runnable (thread_at (state_after (described image) events) (tcb_of image u)).status ≡ true
-    → RunsOfLevel image priority (state_after (described image) events)) (is_taken is_open : ℕ → Bool) (alone : AreTakenAlone image priority is_taken)
-    (acknowledged : AreAcknowledged image priority is_open)
-    (words : (u : Numbered) (queue : ℕ) (n : NotificationState) → Contains (numbered_threads image) u → TakesFromOne image u queue
-    → is_runnable (thread_at (state_after (described image) events) (tcb_of image u)).status ≡ false
+    → RunsOfLevel image priority (state_after (described image) events)) (is_taken is_open : ℕ → Bool)
+    (words : Rests image priority (state_after (described image) events) → (queue : ℕ) (n : NotificationState) → is_taken queue ≡ true
     → (state_after (described image) events).objects queue ≡ Some (NotificationObject n) → n.word ≡ 0)
-    (lines : (number : ℕ) → number < 64 → (a : IsAcknowledged image priority number)
-    → is_runnable (thread_at (state_after (described image) events) (tcb_of image a.thread)).status ≡ false
+    (lines : Rests image priority (state_after (described image) events) → (number : ℕ) → number < 64 → is_open number ≡ true
     → (state_after (described image) events).pending number ≡ false) (most : ℕ)
     (fit : RingsFitWith image priority w is_taken is_open owed_most most) (rest : at_rest_with image w is_taken is_open owed_most ≤ most) where
   abbrev s : State
@@ -81,29 +81,33 @@ module _ (laws : Laws) (steps : AnyStepGoesWell) (told : (a b : ThreadState) →
       ] refl
 
   taken : (queue : ℕ) (n : NotificationState) → is_taken queue ≡ true → s.objects queue ≡ Some (NotificationObject n) → n.word ≡ 0
-  taken queue n here is = let who = alone queue here in words who.0 queue n who.1 who.3 (stops who.0 who.1 who.2) is
+  taken queue n here is = words stops queue n here is
 
   silent : (number : ℕ) → Contains irq_lines number → is_open number ≡ true → s.pending number ≡ false
-  silent number among here =
-      let few = few-lines number among in
-      let a = acknowledged number few here in
-      lines number few a (stops a.thread a.listed a.level)
+  silent number among here = lines stops number (few-lines number among) here
 
-  abbrev Rests : Type 0
-  Rests = work image priority w (step s Step).0 (labels ++ (step s Step).1 ∷ []) ≤ most
+  -- so nobody owes more
+  owes : (u : Numbered) → Contains (numbered_threads image) u → owed_of_thread image priority w s u ≤ owed_most u.number
+  owes u among = elim (is_of_level priority u) as (λ b. is_of_level priority u ≡ b → owed_of_thread image priority w s u ≤ owed_most u.number) [
+    | true ↦ λ level. owe_at_rest stops u among level
+    | false ↦ λ other. below-owes laws.below bytes image accepted priority w owed_most owe s labels all u among other
+  ] refl
 
-  calls : MakesCall s (tcb_of image t) → Rests
-  calls = call-rests-so laws steps told bytes image accepted s labels all stay t listed now priority w pays takes where_asked bound owed_most owe
+  abbrev Fits : Type 0
+  Fits = work image priority w (step s Step).0 (labels ++ (step s Step).1 ∷ []) ≤ most
+
+  calls : MakesCall s (tcb_of image t) → Fits
+  calls = call-rests-so laws steps told bytes image accepted s labels all stay t listed now priority w pays takes where_asked bound owed_most owe owes
       (λ number among. described_so number (few-lines number among)) below rests is_taken taken is_open silent most fit rest
 
-  plain : ReachesNoCall s (tcb_of image t) → Rests
-  plain = plain-rests-so laws steps told bytes image accepted s labels all stay t listed now priority w pays takes where_asked bound owed_most owe
+  plain : ReachesNoCall s (tcb_of image t) → Fits
+  plain = plain-rests-so laws steps told bytes image accepted s labels all stay t listed now priority w pays takes where_asked bound owed_most owe owes
       (λ number among. described_so number (few-lines number among)) below rests is_taken taken is_open silent most fit rest
 
   pub step-rests : work image priority w (step (state_after (described image) events) Step).0
       (trace (described image) events ++ (step (state_after (described image) events) Step).1 ∷ []) ≤ most
   step-rests =
-      step-cases image s labels all Rests
+      step-cases image s labels all Fits
       (λ none. absurd (let clash : ◌≡◌ {A = Option ℕ} None (Some (tcb_of image t)) = sym none ∙ now in cc))
       (λ u among here makes. calls (subst (λ (v : Numbered). MakesCall s (tcb_of image v)) (same-thread u among here) makes))
       (λ u among here free. plain (subst (λ (v : Numbered). ReachesNoCall s (tcb_of image v)) (same-thread u among here) free))

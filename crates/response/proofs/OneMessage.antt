@@ -39,7 +39,7 @@ use Rattle.response.specs.Asking.{Accepts, Acknowledges, Answers, Asked, Asks_no
 use Rattle.response.specs.Laws.{WaitsToTake}
 use Rattle.response.specs.Levels.{is_of_level}
 use Rattle.response.specs.Left.{at_rest, irq_lines, left}
-use Rattle.response.specs.Owed.{OweAtMost, PayAnswers, RingsFitWith, WaitsWhereAsked, at_rest_with, is_call, owed, work}
+use Rattle.response.specs.Owed.{OweBelow, PayAnswers, RingsFitWith, WaitsWhereAsked, at_rest_with, is_call, owed, owed_of_thread, work}
 use Rattle.response.specs.Weights.{Pays, Weights, waits_for_no_message}
 use Rattle.response.proofs.AskedNow.{asked_now, may_wait}
 use Rattle.response.proofs.AskedSteps.{asked-same, others-asked, own-asked, runs-vacuous, vacuous}
@@ -256,6 +256,13 @@ module _ (laws : Laws) (steps : AnyStepGoesWell) (told : (a b : ThreadState) →
         (λ mine point state answer call at _ _ rule.
         works-at mine point state answer at priority w pays answers takes where_asked bound level spent)
 
+  -- an instruction that is no system call owes no more
+  pub plain-owes : (priority : ℕ) (w : Weights) → ReachesNoCall s (tcb_of image t) → owed image priority w (step s Step).0 ≤ owed image priority w s
+  plain-owes priority w free =
+      let alone = own.plain (λ makes. free makes.word makes.fetched makes.call) in
+      subst (λ (x : State). owed image priority w x ≤ owed image priority w s) (sym alone.is)
+      (owed-computes image priority w s t (runs-is (thread_at s tcb).status (current-runs s all.sound.threads tcb now).runs) alone.instruction)
+
   -- ---- a step of a thread below
 
   module _ (priority : ℕ) (w : Weights) (pays : Pays image priority w)
@@ -263,7 +270,8 @@ module _ (laws : Laws) (steps : AnyStepGoesWell) (told : (a b : ThreadState) →
       → s.objects queue ≡ Some (NotificationObject n) → n.waiters ≡ tcb_of image u ∷ others → WaitsToTake image u s labels queue)
       (where_asked : (u : Numbered) → Contains (numbered_threads image) u → WaitsWhereAsked image u s)
       (bound : (number : ℕ) → number < 64 → binding (step s Step).0 number ≡ binding s number)
-      (owed_most : ℕ → ℕ) (owe : OweAtMost image priority w owed_most)
+      (owed_most : ℕ → ℕ) (owe : OweBelow image priority w owed_most)
+      (owes : (u : Numbered) → Contains (numbered_threads image) u → owed_of_thread image priority w s u ≤ owed_most u.number)
       (described_so : (number : ℕ) → Contains irq_lines number → binding s number ≡ binding (described image) number)
       (below : is_of_level priority t ≡ false)
       (rests : (u : Numbered) → Contains (numbered_threads image) u → is_of_level priority u ≡ true
@@ -277,7 +285,7 @@ module _ (laws : Laws) (steps : AnyStepGoesWell) (told : (a b : ThreadState) →
         call-leaves laws.below bytes image t s labels accepted all listed now makes (λ _. work image priority w after later ≤ most)
         (λ mine point state answer call at _ _ rule.
         message-rests laws.below bytes image accepted priority w pays s after labels later all well.stands told t listed own.within takes where_asked
-        (counts makes) bound owed_most owe described_so below rests is_taken taken_none is_open silent mine point state answer at
+        (counts makes) bound owed_most owe owes described_so below rests is_taken taken_none is_open silent mine point state answer at
         (count makes mine point state answer at) (sends makes mine point state answer at) (calls makes mine point state answer at) most fit rest)
 
     -- an instruction changes the thread's registers, and bytes
@@ -316,15 +324,9 @@ module _ (laws : Laws) (steps : AnyStepGoesWell) (told : (a b : ThreadState) →
         let alone = own.plain (λ makes. free makes.word makes.fetched makes.call) in
         let less : left image priority w after later ≤ at_rest image w is_taken is_open =
         subst (λ (x : State). left image priority w x later ≤ at_rest image w is_taken is_open) (sym alone.is) (moved-rests alone.instruction) in
-        let owes = owed-rests laws.below bytes image accepted priority w owed_most owe after later well.stands in
-        omega (arith, less, owes, rest)
-
-  -- and an instruction of one of the level owes denied more
-  pub plain-owes : (priority : ℕ) (w : Weights) → ReachesNoCall s (tcb_of image t) → owed image priority w (step s Step).0 ≤ owed image priority w s
-  plain-owes priority w free =
-      let alone = own.plain (λ makes. free makes.word makes.fetched makes.call) in
-      subst (λ (x : State). owed image priority w x ≤ owed image priority w s) (sym alone.is)
-      (owed-computes image priority w s t (runs-is (thread_at s tcb).status (current-runs s all.sound.threads tcb now).runs) alone.instruction)
+        let more = plain-owes priority w free in
+        let owing = owed-rests image priority w owed_most s owes in
+        omega (arith, less, more, owing, rest)
 
   -- ---- any other instruction leaves it running
 

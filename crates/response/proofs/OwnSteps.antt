@@ -254,7 +254,8 @@ module _ (laws : Laws) (bytes : List ℕ) (image : Image) (s : State) (labels : 
         → Invokes s (tcb_of image t) → P (step s Step).0
     invoked-leaves P each i =
         invocation-leaves laws bytes image s labels accepted all t listed now P
-        (λ own_now point state left at kind slot c named may after made. each kind after (there-still own_now point state left at slot c may after made)) makes i
+        (λ own_now point state left at kind slot c named may after made. each kind after (there-still own_now point state left at slot c may after made))
+        makes i
       where
         there-still : (own_now : ThreadState) (point : ℕ) (state : PointState) (left : AfterCall) (at : CallsAt image t s labels own_now point state left)
             (slot : ℕ) (c : Invocation) → MayInvoke image t s state.slots slot c → (after : State)

@@ -19,7 +19,7 @@ use Rattle.headline.proofs.Laws.{all-front, idle-is, state-next, step-cases}
 use Rattle.headline.specs.facts.Standing.{AllStand}
 use Rattle.headline.specs.moves.Steps.{MakesCall}
 use Rattle.headline.specs.steps.Points.{ReachesNoCall}
-use Rattle.response.specs.Resting.{AreAcknowledged, AreTakenAlone, IsAcknowledged, TakesFromOne}
+use Rattle.response.specs.DealtWith.{Rests}
 use Rattle.response.specs.Laws.{Economy, HaveRates, RunsOfLevel}
 use Rattle.response.specs.Left.{at_rest, irq_lines, left, line_price, total}
 use Rattle.response.specs.Owed.{at_rest_with, owed, work_after}
@@ -31,7 +31,7 @@ use Rattle.response.proofs.Whole.{few-lines}
 
 module _ (image : Image) (priority : ℕ) (w : Weights) (rates : List Rate) (most : ℕ) (events : List Event)
     (is_taken is_open : ℕ → Bool) (owed_most : ℕ → ℕ)
-    (owes : (before : List Event) → All (KeepsDevices image) before
+    (owes : (before : List Event) → All (KeepsDevices image) before → Rests image priority (state_after (described image) before)
     → owed image priority w (state_after (described image) before) ≤ total (λ (t : Numbered). owed_most t.number) (numbered_threads image))
     (rest : at_rest_with image w is_taken is_open owed_most ≤ most)
     (devices : All (KeepsDevices image) events)
@@ -58,14 +58,11 @@ module _ (image : Image) (priority : ℕ) (w : Weights) (rates : List Rate) (mos
     ≤ work_after image priority w before + line_price w (state_after (described image) before) number)
     (beyond : (before : List Event) → All (KeepsDevices image) before → (number : ℕ) → nat_lt 63 number ≡ true
     → work_after image priority w (before ++ Irq number ∷ []) ≤ work_after image priority w before + 0)
-    (have : HaveRates image w rates) (alone : AreTakenAlone image priority is_taken) (acknowledged : AreAcknowledged image priority is_open)
-    (words : (before : List Event) → All (KeepsDevices image) before → (t : Numbered) (queue : ℕ) (n : NotificationState)
-    → Contains (numbered_threads image) t → TakesFromOne image t queue
-    → is_runnable (thread_at (state_after (described image) before) (tcb_of image t)).status ≡ false
-    → (state_after (described image) before).objects queue ≡ Some (NotificationObject n) → n.word ≡ 0)
-    (lines : (before : List Event) → All (KeepsDevices image) before → (number : ℕ) → number < 64 → (a : IsAcknowledged image priority number)
-    → is_runnable (thread_at (state_after (described image) before) (tcb_of image a.thread)).status ≡ false
-    → (state_after (described image) before).pending number ≡ false) where
+    (have : HaveRates image w rates)
+    (words : (before : List Event) → All (KeepsDevices image) before → Rests image priority (state_after (described image) before) → (queue : ℕ)
+    (n : NotificationState) → is_taken queue ≡ true → (state_after (described image) before).objects queue ≡ Some (NotificationObject n) → n.word ≡ 0)
+    (lines : (before : List Event) → All (KeepsDevices image) before → Rests image priority (state_after (described image) before) → (number : ℕ)
+    → number < 64 → is_open number ≡ true → (state_after (described image) before).pending number ≡ false) where
   abbrev behind : List Event → State
   behind before = state_after (described image) before
 
@@ -102,7 +99,7 @@ module _ (image : Image) (priority : ℕ) (w : Weights) (rates : List Rate) (mos
       (λ number among here. silent number among here)) in
       let owing : owed image priority w (state_after (described image) (before ++ Step ∷ []))
       ≤ total (λ (t : Numbered). owed_most t.number) (numbered_threads image) =
-      subst (λ (x : State). owed image priority w x ≤ total (λ (t : Numbered). owed_most t.number) (numbered_threads image)) same (owes before kept) in
+      subst (λ (x : State). owed image priority w x ≤ total (λ (t : Numbered). owed_most t.number) (numbered_threads image)) same (owes before kept rests) in
       omega (arith, less, owing, rest)
     where
       nobody : RunsOfLevel image priority (behind before) → ⊥
@@ -117,13 +114,10 @@ module _ (image : Image) (priority : ℕ) (w : Weights) (rates : List Rate) (mos
           ] refl
 
       no-word-there : (queue : ℕ) (n : NotificationState) → is_taken queue ≡ true → (behind before).objects queue ≡ Some (NotificationObject n) → n.word ≡ 0
-      no-word-there queue n here at = let who = alone queue here in words before kept who.0 queue n who.1 who.3 (rests who.0 who.1 who.2) at
+      no-word-there queue n here at = words before kept rests queue n here at
 
       silent : (number : ℕ) → Contains irq_lines number → is_open number ≡ true → (behind before).pending number ≡ false
-      silent number among here =
-          let few = few-lines number among in
-          let a = acknowledged number few here in
-          lines before kept number few a (rests a.thread a.listed a.level)
+      silent number among here = lines before kept rests number (few-lines number among) here
 
   rests-so : (before : List Event) → All (KeepsDevices image) before → is_level_label image priority (step (behind before) Step).1 ≡ false
       → work_after image priority w (before ++ Step ∷ []) ≤ most

@@ -1,18 +1,21 @@
 -- Messages: what is owed to threads that wait to send, or for an answer, and what a level has still to run with that. The test of a response for
 -- levels that send, call and serve.
-use Rattle.std.specs.Prelude.{ℕ, ◌≡◌, ◌==◌, ◌+◌, ◌≤◌, ◌<◌, ◌&&◌, ◌||◌, Bool, true, false, nat_le, not, Contains, List, [], Some, if◌then◌else◌}
+use Rattle.std.specs.Prelude.{ℕ, ◌≡◌, ◌==◌, ◌+◌, ◌≤◌, ◌<◌, ◌&&◌, ◌||◌, Bool, true, false, nat_le, not, All, Contains, List, [], Some, if◌then◌else◌}
 use Rattle.std.specs.List.{list_all}
 use Rattle.model.specs.declared.events.Event.{Event}
 use Rattle.model.specs.declared.labels.Label.{Label}
+use Rattle.model.specs.Acceptance.Devices.{KeepsDevices}
 use Rattle.model.specs.Acceptance.NotedStates.{PointState}
 use Rattle.model.specs.Acceptance.PointStates.{Known, Missing, Noted, Unmeasured, noted}
 use Rattle.model.specs.Acceptance.ThreadInvariants.{tcb_of}
 use Rattle.model.specs.Images.Described.{Numbered, described, numbered_threads}
 use Rattle.model.specs.Images.Image.{Image}
-use Rattle.model.specs.Kernel.State.{AwaitsHandler, AwaitsReply, Blocked, ByCall, EndpointObject, EndpointState, Inactive, Runnable, Sender, State, Status}
+use Rattle.model.specs.Kernel.State.{AwaitsHandler, AwaitsReply, Blocked, ByCall, EndpointObject, EndpointState, Inactive, NotificationObject, NotificationState}
+use Rattle.model.specs.Kernel.State.{Runnable, Sender, State, Status}
 use Rattle.model.specs.Kernel.State.{ThreadObject, ThreadState, thread_at}
 use Rattle.model.specs.Kernel.Steps.{state_after, trace}
 use Rattle.response.specs.Asking.{Asked, Takes, Polls, Rings, Acknowledges, Accepts, Looks, SendsTo, Calls, Tries, Answers, Asks_nothing, asked_at}
+use Rattle.response.specs.DealtWith.{Rests}
 use Rattle.response.specs.Left.{at_rest, left, line_price, point_now, total}
 use Rattle.response.specs.Levels.{is_of_level}
 use Rattle.response.specs.Rates.{Rate, costs_within}
@@ -129,6 +132,29 @@ OweAtMost image priority w most =
     (t : Numbered) (point : ℕ) (state : PointState) → Contains (numbered_threads image) t → point < t.thread.header.words
     → noted image t point ≡ Known state
     → owes_at_most w (is_of_level priority t) (going_on priority w t point) (most t.number) (asked_at image t.thread point state) ≡ true
+
+-- so below the level
+abbrev pub OweBelow : Image → ℕ → Weights → (ℕ → ℕ) → Type 0
+OweBelow image priority w most =
+    (t : Numbered) (point : ℕ) (state : PointState) → Contains (numbered_threads image) t → is_of_level priority t ≡ false → point < t.thread.header.words
+    → noted image t point ≡ Known state → owes_at_most w false (going_on priority w t point) (most t.number) (asked_at image t.thread point state) ≡ true
+
+-- and in the level, where none of its threads is ready
+abbrev pub OweAtRest : Image → ℕ → Weights → (ℕ → ℕ) → Type 0
+OweAtRest image priority w most =
+    (events : List Event) (t : Numbered) → All (KeepsDevices image) events → Contains (numbered_threads image) t → is_of_level priority t ≡ true
+    → Rests image priority (state_after (described image) events)
+    → owed_of_thread image priority w (state_after (described image) events) t ≤ most t.number
+
+-- Where no thread of the level is ready, no word stands at these objects, nothing is pending on these lines, and none of its threads waits with more
+-- than so much.
+pub record IsLeftAtRest (image : Image) (priority : ℕ) (w : Weights) (is_taken is_open : ℕ → Bool) (most : ℕ → ℕ) : Type 0 where
+  pub words : (events : List Event) (queue : ℕ) (n : NotificationState) → All (KeepsDevices image) events
+      → Rests image priority (state_after (described image) events) → is_taken queue ≡ true
+      → (state_after (described image) events).objects queue ≡ Some (NotificationObject n) → n.word ≡ 0
+  pub lines : (events : List Event) (number : ℕ) → All (KeepsDevices image) events → Rests image priority (state_after (described image) events)
+      → number < 64 → is_open number ≡ true → (state_after (described image) events).pending number ≡ false
+  pub owed : OweAtRest image priority w most
 
 -- what may be left and owed where no thread of the level is ready
 abbrev pub at_rest_with : Image → Weights → (ℕ → Bool) → (ℕ → Bool) → (ℕ → ℕ) → ℕ

@@ -3,7 +3,7 @@
 #![tactic(auto)]
 
 ghost use Rattle.headline.specs.invocations.Laws.{Laws};
-ghost use Rattle.response.specs.Laws.{AllCallsAreWork, AllLevelsRestLater, AllLevelsRestWithin, AllStepsBelowRest, MessageResponsesDeal, MessageResponsesHold, RestedMessageResponsesDeal, RestedMessageResponsesHold, ServersRest, ThreadsWaitWhereAsked};
+ghost use Rattle.response.specs.Laws.{AllCallsAreWork, AllLevelsRestLater, AllLevelsRestWithin, AllStepsBelowRest, LeftAtRest, LevelsRestOwing, LevelsRestOwingLater, MessageResponsesDeal, MessageResponsesHold, RestedMessageResponsesDeal, RestedMessageResponsesHold, ServersRest, StepsBelowRestOwing, ThreadsWaitWhereAsked};
 ghost use Rattle.response.specs.Laws.{AcknowledgedLinesRest, LevelsComeToRest, LinesAreDealtWith, LinesAreDealtWithLater, InterruptsMask, NoWaySkips, ResponsesDeal, ResponsesHold, RestedResponsesDeal, RestedResponsesHold, NotificationCallsAreWork, NotificationLevelsRestLater, NotificationLevelsRestWithin, NotificationStepsBelowRest, BindingsStay, NoWordAtRest, InterruptsBeyond, InvocationsRingNothing, LevelsRestWithin, EconomiesBound, EconomiesBoundLater, LevelsRestLater, InterruptsCost, LevelsAreSeen, LevelsRun, PlainStepsAreWork, PrioritiesStay, TicksLeaveTheWork, WaitersTake, WhoRunsHasLeft, WritesLeaveTheWork, LooksLeaveTheWork};
 
 use headline::authority::{
@@ -300,9 +300,19 @@ pub fn calls_are_work()
     threads_wait_where_they_asked();
 }
 
+/// What is left at rest: where threads take alone no word, and on lines that are acknowledged nothing; and no thread waits with more than where it may.
+pub fn left_at_rest()
+    ensures { LeftAtRest }
+{
+    laws_on_invocations();
+    events_go_well();
+    no_word_at_rest();
+    acknowledged_lines_rest();
+}
+
 /// After a step of another thread no more work is there than at rest, and what that rings.
-pub fn steps_below_rest()
-    ensures { AllStepsBelowRest }
+pub fn steps_below_rest_owing()
+    ensures { StepsBelowRestOwing }
 {
     laws_on_invocations();
     steps_go_well();
@@ -312,15 +322,21 @@ pub fn steps_below_rest()
     waiters_take();
     bindings_stay();
     levels_run();
-    no_word_at_rest();
-    acknowledged_lines_rest();
     threads_wait_where_they_asked();
 }
 
+/// So it is where each thread owes at most so much wherever it may wait.
+pub fn steps_below_rest()
+    ensures { AllStepsBelowRest }
+{
+    left_at_rest();
+    steps_below_rest_owing();
+}
+
 /// The bound for all levels, whatever their threads ask: they may send, call and serve.
-pub fn all_levels_rest_within()
-    ensures start { AllLevelsRestWithin }
-    ensures later { AllLevelsRestLater }
+pub fn levels_rest_owing()
+    ensures start { LevelsRestOwing }
+    ensures later { LevelsRestOwingLater }
 {
     laws_on_invocations();
     steps_go_well();
@@ -332,8 +348,6 @@ pub fn all_levels_rest_within()
     threads_are_as_listed();
     threads_have_their_own_blocks();
     bindings_stay();
-    no_word_at_rest();
-    acknowledged_lines_rest();
     levels_run();
     levels_are_seen();
     plain_steps_are_work();
@@ -341,8 +355,17 @@ pub fn all_levels_rest_within()
     the_world_leaves_the_work();
     interrupts_cost();
     calls_are_work();
-    steps_below_rest();
+    steps_below_rest_owing();
     economies_bound();
+}
+
+/// So it is where each thread owes at most so much wherever it may wait.
+pub fn all_levels_rest_within()
+    ensures start { AllLevelsRestWithin }
+    ensures later { AllLevelsRestLater }
+{
+    left_at_rest();
+    levels_rest_owing();
 }
 
 /// A response that passes the test with messages holds, whatever the threads of the level ask; and each line that it opens is dealt with.

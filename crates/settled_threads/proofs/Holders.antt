@@ -27,7 +27,8 @@ use Rattle.headline.specs.moves.Laws.{Laws}
 use Rattle.response.specs.Asking.{Asked, Calls, SendsTo, Takes, asked_at}
 use Rattle.response.specs.Left.{point_now}
 use Rattle.response.specs.Owed.{WaitsWhereAsked, asked_there}
-use Rattle.response.proofs.Laws.{WaitsAt, WaitsBy, accepts-there, accepts_from, asked-same, calls_there, delivered-pc, here, leads-on, next-pc, point-of, sends_there}
+use Rattle.response.proofs.Laws.{WaitsAt, WaitsBy, accepts-there, accepts_from, asked-same, calls_there, delivered-pc, here, leads-on, next-pc, point-of}
+use Rattle.response.proofs.Laws.{sends_there}
 use Rattle.response.proofs.Laws.{bell-there, same-thread, takes_word, there-is, thread-of, waits-at, write-pc}
 use Rattle.settled_threads.specs.Answering.{IsAnswered, Owes, ReceivesAt, is_accept, owing_for}
 
@@ -217,8 +218,8 @@ module _ (laws : Laws) (bytes : List ℕ) (image : Image) (accepted : IsAccepted
       no-bell n at = let clash : Some (ThreadObject before) ≡ Some (NotificationObject n) = sym was ∙ at in absurd cc
 
       -- it waits at the notification that the line signals
-      rests-there : (notification badge : ℕ) → IsDelivered number s notification badge → head_of (notification_at s notification).waiters ≡ Some (tcb_of image r)
-          → is_runnable before.status ≡ false
+      rests-there : (notification badge : ℕ) → IsDelivered number s notification badge
+          → head_of (notification_at s notification).waiters ≡ Some (tcb_of image r) → is_runnable before.status ≡ false
       rests-there notification badge d head =
           let bell = bell-there image s labels all number (record { notification = notification; badge = badge }) d.bound in
           let first = head-first (notification_at s notification).waiters tcb head in

@@ -30,7 +30,8 @@ use Rattle.model.specs.Kernel.Retype.{NewEndpoint, NewNotification}
 use Rattle.model.specs.Kernel.Scheduling.{current, is_runnable}
 use Rattle.model.specs.Kernel.Soundness.{awaits_answer, waiting_at}
 use Rattle.model.specs.Kernel.State.{AwaitsHandler, AwaitsReply, Blocked, ByCall, ByFault, BySend, CNodeObject, EndpointObject, EndpointState, FrameObject}
-use Rattle.model.specs.Kernel.State.{Inactive, NotificationObject, Object, PageTableObject, RootTableObject, Runnable, Sender, Sent, State, Status, ThreadObject}
+use Rattle.model.specs.Kernel.State.{Inactive, NotificationObject, Object, PageTableObject, RootTableObject, Runnable, Sender, Sent, State, Status}
+use Rattle.model.specs.Kernel.State.{ThreadObject}
 use Rattle.model.specs.Kernel.State.{ThreadState, as_endpoint, endpoint_at, new_endpoint, thread_at}
 use Rattle.model.specs.Kernel.Steps.{memory_base, registers_of, step, system_call}
 use Rattle.model.specs.Kernel.Waits.{is_fault}
@@ -44,10 +45,12 @@ use Rattle.headline.specs.steps.Points.{ReachesNoCall}
 use Rattle.response.specs.Asking.{Accepts, Acknowledges, Answers, Asked, Asks_nothing, Calls, Looks, Polls, Rings, SendsTo, Takes, Tries, asked_at, asked_by}
 use Rattle.response.specs.Left.{point_now}
 use Rattle.response.specs.Owed.{WaitsWhereAsked, asked_there}
-use Rattle.response.proofs.Laws.{ReceiveEnds, SendEnds, TakeEnds, WaitsAt, accepts, accepts-there, as_caller, as_sender, asked-same, asked_now, asks-none, asks-of}
+use Rattle.response.proofs.Laws.{ReceiveEnds, SendEnds, TakeEnds, WaitsAt, accepts, accepts-there, as_caller, as_sender, asked-same, asked_now, asks-none}
+use Rattle.response.proofs.Laws.{asks-of}
 use Rattle.response.proofs.Laws.{asks-so, call-leads, called-is, called-label, calls, count, delivered-pc, doors-apart, goes, got_one, got_word, here}
 use Rattle.response.proofs.Laws.{asks-there, invoked-leaves, leads-on, may_wait, next-address, next-inside, next-pc, own, pc_at, point-of, put-at, put-off}
-use Rattle.response.proofs.Laws.{runs-is, sender-blocked, sends, sends-there, sent_awaits, sent_passed, sent_queued, sent_stopped, stays_on, stays_there, there-is}
+use Rattle.response.proofs.Laws.{runs-is, sender-blocked, sends, sends-there, sent_awaits, sent_passed, sent_queued, sent_stopped, stays_on, stays_there}
+use Rattle.response.proofs.Laws.{there-is}
 use Rattle.response.proofs.Laws.{thread-of, waits-at, waits_so}
 use Rattle.settled_threads.specs.Answering.{IsAnswered, IsOwed, Owes, ReceivesAt, is_accept, owing_for}
 use Rattle.settled_threads.proofs.Holders.{other-owes, received-right, still-owes}
@@ -76,7 +79,8 @@ asks-message e PutsCharacter c d = absurd (let clash : false ≡ true = d.receiv
 abbrev receivers-of : Option Object → List ℕ
 receivers-of o = (option_map_or (λ (e : EndpointState). e) (as_endpoint o) new_endpoint).receivers
 
-gate-of : (y : ℕ) (rest : List ℕ) (o : Option Object) → receivers-of o ≡ y ∷ rest → (q : EndpointState) × (o ≡ Some (EndpointObject q)) × (q.receivers ≡ y ∷ rest)
+gate-of : (y : ℕ) (rest : List ℕ) (o : Option Object) → receivers-of o ≡ y ∷ rest
+    → (q : EndpointState) × (o ≡ Some (EndpointObject q)) × (q.receivers ≡ y ∷ rest)
 gate-of y rest (Some (EndpointObject q)) is = (q, refl, is)
 gate-of y rest None is = absurd (let clash : ◌≡◌ {A = List ℕ} [] (y ∷ rest) = is in cc)
 gate-of y rest (Some (ThreadObject x)) is = absurd (let clash : ◌≡◌ {A = List ℕ} [] (y ∷ rest) = is in cc)
@@ -375,7 +379,8 @@ module _ (laws : Laws) (steps : AnyStepGoesWell) (told : (x y : ThreadState) →
         -- or its call was received by this thread
         module _ (e : ℕ) (first : Sender) (gone : TakesSender s after e first) (its_own : first.thread ≡ tcb_of image c) (sent : first.sent ≡ ByCall)
             (grants : first.grant_reply ≡ true) (named : CallNames image t.thread s (ReceivesFrom e)) (same : e ≡ endpoint) where
-          by-ends-of : ReceiveEnds s (tcb_of image t) e after → (replies : Bool) → asked_now s (tcb_of image t) ≡ Accepts e replies → IsOwed image endpoint a c after
+          by-ends-of : ReceiveEnds s (tcb_of image t) e after → (replies : Bool) → asked_now s (tcb_of image t) ≡ Accepts e replies
+              → IsOwed image endpoint a c after
           by-ends-of (got_one other rest status pc head left right) replies is =
               let heads : other ∷ rest ≡ first ∷ (endpoint_at after e).senders = sym head ∙ gone.leaves in
               let alike : other ≡ first = cc in
@@ -440,7 +445,8 @@ module _ (laws : Laws) (steps : AnyStepGoesWell) (told : (x y : ThreadState) →
               sym (ap (λ (x : Option Object). (option_map_or (λ (q : EndpointState). q) (as_endpoint x) new_endpoint).senders) found.1) ∙ gone.leaves in
               let v = waits-at laws.below bytes image s labels accepted all c among before was (ap is_runnable blocked) in
               let place_ = subst (λ (l : List Sender). Contains l first) (sym head) (0, omega arith, refl) in
-              elim (sends-there laws.below bytes image s labels accepted all c among before v (asked_so c among) e blocked found.0 found.1 first place_ its_own) [
+              elim (sends-there laws.below bytes image s labels accepted all c among before v (asked_so c among) e blocked found.0 found.1 first place_
+              its_own) [
                 | as_sender is_send asks_ ↦ absurd (let clash : BySend ≡ ByCall = sym is_send ∙ sent in cc)
                 | as_caller is_call grants asks_ ↦ (
                     let same : Calls e ≡ Calls endpoint = sym asks_ ∙ sym (here laws.below bytes image s labels accepted all c among before v).1
@@ -449,7 +455,8 @@ module _ (laws : Laws) (steps : AnyStepGoesWell) (told : (x y : ThreadState) →
                     received e first gone its_own sent grants named (one-call same))
               ]
 
-          handled : (b : Bool) (x y : ThreadState) → x.status ≡ Runnable → y.status ≡ Inactive → (if b then x else y).status ≡ AwaitsReply → IsOwed image endpoint a c after
+          handled : (b : Bool) (x y : ThreadState) → x.status ≡ Runnable → y.status ≡ Inactive → (if b then x else y).status ≡ AwaitsReply
+              → IsOwed image endpoint a c after
           handled true x y runs_ stops is_ = not-answered x.status runs_ is_
           handled false x y runs_ stops is_ = absurd (let clash : Inactive ≡ AwaitsReply = sym stops ∙ is_ in cc)
 
@@ -556,7 +563,8 @@ module _ (laws : Laws) (steps : AnyStepGoesWell) (told : (x y : ThreadState) →
             keeps_r : changed.caller ≡ before.caller → Owes image endpoint a after r tcb
             keeps_r kept = no-right (ap (λ (u : ThreadState). u.caller) now_r ∙ kept ∙ sym (ap (λ (u : ThreadState). u.caller) was_r))
 
-            by-reason-of : Reason s after (self_of image t.thread) (CallNames image t.thread s) (tcb_of image r) before changed → Owes image endpoint a after r tcb
+            by-reason-of : Reason s after (self_of image t.thread) (CallNames image t.thread s) (tcb_of image r) before changed
+                → Owes image endpoint a after r tcb
             by-reason-of (receiver o badge given gone blocked named may so arrives) = record {
               right = right_r;
               owing = ap (a.marks r.number) (ap (λ (k : ℕ). (k - r.thread.header.base) / 4)
@@ -592,7 +600,8 @@ module _ (laws : Laws) (steps : AnyStepGoesWell) (told : (x y : ThreadState) →
           | inr block ↦ given block.thread block.listed block.is
         ]
 
-      module _ (awaits : (thread_at (step s Step).0 (tcb_of image t)).status ≡ AwaitsReply) (calls_ : asked_there image (step s Step).0 t ≡ Calls endpoint) where
+      module _ (awaits : (thread_at (step s Step).0 (tcb_of image t)).status ≡ AwaitsReply)
+          (calls_ : asked_there image (step s Step).0 t ≡ Calls endpoint) where
         abbrev status_now : Status
         status_now = (thread_at after tcb).status
 
@@ -623,7 +632,8 @@ module _ (laws : Laws) (steps : AnyStepGoesWell) (told : (x y : ThreadState) →
         own-owed-by (Accepts e replies) is =
             received-ends e (accepts laws steps told bytes image accepted s labels all stay t listed now makes mine point state answer at e replies is)
         own-owed-by (SendsTo e) is =
-            sent-ends e false (λ clash. absurd cc) (sends laws steps told bytes image accepted s labels all stay t listed now makes mine point state answer at e is)
+            sent-ends e false (λ clash. absurd cc)
+            (sends laws steps told bytes image accepted s labels all stay t listed now makes mine point state answer at e is)
         own-owed-by (Calls e) is =
             sent-ends e true (λ _. is) (calls laws steps told bytes image accepted s labels all stay t listed now makes mine point state answer at e is)
         own-owed-by (Polls e) is = never (ap may_wait is)

@@ -27,8 +27,10 @@ use Rattle.model.specs.Kernel.Scheduling.{block, full_slice, is_runnable, wake, 
 use Rattle.model.specs.Kernel.State.{AwaitsHandler, AwaitsReply, Blocked, ByCall, ByFault, BySend, EndpointObject, EndpointState, Inactive, NotificationObject}
 use Rattle.model.specs.Kernel.State.{NotificationState, Object, Runnable, Sender, Sent, State, Status, ThreadObject, ThreadState, as_endpoint, as_thread}
 use Rattle.model.specs.Kernel.State.{endpoint_at, new_endpoint, notification_at, put, thread_at, with_endpoint, with_notification, with_thread}
-use Rattle.model.specs.Kernel.Steps.{Done, answered, call_of, calls, calls_known, completed, lacks_capability, named_slot, receive_by, receive_named, receive_on_endpoint}
-use Rattle.model.specs.Kernel.Steps.{receive_on_notification, refused, registers_of, send_by, send_named, send_on, sender, sends_nothing, signal_on, system_call}
+use Rattle.model.specs.Kernel.Steps.{Done, answered, call_of, calls, calls_known, completed, lacks_capability, named_slot, receive_by, receive_named}
+use Rattle.model.specs.Kernel.Steps.{receive_on_endpoint}
+use Rattle.model.specs.Kernel.Steps.{receive_on_notification, refused, registers_of, send_by, send_named, send_on, sender, sends_nothing, signal_on}
+use Rattle.model.specs.Kernel.Steps.{system_call}
 use Rattle.model.specs.Kernel.Waits.{is_fault}
 use Rattle.model.specs.Machine.Effects.{advanced}
 use Rattle.model.specs.Machine.ProgramMemory.{RegisterFile, read, write}
@@ -129,7 +131,8 @@ module _ (m : State) (e x : ℕ) (q : EndpointState) (is : m.objects e ≡ Some 
   queued-keeps : (mine : Sender) → KeepsRights m (block (joined mine) mine.thread (Blocked e))
   queued-keeps mine =
       onward m (joined mine) (block (joined mine) mine.thread (Blocked e))
-      (endpoint-keeps m e q (record (endpoint_at m e) { senders = (endpoint_at m e).senders ++ mine ∷ [] }) is) (block-keeps (joined mine) mine.thread (Blocked e))
+      (endpoint-keeps m e q (record (endpoint_at m e) { senders = (endpoint_at m e).senders ++ mine ∷ [] }) is)
+      (block-keeps (joined mine) mine.thread (Blocked e))
 
   abbrev fewer : List ℕ → State
   fewer rest = with_endpoint m e (record (endpoint_at m e) { receivers = rest })
