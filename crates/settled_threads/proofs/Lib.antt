@@ -3,3 +3,4 @@ mod Inputs
 mod Rights
 mod OwedSteps
 mod OwedEvents
+mod Owing

@@ -1,5 +1,5 @@
 -- The laws of this crate.
-use Rattle.std.specs.Prelude.{ℕ, ◌≡◌, All, Contains, List, Some}
+use Rattle.std.specs.Prelude.{ℕ, ◌≡◌, ◌+◌, ◌≤◌, All, Bool, Contains, List, [], Some}
 use Rattle.model.specs.declared.events.Event.{Event}
 use Rattle.model.specs.Acceptance.Accepted.{IsAccepted}
 use Rattle.model.specs.Acceptance.Devices.{KeepsDevices}
@@ -10,9 +10,15 @@ use Rattle.model.specs.Kernel.State.{AwaitsReply, thread_at}
 use Rattle.model.specs.Kernel.Steps.{state_after}
 use Rattle.response.specs.Asking.{Calls}
 use Rattle.response.specs.DealtWith.{Rests}
-use Rattle.response.specs.Owed.{asked_there}
+use Rattle.response.specs.Laws.{HaveRates, left_after}
+use Rattle.response.specs.Left.{line_price}
+use Rattle.response.specs.Levels.{KeepsLevel, KeepsLevelOnceRested}
+use Rattle.response.specs.Owed.{IsLeftAtRest, OweBelow, PayAnswers, RingsFitWith, asked_there, at_rest_with, owed_of_thread}
+use Rattle.response.specs.Rates.{Keeps, Rate, costs_within}
+use Rattle.response.specs.Resting.{AreAcknowledged}
+use Rattle.response.specs.Weights.{Pays, Weights}
 use Rattle.settled_threads.specs.Answering.{IsAnswered, IsOwed}
-use Rattle.settled_threads.specs.Settled.{AreSettled, Settling, WaitsAtInput}
+use Rattle.settled_threads.specs.Settled.{AreInputs, AreSettled, OthersOweAtMost, Settling, WaitsAtInput}
 
 -- whoever waits for an answer of an endpoint that answers is owed it
 abbrev pub CallersAreOwed : Type 0
@@ -28,3 +34,39 @@ SettledThreadsRest =
     (bytes : List ℕ) (image : Image) (priority : ℕ) (settling : Settling) (events : List Event) (t : Numbered) (object : ℕ) → IsAccepted bytes image
     → All (KeepsDevices image) events → AreSettled image priority settling → Rests image priority (state_after (described image) events)
     → Contains (numbered_threads image) t → settling.input t.number ≡ Some object → WaitsAtInput image t (state_after (described image) events) object
+
+-- such a thread owes nothing then
+abbrev pub SettledThreadsOweNothing : Type 0
+SettledThreadsOweNothing =
+    (bytes : List ℕ) (image : Image) (priority : ℕ) (w : Weights) (settling : Settling) (events : List Event) (t : Numbered) (object : ℕ)
+    → IsAccepted bytes image → All (KeepsDevices image) events → AreSettled image priority settling
+    → Rests image priority (state_after (described image) events) → Contains (numbered_threads image) t → settling.input t.number ≡ Some object
+    → owed_of_thread image priority w (state_after (described image) events) t ≡ 0
+
+-- so no word is left at inputs, and only the others count
+abbrev pub SettledLeftAtRest : Type 0
+SettledLeftAtRest =
+    (bytes : List ℕ) (image : Image) (priority : ℕ) (w : Weights) (settling : Settling) (is_taken is_open : ℕ → Bool) (owed_most : ℕ → ℕ)
+    → IsAccepted bytes image → AreSettled image priority settling → AreInputs image settling is_taken → AreAcknowledged image priority is_open
+    → OthersOweAtMost image priority w settling owed_most
+    → OweBelow image priority w owed_most × IsLeftAtRest image priority w is_taken is_open owed_most
+
+-- So: no more than n steps on end are of the level, where all that may be left at the start and at rest, and come within n steps, is at most n.
+abbrev pub SettledLevelsRestWithin : Type 0
+SettledLevelsRestWithin =
+    (bytes : List ℕ) (image : Image) (priority : ℕ) (w : Weights) (settling : Settling) (rates : List Rate) (is_taken is_open : ℕ → Bool)
+    (owed_most : ℕ → ℕ) (most n : ℕ) (events : List Event) → IsAccepted bytes image → All (KeepsDevices image) events → Pays image priority w
+    → PayAnswers image priority w → AreSettled image priority settling → AreInputs image settling is_taken → AreAcknowledged image priority is_open
+    → OthersOweAtMost image priority w settling owed_most → RingsFitWith image priority w is_taken is_open owed_most most → HaveRates image w rates
+    → left_after image priority w [] ≤ most → at_rest_with image w is_taken is_open owed_most ≤ most → Keeps rates events
+    → most + costs_within rates (line_price w (described image)) n ≤ n → KeepsLevel image priority n events
+
+-- and once the level has rested, whatever was left at the start
+abbrev pub SettledLevelsRestLater : Type 0
+SettledLevelsRestLater =
+    (bytes : List ℕ) (image : Image) (priority : ℕ) (w : Weights) (settling : Settling) (rates : List Rate) (is_taken is_open : ℕ → Bool)
+    (owed_most : ℕ → ℕ) (most n : ℕ) (events : List Event) → IsAccepted bytes image → All (KeepsDevices image) events → Pays image priority w
+    → PayAnswers image priority w → AreSettled image priority settling → AreInputs image settling is_taken → AreAcknowledged image priority is_open
+    → OthersOweAtMost image priority w settling owed_most → RingsFitWith image priority w is_taken is_open owed_most most → HaveRates image w rates
+    → at_rest_with image w is_taken is_open owed_most ≤ most → Keeps rates events
+    → most + costs_within rates (line_price w (described image)) n ≤ n → KeepsLevelOnceRested image priority n events

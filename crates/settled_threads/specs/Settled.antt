@@ -1,5 +1,5 @@
 -- Settled threads of a level: each takes from one object alone, its input, and whomever it sends to or calls is settled, and comes before it.
-use Rattle.std.specs.Prelude.{ℕ, ◌≡◌, ◌<◌, ⊤, true, Contains, Option, Some, None, []}
+use Rattle.std.specs.Prelude.{ℕ, ◌≡◌, ◌<◌, ⊤, Bool, true, Contains, Option, Some, None, []}
 use Rattle.model.specs.Acceptance.NotedStates.{PointState}
 use Rattle.model.specs.Acceptance.PointStates.{Known, noted}
 use Rattle.model.specs.Acceptance.ThreadInvariants.{tcb_of}
@@ -9,7 +9,8 @@ use Rattle.model.specs.Kernel.State.{Blocked, CNodeObject, EndpointObject, Frame
 use Rattle.model.specs.Kernel.State.{ThreadObject, ThreadState}
 use Rattle.response.specs.Asking.{Asked, Takes, Polls, Rings, Acknowledges, Accepts, Looks, SendsTo, Calls, Tries, Answers, Asks_nothing, asked_at}
 use Rattle.response.specs.Levels.{is_of_level}
-use Rattle.response.specs.Owed.{asked_there}
+use Rattle.response.specs.Owed.{asked_there, going_on, owes_at_most}
+use Rattle.response.specs.Weights.{Weights}
 use Rattle.settled_threads.specs.Answering.{IsAnswered, ReceivesAt}
 
 -- of threads by their numbers: the input of each that is settled, and a rank, which says who comes first
@@ -89,3 +90,17 @@ pub record WaitsAtInput (image : Image) (t : Numbered) (s : State) (object : ℕ
   pub waits : own.status ≡ Blocked object
   pub takes : taken_by (asked_there image s t) ≡ Some object
   pub nothing : HasNothing (s.objects object)
+
+-- ---- what is left at rest
+
+-- these objects are inputs of settled threads
+abbrev pub AreInputs : Image → Settling → (ℕ → Bool) → Type 0
+AreInputs image settling is_taken =
+    (object : ℕ) → is_taken object ≡ true → (t : Numbered) × Contains (numbered_threads image) t × (settling.input t.number ≡ Some object)
+
+-- what a thread that is not settled may wait with is at most so much
+abbrev pub OthersOweAtMost : Image → ℕ → Weights → Settling → (ℕ → ℕ) → Type 0
+OthersOweAtMost image priority w settling most =
+    (t : Numbered) (point : ℕ) (state : PointState) → Contains (numbered_threads image) t → settling.input t.number ≡ None → point < t.thread.header.words
+    → noted image t point ≡ Known state
+    → owes_at_most w (is_of_level priority t) (going_on priority w t point) (most t.number) (asked_at image t.thread point state) ≡ true

@@ -3,7 +3,7 @@
 //! does nothing.
 #![tactic(auto)]
 
-ghost use Rattle.settled_threads.specs.Laws.{CallersAreOwed, SettledThreadsRest};
+ghost use Rattle.settled_threads.specs.Laws.{CallersAreOwed, SettledLeftAtRest, SettledLevelsRestLater, SettledLevelsRestWithin, SettledThreadsOweNothing, SettledThreadsRest};
 
 use headline::authority::{
     a_tick_stays_within_authority, an_interrupt_stays_within_authority,
@@ -13,7 +13,9 @@ use headline::invocations::{events_go_well, steps_go_well};
 use headline::measure_facts::measures_of_points_name_registers;
 use headline::parts::threads_are_told_apart;
 use headline::starts::threads_are_as_listed;
-use response::{laws_on_invocations, threads_wait_where_they_asked};
+use response::{
+    acknowledged_lines_rest, laws_on_invocations, levels_rest_owing, threads_wait_where_they_asked,
+};
 
 /// Whoever waits for an answer of an endpoint that answers is owed it.
 pub fn callers_are_owed()
@@ -39,4 +41,31 @@ pub fn settled_threads_rest()
     events_go_well();
     threads_wait_where_they_asked();
     callers_are_owed();
+}
+
+/// Such a thread owes nothing then.
+pub fn settled_threads_owe_nothing()
+    ensures { SettledThreadsOweNothing }
+{
+    settled_threads_rest();
+}
+
+/// So at rest no word is left at their inputs, and only the other threads count.
+pub fn settled_levels_leave_others()
+    ensures { SettledLeftAtRest }
+{
+    laws_on_invocations();
+    events_go_well();
+    acknowledged_lines_rest();
+    settled_threads_rest();
+    settled_threads_owe_nothing();
+}
+
+/// The bound for levels with settled threads.
+pub fn settled_levels_rest_within()
+    ensures start { SettledLevelsRestWithin }
+    ensures later { SettledLevelsRestLater }
+{
+    levels_rest_owing();
+    settled_levels_leave_others();
 }
