@@ -1,0 +1,3 @@
+mod BytesLeft
+mod LastStops
+mod Timelines
