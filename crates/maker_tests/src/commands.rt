@@ -74,7 +74,10 @@ fn one_command_makes_a_system_that_runs(rt: HostRuntime) -> Result<(), Fail> {
     let other = answer_to(&rt, "test @made.sys @made.events @other.bytes")?;
     assert!(&rt; other.ends_with("status 1\n"), "{other}");
     let wrong = answer_to(&rt, "test @made.sys @made.events @wrong.bytes")?;
-    assert!(&rt; wrong.contains("wrong.bytes:2: Malformed: not read\n"), "{wrong}");
+    assert!(&rt;
+        wrong.contains("wrong.bytes:2: Malformed: not read\n"),
+        "{wrong}"
+    );
     let files = "made.sys made.events made.bytes other.bytes wrong.bytes made.img";
     take_files(&rt, files)?;
     Ok(())
