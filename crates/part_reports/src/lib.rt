@@ -1,0 +1,14 @@
+//! The parts of an accepted image by the names of its text: groups, what each takes from others and by what, and the text of a part alone.
+#![tactic(auto)]
+
+mod arrows;
+mod groups;
+mod names;
+mod reports;
+mod texts;
+mod uses;
+
+pub use groups::Groups;
+pub use names::{NoPart, part_named};
+pub use reports::{alone_report, groups_report, parts_report};
+pub use texts::text_alone;

@@ -1,0 +1,310 @@
+//! What each thread of a text does with each object, and by which capability, mapping or handler.
+
+use image_reading::{ImageRef, ThreadRef};
+use indexmap::IndexMap;
+use model::{ObjectKind, ObjectType};
+use source_texts::{CapabilityLine, FrameLine, Source, SourceText, SourceThread};
+use std::alloc::{AllocError, Global};
+use thread_spaces::reached_of;
+use wellformed::NumberSet;
+
+/// Of the rights of a capability or a mapping.
+const WRITE: u32 = 1;
+
+const READ: u32 = 2;
+
+/// What is done with an object.
+#[derive(Clone, Copy)]
+enum Deed {
+    /// What it is mapped for.
+    Loads,
+    Stores,
+    /// What a capability to a frame allows.
+    MapsToLoad,
+    MapsToStore,
+    /// What a capability to an endpoint allows.
+    Sends,
+    Receives,
+    /// What a capability to a notification allows.
+    Rings,
+    Waits,
+    /// What a capability to another object allows.
+    Holds,
+    /// It is the frame of the thread's message buffer.
+    Buffers,
+    /// Who has the handler of this line of the machine, which signals the notification.
+    Acknowledges(u32),
+}
+
+/// What makes it possible.
+#[derive(Clone, Copy)]
+enum Place {
+    /// A mapping at this address.
+    Address(u32),
+    /// A capability in this slot of a CNode.
+    Slot { cnode: usize, index: u32 },
+    /// The thread's own line.
+    Thread,
+}
+
+/// Something that a thread does with an object.
+#[derive(Clone, Copy)]
+struct Use {
+    deed: Deed,
+    place: Place,
+}
+
+impl Deed {
+    /// Whether the thread takes the object by this.
+    fn takes(self) -> bool {
+        !matches!(
+            self,
+            Deed::Rings | Deed::MapsToStore | Deed::Acknowledges(_)
+        )
+    }
+
+    /// Whether it may change the object by this.
+    fn changes(self) -> bool {
+        !matches!(self, Deed::Loads | Deed::MapsToLoad)
+    }
+
+    /// What is said of the thread.
+    fn words(self) -> &'static str {
+        match self {
+            Deed::Loads => "reads it",
+            Deed::Stores => "writes it",
+            Deed::MapsToLoad => "may map it to read",
+            Deed::MapsToStore => "may map it to write",
+            Deed::Sends => "sends there",
+            Deed::Receives => "receives there",
+            Deed::Rings => "rings it",
+            Deed::Waits => "waits for it",
+            Deed::Holds => "holds it",
+            Deed::Buffers => "has it as message buffer",
+            Deed::Acknowledges(_) => "acknowledges line ",
+        }
+    }
+}
+
+/// What is said of a use beside others.
+#[derive(Clone, Copy, PartialEq, Eq)]
+pub(crate) enum Side {
+    Takes,
+    Changes,
+    Both,
+}
+
+/// What a thread does with each object that it may use.
+#[derive(Drop)]
+pub(crate) struct Uses {
+    of: IndexMap<usize, Vec<Use>>,
+}
+
+/// Whether a word of rights has a right.
+fn has(rights: u32, right: u32) -> bool {
+    rights & right != 0
+}
+
+impl Uses {
+    /// One use more.
+    fn add(
+        &mut self,
+        alloc: Global,
+        object: usize,
+        deed: Deed,
+        place: Place,
+    ) -> Result<(), AllocError> {
+        let found = Use { deed, place };
+        if let Some(uses) = self.of.get_mut(&object) {
+            uses.push(found)?;
+            return Ok(());
+        }
+        let mut uses = Vec::new(alloc);
+        uses.push(found)?;
+        self.of.insert(object, uses)?;
+        Ok(())
+    }
+
+    /// What a mapping allows.
+    fn add_frame(&mut self, alloc: Global, frame: &FrameLine) -> Result<(), AllocError> {
+        let deed = if has(frame.rights, WRITE) {
+            Deed::Stores
+        } else {
+            Deed::Loads
+        };
+        self.add(alloc, frame.frame, deed, Place::Address(frame.address))
+    }
+
+    /// What a capability to an object allows.
+    fn add_capability(
+        &mut self,
+        alloc: Global,
+        text: &SourceText<'_>,
+        capability: &CapabilityLine,
+        object: usize,
+    ) -> Result<(), AllocError> {
+        let place = Place::Slot {
+            cnode: capability.cnode,
+            index: capability.index,
+        };
+        let kind = text.kind(object);
+        let (read, written) = match &kind {
+            Some(ObjectType::Object(ObjectKind::Frame)) => (Deed::MapsToLoad, Deed::MapsToStore),
+            Some(ObjectType::Object(ObjectKind::Endpoint)) => (Deed::Receives, Deed::Sends),
+            Some(ObjectType::Object(ObjectKind::Notification)) => (Deed::Waits, Deed::Rings),
+            _ => (Deed::Holds, Deed::Holds),
+        };
+        if has(capability.rights, READ) {
+            self.add(alloc, object, read, place)?;
+        }
+        if has(capability.rights, WRITE) {
+            self.add(alloc, object, written, place)?;
+        }
+        Ok(())
+    }
+
+    /// What a handler allows: it is for the notification that its line signals.
+    fn add_handler(
+        &mut self,
+        alloc: Global,
+        text: &SourceText<'_>,
+        capability: &CapabilityLine,
+        interrupt: usize,
+    ) -> Result<(), AllocError> {
+        let place = Place::Slot {
+            cnode: capability.cnode,
+            index: capability.index,
+        };
+        match text.interrupts.get(interrupt) {
+            Some(line) => {
+                let deed = Deed::Acknowledges(line.number);
+                self.add(alloc, line.notification, deed, place)
+            }
+            None => Ok(()),
+        }
+    }
+
+    /// What a capability in one of the thread's CNodes allows.
+    fn add_held(
+        &mut self,
+        alloc: Global,
+        text: &SourceText<'_>,
+        capability: &CapabilityLine,
+    ) -> Result<(), AllocError> {
+        match capability.source {
+            Source::Object(object) => self.add_capability(alloc, text, capability, object),
+            Source::Interrupt(number) => self.add_handler(alloc, text, capability, number),
+        }
+    }
+
+    /// Puts `NAME reads it at 0x2000 and ..` of what is done with an object, as far as it is of this side.
+    pub(crate) fn put(
+        &self,
+        text: &SourceText<'_>,
+        name: &str,
+        object: usize,
+        side: Side,
+        line: &mut String,
+    ) -> Result<(), AllocError> {
+        line.push_str(name)?;
+        let Some(uses) = self.of.get(&object) else {
+            return Ok(());
+        };
+        let mut is_first = true;
+        for found in uses.iter() {
+            if is_of_side(*found, side) {
+                line.push_str(if is_first { " " } else { " and " })?;
+                put_use(text, *found, line)?;
+                is_first = false;
+            }
+        }
+        Ok(())
+    }
+}
+
+/// Whether a use is of this side.
+fn is_of_side(found: Use, side: Side) -> bool {
+    match side {
+        Side::Takes => found.deed.takes(),
+        Side::Changes => found.deed.changes(),
+        Side::Both => true,
+    }
+}
+
+/// Puts a use and where it is.
+fn put_use(text: &SourceText<'_>, found: Use, line: &mut String) -> Result<(), AllocError> {
+    line.push_str(found.deed.words())?;
+    if let Deed::Acknowledges(number) = found.deed {
+        write!(line, "{number}")?;
+    }
+    match found.place {
+        Place::Address(address) => write!(line, " at {address:#x}"),
+        Place::Slot { cnode, index } => {
+            let cnode = text.object_name(cnode);
+            write!(line, " by slot {index} of {cnode}")
+        }
+        Place::Thread => Ok(()),
+    }
+}
+
+/// Whether a CNode is one of these.
+fn is_among(cnodes: &NumberSet, cnode: usize) -> bool {
+    match u32::try_from(cnode) {
+        Ok(number) => cnodes.contains(number),
+        Err(_) => false,
+    }
+}
+
+/// What a thread that reaches these CNodes does with each object.
+fn uses_of(
+    alloc: Global,
+    text: &SourceText<'_>,
+    cnodes: &NumberSet,
+    thread: &SourceThread<'_>,
+) -> Result<Uses, AllocError> {
+    let mut uses = Uses {
+        of: IndexMap::new(alloc),
+    };
+    for frame in &text.frames {
+        if frame.root == thread.root {
+            uses.add_frame(alloc, frame)?;
+        }
+    }
+    for capability in &text.capabilities {
+        if is_among(cnodes, capability.cnode) {
+            uses.add_held(alloc, text, capability)?;
+        }
+    }
+    if let Some(buffer) = thread.buffer {
+        uses.add(alloc, buffer.frame, Deed::Buffers, Place::Thread)?;
+    }
+    Ok(uses)
+}
+
+/// The CNodes that a thread reaches.
+fn cnodes_of(
+    alloc: Global,
+    image: &ImageRef<'_>,
+    thread: &ThreadRef<'_>,
+) -> Result<NumberSet, AllocError> {
+    match reached_of(alloc, image, thread) {
+        Ok(cnodes) => Ok(cnodes),
+        Err(_) => Err(AllocError),
+    }
+}
+
+/// What each thread of an image does with each object, in the order of the threads. The text is that of the image.
+pub(crate) fn all_uses(
+    alloc: Global,
+    text: &SourceText<'_>,
+    image: &ImageRef<'_>,
+) -> Result<Vec<Uses>, AllocError> {
+    let mut all = Vec::new(alloc);
+    for (number, thread) in image.threads().enumerate() {
+        let cnodes = cnodes_of(alloc, image, &thread)?;
+        if let Some(thread) = text.threads.get(number) {
+            all.push(uses_of(alloc, text, &cnodes, thread)?)?;
+        }
+    }
+    Ok(all)
+}
