@@ -75,6 +75,14 @@ pub enum ToolRequest<'a> {
     Draw {
         system: &'a str,
     },
+    /// To say which parts of a system may change what others take.
+    Parts {
+        system: &'a str,
+    },
+    /// To write some parts of a system as a system of its own.
+    Alone {
+        system: &'a str,
+    },
     /// To draw who ran when, by a trace.
     Chart {
         trace: &'a str,
@@ -102,6 +110,8 @@ pub struct Request<'a> {
     pub asked: ToolRequest<'a>,
     /// Numbers for names of a description, each as `NAME=NUMBER`.
     pub given: Vec<&'a str>,
+    /// The names of parts, and last the file that gets them.
+    pub words: Vec<&'a str>,
     /// Whether notes are refusals.
     pub is_strict: bool,
 }
@@ -166,10 +176,16 @@ fn request_of<'a>(
     let mut request = Request {
         asked,
         given: Vec::new(alloc),
+        words: Vec::new(alloc),
         is_strict: false,
     };
     if let Some((name, matches)) = matches.subcommand() {
         request.is_strict = matches!(name, "make" | "expand") && matches.get_flag("strict");
+        if name == "alone" {
+            for word in matches.get_strs("PART .. OUT").unwrap_or(&[]) {
+                request.words.push(*word)?;
+            }
+        }
         if takes_numbers(name) {
             for word in matches.get_strs("D").unwrap_or(&[]) {
                 request.given.push(number_word(alloc, *word)?)?;
@@ -218,6 +234,9 @@ fn requested<'a>(matches: &ArgMatches<'a>) -> Option<ToolRequest<'a>> {
             source: matches.get_str("SOURCE")?,
             certified: matches.get_str("CERTIFIED")?,
         }),
+        "alone" => Some(ToolRequest::Alone {
+            system: matches.get_str("SYSTEM")?,
+        }),
         "test" => test(matches),
         name => view(name, matches),
     }
@@ -264,6 +283,9 @@ fn view<'a>(name: &str, matches: &ArgMatches<'a>) -> Option<ToolRequest<'a>> {
             system: matches.get_str("SYSTEM")?,
         }),
         "draw" => Some(ToolRequest::Draw {
+            system: matches.get_str("SYSTEM")?,
+        }),
+        "parts" => Some(ToolRequest::Parts {
             system: matches.get_str("SYSTEM")?,
         }),
         "chart" => Some(ToolRequest::Chart {

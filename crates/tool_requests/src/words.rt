@@ -15,7 +15,7 @@ const STATUSES: &str =
 const EVENTS: &str =
     "lines `step [N]`, `tick`, `irq LINE`, `write PAGE INDEX WORD` and `read PAGE INDEX`, by names or numbers; of `run` each line of standard input is answered before the next is read";
 
-/// What follows a word: `NAME` is a file, `?NAME` one that may be left out, `--NAME` a word that may be there, `--NAME N` such a
+/// What follows a word: `NAME` is a file, `?NAME` one that may be left out, `?NAME .. NAME` any number of words, `--NAME` a word that may be there, `--NAME N` such a
 /// word with a number, and `-D WORD` one that may be there again and again.
 #[derive(Clone, Copy)]
 struct Argument<'a> {
@@ -37,7 +37,7 @@ const GIVEN: Argument<'_> = Argument {
 };
 
 /// The words that make something of a system.
-const MAKING: [Word<'_>; 4] = [
+const MAKING: [Word<'_>; 5] = [
     Word {
         name: "make",
         about: "Makes an accepted image of a system: expands, certifies, builds and verifies",
@@ -87,6 +87,20 @@ const MAKING: [Word<'_>; 4] = [
             Argument {
                 form: "CERTIFIED",
                 help: "the file that gets the text with its certificates",
+            },
+        ],
+    },
+    Word {
+        name: "alone",
+        about: "Writes some parts of a system as a system of its own, and says what they take from the others",
+        arguments: &[
+            Argument {
+                form: "SYSTEM",
+                help: "the file of a description, a text or an image",
+            },
+            Argument {
+                form: "?PART .. OUT",
+                help: "the names of the parts, and last the file that gets the system: a text, or an image where SYSTEM is one",
             },
         ],
     },
@@ -171,7 +185,7 @@ const IMAGES: [Word<'_>; 3] = [
 ];
 
 /// The words that show something of a system.
-const SHOWING: [Word<'_>; 5] = [
+const SHOWING: [Word<'_>; 6] = [
     Word {
         name: "explain",
         about: "Says why a system is refused, by lines and names, and by how much",
@@ -193,6 +207,14 @@ const SHOWING: [Word<'_>; 5] = [
             },
             GIVEN,
         ],
+    },
+    Word {
+        name: "parts",
+        about: "Says which parts of a system may change what others take, and which groups take nothing from the others",
+        arguments: &[Argument {
+            form: "SYSTEM",
+            help: "the file of a description, a text or an image",
+        }],
     },
     Word {
         name: "chart",
@@ -259,6 +281,9 @@ fn argument_of<'a>(alloc: Global, form: &'a str) -> Arg<'a> {
         };
     }
     match form.strip_prefix("?") {
+        Some(names) if names.contains(" .. ") => Arg::new(alloc, names)
+            .num_args(0..)
+            .action(ArgAction::Append),
         Some(name) => Arg::new(alloc, name),
         None => Arg::new(alloc, form).required(true),
     }
