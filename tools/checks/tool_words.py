@@ -32,6 +32,8 @@ SECTIONS = {
     "list": "What an image holds, and what changes between two",
     "diff": "What an image holds, and what changes between two",
     "cover": "What ran",
+    "parts": "Parts",
+    "alone": "Parts",
 }
 # Arguments that are systems, whose parts may be in C.
 SYSTEMS = {"SYSTEM", "DESCRIPTION", "SOURCE", "BEFORE", "AFTER"}

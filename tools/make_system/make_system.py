@@ -44,9 +44,11 @@ SYSTEMS = {
     "chart": ((1,), 2, 2),
     "diff": ((0, 1), 2, 2),
     "cover": ((0,), 2, 1000),
+    "parts": ((0,), 1, 1),
+    "alone": ((0,), 1, 66),
 }
 # The words whose last file is written.
-WRITERS = {"make", "expand", "certify"}
+WRITERS = {"make", "expand", "certify", "alone"}
 # The words that have one more after them.
 OPTIONS = {"--from", "--to", "--bytes-of", "--info", "-D"}
 # What asks `make` for symbols; the file that gets them follows.

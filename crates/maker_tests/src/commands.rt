@@ -33,7 +33,7 @@ end
 const EVENTS: &str = "step 3\nirq 3\nstep 11\nirq 3\nstep 11\n";
 
 /// What the program answers to words, in which `@` begins the name of a file: its output, `status` with its status, and its errors.
-fn answer_to<R: Files + Input + Env + Clock + AllocGlobal>(
+pub(crate) fn answer_to<R: Files + Input + Env + Clock + AllocGlobal>(
     rt: &R,
     words: &str,
 ) -> Result<String, Fail> {
@@ -49,7 +49,7 @@ fn answer_to<R: Files + Input + Env + Clock + AllocGlobal>(
 }
 
 /// Asserts that the program answers so.
-fn answers<R: Files + Input + Env + Clock + AllocGlobal + Abort>(
+pub(crate) fn answers<R: Files + Input + Env + Clock + AllocGlobal + Abort>(
     rt: &R,
     words: &str,
     want: &str,

@@ -17,4 +17,6 @@ mod explanations;
 #[cfg(test)]
 mod noted_calls;
 #[cfg(test)]
+mod parts_alone;
+#[cfg(test)]
 mod runs_by_names;

@@ -22,6 +22,15 @@ fn made_of<R: Clock + AllocGlobal, E: Sink>(
     certified(rt.alloc(), text, &mut progress)
 }
 
+/// A text with the certificates that are found for it.
+pub(crate) fn certified_text<R: Clock + AllocGlobal, E: Sink>(
+    rt: &R,
+    text: &str,
+    errors: &mut E,
+) -> Result<Vec<u8>, NotCertified> {
+    Ok(made_of(rt, text, errors)?.text)
+}
+
 /// Puts a text with its certificates on standard output, and a line for each thread on standard error.
 fn put_made<W: Sink, E: Sink>(
     made: &CertifiedText,

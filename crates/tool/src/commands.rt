@@ -1,6 +1,7 @@
 //! What the program answers to the words of its command line.
 
 use crate::certificate_files::certify_file;
+use crate::described_parts::{put_parts, write_alone};
 use crate::expected::test_file;
 use crate::explanations::explain_file;
 use crate::images::{build_image, verify_image};
@@ -52,6 +53,7 @@ fn answer<'a, R: Files + Input + Clock + AllocGlobal, S: AsStr, W: Sink, E: Sink
     let Request {
         asked,
         given,
+        words,
         is_strict,
     } = parse_words(rt.alloc(), words)?;
     let making = Making {
@@ -69,6 +71,10 @@ fn answer<'a, R: Files + Input + Clock + AllocGlobal, S: AsStr, W: Sink, E: Sink
             events,
             expected,
         } => test_file(rt, system, events, expected, output, errors),
+        ToolRequest::Alone { system } => {
+            write_alone(rt, system, words.as_slice(), output, errors)?;
+            Ok(DONE)
+        }
         ToolRequest::Diff { before, after } => diff_files(rt, before, after, output, errors),
         request => {
             write_answer(rt, request, making, output, errors)?;
@@ -99,6 +105,7 @@ fn write_answer<'a, R: Files + Input + Clock + AllocGlobal, W: Sink, E: Sink>(
             explain_file(rt, system, making.given, output, errors)
         }
         ToolRequest::Draw { system } => draw_file(rt, system, making.given, output, errors),
+        ToolRequest::Parts { system } => put_parts(rt, system, output, errors),
         ToolRequest::Chart {
             trace,
             system,
