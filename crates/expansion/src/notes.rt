@@ -41,6 +41,17 @@ fn waits(part: &Part<'_>, name: &str) -> bool {
     false
 }
 
+/// The parts that wait for a bell, as a set.
+fn waiting_for(system: &System<'_>, bell: &str) -> u64 {
+    let mut waiting = 0;
+    for (number, part) in system.parts.iter().enumerate() {
+        if waits(part, bell) {
+            waiting |= only(number);
+        }
+    }
+    waiting
+}
+
 /// The line on which a part may call or send to a door.
 fn entering_line(part: &Part<'_>, name: &str) -> Option<u64> {
     for slot in &part.slots {
@@ -161,14 +172,22 @@ impl Notes<'_> {
         }
     }
 
-    /// Who waits for a bell.
+    /// Who waits for a bell. Of several each takes signals from the others.
     fn note_bell(&mut self, system: &System<'_>, bell: &Declaration<'_>) -> Result<(), AllocError> {
-        for part in &system.parts {
-            if waits(part, bell.name) {
-                return Ok(());
-            }
+        let waiting = waiting_for(system, bell.name);
+        if waiting == 0 {
+            return self.say(bell.line, "nobody waits for the bell ", bell.name, "");
         }
-        self.say(bell.line, "nobody waits for the bell ", bell.name, "")
+        if waiting & waiting.wrapping_sub(1) == 0 {
+            return Ok(());
+        }
+        self.begin(bell.line)?;
+        self.push_set(system, waiting, " <-> ")?;
+        let name = bell.name;
+        write!(
+            &mut self.text,
+            " by {name}: each takes signals from the others\n"
+        )
     }
 
     /// Who sees and writes a page. A device page is written by the world, too.
@@ -285,14 +304,14 @@ impl Notes<'_> {
         Ok(())
     }
 
-    /// Puts the names of the parts of a set.
-    fn push_set(&mut self, system: &System<'_>, set: u64) -> Result<(), AllocError> {
+    /// Puts the names of the parts of a set, with a sign between them.
+    fn push_set(&mut self, system: &System<'_>, set: u64, between: &str) -> Result<(), AllocError> {
         let mut before = "";
         for (number, part) in system.parts.iter().enumerate() {
             if set & only(number) != 0 {
                 let name = part.name;
                 write!(&mut self.text, "{before}{name}")?;
-                before = ", ";
+                before = between;
             }
         }
         Ok(())
@@ -310,10 +329,10 @@ impl Notes<'_> {
             return Ok(());
         }
         self.begin(declared.line)?;
-        self.push_set(system, way.from)?;
+        self.push_set(system, way.from, ", ")?;
         let name = declared.name;
         self.text.push_str(" -> ")?;
-        self.push_set(system, way.to)?;
+        self.push_set(system, way.to, ", ")?;
         write!(&mut self.text, " by {name}, and nothing comes back\n")
     }
 

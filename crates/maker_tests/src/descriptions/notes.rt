@@ -216,7 +216,10 @@ end
 
 #[test]
 fn who_waits_tells_those_who_wait_for_the_same_bell(rt: HostRuntime) -> Result<(), Fail> {
-    assert_eq!(&rt; said_of(rt.alloc(), ONE_BELL)?.as_str(), "");
+    assert_eq!(&rt;
+        said_of(rt.alloc(), ONE_BELL)?.as_str(),
+        "d:1: note: a <-> b by r: each takes signals from the others\n"
+    );
     Ok(())
 }
 
