@@ -3,6 +3,7 @@
 
   tools/parts/systems.py write SEED FOLDER      writes SEED.txt and SEED.events
   tools/parts/systems.py reckon COUNT           until COUNT systems are accepted
+  tools/parts/systems.py compare PROGRAM COUNT  the same, and what `microsys_tool parts` and `alone` of PROGRAM say of them
 
 A system is two or three systems of `tools/devices`, `tools/buffers` and `tools/promises`, side by side, of which some have a thread more that
 tells another one something: it rings its bell, writes a page of it, sends a message without waiting, or acknowledges its line. Some are told
@@ -17,7 +18,9 @@ import importlib.util
 import itertools
 import os
 import random
+import subprocess
 import sys
+import tempfile
 
 HERE = os.path.dirname(os.path.realpath(__file__))
 sys.path[:0] = [HERE]
@@ -241,6 +244,29 @@ def checked(seed, text, sets, counts):
         counts["steps that wake another part's thread"] += run.woken[number]
 
 
+def names_in(text):
+    return [line.split()[1] for line in text.splitlines() if line.startswith("thread ")]
+
+
+def check_product(program, seed, text, sets):
+    """Asserts that the product says of each part what the definitions do, and writes it as it is alone."""
+    parts, threads = Parts(assembled(text)), names_in(text)
+    with tempfile.TemporaryDirectory() as folder:
+        name = written(seed, folder, text, "")
+        said = subprocess.run([program, "parts", f"{name}.txt"], capture_output=True, check=False, text=True)
+        assert said.returncode == 0, f"{seed}: {said.stderr}"
+        free = [line.split(" take")[0].split(", ") for line in said.stdout.splitlines() if " take nothing " in line or " takes nothing " in line]
+        for group in free:
+            assert parts.takes_nothing({threads.index(it) for it in group}), f"{seed}: {group}"
+        for part in sets:
+            out, words = f"{folder}/alone.txt", [threads[it] for it in sorted(part)]
+            ran = subprocess.run([program, "alone", f"{name}.txt", *words, out], capture_output=True, check=False, text=True)
+            assert ran.returncode == 0, f"{seed}: {ran.stderr}"
+            assert ("not as in the whole" in ran.stdout) == (not parts.takes_nothing(part)), f"{seed}: {words}"
+            with open(out, encoding="ascii") as file:
+                assert file.read() == without_threads(text, part), f"{seed}: {words} alone"
+
+
 def main():
     task, *rest = sys.argv[1:]
     if task == "write":
@@ -248,7 +274,7 @@ def main():
         events = events_of(random.Random(int(rest[0])), Parts(assembled(text)))
         written(rest[0], rest[1], text, "".join(f"{event}\n" for event in events))
         return 0
-    count = int(rest[0])
+    program, count = rest[0] if task == "compare" else None, int(rest[-1])
     found, counts, seed = collections.Counter(), Counts(), 0
     while found["accepted"] < count:
         text, sets = system(seed)
@@ -256,6 +282,8 @@ def main():
         found[wanted.split()[0] if wanted == "accepted" else wanted.split()[2]] += 1
         if wanted == "accepted":
             checked(seed, text, sets, counts)
+            if program:
+                check_product(program, seed, text, sets)
         seed += 1
         if seed % 50 == 0:
             print(f".. {seed} systems", file=sys.stderr)

@@ -16,36 +16,37 @@ from texts import number as number_of  # noqa: E402
 WRITE, READ = 1, 2
 
 
-def takes_by(image, source, rights):
-    """By such a capability one receives, waits or loads; and who sends to an endpoint may wait there."""
-    return bool(rights & READ or kind_of(image, source) == ENDPOINT and rights & WRITE)
-
-
-def changes_by(image, source, rights):
-    """By such a capability one sends, signals or stores; and who receives takes what waits there."""
-    return bool(rights & WRITE or kind_of(image, source) != FRAME and rights & READ)
-
-
 class Uses:
-    """The objects that a thread takes, and those that it may change."""
+    """The objects that a thread takes, and those that it may change, but for what a wrong definition leaves out."""
 
-    def __init__(self, image, t):
+    def __init__(self, image, t, without=None):
         held = [c for c in image.capabilities if c[0] in reach(image, t)[0]]
         mapped = [f for f in image.frames if f[0] == t.root]
         buffer = set() if t.buffer == ALL_ONES else {t.buffer}
         handled = {c[2] - len(image.objects) for c in held}
-        self.takes = {f[2] for f in mapped} | {c[2] for c in held if takes_by(image, c[2], c[3])} | buffer
-        self.changes = {f[2] for f in mapped if f[3] & WRITE} | {c[2] for c in held if changes_by(image, c[2], c[3])} | buffer
-        self.changes |= {notification for number, (_, notification, _) in enumerate(image.interrupts) if number in handled}
+        # by such capabilities one receives, waits or loads; and who sends to an endpoint may wait there
+        takes = {
+            "maps": {f[2] for f in mapped}, "reads": {c[2] for c in held if c[3] & READ},
+            "sends": {c[2] for c in held if c[3] & WRITE and kind_of(image, c[2]) == ENDPOINT}, "buffers": buffer,
+        }
+        # by such capabilities one sends, signals or stores; and who receives takes what waits there
+        changes = {
+            "maps": {f[2] for f in mapped if f[3] & WRITE}, "writes": {c[2] for c in held if c[3] & WRITE},
+            "reads": {c[2] for c in held if c[3] & READ and kind_of(image, c[2]) != FRAME}, "buffers": buffer,
+            "handlers": {notification for number, (_, notification, _) in enumerate(image.interrupts) if number in handled},
+        }
+        self.takes = set().union(*(found for by, found in takes.items() if without != f"takes without {by}"))
+        self.changes = set().union(*(found for by, found in changes.items() if without != f"changes without {by}"))
+        self.handlers = handled
 
 
 class Parts:
-    """The parts of an image, which are sets of the numbers of its threads."""
+    """The parts of an image, which are sets of the numbers of its threads, by the definitions or by a wrong one."""
 
-    def __init__(self, data):
-        self.image = read(data)
+    def __init__(self, data, wrong=None):
+        self.image, self.wrong = read(data), wrong
         well_formed(self.image)
-        self.uses = [Uses(self.image, t) for t in self.image.threads]
+        self.uses = [Uses(self.image, t, wrong) for t in self.image.threads]
 
     def taken(self, part):
         """What the part takes and others may change: (thread, object, other thread)."""
@@ -57,15 +58,21 @@ class Parts:
 
     def is_above(self, part):
         threads = list(enumerate(self.image.threads))
-        return all(t.priority > u.priority for k, t in threads if k in part for n, u in threads if n not in part)
+        least = int(self.wrong != "priorities that are equal")
+        return all(t.priority >= u.priority + least for k, t in threads if k in part for n, u in threads if n not in part)
 
     def is_own(self, part, machine, event):
         """Whether an event is the part's own: its steps and ticks, its lines, and what the world does to pages that it takes."""
         word, *rest = event.split()
+        if word == "tick" and self.wrong == "all ticks":
+            return True
         if word in ("step", "tick"):
             runner = machine.current()
             return runner is not None and machine.threads.index(runner) in part
         takes = set().union(*(self.uses[it].takes for it in part))
+        if word == "irq" and self.wrong == "lines by handlers":
+            handlers = set().union(*(self.uses[it].handlers for it in part))
+            return any(line == int(rest[0]) and number in handlers for number, (line, _, _) in enumerate(self.image.interrupts))
         if word == "irq":
             return any(line == int(rest[0]) and notification in takes for line, notification, _ in self.image.interrupts)
         return any(self.image.offsets[it] == number_of(rest[0]) - MEMORY & ~4095 for it in takes if kind_of(self.image, it) == FRAME)
