@@ -300,11 +300,12 @@ pub(crate) fn all_uses(
     image: &ImageRef<'_>,
 ) -> Result<Vec<Uses>, AllocError> {
     let mut all = Vec::new(alloc);
-    for (number, thread) in image.threads().enumerate() {
+    for thread in image.threads() {
         let cnodes = cnodes_of(alloc, image, &thread)?;
-        if let Some(thread) = text.threads.get(number) {
-            all.push(uses_of(alloc, text, &cnodes, thread)?)?;
-        }
+        let Some(source) = text.threads.get(all.len()) else {
+            return Ok(all);
+        };
+        all.push(uses_of(alloc, text, &cnodes, source)?)?;
     }
     Ok(all)
 }
