@@ -11,7 +11,7 @@ from dataclasses import dataclass, replace
 
 from faults import Fault, Place
 from frames import frame_of, is_save, moves_stack, registers_in, registers_of, saves_of
-from lines import STOP, Line, constant, without
+from lines import ASSERT_FAILED, STOP, Line, constant, without
 from machine_code import BRANCHES, Function, Instruction, Linked
 
 LONGEST = 65536
@@ -135,6 +135,8 @@ class Copier:
         if len(self.lines) > 2 * LONGEST:
             most = ", ".join(f"{name} {count} times" for name, count in self.copies.most_common(3))
             raise Fault(instruction.place, f"the program has more than {LONGEST} instructions; copied were {most}")
+        if instruction.is_of_assert and words == ["ecall"]:
+            self.note += f"{ASSERT_FAILED}\n"
         self.lines.append(Line(words, instruction.place, target, self.pending, self.note))
         self.pending, self.note = [], ""
 

@@ -12,6 +12,9 @@ REACH = 1000
 INVERSE = {"beq": "bne", "bne": "beq", "blt": "bge", "bge": "blt", "bltu": "bgeu", "bgeu": "bltu"}
 # The label of the wait for ever that a failed check leads to.
 STOP = "stopped"
+# What is noted before the waits for ever: of a failed check before its first instruction, of a failed `assert` before its call.
+CHECK_FAILED = "# A check that fails waits here for ever."
+ASSERT_FAILED = "# An assert that fails waits here for ever."
 
 
 @dataclass
@@ -63,7 +66,7 @@ def with_stop(lines: list[Line], bell: int | None) -> list[Line]:
     wait = [["addi", "x17", "x0", "5"], *constant(10, bell or 0), ["ecall"]]
     made = [Line(words, place) for words in wait] + [Line(["jal", "x0"], place, STOP)]
     made[0].labels = [STOP]
-    made[0].note = "# A check that fails waits here for ever.\n"
+    made[0].note = f"{CHECK_FAILED}\n"
     return lines + made
 
 

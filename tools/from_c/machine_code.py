@@ -17,6 +17,8 @@ from variables import Variable, variables_in
 
 HERE = Path(__file__).resolve().parent
 RUNTIME = HERE / "runtime.c"
+# The header of `assert`.
+ASSERT = "assert.h"
 # The sections of an object file that have a place in memory, and what others come from.
 USUAL = r"\.(text|rodata|srodata|data|sdata|bss|sbss|eh_frame|note)(\..*|_.*)?"
 UNUSUAL = (
@@ -65,12 +67,13 @@ STORES = {"sb", "sh", "sw"}
 @dataclass(frozen=True)
 class Instruction:
     """An instruction as objdump writes it: numeric registers, addresses in hexadecimal. What is of the runtime has no
-    place of its own."""
+    place of its own. Some are of what an `assert` does where its condition does not hold."""
 
     address: int
     name: str
     operands: tuple[str, ...]
     place: Place | None
+    is_of_assert: bool = False
 
     @property
     def words(self) -> list[str]:
@@ -290,7 +293,8 @@ def disassemble(program: Path, prefix: str) -> dict[int, Function]:
         elif row := re.fullmatch(r" *([0-9a-f]+):\t(\S+)(?:[ \t]+([^#]*?))?(?: *#.*)?", text):
             place = next((Place(file.name, line) for file, line in spots if not is_own(file)), place)
             operands = tuple(re.sub(r" <.*>", "", it) for it in (row[3] or "").strip().split(",") if it)
-            function.body.append(Instruction(int(row[1], 16), row[2], operands, place))
+            is_of_assert = any(is_own(file) and file.name == ASSERT for file, _ in spots)
+            function.body.append(Instruction(int(row[1], 16), row[2], operands, place, is_of_assert))
             spots = spots[:1]
     return functions
 

@@ -3,10 +3,14 @@
 from __future__ import annotations
 
 import subprocess
+import sys
 import tempfile
+from collections.abc import Callable
 from dataclasses import dataclass
 from fnmatch import fnmatchcase
 from pathlib import Path
+
+from failed import Failed
 
 # The endings of lists of events, and of what is expected, in the order in which these are looked for.
 EVENTS = ".events"
@@ -80,8 +84,9 @@ def put_case(number: int, name: str, status: int, said: str) -> None:
     print("  ...", flush=True)
 
 
-def run_cases(program: str, system: str, request: Request) -> int:
-    """Runs the cases of a system, one line for each; status 1 if one fails or there is none."""
+def run_cases(program: str, system: str, request: Request, failing: Callable[[Path], list[Failed]] | None = None) -> int:
+    """Runs the cases of a system, one line for each; status 1 if one fails or there is none. Standard error says in which one a part
+    fails over its events."""
     names = request.names()
     print(f"TAP version 14\n1..{len(names)}" + ("" if names else f" # no case in {request.folder}"))
     failed = not names
@@ -91,5 +96,7 @@ def run_cases(program: str, system: str, request: Request) -> int:
         for number, name in enumerate(names, 1):
             status, said = outcome_of(program, judged, request.folder / f"{name}{EVENTS}")
             put_case(number, name, status, said)
+            for it in failing(request.folder / f"{name}{EVENTS}") if failing else ():
+                print(f"{name}: {it}", file=sys.stderr)
             failed = failed or status != 0
     return REFUSED if failed else 0

@@ -27,6 +27,7 @@ from building import Built, Folder, built, written  # noqa: E402
 from cases import request_of, run_cases  # noqa: E402
 from coverage import NotCovered, covered, put  # noqa: E402
 from description import Description, read  # noqa: E402
+from failed import failed_in, failed_over, put as put_failed, run_live, stops_of  # noqa: E402
 from faults import Fault, Refused  # noqa: E402
 from machine_code import NoCompiler  # noqa: E402
 from sizes import checked_in, grown, said_in, with_sizes  # noqa: E402
@@ -54,6 +55,8 @@ OPTIONS = {"--from", "--to", "--bytes-of", "--info", "-D"}
 # What asks `make` for symbols; the file that gets them follows.
 SYMBOLS = "--symbols"
 STANDARD = "-"
+# What asks `run` for other lines than those by names, and what has it run what is not accepted.
+OTHER_LINES, UNVERIFIED = {"--plain", "--bytes", "--bytes-of", "--by-part"}, "--unverified"
 # With this word what is noted is refused.
 STRICT = "--strict"
 # What sources that are not named by a description end in: headers of C, and parts of others.
@@ -63,7 +66,7 @@ DECLARATIONS = {"page", "device", "bell", "door", "promise", "let", "include", "
 PREFIX = "riscv64-unknown-elf-"
 # In how many rounds the sizes of programs are found: an address may be longer to write than the last one.
 ROUNDS = 8
-REFUSED, FAILED = 1, 3
+REFUSED, USAGE, FAILED = 1, 2, 3
 
 
 class Ended(Exception):
@@ -265,8 +268,25 @@ def run_on(word: str, words: list[str], texts: dict[int, Text], room: Path) -> i
             (room / named[place]).write_text(text.content, "utf-8")
         elif words[place] != STANDARD:
             named[place] = str(Path(words[place]).absolute())
-    status = subprocess.run([program(), word, *named], cwd=room, check=False).returncode
+    command = [program(), word, *named]
+    if word == "run" and STANDARD in words and not OTHER_LINES & set(words):
+        status = run_live(command, room, [stop for it in texts.values() for stop in stops_of(it.content, it.name)])
+    else:
+        status = subprocess.run(command, cwd=room, check=False).returncode
     return status if status >= 0 else FAILED
+
+
+def report_failed(word: str, words: list[str], texts: dict[int, Text], room: Path) -> None:
+    """Reports which parts wait where an `assert` or a check of theirs failed, in a run over a list of events or in a trace."""
+    [(system, text)] = texts.items()
+    others = [words[place] for place in places_of(words) if place != system]
+    if not others or others[0] == STANDARD or not Path(others[0]).is_file():
+        return
+    if word == "chart":
+        lines = Path(others[0]).read_text("utf-8", errors="replace")
+        put_failed(failed_in(stops_of(text.content, text.name), lines))
+    else:
+        put_failed(failed_over(program(), room, text.name, text.content, Path(others[0]), UNVERIFIED in words))
 
 
 def check_target(word: str, target: str, sources: list[Source]) -> None:
@@ -303,6 +323,7 @@ def test_cases(words: list[str]) -> int | None:
             text = text_of(source, room, given)
             system = str(room / text.name)
             Path(system).write_text(text.content, "utf-8")
+            return run_cases(program(), system, request, lambda it: failed_over(program(), room, text.name, text.content, it, False))
         return run_cases(program(), system, request)
 
 
@@ -339,6 +360,8 @@ def carry_out(word: str, words: list[str], sources: dict[int, Source], symbols: 
             [text] = texts.values()
             return put_text(text, target)
         status = run_on(word, words, texts, room)
+        if word in ("run", "test", "chart"):
+            report_failed(word, words, texts, room)
         if status:
             print("".join(it.advice for it in texts.values()), end="", file=sys.stderr)
         notes = "".join(it.notes for it in texts.values()) if word == "make" and status == 0 else ""

@@ -121,6 +121,67 @@ given() {
     rm -f "$room/made.img"
 }
 
+# A writer whose fourth number has two digits, and a reader that asserts that it has one: what fails is reported by its line, of a list of
+# events, of a test, of a live run and of a trace; with three beats nothing is.
+failed() {
+    local folder="$room/box" beats
+    mkdir "$folder"
+    cat >"$folder/box.sys" <<'SYSTEM'
+page box
+bell beat
+bell full
+part writer 100
+  waits beat line 1
+  rings full
+  writes box
+  program writer.c
+end
+part reader 90
+  waits full
+  sees box
+  program reader.c
+end
+SYSTEM
+    cat >"$folder/writer.c" <<'WRITER'
+#include "microsys.h"
+THREAD writer(void) {
+    uint32_t count = 0;
+    for (;;) {
+        sys_wait(CAP_BEAT);
+        count = (count + 3) & 15;
+        words_at(PAGE_BOX)[0] = count;
+        sys_signal(CAP_FULL);
+        handler_ack(CAP_BEAT_LINE1);
+    }
+}
+WRITER
+    cat >"$folder/reader.c" <<'READER'
+#include <assert.h>
+#include "microsys.h"
+THREAD reader(void) {
+    for (;;) {
+        sys_wait(CAP_FULL);
+        uint32_t count = words_at(PAGE_BOX)[0];
+        assert(count < 10);
+        sys_put_char('0' + count);
+    }
+}
+READER
+    for beats in 3 4; do
+        yes "$(printf 'irq beat\nstep 100')" | head -n $((2 * beats)) >"$folder/$beats.events"
+        "$tool" run "$folder/box.sys" "$folder/$beats.events" >"$folder/$beats.trace" 2>"$folder/$beats.said" || wrong "run box.sys" "fails"
+    done
+    grep -q 'an assert failed' "$folder/3.said" && wrong "run box.sys" "reported without a failure"
+    "$tool" test "$folder/box.sys" "$folder/4.events" "$folder/4.trace" >"$room/said" 2>"$folder/5.said" || wrong "test box.sys" "fails"
+    "$tool" run "$folder/box.sys" - <"$folder/4.events" >"$room/said" 2>"$folder/6.said" || wrong "run box.sys -" "fails"
+    diff "$folder/4.trace" "$room/said" >"$room/diff" || wrong "run box.sys -" "other lines"
+    "$tool" chart "$folder/4.trace" "$folder/box.sys" >"$room/said" 2>"$folder/7.said" || wrong "chart box.sys" "fails"
+    for beats in 4 5 6 7; do
+        grep -q '^reader.c:7: an assert failed: reader waits here for ever, from event ' "$folder/$beats.said" ||
+            wrong "box.sys, $beats" "nothing on the assert"
+    done
+}
+
 # Nothing is written over what is read.
 kept() {
     local target
@@ -163,6 +224,7 @@ check first "$room/first"
 streams
 cases
 given
+failed
 kept
 handed_over
 advised

@@ -37,12 +37,13 @@ C99, ASSEMBLER = 0x0C, 0x8001
 
 @dataclass(frozen=True)
 class Instruction:
-    """An instruction or word of a part, with its labels, and the file and line that it comes from."""
+    """An instruction or word of a part, with its labels, the file and line that it comes from, and the comment before it."""
 
     words: list[str]
     labels: list[str]
     file: str
     line: int
+    note: str = ""
 
 
 @dataclass
@@ -65,6 +66,7 @@ def parts_of(text: str, name: str) -> list[Part]:
     parts: list[Part] = []
     part: Part | None = None
     labels: list[str] = []
+    note = ""
     for number, line in enumerate(text.split("\n"), 1):
         words = re.sub(r"[\t,\r]", " ", line.split("#")[0]).split()
         if part is None:
@@ -79,8 +81,10 @@ def parts_of(text: str, name: str) -> list[Part]:
         elif words and words[0] not in OTHERS:
             origin = ORIGIN.search(line)
             file, at = (origin[1], int(origin[2])) if origin else (name, number)
-            part.code.append(Instruction(words, labels, file, at))
-            labels = []
+            part.code.append(Instruction(words, labels, file, at, note))
+            labels, note = [], ""
+        elif line.startswith("#"):
+            note = line.rstrip()
     return parts
 
 
