@@ -306,12 +306,14 @@ impl Notes<'_> {
 
     /// Puts the names of the parts of a set, with a sign between them.
     fn push_set(&mut self, system: &System<'_>, set: u64, between: &str) -> Result<(), AllocError> {
-        let mut before = "";
+        let mut is_first = true;
         for (number, part) in system.parts.iter().enumerate() {
             if set & only(number) != 0 {
-                let name = part.name;
-                write!(&mut self.text, "{before}{name}")?;
-                before = between;
+                if !is_first {
+                    self.text.push_str(between)?;
+                }
+                self.text.push_str(part.name)?;
+                is_first = false;
             }
         }
         Ok(())
